@@ -1,0 +1,39 @@
+use std::alloc::AllocError;
+
+/// No memory was left.
+#[derive(Clone, Copy, PartialEq, Eq, Debug)]
+pub struct NoMemory;
+
+impl From<AllocError> for NoMemory {
+    fn from(_error: AllocError) -> NoMemory {
+        NoMemory
+    }
+}
+
+/// A source failed while it was read: the fault lies with the source.
+#[derive(Clone, Copy, PartialEq, Eq, Debug)]
+pub struct ReadFault;
+
+/// A sink failed while it was written to: the fault lies with the sink.
+#[derive(Clone, Copy, PartialEq, Eq, Debug)]
+pub struct WriteFault;
+
+/// A store failed: the fault lies with the store.
+#[derive(Clone, Copy, PartialEq, Eq, Debug)]
+pub struct StoreFail;
+
+/// A collection of a fixed size has no place left.
+#[derive(Clone, Copy, PartialEq, Eq, Debug)]
+pub struct Full;
+
+/// A card has as many undone commands as are kept for it.
+#[derive(Clone, Copy, PartialEq, Eq, Debug)]
+pub struct QueueFull;
+
+/// The bytes are those of no script command that the host sends.
+#[derive(Clone, Copy, PartialEq, Eq, Debug)]
+pub struct BadCommand;
+
+/// The bytes are those of no record.
+#[derive(Clone, Copy, PartialEq, Eq, Debug)]
+pub struct NotEntry;

@@ -1,0 +1,9 @@
+//! The plain types of the issuer's authorisation host, and the traits of what lies outside it.
+#![tactic(auto)]
+
+mod faults;
+mod outside;
+
+pub use faults::{
+    BadCommand, Full, NoMemory, NotEntry, QueueFull, ReadFault, StoreFail, WriteFault,
+};

@@ -1,0 +1,1 @@
+// The traits of what lies outside the host.
