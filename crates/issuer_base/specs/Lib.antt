@@ -1,0 +1,3 @@
+pub mod OutsideFaults
+pub mod Sink
+pub mod Desk

@@ -7,3 +7,4 @@ mod outside;
 pub use faults::{
     BadCommand, Full, NoMemory, NotEntry, QueueFull, ReadFault, StoreFail, WriteFault,
 };
+pub use outside::{Desk, DeskFault, Sink, Source, write_all};

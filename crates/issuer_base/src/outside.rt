@@ -1,1 +1,98 @@
-// The traits of what lies outside the host.
+// The traits of what lies outside the host: inputs, the output, and the desk that opens inputs by name.
+ghost use Rattle.std.specs.Prelude.{◌≡◌, ℕ, ◌<◌, List, length, Option, None, Some, is_err, IfOk, if◌then◌else◌};
+ghost use Rattle.std.specs.Io.{ReadsAtMost, WritesAtMost};
+ghost use Rattle.std.specs.Io.KnownBytes.{ReadConsumes, WriteAppends};
+ghost use Rattle.issuer_base.specs.OutsideFaults.{CountsFaults};
+ghost use Rattle.issuer_base.specs.Sink.{WritesAll};
+ghost use Rattle.issuer_base.specs.Desk.{GivesHeld, is_fault};
+
+use crate::faults::{ReadFault, WriteFault};
+
+/// Bytes that are read from front to end.
+///
+/// An implementor tells what is left as far as it can, and counts its faults: the count never
+/// falls, and a read answers its fault only where the count rose.
+pub trait Source {
+    // The bytes that are left, where the source tells.
+    ghost left: { Self → Option (List ℕ) } = { λ _. None };
+
+    // How many of its calls failed, counted up to 2^64 - 1.
+    ghost faults: { Self → ℕ };
+
+    /// Gives the next bytes, as many as it answers, in the front of `into`.
+    ///
+    /// `Ok(0)` is the end of the input. A fault takes no byte of what is left.
+    fn read(&mut self, into: &mut [u8]) -> Result<usize, ReadFault>
+        requires { 0 < length into.old }
+        ensures bound { ReadsAtMost result into.new }
+        ensures bytes { ReadConsumes (left self.old) (left self.new) result into.new }
+        ensures count { CountsFaults (faults self.old) (faults self.new) (is_err result) };
+}
+
+/// Takes bytes one piece after the other.
+///
+/// An implementor tells what it holds as far as it can, and counts its faults as a [`Source`] does.
+pub trait Sink {
+    // The bytes that it holds, where the sink tells.
+    ghost held: { Self → Option (List ℕ) } = { λ _. None };
+
+    // How many of its calls failed, counted up to 2^64 - 1.
+    ghost faults: { Self → ℕ };
+
+    /// Takes the front of the piece, as many bytes as it answers, and at least one.
+    ///
+    /// To take none is a fault, and a fault takes none.
+    fn write(&mut self, piece: &[u8]) -> Result<usize, WriteFault>
+        requires { 0 < length piece.now }
+        ensures some { IfOk result (λ n. 0 < n) }
+        ensures bound { WritesAtMost result piece.now }
+        ensures bytes { WriteAppends (held self.old) (held self.new) result piece.now }
+        ensures count { CountsFaults (faults self.old) (faults self.new) (is_err result) };
+}
+
+/// Why a desk gave no input.
+#[derive(Clone, Copy, PartialEq, Eq, Debug)]
+pub enum DeskFault {
+    /// The fault is the desk's: nothing stands under the name, or it could not be opened.
+    Fault,
+    /// No memory was left.
+    NoMemory,
+}
+
+/// Opens inputs by their names.
+pub trait Desk {
+    type Input: Source;
+
+    // What stands under a name: `None` where the desk does not tell, and else the bytes, if there is an input.
+    ghost holds: { Self → List ℕ → Option (Option (List ℕ)) } = { λ _ _. None };
+
+    // How many of its calls answered `Fault`, counted up to 2^64 - 1.
+    ghost faults: { Self → ℕ };
+
+    // The name in the last call of `read` that answered `Fault`, none at first.
+    ghost last_fault: { Self → Option (List ℕ) };
+
+    /// Opens the input that stands under a name, at its front and with no fault counted.
+    ///
+    /// A name with no input is a fault. What the names hold stays as it was.
+    fn read(&mut self, name: &str) -> Result<Self::Input, DeskFault>
+        ensures input { IfOk result (λ input. GivesHeld (holds self.old name.now) (Self.Input.left input)) }
+        ensures new { IfOk result (λ input. Self.Input.faults input ≡ 0) }
+        ensures kept { holds self.new ≡ holds self.old }
+        ensures count { CountsFaults (faults self.old) (faults self.new) (is_fault result) }
+        ensures last { last_fault self.new ≡ (if is_fault result then Some name.now else last_fault self.old) };
+}
+
+/// Writes all of a piece, in as many calls as the sink needs for it.
+///
+/// After a fault the sink has taken a front of the piece that is not all of it.
+pub fn write_all<W: Sink>(out: &mut W, piece: &[u8]) -> Result<(), WriteFault>
+    ensures bytes { WritesAll (W.held out.old) (W.held out.new) result piece.now }
+    ensures count { CountsFaults (W.faults out.old) (W.faults out.new) (is_err result) }
+{
+    let mut written = 0;
+    while written < piece.len() {
+        written += out.write(&piece[written..])?;
+    }
+    Ok(())
+}
