@@ -1,1 +1,2 @@
 pub mod ManyCalls
+pub mod Decimal

@@ -1,3 +1,5 @@
 pub mod OutsideFaults
 pub mod Sink
 pub mod Desk
+pub mod CardNumber
+pub mod ChipData
