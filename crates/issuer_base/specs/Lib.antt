@@ -1,0 +1,2 @@
+pub mod CardNumber
+pub mod ChipData
