@@ -19,3 +19,6 @@ pub use faults::{
 pub use pan::Pan;
 pub use request::{Parts, Request};
 pub use words::Words;
+
+#[cfg(test)]
+mod tests;
