@@ -1,0 +1,53 @@
+-- What the fields of a request say: EMV 4.3 Book 3 Annex A, with this project's profile of the issuer application data.
+use Rattle.std.specs.Prelude.{ℕ, ◌+◌, ◌*◌, ◌/◌, ◌%◌, Bool, ◌&&◌, ◌==◌, nat_le, if◌then◌else◌, List, [], ◌∷◌, take, drop, slice_index, fold, bit_and, Option, Some, None}
+use Rattle.std.specs.List.{list_all, flat_map}
+use Rattle.issuer_base.specs.declared.request.Parts.{Parts}
+
+-- both nibbles of the byte are decimal digits
+unfoldable pub is_bcd : ℕ → Bool
+is_bcd byte = nat_le (byte / 16) 9 && nat_le (byte % 16) 9
+
+-- the profile of the issuer application data: 0F, the common core identifier A5, and 0F before the discretionary data
+unfoldable pub has_profile : List ℕ → Bool
+has_profile iad = slice_index iad 0 == 0x0F && slice_index iad 1 == 0xA5 && slice_index iad 16 == 0x0F
+
+-- fields are those of a request where the sequence number and the amount are decimal, and the application data has the profile
+unfoldable pub is_request : Parts → Bool
+is_request parts = is_bcd parts.psn && list_all is_bcd parts.amount && has_profile parts.iad
+
+-- the request with these fields, or none
+unfoldable pub request_from : Parts → Option Parts
+request_from parts = if is_request parts then Some parts else None
+
+-- the card verification results: bytes 4 to 8 of the issuer application data
+unfoldable pub cvr : Parts → List ℕ
+cvr parts = take 5 (drop 3 parts.iad)
+
+-- the derivation key index: byte 3 of the issuer application data
+unfoldable pub dki : Parts → ℕ
+dki parts = slice_index parts.iad 2
+
+-- an ARQC: bits 8-7 of the cryptogram information data are 10, and byte 1 of the card verification results says
+-- that no second cryptogram was requested, bits 8-7, and that the first was an ARQC, bits 6-5
+unfoldable pub is_arqc : Parts → Bool
+is_arqc parts = bit_and parts.cid 0xC0 == 0x80 && bit_and (slice_index (cvr parts) 0) 0xF0 == 0xA0
+
+-- the number of script commands processed: bits 8-5 of byte 4 of the card verification results
+unfoldable pub script_count : Parts → ℕ
+script_count parts = slice_index (cvr parts) 3 / 16
+
+-- the last online ATC register: bytes 18 and 19 of the issuer application data, the first the more significant
+unfoldable pub last_online : Parts → ℕ
+last_online parts = 256 * slice_index parts.iad 17 + slice_index parts.iad 18
+
+-- the two decimal digits of a byte
+abbrev pub digits_of : ℕ → List ℕ
+digits_of byte = byte / 16 ∷ byte % 16 ∷ []
+
+-- the number that decimal digits write
+abbrev pub decimal : List ℕ → ℕ
+decimal digits = fold (λ value digit. 10 * value + digit) 0 digits
+
+-- the amount authorised as a number: its twelve decimal digits
+unfoldable pub amount_value : Parts → ℕ
+amount_value parts = decimal (flat_map digits_of parts.amount)

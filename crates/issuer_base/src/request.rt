@@ -1,0 +1,221 @@
+ghost use Rattle.std.specs.Prelude.{◌≡◌, ◌↔◌, IsTrue};
+ghost use Rattle.std.specs.List.{list_all, flat_map};
+ghost use Rattle.issuer_base.specs.ChipData.{is_request, request_from, is_arqc, cvr, dki, script_count, last_online, amount_value, is_bcd, has_profile, decimal, digits_of};
+
+use crate::pan::Pan;
+use std::marker::Model;
+
+/// The fields of one request for a cryptogram's check, as the terminal sends them: EMV 4.3 Book 3, Annex A.
+#[derive(Clone, PartialEq, Eq, Debug, Drop)]
+pub struct Parts {
+    /// The primary account number, tag 5A.
+    pub pan: Pan,
+
+    /// The card's sequence number, two decimal digits, tag 5F34; 0 where the card has none.
+    pub psn: u8,
+
+    /// The application interchange profile, tag 82.
+    pub aip: [u8; 2],
+
+    /// The application transaction counter, tag 9F36.
+    pub atc: u16,
+
+    /// The terminal verification results, tag 95.
+    pub tvr: [u8; 5],
+
+    /// The transaction date, as YYMMDD, tag 9A.
+    pub date: [u8; 3],
+
+    /// The transaction type, tag 9C.
+    pub kind: u8,
+
+    /// The amount authorised, twelve decimal digits, tag 9F02.
+    pub amount: [u8; 6],
+
+    /// The other amount, tag 9F03.
+    pub other: [u8; 6],
+
+    /// The terminal's country code, tag 9F1A.
+    pub country: [u8; 2],
+
+    /// The transaction's currency code, tag 5F2A.
+    pub currency: [u8; 2],
+
+    /// The unpredictable number, tag 9F37.
+    pub un: [u8; 4],
+
+    /// The cryptogram information data, tag 9F27.
+    pub cid: u8,
+
+    /// The issuer application data, tag 9F10.
+    pub iad: [u8; 32],
+
+    /// The application cryptogram, tag 9F26.
+    pub ac: [u8; 8],
+}
+
+impl Parts {
+    /// A copy, which takes no memory.
+    pub fn copy(&self) -> Parts
+        ensures { result ≡ self.now }
+    {
+        self.clone().unwrap()
+    }
+
+    /// Whether all fields are the same, as `==` is.
+    pub fn is_same(&self, other: &Parts) -> bool
+        ensures { IsTrue result ↔ (self.now ≡ other.now) }
+    {
+        self == other
+    }
+}
+
+/// A request whose fields have the forms that the host reads.
+///
+/// A contract sees its `Parts`.
+#[derive(Clone, PartialEq, Eq, Debug, Drop)]
+pub struct Request {
+    fields: Parts,
+}
+
+impl Model for Request {
+    ghost use Rattle.std.specs.Prelude.{IsTrue};
+    ghost use Rattle.issuer_base.specs.declared.request.Parts.{Parts};
+    ghost use Rattle.issuer_base.specs.ChipData.{is_request};
+
+    ghost Value = { Parts };
+
+    ghost view = { λ request. request.fields };
+
+    ghost invariant = { λ request. IsTrue (is_request request.fields) };
+
+    ghost inverse = { λ parts. record { fields = parts } };
+}
+
+impl Request {
+    /// The request with these fields. `None` where the sequence number or the amount isn't decimal, or
+    /// the issuer application data isn't of the profile's form: 0F first, then the common core
+    /// identifier A5, and 0F before the issuer's discretionary data.
+    #[tactic(auto, unfolding(crate::specs::ChipData::request_from))]
+    pub fn new(parts: Parts) -> Option<Request>
+        ensures { result ≡ request_from parts }
+    {
+        if has_form(&parts) {
+            Some(Request { fields: parts })
+        } else {
+            None
+        }
+    }
+
+    /// The fields.
+    pub fn parts(&self) -> &Parts
+        ensures same { result.now ≡ self.now }
+        ensures valid { IsTrue (is_request self.now) }
+    {
+        &self.fields
+    }
+
+    /// Whether the two have the same fields, as `==` is.
+    pub fn is_same(&self, other: &Request) -> bool
+        ensures { IsTrue result ↔ (self.now ≡ other.now) }
+    {
+        self == other
+    }
+
+    /// A copy, which takes no memory.
+    pub fn copy(&self) -> Request
+        ensures { result ≡ self.now }
+    {
+        self.clone().unwrap()
+    }
+
+    /// Whether the cryptogram is an ARQC, a request to go online, and the first of its transaction:
+    /// so the cryptogram information data says it, and so the card verification results do.
+    #[tactic(auto, unfolding(crate::specs::ChipData::is_arqc))]
+    pub fn is_arqc(&self) -> bool
+        ensures { result ≡ is_arqc self.now }
+    {
+        self.fields.cid & 0xC0 == 0x80 && self.cvr()[0] & 0xF0 == 0xA0
+    }
+
+    /// The card verification results.
+    #[tactic(auto, unfolding(crate::specs::ChipData::cvr))]
+    pub fn cvr(&self) -> [u8; 5]
+        ensures { result ≡ cvr self.now }
+    {
+        let mut results = [0; 5];
+        results.copy_from_slice(&self.fields.iad[3..8]);
+        results
+    }
+
+    /// The derivation key index, which names the issuer's set of keys.
+    #[tactic(auto, unfolding(crate::specs::ChipData::dki))]
+    pub fn dki(&self) -> u8
+        ensures { result ≡ dki self.now }
+    {
+        self.fields.iad[2]
+    }
+
+    /// How many script commands the card has processed since it last found the issuer's cryptogram right.
+    #[tactic(auto, unfolding(crate::specs::ChipData::script_count))]
+    pub fn script_count(&self) -> u8
+        ensures { result ≡ script_count self.now }
+    {
+        self.cvr()[3] / 16
+    }
+
+    /// The transaction counter of the last transaction in which the card found the issuer's cryptogram
+    /// right: the card's last online ATC register.
+    #[tactic(auto, unfolding(crate::specs::ChipData::last_online))]
+    pub fn last_online(&self) -> u16
+        ensures { result ≡ last_online self.now }
+    {
+        u16::from(self.fields.iad[17]) * 256 + u16::from(self.fields.iad[18])
+    }
+
+    /// The amount authorised, in the currency's smallest unit.
+    #[tactic(auto, unfolding(crate::specs::ChipData::amount_value))]
+    pub fn amount_value(&self) -> u64
+        ensures { result ≡ amount_value self.now }
+    {
+        decimal_value(&self.fields.amount)
+    }
+}
+
+#[tactic(auto, unfolding(crate::specs::ChipData::is_request))]
+fn has_form(parts: &Parts) -> bool
+    ensures { result ≡ is_request parts.now }
+{
+    is_decimal(parts.psn) && are_decimal(&parts.amount) && has_profile(&parts.iad)
+}
+
+#[tactic(auto, unfolding(crate::specs::ChipData::is_bcd))]
+fn is_decimal(byte: u8) -> bool
+    ensures { result ≡ is_bcd byte }
+{
+    byte / 16 <= 9 && byte % 16 <= 9
+}
+
+fn are_decimal(bytes: &[u8]) -> bool
+    ensures { result ≡ list_all is_bcd bytes.now }
+{
+    bytes.iter().all(|byte| is_decimal(*byte))
+}
+
+#[tactic(auto, unfolding(crate::specs::ChipData::has_profile))]
+fn has_profile(iad: &[u8; 32]) -> bool
+    ensures { result ≡ has_profile iad.now }
+{
+    iad[0] == 0x0F && iad[1] == 0xA5 && iad[16] == 0x0F
+}
+
+/// The number that the digits of these bytes write.
+fn decimal_value(amount: &[u8; 6]) -> u64
+    ensures { result ≡ decimal (flat_map digits_of amount.now) }
+{
+    let mut value = 0;
+    for byte in amount {
+        value = value * 100 + u64::from(byte / 16 * 10 + byte % 16);
+    }
+    value
+}
