@@ -8,7 +8,7 @@ use std::marker::Model;
 /// A card's primary account number: 8 to 19 decimal digits, from the left, each a value from 0 to 9.
 ///
 /// A contract sees the list of its digits.
-#[derive(Clone, PartialEq, Eq, Debug, Drop)]
+#[derive(Clone, PartialEq, Eq, PartialOrd, Ord, Hash, Debug, Drop)]
 pub struct Pan {
     kept: ArrayVec<u8, 19>,
 }

@@ -1,4 +1,4 @@
-ghost use Rattle.std.specs.Prelude.{◌≡◌, ◌↔◌, IsTrue};
+ghost use Rattle.std.specs.Prelude.{◌≡◌, ◌<◌, ◌↔◌, IsTrue, true};
 ghost use Rattle.std.specs.List.{list_all, flat_map};
 ghost use Rattle.issuer_base.specs.ChipData.{is_request, request_from, is_arqc, cvr, dki, script_count, last_online, amount_value, is_bcd, has_profile, decimal, digits_of};
 
@@ -176,7 +176,8 @@ impl Request {
     /// The amount authorised, in the currency's smallest unit.
     #[tactic(auto, unfolding(crate::specs::ChipData::amount_value))]
     pub fn amount_value(&self) -> u64
-        ensures { result ≡ amount_value self.now }
+        ensures exact { result ≡ amount_value self.now }
+        ensures below { result < 1_000_000_000_000 }
     {
         decimal_value(&self.fields.amount)
     }
@@ -209,9 +210,11 @@ fn has_profile(iad: &[u8; 32]) -> bool
     iad[0] == 0x0F && iad[1] == 0xA5 && iad[16] == 0x0F
 }
 
-/// The number that the digits of these bytes write.
+/// The number that the decimal digits of these bytes write.
 fn decimal_value(amount: &[u8; 6]) -> u64
-    ensures { result ≡ decimal (flat_map digits_of amount.now) }
+    requires { list_all is_bcd amount.now ≡ true }
+    ensures exact { result ≡ decimal (flat_map digits_of amount.now) }
+    ensures below { result < 1_000_000_000_000 }
 {
     let mut value = 0;
     for byte in amount {

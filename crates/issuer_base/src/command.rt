@@ -1,0 +1,38 @@
+ghost use Rattle.std.specs.Prelude.{◌≡◌, ◌↔◌, IsTrue};
+
+use arrayvec::ArrayVec;
+
+/// A script command for a card, before it is sealed: EMV 4.3 Book 3, section 6.3.2.
+#[derive(Clone, PartialEq, Eq, Debug, Drop)]
+pub struct Command {
+    /// The class byte.
+    pub cla: u8,
+
+    /// The instruction byte.
+    pub ins: u8,
+
+    /// The first parameter.
+    pub p1: u8,
+
+    /// The second parameter.
+    pub p2: u8,
+
+    /// The data, without their length and their MAC.
+    pub body: ArrayVec<u8, 64>,
+}
+
+impl Command {
+    /// A copy, which takes no memory.
+    pub fn copy(&self) -> Command
+        ensures { result ≡ self.now }
+    {
+        self.clone().unwrap()
+    }
+
+    /// Whether the two are the same, as `==` is.
+    pub fn is_same(&self, other: &Command) -> bool
+        ensures { IsTrue result ↔ (self.now ≡ other.now) }
+    {
+        self == other
+    }
+}
