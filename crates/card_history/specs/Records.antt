@@ -1,0 +1,46 @@
+-- What the records of a shard say of a card: its decisions, its recorded counters and their window.
+use Rattle.std.specs.Prelude.{◌≡◌, ℕ, ◌+◌, ◌<◌, ◌≤◌, max, Bool, ◌&&◌, ◌==◌, nat_eq, if◌then◌else◌, List, [], ◌∷◌, Option, None, Some}
+use Rattle.std.specs.Cmp.Lexicographic.{pointwise}
+use Rattle.std.specs.Option.{option_map_or}
+use Rattle.issuer_base.specs.declared.request.Request.{Request}
+use Rattle.issuer_base.specs.declared.entry.Entry.{Entry}
+use Rattle.issuer_base.specs.declared.entry.Entry.TheVariants.{Decided, Queued, Status}
+use Rattle.card_history.specs.declared.decision.Decision.{Decision}
+
+-- a card is named by its primary account number and its sequence number: EMV 4.3 Book 3 Annex A, tags 5A and 5F34
+pub record CardName : Type 0 where
+  pub pan : List ℕ
+  pub psn : ℕ
+
+-- the card that a request is of
+abbrev pub card_of : Request → CardName
+card_of request = record { pan = request.pan; psn = request.psn }
+
+-- whether the request is of this card
+unfoldable pub is_of : CardName → Request → Bool
+is_of card request = pointwise nat_eq request.pan card.pan && request.psn == card.psn
+
+-- the card's decisions among records of which the first stands at this place, oldest first
+abbrev pub decided_from : ℕ → CardName → List Entry → List Decision
+decided_from place card [] = []
+decided_from place card (Decided request reply ∷ records) =
+    if is_of card request
+    then record { request = request; reply = reply; place = place } ∷ decided_from (place + 1) card records
+    else decided_from (place + 1) card records
+decided_from place card (Queued pan psn command ∷ records) = decided_from (place + 1) card records
+decided_from place card (Status pan psn status ∷ records) = decided_from (place + 1) card records
+
+-- the card's decisions in a shard's history
+abbrev pub decided : CardName → List Entry → List Decision
+decided card history = decided_from 0 card history
+
+-- the greatest transaction counter among these decisions, or none
+abbrev pub greatest : List Decision → Option ℕ
+greatest [] = None
+greatest (decision ∷ decisions) =
+    Some (option_map_or (λ counter. max decision.request.atc counter) (greatest decisions) decision.request.atc)
+
+-- a counter is below the window where a greatest counter is 64 or more above it
+abbrev pub IsBelow : Option ℕ → ℕ → Type 0
+IsBelow None counter = ⊥
+IsBelow (Some top) counter = counter + 64 ≤ top

@@ -1,0 +1,67 @@
+-- One turn of a host with one caller, by cases on its answer, and a run of turns.
+use Rattle.std.specs.Prelude.{◌≡◌, ◌≢◌, ℕ, ◌+◌, ◌≤◌, List, [], ◌∷◌, ◌++◌, length, Option, None, Some, Result, Ok, Err, All, Contains}
+use Rattle.issuer_base.specs.declared.request.Request.{Request}
+use Rattle.issuer_base.specs.declared.answer.Reply.{Reply}
+use Rattle.issuer_base.specs.declared.answer.Answer.{Answer}
+use Rattle.issuer_base.specs.declared.answer.Answer.TheVariants.{Fresh, Kept, Refused}
+use Rattle.issuer_base.specs.declared.answer.Refusal.{Refusal}
+use Rattle.issuer_base.specs.declared.answer.Refusal.TheVariants.{Below, Taken, NoMemory}
+use Rattle.issuer_base.specs.declared.entry.Entry.{Entry}
+use Rattle.issuer_base.specs.declared.entry.Entry.TheVariants.{Decided}
+use Rattle.card_history.specs.declared.decision.Decision.{Decision}
+use Rattle.card_history.specs.Records.{decided, card_of, greatest, IsBelow}
+
+-- the counter of the request is in the window of these decisions, and none of them is on it
+pub record IsUnused (decisions : List Decision) (request : Request) : Type 0 where
+  pub in_window : IsBelow (greatest decisions) request.atc → ⊥
+  pub unrecorded : All (λ decision. decision.request.atc ≢ request.atc) decisions
+
+-- the counter is in the window, and this decision is on it
+pub record IsUsed (decisions : List Decision) (request : Request) (decision : Decision) : Type 0 where
+  pub in_window : IsBelow (greatest decisions) request.atc → ⊥
+  pub recorded : Contains decisions decision
+  pub same_counter : decision.request.atc ≡ request.atc
+
+-- the counter is below the window that this greatest counter shows
+pub record IsTooOld (decisions : List Decision) (request : Request) (top : ℕ) : Type 0 where
+  pub greatest_is : greatest decisions ≡ Some top
+  pub below : request.atc + 64 ≤ top
+
+-- what the shard has decided for the request's card
+abbrev pub decided_for : Request → List Entry → List Decision
+decided_for request history = decided (card_of request) history
+
+-- what shard number `shard` may answer to a request, and its history afterwards; `reply_to` is the issuer's decision
+abbrev pub Answers : ℕ → (Request → Reply) → List Entry → Request → Answer → List Entry → Type 0
+-- a new counter is decided, and its record stands at the place after the last
+Answers shard reply_to before request (Fresh at place reply) after =
+    IsUnused (decided_for request before) request × (at ≡ shard) × (place ≡ length before) × (reply ≡ reply_to request)
+    × (after ≡ before ++ Decided request reply ∷ [])
+-- the same request again gets the reply that is kept for it
+Answers shard reply_to before request (Kept at place reply) after =
+    IsUsed (decided_for request before) request (record { request = request; reply = reply; place = place }) × (at ≡ shard) × (after ≡ before)
+-- a counter 64 or more below the greatest is too old
+Answers shard reply_to before request (Refused (Below top)) after =
+    IsTooOld (decided_for request before) request top × (after ≡ before)
+-- a counter that another request was decided on is taken
+Answers shard reply_to before request (Refused (Taken at place)) after =
+    ((decision : Decision) × IsUsed (decided_for request before) request decision × (decision.place ≡ place) × (decision.request ≢ request))
+    × (at ≡ shard) × (after ≡ before)
+-- want of memory may come in place of a new record, and leaves the history
+Answers shard reply_to before request (Refused NoMemory) after = IsUnused (decided_for request before) request × (after ≡ before)
+-- no other answer is possible
+Answers shard reply_to before request _ after = ⊥
+
+-- one turn: a line that is refused as it is read leaves the history; a request is answered
+abbrev pub Turn : ℕ → (Request → Reply) → List Entry → Result Request Refusal → Answer → List Entry → Type 0
+Turn shard reply_to before (Err refusal) answer after = (answer ≡ Refused refusal) × (after ≡ before)
+Turn shard reply_to before (Ok request) answer after = Answers shard reply_to before request answer after
+
+-- a run of turns: these answers to these lines, each read by `read`, one after another
+abbrev pub Run : ℕ → (List ℕ → Result Request Refusal) → (Request → Reply) → List Entry → List (List ℕ) → List Answer → List Entry → Type 0
+Run shard read reply_to before [] [] after = after ≡ before
+Run shard read reply_to before (line ∷ lines) (answer ∷ answers) after =
+    (between : List Entry) × Turn shard reply_to before (read line) answer between
+    × Run shard read reply_to between lines answers after
+Run shard read reply_to before [] (answer ∷ answers) after = ⊥
+Run shard read reply_to before (line ∷ lines) [] after = ⊥
