@@ -1,5 +1,5 @@
 -- The lines of a text: the pieces that newlines end, and what stands after the last newline, where that isn't empty.
-use Rattle.std.specs.Prelude.{◌≡◌, ◌≢◌, ℕ, ◌+◌, ◌<◌, ◌==◌, List, [], ◌∷◌, ◌++◌, length, take, drop, if◌then◌else◌}
+use Rattle.std.specs.Prelude.{◌≡◌, ◌≢◌, ℕ, ◌<◌, ◌==◌, List, [], ◌∷◌, ◌++◌, length, take, slice_index, if◌then◌else◌}
 use Rattle.std.specs.List.{AllByRecursion, flat_map}
 use Rattle.line_reader.specs.declared.limits.TheConstants.{NEWLINE}
 
@@ -17,11 +17,11 @@ lines (byte ∷ bytes) = if byte == NEWLINE then [] ∷ lines bytes else onto_fi
 abbrev pub IsUnbroken : List ℕ → Type 0
 IsUnbroken bytes = AllByRecursion (λ byte. byte ≢ NEWLINE) bytes
 
--- the first newline stands after so many bytes
+-- the first newline of these bytes stands at this place
 pub record IsFirstNewline (bytes : List ℕ) (place : ℕ) : Type 0 where
   pub within : place < length bytes
   pub unbroken : IsUnbroken (take place bytes)
-  pub ends : bytes ≡ take place bytes ++ NEWLINE ∷ drop (place + 1) bytes
+  pub ends : slice_index bytes place ≡ NEWLINE
 
 -- a line, and the newline that ends it
 abbrev pub ended : List ℕ → List ℕ
