@@ -1,0 +1,9 @@
+//! The text that the host prints: a line for each answer, and the last line of a run that stops early.
+#![tactic(auto)]
+
+mod answer_line;
+mod stop_line;
+mod words;
+
+pub use answer_line::write_answer;
+pub use stop_line::{Stop, write_stop};

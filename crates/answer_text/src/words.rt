@@ -1,0 +1,86 @@
+// The words of a line, each put after what is written already.
+ghost use Rattle.std.specs.Prelude.{◌≡◌, ◌+◌, ◌*◌, ◌/◌, ◌%◌, ◌≤◌, [], ◌∷◌, ◌++◌, length};
+ghost use Rattle.std.specs.Fmt.{decimal};
+ghost use Rattle.hex.specs.Hex.{encode_lower};
+ghost use Rattle.arrayvec.specs.ArrayVec.{array_vec_len};
+ghost use Rattle.answer_text.specs.AnswerText.{tag_bytes};
+
+use arrayvec::ArrayVec;
+use itoa::Buffer;
+
+/// The most bytes that a line has room for; the longest has 360.
+pub const LINE_ROOM: usize = 512;
+
+const HEX_DIGITS: &[u8; 16] = b"0123456789abcdef";
+
+pub fn put(out: &mut ArrayVec<u8, LINE_ROOM>, text: &[u8])
+    requires { array_vec_len out.old + length text.now ≤ LINE_ROOM }
+    ensures text { out.new.items ≡ out.old.items ++ text.now }
+    ensures room { array_vec_len out.new ≡ array_vec_len out.old + length text.now }
+{
+    out.try_extend_from_slice(text).unwrap();
+}
+
+/// A space, and the number in decimal digits.
+pub fn put_number(out: &mut ArrayVec<u8, LINE_ROOM>, number: u64)
+    requires { array_vec_len out.old + 21 ≤ LINE_ROOM }
+    ensures text { out.new.items ≡ out.old.items ++ 32 ∷ decimal number }
+    ensures room { array_vec_len out.new ≤ array_vec_len out.old + 21 }
+{
+    out.push(b' ');
+    let mut buffer = Buffer::new();
+    put(out, buffer.format(number).as_bytes());
+}
+
+/// A space, and the bytes in hexadecimal digits.
+pub fn put_hex(out: &mut ArrayVec<u8, LINE_ROOM>, bytes: &[u8])
+    requires { array_vec_len out.old + (2 * length bytes.now + 1) ≤ LINE_ROOM }
+    ensures text { out.new.items ≡ out.old.items ++ 32 ∷ encode_lower bytes.now }
+    ensures room { array_vec_len out.new ≡ array_vec_len out.old + (2 * length bytes.now + 1) }
+{
+    out.push(b' ');
+    for byte in bytes {
+        put_byte(out, *byte);
+    }
+}
+
+#[tactic(auto, unfolding(hex::specs::Hex::encode_with))]
+fn put_byte(out: &mut ArrayVec<u8, LINE_ROOM>, byte: u8)
+    requires { array_vec_len out.old + 2 ≤ LINE_ROOM }
+    ensures text { out.new.items ≡ out.old.items ++ encode_lower (byte ∷ []) }
+    ensures room { array_vec_len out.new ≡ array_vec_len out.old + 2 }
+{
+    out.push(HEX_DIGITS[usize::from(byte / 16)]);
+    out.push(HEX_DIGITS[usize::from(byte % 16)]);
+}
+
+/// A space, and the tag's bytes in hexadecimal digits, without zero bytes in front.
+#[tactic(auto, unfolding(crate::specs::AnswerText::tag_bytes))]
+pub fn put_tag(out: &mut ArrayVec<u8, LINE_ROOM>, tag: u32)
+    requires { array_vec_len out.old + 9 ≤ LINE_ROOM }
+    ensures text { out.new.items ≡ out.old.items ++ 32 ∷ encode_lower (tag_bytes tag) }
+    ensures room { array_vec_len out.new ≤ array_vec_len out.old + 9 }
+{
+    let bytes = tag.to_be_bytes();
+    let start = if tag < 0x100 {
+        3
+    } else if tag < 0x1_0000 {
+        2
+    } else if tag < 0x100_0000 {
+        1
+    } else {
+        0
+    };
+    put_hex(out, &bytes[start..]);
+}
+
+/// The word, then a space and the shard, then a space and the place.
+pub fn put_place(out: &mut ArrayVec<u8, LINE_ROOM>, word: &[u8], shard: u8, place: u64)
+    requires { array_vec_len out.old + length word.now + 42 ≤ LINE_ROOM }
+    ensures text { out.new.items ≡ out.old.items ++ word.now ++ 32 ∷ decimal shard ++ 32 ∷ decimal place }
+    ensures room { array_vec_len out.new ≤ array_vec_len out.old + length word.now + 42 }
+{
+    put(out, word);
+    put_number(out, u64::from(shard));
+    put_number(out, place);
+}
