@@ -11,6 +11,8 @@ mod failing_calls;
 mod memory_desk;
 mod memory_sink;
 mod memory_source;
+#[cfg(test)]
+mod tests;
 
 use crate::faults::{ReadFault, WriteFault};
 pub use memory_desk::MemoryDesk;

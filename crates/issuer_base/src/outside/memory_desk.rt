@@ -71,7 +71,7 @@ impl MemoryDesk {
         }
     }
 
-    /// Puts an input under a name, in place of one that is there.
+    /// Puts an input under a name, in place of one that is there, which keeps its memory.
     ///
     /// Its reads fail where they are listed, counted from 0 in each source over it.
     pub fn input(&mut self, name: String, bytes: Vec<u8>, fails: Vec<u64>) -> Result<(), NoMemory>
