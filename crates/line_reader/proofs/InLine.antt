@@ -123,8 +123,8 @@ InLine-more was now after f g i old w next lines bytes room size count h none ke
   passed = h.passed;
   consumed = Consumes-trans was now after h.given (ahead_of next) h.consumed gives.consumed;
   seen =
-    sym (append_assoc old.ahead h.given (ahead_of next))
-    ∙ ap (λ l. l ++ ahead_of next) (h.seen ∙ ap (λ l. h.passed ++ l) none ∙ append-nil h.passed);
+      sym (append_assoc old.ahead h.given (ahead_of next))
+      ∙ ap (λ l. l ++ ahead_of next) (h.seen ∙ ap (λ l. h.passed ++ l) none ∙ append-nil h.passed);
   has_passed = kept_on h.passed h.has_passed;
   unbroken = h.unbroken;
   passed_size = h.passed_size;

@@ -21,9 +21,9 @@ IsFirstNewline-from_search bytes None none =
 IsFirstNewline-from_search bytes (Some place) found = record {
   within = found.0.high;
   unbroken =
-    IsUnbroken-from_places (take place bytes) (λ k within is.
-    let below : k < place = omega (arith, length-take place bytes) in
-    found.0.before k (omega arith) below (eq-eqb _ 10 (sym (get_or-take place bytes k 0 below) ∙ is)));
+      IsUnbroken-from_places (take place bytes) (λ k within is.
+      let below : k < place = omega (arith, length-take place bytes) in
+      found.0.before k (omega arith) below (eq-eqb _ 10 (sym (get_or-take place bytes k 0 below) ∙ is)));
   ends = eqb-true _ 10 found.1;
 }
 

@@ -13,6 +13,11 @@ unfoldable pub lines : List ℕ → List (List ℕ)
 lines [] = []
 lines (byte ∷ bytes) = if byte == NEWLINE then [] ∷ lines bytes else onto_first byte (lines bytes)
 
+-- what stands after the last newline is a line, if it isn't empty
+abbrev pub last_line : List ℕ → List (List ℕ)
+last_line [] = []
+last_line (byte ∷ bytes) = (byte ∷ bytes) ∷ []
+
 -- no newline stands in these bytes
 abbrev pub IsUnbroken : List ℕ → Type 0
 IsUnbroken bytes = AllByRecursion (λ byte. byte ≢ NEWLINE) bytes

@@ -1,7 +1,8 @@
 -- What a reader of lines has given and has in memory, and the limits of an input of lines.
 use Rattle.std.specs.Prelude.{◌≡◌, ◌≢◌, ℕ, ◌+◌, ◌-◌, ◌<◌, ◌≤◌, ◌⊎◌, List, [], length, take}
+use Rattle.std.specs.List.{flat_map}
 use Rattle.line_reader.specs.declared.limits.TheConstants.{MAX_LINES, MAX_BYTES, KEPT_BYTES}
-use Rattle.line_reader.specs.Lines.{IsUnbroken}
+use Rattle.line_reader.specs.Lines.{IsUnbroken, BeginsWithLines, ended}
 
 -- a reader of lines, as its callers see it
 pub record Reading : Type 0 where
@@ -35,3 +36,10 @@ pub record StaysWithinLimits (lines bytes : ℕ) (more : List ℕ) : Type 0 wher
 abbrev pub PassesLimit : ℕ → ℕ → List ℕ → Type 0
 PassesLimit lines bytes more =
     ((lines ≡ MAX_LINES) × (more ≢ [])) ⊎ (IsUnbroken (take (MAX_BYTES - bytes) more) × (MAX_BYTES - bytes < length more))
+
+-- the reader has given these whole lines of the text that was read so far, the rest of which is ahead
+pub record HasGivenLines (reading : Reading) (text : List ℕ) (whole : List (List ℕ)) : Type 0 where
+  pub begins : BeginsWithLines text whole reading.ahead
+  pub lines_counted : reading.lines ≡ length whole
+  pub bytes_counted : reading.bytes ≡ length (flat_map ended whole)
+  pub within : IsWithinLimits reading.lines reading.bytes
