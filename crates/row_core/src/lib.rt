@@ -2,5 +2,9 @@
 #![tactic(auto)]
 
 mod card;
+mod issuer;
+mod row;
 
 pub use card::CardInfo;
+pub use issuer::{Issuer, IssuerFault};
+pub use row::{Outcome, Row};
