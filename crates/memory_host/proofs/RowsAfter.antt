@@ -47,12 +47,12 @@ module _ (cards : List CardInfo) (history : List Entry) (request : Request) (rep
   other-card : (k : ℕ) (d : CardInfo) → k < length cards → k ≢ number → is_of (name_of (get_or cards k d)) request ≡ false
   other-card k d within other =
       is_of-other (name_of (get_or cards k d)) request (λ same.
-        let named = number-named cards request number d known in
-        let below = number-within cards request number known in
-        elim (cases_lt k number) [
-          inl lower ↦ valid.distinct k number d lower below (same ∙ sym named)
-          | inr higher ↦ valid.distinct number k d (omega arith) within (named ∙ sym same)
-        ])
+      let named = number-named cards request number d known in
+      let below = number-within cards request number known in
+      elim (cases_lt k number) [
+        | inl lower ↦ valid.distinct k number d lower below (same ∙ sym named)
+        | inr higher ↦ valid.distinct number k d (omega arith) within (named ∙ sym same)
+      ])
 
   -- the row of the request's card gets the decision, and the others stay
   row-after : (k : ℕ) (d : List Decision) → k < length cards → get_or (set (rows_of cards history) number (decided_for request history ++ record { request = request; reply = reply; place = length history } ∷ [])) k d ≡ get_or (rows_of cards (history ++ Decided request reply ∷ [])) k d
@@ -60,17 +60,17 @@ module _ (cards : List CardInfo) (history : List Entry) (request : Request) (rep
       let longer : List Decision = decided_for request history ++ record { request = request; reply = reply; place = length history } ∷ [] in
       let long : length (rows_of cards history) ≡ length cards = length-map cards (λ card. decided (name_of card) history) in
       elim (cases_eq k number) [
-        inl same ↦
-          let below : number < length (rows_of cards history) = let at = number-within cards request number known in omega arith in
-          ap (λ n. get_or (set (rows_of cards history) number longer) n d) same
-          ∙ get_or-set_same (rows_of cards history) number longer d below
-          ∙ sym (row-decided cards (history ++ Decided request reply ∷ []) request number d known ∙ decided-more (card_of request) history request reply (is_of-card_of request))
-          ∙ ap (λ n. get_or (rows_of cards (history ++ Decided request reply ∷ [])) n d) (sym same)
+        | inl same ↦
+            let below : number < length (rows_of cards history) = let at = number-within cards request number known in omega arith in
+            ap (λ n. get_or (set (rows_of cards history) number longer) n d) same
+            ∙ get_or-set_same (rows_of cards history) number longer d below
+            ∙ sym (row-decided cards (history ++ Decided request reply ∷ []) request number d known ∙ decided-more (card_of request) history request reply (is_of-card_of request))
+            ∙ ap (λ n. get_or (rows_of cards (history ++ Decided request reply ∷ [])) n d) (sym same)
         | inr other ↦
-          let card : CardInfo = (number_of-found (card_of request) cards number known).0 in
-          get_or-set_other (rows_of cards history) number k longer d other
-          ∙ get_or-map (λ card. decided (name_of card) history) cards k card d within
-          ∙ sym (get_or-map (λ card. decided (name_of card) (history ++ Decided request reply ∷ [])) cards k card d within
+            let card : CardInfo = (number_of-found (card_of request) cards number known).0 in
+            get_or-set_other (rows_of cards history) number k longer d other
+            ∙ get_or-map (λ card. decided (name_of card) history) cards k card d within
+            ∙ sym (get_or-map (λ card. decided (name_of card) (history ++ Decided request reply ∷ [])) cards k card d within
             ∙ decided-other (name_of (get_or cards k card)) history request reply (other-card k card within other))
       ]
 

@@ -8,3 +8,6 @@ mod row;
 pub use card::CardInfo;
 pub use issuer::{Issuer, IssuerFault};
 pub use row::{Outcome, Row};
+
+#[cfg(test)]
+mod tests;

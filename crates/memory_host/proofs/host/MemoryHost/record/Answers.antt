@@ -23,12 +23,11 @@ returns-in-Ok-clause-turn c = λ history stands.
     let known : number_of (card_of c.args.request) host.cards ≡ Some c.args.card = subst (λ (host : Holding). number_of (card_of c.args.request) host.cards ≡ Some c.args.card) same c.requires.known in
     let decision : Decision = record { request = c.args.request; reply = c.approval-reply.result; place = host.records } in
     let written : c.add_to.new.rows ≡ set host.rows c.args.card (get_or host.rows c.args.card [] ++ decision ∷ []) =
-      c.in-Ok.ensures.ok
-      ∙ ap (λ rows. set rows c.args.card (get_or rows c.args.card [] ++ record { request = c.args.request; reply = c.copy.result; place = c.self.inside.records } ∷ [])) c.as_mut_slice.ensures.value
-      ∙ ap (λ reply. set host.rows c.args.card (get_or host.rows c.args.card [] ++ record { request = c.args.request; reply = reply; place = c.self.inside.records } ∷ [])) c.copy.ensures in
+    c.in-Ok.ensures.ok
+    ∙ ap (λ rows. set rows c.args.card (get_or rows c.args.card [] ++ record { request = c.args.request; reply = c.copy.result; place = c.self.inside.records } ∷ [])) c.as_mut_slice.ensures.value
+    ∙ ap (λ reply. set host.rows c.args.card (get_or host.rows c.args.card [] ++ record { request = c.args.request; reply = reply; place = c.self.inside.records } ∷ [])) c.copy.ensures in
     let long : length c.add_to.new.rows ≡ c.self.inside.rows.len = ap length written ∙ length-set host.rows c.args.card (get_or host.rows c.args.card [] ++ decision ∷ []) ∙ sym (ap length c.as_mut_slice.ensures.value) ∙ c.as_mut_slice.ensures.len in
-    let kept = with_items_is c.self.inside.rows c.add_to.new.rows long in
-    (
+    let kept = with_items_is c.self.inside.rows c.add_to.new.rows long in (
       history ++ Decided c.args.request c.approval-reply.result ∷ [],
       stands-more host history c.args.request c.approval-reply.result c.args.card _ valid known stands' (kept ∙ written),
       (c.requires.unused history stands, refl, stands'.records_are, c.approval-reply.ensures, refl),
