@@ -1,0 +1,6 @@
+//! The host of one caller whose records are kept in memory.
+#![tactic(auto)]
+
+mod host;
+
+pub use host::MemoryHost;
