@@ -1,0 +1,8 @@
+//! Reading the chip data of a request.
+#![tactic(auto)]
+
+mod form;
+mod reading;
+mod slots;
+
+pub use reading::RequestFault;
