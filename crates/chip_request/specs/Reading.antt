@@ -1,7 +1,6 @@
 -- The request that chip data say, or the first thing that is wrong with them.
-use Rattle.std.specs.Prelude.{ℕ, Bool, true, false, not, List, [], ◌∷◌, replicate, slice_index, Option, Some, None, Result, Ok, Err, ◌==◌, if◌then◌else◌}
+use Rattle.std.specs.Prelude.{ℕ, ◌+◌, ◌*◌, Bool, true, false, not, List, [], ◌∷◌, replicate, slice_index, Option, Some, None, Result, Ok, Err, ◌==◌, if◌then◌else◌}
 use Rattle.tlv_objects.specs.Tlv.{TlvObject, TlvText, objects_of}
-use Rattle.tlv_objects.specs.Grammar.{big_endian}
 use Rattle.issuer_base.specs.declared.request.Parts.{Parts}
 use Rattle.chip_request.specs.declared.reading.RequestFault.{RequestFault}
 use Rattle.chip_request.specs.declared.reading.RequestFault.TheVariants.{BadTlv, Missing, BadField, Repeated}
@@ -46,7 +45,7 @@ parts_of objects = record {
   pan = leading_digits (value 0x5A);
   psn = slice_index (value 0x5F34) 0;
   aip = value 0x82;
-  atc = big_endian (value 0x9F36);
+  atc = 256 * slice_index (value 0x9F36) 0 + slice_index (value 0x9F36) 1;
   tvr = value 0x95;
   date = value 0x9A;
   kind = slice_index (value 0x9C) 0;

@@ -5,4 +5,4 @@ mod form;
 mod reading;
 mod slots;
 
-pub use reading::RequestFault;
+pub use reading::{LONGEST, RequestFault, read_request};

@@ -1,8 +1,8 @@
 //! The fields of a request, and what a walk over the objects keeps of each.
-ghost use Rattle.std.specs.Prelude.{◌≡◌, map};
+ghost use Rattle.std.specs.Prelude.{◌≡◌, map, option_map};
 ghost use Rattle.tlv_objects.specs.Seen.{seen as object_seen};
 ghost use Rattle.chip_request.specs.Fields.{fields};
-ghost use Rattle.chip_request.specs.Slots.{with_value, with_object, unfound};
+ghost use Rattle.chip_request.specs.Slots.{with_value, with_object, unfound, is_wrong, first_wrong_found, first_with_tag, sized};
 ghost use Rattle.chip_request.specs.SlotViews.{found_in};
 
 use crate::form::Form;
@@ -80,6 +80,19 @@ impl<'a> Slot<'a> {
         }
     }
 
+    fn is(self, wrong: Wrong) -> bool
+        ensures { result ≡ is_wrong wrong (found_in self.entry) }
+    {
+        match wrong {
+            Wrong::Missing => self.field.is_required && self.first.is_none(),
+            Wrong::Misformed => match self.first {
+                None => false,
+                Some(value) => !self.field.form.fits(value),
+            },
+            Wrong::Repeated => self.is_repeated,
+        }
+    }
+
     fn with_object(self, object: Object<'a>) -> Slot<'a>
         ensures { found_in result ≡ with_object (object_seen object.entry) (found_in self.entry) }
     {
@@ -91,6 +104,14 @@ impl<'a> Slot<'a> {
     }
 }
 
+/// What may be wrong with a field.
+#[derive(Clone, Copy, Debug, PartialEq, Eq)]
+pub enum Wrong {
+    Missing,
+    Misformed,
+    Repeated,
+}
+
 /// Takes one more object into its slot, if it has one.
 pub fn note<'a>(slots: &mut [Slot<'a>; 15], object: Object<'a>)
     ensures { map found_in slots.new ≡ map (with_object (object_seen object.entry)) (map found_in slots.old) }
@@ -98,4 +119,41 @@ pub fn note<'a>(slots: &mut [Slot<'a>; 15], object: Object<'a>)
     for slot in slots.iter_mut() {
         *slot = slot.with_object(object);
     }
+}
+
+/// The tag of the first field with which this is wrong.
+pub fn first_wrong(slots: &[Slot<'_>; 15], wrong: Wrong) -> Option<u32>
+    ensures { result ≡ first_wrong_found wrong (map found_in slots.now) }
+{
+    for slot in slots {
+        if slot.is(wrong) {
+            return Some(slot.field.tag);
+        }
+    }
+    None
+}
+
+/// The value of the first object with this tag, which is a field's.
+pub fn first_value<'a>(slots: &[Slot<'a>; 15], tag: u32) -> Option<&'a [u8]>
+    ensures { option_map (λ value. value.now) result ≡ first_with_tag tag (map found_in slots.now) }
+{
+    for slot in slots {
+        if slot.field.tag == tag {
+            return slot.first;
+        }
+    }
+    None
+}
+
+/// That value in an array, and 00 bytes where the field is absent.
+pub fn bytes<const N: usize>(slots: &[Slot<'_>; 15], tag: u32) -> [u8; N]
+    ensures { result ≡ sized N (first_with_tag tag (map found_in slots.now)) }
+{
+    let mut bytes = [0; N];
+    if let Some(value) = first_value(slots, tag) {
+        if value.len() == N {
+            bytes.copy_from_slice(value);
+        }
+    }
+    bytes
 }
