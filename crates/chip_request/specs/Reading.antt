@@ -10,7 +10,7 @@ use Rattle.chip_request.specs.Fields.{Field, fields, leading_digits}
 unfoldable pub values_of : ℕ → List TlvObject → List (List ℕ)
 values_of tag [] = []
 values_of tag (object ∷ objects) =
-    if object.tag == tag then object.value ∷ values_of tag objects else values_of tag objects
+    if tag == object.tag then object.value ∷ values_of tag objects else values_of tag objects
 
 -- a field is missing where it has to be there and no object has its tag
 abbrev pub is_missing : Field → List (List ℕ) → Bool
