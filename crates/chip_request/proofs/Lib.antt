@@ -1,0 +1,4 @@
+pub mod Walk
+pub mod Meaning
+pub mod Good
+pub mod Digits
