@@ -1,0 +1,3 @@
+pub mod Pieces
+pub mod CardLine
+pub mod CardList
