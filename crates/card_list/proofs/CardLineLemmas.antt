@@ -1,6 +1,5 @@
 -- A line's words, one at a time.
-use Rattle.std.proofs.Common.{◌≡◌, ℕ, List, [], ◌∷◌, Option, None, ap, ◌∙◌, refl}
-use Rattle.row_core.specs.declared.card.CardInfo.{CardInfo}
+use Rattle.std.proofs.Common.{◌≡◌, ℕ, List, [], ◌∷◌, None, ap, ◌∙◌}
 use Rattle.card_list.specs.CardLine.{card_of_line, card_of_words}
 use Rattle.card_list.specs.Pieces.{pieces, space}
 use Rattle.card_list.proofs.PiecesLemmas.{pieces-cons}

@@ -1,11 +1,10 @@
 -- The list, one line at a time.
-use Rattle.std.proofs.Common.{◌≡◌, ℕ, ◌<◌, ◌≤◌, nat_le, Bool, true, false, List, [], ◌∷◌, ◌++◌, length, map, Option, Some, None, refl, sym, ap, ◌∙◌, append-nil, append_assoc, length-append, arith}
+use Rattle.std.proofs.Common.{◌≡◌, ℕ, ◌<◌, ◌≤◌, List, [], ◌∷◌, ◌++◌, length, map, Option, Some, None, refl, sym, ap, ◌∙◌, append-nil, append_assoc, length-append, arith}
 use Rattle.std.proofs.lemmas.List.{length-map}
 use Rattle.std.specs.Option.{option_map, IfSome}
-use Rattle.std.specs.List.{list_all}
 use Rattle.issuer_base.specs.CardNumber.{is_pan, pan_from}
 use Rattle.row_core.specs.declared.card.CardInfo.{CardInfo}
-use Rattle.card_list.specs.CardLine.{card_of_line, pan_of, digit, is_digit}
+use Rattle.card_list.specs.CardLine.{card_of_line, pan_of, digit}
 use Rattle.card_list.specs.CardList.{card_before, cards_of_pieces}
 use Rattle.card_list.specs.Pieces.{pieces, newline}
 use Rattle.card_list.proofs.PiecesLemmas.{pieces-cons}

@@ -1,3 +1,4 @@
 pub mod PiecesLemmas
 pub mod CardLineLemmas
 pub mod CardListLemmas
+pub mod ListLaws

@@ -1,5 +1,5 @@
 -- What the list says: a line for each card.
-use Rattle.std.specs.Prelude.{ℕ, Bool, true, false, not, ◌&&◌, ◌==◌, nat_le, if◌then◌else◌, List, [], ◌∷◌, length, Option, Some, None}
+use Rattle.std.specs.Prelude.{◌≡◌, ℕ, Bool, true, not, ◌&&◌, ◌==◌, nat_le, if◌then◌else◌, List, [], ◌∷◌, length, Option, Some, None}
 use Rattle.std.specs.List.{list_any}
 use Rattle.std.specs.Str.{bytes_eq}
 use Rattle.row_core.specs.declared.card.CardInfo.{CardInfo}
@@ -48,3 +48,7 @@ are_distinct (card ∷ cards) = not (list_any (is_same_card card) cards) && are_
 -- the cards of a list, none of which stands twice
 unfoldable pub cards_of : List ℕ → Option (List CardInfo)
 cards_of text = passing are_distinct (listed_cards text)
+
+-- two cards differ in their account number or their sequence number
+abbrev pub AreOther : CardInfo → CardInfo → Type 0
+AreOther card other = ¬ ((card.pan ≡ other.pan) × (card.psn ≡ other.psn))

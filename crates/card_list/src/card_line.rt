@@ -26,7 +26,7 @@ fn four_words(line: &[u8]) -> Option<(&[u8], &[u8], &[u8], &[u8])>
     ensures { MatchOption result
         (card_of_line line.now ≡ None)
         (λ words. card_of_line line.now
-            ≡ card_of_words (words.0.now ∷ words.1.now ∷ words.2.now ∷ words.3.now ∷ [])) }
+        ≡ card_of_words (words.0.now ∷ words.1.now ∷ words.2.now ∷ words.3.now ∷ [])) }
 {
     let (first, rest) = cut(line, b' ')?;
     let (second, rest) = cut(rest, b' ')?;

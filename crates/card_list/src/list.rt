@@ -1,7 +1,7 @@
-ghost use Rattle.std.specs.Prelude.{◌≡◌, ◌≤◌, Some, None, length, vec_len, ◌<◌, IfOk, IfSome, IsTrue, All, AllPairs, nat_eq};
+ghost use Rattle.std.specs.Prelude.{◌≡◌, ◌≤◌, Some, None, length, vec_len, ◌<◌, IfOk, IfSome, IsTrue, All, AllPairs};
 ghost use Rattle.std.specs.List.{list_any};
 ghost use Rattle.issuer_base.specs.ChipData.{is_bcd};
-ghost use Rattle.card_list.specs.CardList.{are_distinct, cards_of, cards_of_pieces, is_same_card, listed_cards};
+ghost use Rattle.card_list.specs.CardList.{AreOther, are_distinct, cards_of, cards_of_pieces, is_same_card, listed_cards};
 ghost use Rattle.card_list.specs.Pieces.{pieces, newline};
 
 use crate::card_line::read_card;
@@ -41,6 +41,11 @@ impl<T: Drop> From<AllocFailed<T>> for ListFault {
 pub fn read_list(alloc: Global, text: &[u8]) -> Result<Vec<CardInfo>, ListFault>
     ensures ok { IfOk result (λ cards. cards_of text.now ≡ Some cards.items) }
     ensures broken { result ≡ Err ListFault.Broken → cards_of text.now ≡ None }
+
+    // What callers need of the cards.
+    ensures number { IfOk result (λ cards. (1 ≤ vec_len cards) × (vec_len cards ≤ 4096)) }
+    ensures distinct { IfOk result (λ cards. AllPairs AreOther cards.items) }
+    ensures decimal { IfOk result (λ cards. All (λ card. IsTrue (is_bcd card.psn)) cards.items) }
 {
     let cards = read_cards(alloc, text)?;
     if !are_distinct(&cards) {
@@ -54,6 +59,10 @@ pub fn read_list(alloc: Global, text: &[u8]) -> Result<Vec<CardInfo>, ListFault>
 pub fn read_cards(alloc: Global, text: &[u8]) -> Result<Vec<CardInfo>, ListFault>
     ensures ok { IfOk result (λ cards. listed_cards text.now ≡ Some cards.items) }
     ensures broken { result ≡ Err ListFault.Broken → listed_cards text.now ≡ None }
+
+    // What callers need of the cards.
+    ensures number { IfOk result (λ cards. (1 ≤ vec_len cards) × (vec_len cards ≤ 4096)) }
+    ensures decimal { IfOk result (λ cards. All (λ card. IsTrue (is_bcd card.psn)) cards.items) }
 {
     if text.len() > MOST_BYTES {
         return Err(ListFault::Broken);
@@ -121,16 +130,81 @@ mod tests {
 
     #[test]
     fn reads_a_list(rt: HostRuntime) -> Result<(), Fail> {
-        let text = b"card 4000000000000002 00 1\ncard 12345678 12 2\ncard 1234567890123456789 99 1\n";
-        let cards = read_list(rt.alloc(), text).unwrap();
+        let text =
+            b"card 4000000000000002 00 1\ncard 12345678 12 2\ncard 1234567890123456789 99 1\n";
+        let cards = read_list(rt.alloc(), text).unwrap_or(Vec::new(rt.alloc()));
         assert_eq!(rt; cards.len(), 3);
-        assert_eq!(rt; cards[0].pan.digits(), [4, 0, 0, 0, 0, 0, 0, 0, 0, 0, 0, 0, 0, 0, 0, 2].as_slice());
-        assert_eq!(rt; cards[0].psn, 0);
-        assert_eq!(rt; cards[0].method, Method::One);
-        assert_eq!(rt; cards[1].pan.digits(), [1, 2, 3, 4, 5, 6, 7, 8].as_slice());
-        assert_eq!(rt; cards[1].psn, 0x12);
-        assert_eq!(rt; cards[1].method, Method::Two);
-        assert_eq!(rt; cards[2].psn, 0x99);
+        let long: [u8; 19] = [1, 2, 3, 4, 5, 6, 7, 8, 9, 0, 1, 2, 3, 4, 5, 6, 7, 8, 9];
+        let expected: [(&[u8], u8, Method); 3] = [
+            (
+                &[4, 0, 0, 0, 0, 0, 0, 0, 0, 0, 0, 0, 0, 0, 0, 2],
+                0x00,
+                Method::One,
+            ),
+            (&[1, 2, 3, 4, 5, 6, 7, 8], 0x12, Method::Two),
+            (&long, 0x99, Method::One),
+        ];
+        for (card, (pan, psn, method)) in cards.iter().zip(expected) {
+            assert_eq!(rt; card.pan.digits(), pan);
+            assert_eq!(rt; card.psn, psn);
+            assert_eq!(rt; card.method, method);
+        }
         Ok(())
+    }
+
+    #[test]
+    fn refuses_other_texts(rt: HostRuntime) {
+        let texts: [(&str, &[u8]); 22] = [
+            ("no line", b""),
+            ("no newline at the end", b"card 12345678 00 1"),
+            (
+                "a last line without its newline",
+                b"card 12345678 00 1\ncard 12345679 00 1",
+            ),
+            ("an empty line alone", b"\n"),
+            ("an empty line at the end", b"card 12345678 00 1\n\n"),
+            (
+                "an empty line between",
+                b"card 12345678 00 1\n\ncard 12345679 00 1\n",
+            ),
+            ("two spaces", b"card  12345678 00 1\n"),
+            ("a space in front", b" card 12345678 00 1\n"),
+            ("a space at the end", b"card 12345678 00 1 \n"),
+            ("a carriage return", b"card 12345678 00 1\r\n"),
+            ("seven digits", b"card 1234567 00 1\n"),
+            ("twenty digits", b"card 12345678901234567890 00 1\n"),
+            ("a letter in the account number", b"card 1234567a 00 1\n"),
+            ("a letter in the sequence number", b"card 12345678 0a 1\n"),
+            ("a sequence number of one digit", b"card 12345678 0 1\n"),
+            (
+                "a sequence number of three digits",
+                b"card 12345678 000 1\n",
+            ),
+            ("method 0", b"card 12345678 00 0\n"),
+            ("method 3", b"card 12345678 00 3\n"),
+            ("no method", b"card 12345678 00\n"),
+            ("a capital letter", b"Card 12345678 00 1\n"),
+            ("a card twice", b"card 12345678 00 1\ncard 12345678 00 2\n"),
+            (
+                "a card twice, apart",
+                b"card 12345678 00 1\ncard 12345678 01 1\ncard 12345678 00 1\n",
+            ),
+        ];
+        for (name, text) in texts {
+            assert_eq!(rt;
+                read_list(rt.alloc(), text).err(),
+                Some(ListFault::Broken),
+                "{name}"
+            );
+        }
+    }
+
+    #[test]
+    fn lines_may_repeat_a_card(rt: HostRuntime) {
+        let text = b"card 12345678 00 1\ncard 12345678 00 2\n";
+        assert_eq!(rt;
+            read_cards(rt.alloc(), text).map(|cards| cards.len()),
+            Ok(2)
+        );
     }
 }

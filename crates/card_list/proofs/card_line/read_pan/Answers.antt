@@ -1,4 +1,4 @@
-use Rattle.std.proofs.Common.{◌≡◌, ◌<◌, length, sym, arith}
+use Rattle.std.proofs.Common.{◌<◌, length, sym, arith}
 use Rattle.std.proofs.lemmas.Grind.{common_steps}
 use Rattle.card_list.proofs.CardListLemmas.{pan_of-long}
 use Rattle.card_list.proofs.card_line.read_pan.Goals as goal

@@ -1,4 +1,4 @@
-use Rattle.std.proofs.Common.{sym, arith}
+use Rattle.std.proofs.Common.{arith}
 use Rattle.card_list.proofs.CardListLemmas.{HasRead-nothing, HasRead-line, too_many, no_card, no_newline, all_read}
 use Rattle.card_list.proofs.list.read_lines.Goals as goal
 

@@ -1,6 +1,4 @@
-use Rattle.std.proofs.Common.{◌+◌, ap, ◌∙◌, sym, ◌∷◌, take}
 use Rattle.std.proofs.lemmas.List.{take_rest}
-use Rattle.card_list.specs.Pieces.{pieces}
 use Rattle.card_list.proofs.PiecesLemmas.{pieces-none, pieces-first}
 use Rattle.card_list.proofs.pieces.cut.Goals as goal
 
