@@ -1,4 +1,5 @@
-pub mod PiecesLemmas
 pub mod CardLineLemmas
 pub mod CardListLemmas
 pub mod ListLaws
+pub mod PiecesLemmas
+pub mod Written

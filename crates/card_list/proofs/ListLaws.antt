@@ -13,7 +13,7 @@ use Rattle.card_list.specs.CardLine.{card_from, card_of_line, card_of_words, psn
 use Rattle.card_list.specs.CardList.{AreOther, are_distinct, card_before, cards_of, cards_of_pieces, is_in_number, is_same_card, listed_cards, passing}
 use Rattle.card_list.specs.Pieces.{pieces, newline, space}
 
-passing-some : (test : List CardInfo → Bool) (found : Option (List CardInfo)) (cards : List CardInfo) → passing test found ≡ Some cards → (found ≡ Some cards) × (test cards ≡ true)
+pub passing-some : (test : List CardInfo → Bool) (found : Option (List CardInfo)) (cards : List CardInfo) → passing test found ≡ Some cards → (found ≡ Some cards) × (test cards ≡ true)
 passing-some test None cards h = cc h
 passing-some test (Some found) cards h =
     elim (cases_Bool (test found)) [
@@ -24,7 +24,7 @@ passing-some test (Some found) cards h =
       | inr fails ↦ let e : None ≡ Some cards = rw fails at h in cc
     ]
 
-if-some : {A : Type 0} (b : Bool) (found : Option A) (x : A) → (if b then found else None) ≡ Some x → found ≡ Some x
+pub if-some : {A : Type 0} (b : Bool) (found : Option A) (x : A) → (if b then found else None) ≡ Some x → found ≡ Some x
 if-some true found x h = h
 if-some false found x h = cc h
 
