@@ -29,7 +29,7 @@ pub HasRead-nothing : (text : List ℕ) → HasRead text [] text
 HasRead-nothing text = record { so_far = option_map-same (cards_of_pieces (pieces newline text)); few = omega arith }
 
 -- a line in front of the rest
-line-first : (rest line after : List ℕ) → pieces newline rest ≡ line ∷ pieces newline after → cards_of_pieces (pieces newline rest) ≡ card_before (card_of_line line) (cards_of_pieces (pieces newline after))
+pub line-first : (rest line after : List ℕ) → pieces newline rest ≡ line ∷ pieces newline after → cards_of_pieces (pieces newline rest) ≡ card_before (card_of_line line) (cards_of_pieces (pieces newline after))
 unfolding cards_of_pieces
 line-first rest line after h =
     let next = pieces-cons newline after in

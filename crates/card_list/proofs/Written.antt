@@ -1,5 +1,5 @@
 -- What is read is what the cards' lines write.
-use Rattle.std.proofs.Common.{◌≡◌, ℕ, ◌+◌, ◌*◌, ◌/◌, ◌%◌, nat_le, Bool, true, false, ◌&&◌, if◌then◌else◌, inl, inr, List, [], ◌∷◌, ◌++◌, length, map, codes, Option, Some, None, refl, sym, ap, ◌∙◌, append_assoc, arith}
+use Rattle.std.proofs.Common.{◌≡◌, ℕ, ◌+◌, ◌*◌, ◌/◌, ◌%◌, nat_le, true, ◌&&◌, if◌then◌else◌, inl, inr, List, [], ◌∷◌, ◌++◌, length, map, codes, Option, Some, None, refl, sym, ap, ◌∙◌, append_assoc, arith}
 use Rattle.std.proofs.lemmas.Bool.{and_parts, cases_Bool}
 use Rattle.std.proofs.lemmas.List.Splits.{join_with_byte-slice_split}
 use Rattle.std.proofs.lemmas.Slice.Eq.{bytes_eq-Decides}
@@ -9,15 +9,11 @@ use Rattle.issuer_base.specs.CardNumber.{pan_from}
 use Rattle.issuer_base.specs.declared.answer.Method.{Method}
 use Rattle.issuer_base.specs.declared.answer.Method.TheVariants.{One, Two}
 use Rattle.row_core.specs.declared.card.CardInfo.{CardInfo}
-use Rattle.card_list.specs.CardLine.{card_from, card_of_line, card_of_words, digit, is_digit, method_of, pan_of, psn_of}
+use Rattle.card_list.specs.CardLine.{card_of_line, card_of_words, digit, is_digit, method_of, pan_of, psn_of}
 use Rattle.card_list.specs.CardList.{card_before, cards_of_pieces, is_in_number, listed_cards}
 use Rattle.card_list.specs.CardText.{card_text, character, list_text, method_text}
 use Rattle.card_list.specs.Pieces.{pieces, newline, space}
-use Rattle.card_list.proofs.ListLaws.{if-some, passing-some}
-
-if-test : {A : Type 0} (b : Bool) (found : Option A) (x : A) → (if b then found else None) ≡ Some x → b ≡ true
-if-test true found x h = refl
-if-test false found x h = cc h
+use Rattle.card_list.proofs.ListLaws.{card_from-parts, if-some, if-test, passing-some}
 
 digit-written : (c : ℕ) → is_digit c ≡ true → character (digit c) ≡ c
 digit-written c h = grind arith
@@ -71,14 +67,8 @@ method_of-written text method h =
           ap method_text (sym same) ∙ sym is
     ]
 
-card_from-parts : (pan : Option (List ℕ)) (psn : Option ℕ) (method : Option Method) (card : CardInfo) → card_from pan psn method ≡ Some card → (pan ≡ Some card.pan) × (psn ≡ Some card.psn) × (method ≡ Some card.method)
-card_from-parts (Some pan) (Some psn) (Some method) card h = (cc h, cc h, cc h)
-card_from-parts (Some pan) (Some psn) None card h = cc h
-card_from-parts (Some pan) None method card h = cc h
-card_from-parts None psn method card h = cc h
-
 -- the words of a card's line
-abbrev words_of : CardInfo → List (List ℕ)
+abbrev pub words_of : CardInfo → List (List ℕ)
 words_of card = codes "card" ∷ map character card.pan ∷ (character (card.psn / 16) ∷ character (card.psn % 16) ∷ []) ∷ method_text card.method ∷ []
 
 card_of_words-written : (words : List (List ℕ)) (card : CardInfo) → card_of_words words ≡ Some card → words ≡ words_of card

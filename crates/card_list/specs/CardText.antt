@@ -1,6 +1,8 @@
--- How a list is written.
-use Rattle.std.specs.Prelude.{ℕ, ◌+◌, ◌/◌, ◌%◌, List, [], ◌∷◌, ◌++◌, map, codes}
+-- How a list is written: the other way round than `CardLine` and `CardList`, which say how one is read.
+use Rattle.std.specs.Prelude.{◌≡◌, ℕ, ◌+◌, ◌/◌, ◌%◌, ◌≤◌, List, [], ◌∷◌, ◌++◌, length, map, codes, All, IsTrue}
 use Rattle.std.specs.List.{flat_map, join_with_byte}
+use Rattle.issuer_base.specs.CardNumber.{is_pan}
+use Rattle.issuer_base.specs.ChipData.{is_bcd}
 use Rattle.issuer_base.specs.declared.answer.Method.{Method}
 use Rattle.issuer_base.specs.declared.answer.Method.TheVariants.{One, Two}
 use Rattle.row_core.specs.declared.card.CardInfo.{CardInfo}
@@ -25,3 +27,13 @@ card_text card =
 -- a list's text: the cards' lines, one after another
 unfoldable pub list_text : List CardInfo → List ℕ
 list_text cards = flat_map card_text cards
+
+-- a card that a list can name: an account number, and a sequence number of two decimal nibbles
+abbrev pub IsListable : CardInfo → Type 0
+IsListable card = IsTrue (is_pan card.pan) × IsTrue (is_bcd card.psn)
+
+-- a text lists these cards: it has their lines, and they are 1 to 4,096
+pub record Lists (text : List ℕ) (cards : List CardInfo) : Type 0 where
+  pub written : text ≡ list_text cards
+  pub number : (1 ≤ length cards) × (length cards ≤ 4096)
+  pub listable : All IsListable cards

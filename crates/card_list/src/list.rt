@@ -1,8 +1,8 @@
-ghost use Rattle.std.specs.Prelude.{◌≡◌, ◌≤◌, Some, None, length, vec_len, ◌<◌, IfOk, IfSome, IsTrue, All, AllPairs};
+ghost use Rattle.std.specs.Prelude.{◌≡◌, ◌<◌, ◌≤◌, List, Some, None, length, vec_len, IfOk, IfSome, AllPairs};
 ghost use Rattle.std.specs.List.{list_any};
-ghost use Rattle.issuer_base.specs.ChipData.{is_bcd};
+ghost use Rattle.row_core.specs.declared.card.CardInfo.{CardInfo};
 ghost use Rattle.card_list.specs.CardList.{AreOther, are_distinct, cards_of, cards_of_pieces, is_same_card, listed_cards};
-ghost use Rattle.card_list.specs.CardText.{list_text};
+ghost use Rattle.card_list.specs.CardText.{Lists};
 ghost use Rattle.card_list.specs.Pieces.{pieces, newline};
 
 use crate::card_line::read_card;
@@ -43,11 +43,11 @@ pub fn read_list(alloc: Global, text: &[u8]) -> Result<Vec<CardInfo>, ListFault>
     ensures ok { IfOk result (λ cards. cards_of text.now ≡ Some cards.items) }
     ensures broken { result ≡ Err ListFault.Broken → cards_of text.now ≡ None }
 
-    // What holds of any list.
-    ensures written { IfOk result (λ cards. text.now ≡ list_text cards.items) }
-    ensures number { IfOk result (λ cards. (1 ≤ vec_len cards) × (vec_len cards ≤ 4096)) }
+    // The same, by how a list is written.
+    ensures lists { IfOk result (λ cards. Lists text.now cards.items) }
     ensures distinct { IfOk result (λ cards. AllPairs AreOther cards.items) }
-    ensures decimal { IfOk result (λ cards. All (λ card. IsTrue (is_bcd card.psn)) cards.items) }
+    ensures no_list { result ≡ Err ListFault.Broken
+        → (cards : List CardInfo) → Lists text.now cards → ¬ AllPairs AreOther cards }
 {
     let cards = read_cards(alloc, text)?;
     if !are_distinct(&cards) {
@@ -62,10 +62,9 @@ pub fn read_cards(alloc: Global, text: &[u8]) -> Result<Vec<CardInfo>, ListFault
     ensures ok { IfOk result (λ cards. listed_cards text.now ≡ Some cards.items) }
     ensures broken { result ≡ Err ListFault.Broken → listed_cards text.now ≡ None }
 
-    // What holds of any list.
-    ensures written { IfOk result (λ cards. text.now ≡ list_text cards.items) }
-    ensures number { IfOk result (λ cards. (1 ≤ vec_len cards) × (vec_len cards ≤ 4096)) }
-    ensures decimal { IfOk result (λ cards. All (λ card. IsTrue (is_bcd card.psn)) cards.items) }
+    // The same, by how a list is written.
+    ensures lists { IfOk result (λ cards. Lists text.now cards.items) }
+    ensures no_list { result ≡ Err ListFault.Broken → (cards : List CardInfo) → ¬ Lists text.now cards }
 {
     if text.len() > MOST_BYTES {
         return Err(ListFault::Broken);
