@@ -1,5 +1,5 @@
 -- What the definition of an account number says of its digits.
-use Rattle.std.proofs.Common.{◌≡◌, ℕ, ◌<◌, ◌≤◌, List, length, get_or, Option, Some, IsTrue}
+use Rattle.std.proofs.Common.{◌≡◌, ℕ, ◌<◌, ◌≤◌, List, length, get_or, Some, IsTrue}
 use Rattle.std.proofs.lemmas.Bool.{and_parts, cond-true, leb-true}
 use Rattle.std.proofs.lemmas.Option.{cond_some}
 use Rattle.issuer_base.specs.CardNumber.{is_pan, pan_from}

@@ -1,5 +1,5 @@
 -- What the definition of a request says of its fields.
-use Rattle.std.proofs.Common.{◌≡◌, ℕ, ◌^◌, ◌<◌, ◌≤◌, List, length, get_or, Option, Some, IsTrue, ap, arith}
+use Rattle.std.proofs.Common.{◌≡◌, ◌^◌, ◌<◌, length, Some, IsTrue, ap, arith}
 use Rattle.std.proofs.lemmas.Bool.{and_parts, cond-true}
 use Rattle.std.proofs.lemmas.Option.{cond_some}
 use Rattle.std.specs.List.{list_all}

@@ -16,7 +16,7 @@ pub use entry::Entry;
 pub use faults::{
     BadCommand, Full, NoMemory, NotEntry, QueueFull, ReadFault, StoreFail, WriteFault,
 };
-pub use outside::{Desk, DeskFault, Sink, Source, write_all};
+pub use outside::{Desk, DeskFault, MemoryDesk, MemorySink, MemorySource, Sink, Source, write_all};
 pub use pan::Pan;
 pub use request::{Parts, Request};
 pub use words::Words;

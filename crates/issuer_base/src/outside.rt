@@ -5,8 +5,20 @@ ghost use Rattle.std.specs.Io.KnownBytes.{ReadConsumes, WriteAppends};
 ghost use Rattle.issuer_base.specs.OutsideFaults.{CountsFaults};
 ghost use Rattle.issuer_base.specs.Sink.{WritesAll};
 ghost use Rattle.issuer_base.specs.Desk.{GivesHeld, is_fault};
+ghost use Rattle.issuer_base.specs.declared.outside.DeskFault.TheVariants.{NoMemory};
+
+mod failing_calls;
+mod memory_desk;
+mod memory_sink;
+mod memory_source;
+#[cfg(test)]
+mod tests;
 
 use crate::faults::{ReadFault, WriteFault};
+pub use memory_desk::MemoryDesk;
+pub use memory_sink::MemorySink;
+pub use memory_source::MemorySource;
+use std::alloc::AllocError;
 
 /// Bytes that are read from front to end.
 ///
@@ -57,6 +69,14 @@ pub enum DeskFault {
     Fault,
     /// No memory was left.
     NoMemory,
+}
+
+impl From<AllocError> for DeskFault {
+    ghost from_gives = { λ _ fault. fault ≡ NoMemory };
+
+    fn from(_error: AllocError) -> DeskFault {
+        DeskFault::NoMemory
+    }
 }
 
 /// Opens inputs by their names.

@@ -170,7 +170,7 @@ impl Request {
     pub fn last_online(&self) -> u16
         ensures { result ≡ last_online self.now }
     {
-        u16::from(self.fields.iad[17]) * 256 + u16::from(self.fields.iad[18])
+        u16::from_be_bytes([self.fields.iad[17], self.fields.iad[18]])
     }
 
     /// The amount authorised, in the currency's smallest unit.

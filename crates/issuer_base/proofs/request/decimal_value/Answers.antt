@@ -1,4 +1,4 @@
-use Rattle.std.proofs.Common.{◌<◌, ◌≤◌, length, subst, sym, arith}
+use Rattle.std.proofs.Common.{◌<◌, length, arith}
 use Rattle.issuer_base.proofs.Decimal.{decimal-more, decimal-below_six}
 use Rattle.issuer_base.proofs.request.decimal_value.Goals as goal
 

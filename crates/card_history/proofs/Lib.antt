@@ -1,0 +1,5 @@
+pub mod CardNames
+pub mod OneMoreRecord
+pub mod RecordPlaces
+pub mod Runs
+pub mod ConsistentRuns

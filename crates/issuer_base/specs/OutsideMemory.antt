@@ -1,0 +1,63 @@
+-- What a source, a sink and a desk in memory are seen as.
+use Rattle.std.specs.Prelude.{ℕ, ◌+◌, ◌-◌, ◌^◌, ◌==◌, min, Bool, List, Option, Some, find, reverse, if◌then◌else◌}
+use Rattle.std.specs.List.{list_any}
+use Rattle.std.specs.Option.{option_map}
+use Rattle.std.specs.Str.{bytes_eq}
+
+-- the calls of an object in memory: the numbers of those that fail, how many were made, and how many failed
+pub record Calls : Type 0 where
+  pub fails : List ℕ
+  pub made : ℕ
+  pub faults : ℕ
+
+-- the calls of a new object
+abbrev pub no_calls : List ℕ → Calls
+no_calls fails = record { fails = fails; made = 0; faults = 0 }
+
+-- the call that comes next is one of those that fail
+abbrev pub is_next_listed : Calls → Bool
+is_next_listed calls = list_any (λ call. call == calls.made) calls.fails
+
+-- a count that stops at its last value
+abbrev pub one_more : ℕ → ℕ
+one_more count = min (count + 1) (2 ^ 64 - 1)
+
+-- one call more was made, and it failed or not
+abbrev pub after_call : Calls → Bool → Calls
+after_call calls failed = record { fails = calls.fails; made = one_more calls.made; faults = if failed then one_more calls.faults else calls.faults }
+
+-- a source in memory: the bytes that are left, how many of them a read gives at most, and its calls
+pub record SourceState : Type 0 where
+  pub left : List ℕ
+  pub step : ℕ
+  pub calls : Calls
+
+-- a sink in memory: the bytes that it holds, how many it has room for in all, and its calls
+pub record SinkState : Type 0 where
+  pub held : List ℕ
+  pub room : ℕ
+  pub calls : Calls
+
+-- an input of a desk in memory: its name, its bytes, and the numbers of the reads that fail
+pub record HeldInput : Type 0 where
+  pub name : List ℕ
+  pub bytes : List ℕ
+  pub fails : List ℕ
+
+-- a desk in memory: its inputs in the order in which they were put there, its calls, and the name in the last one that failed
+pub record DeskState : Type 0 where
+  pub inputs : List HeldInput
+  pub calls : Calls
+  pub last_fault : Option (List ℕ)
+
+-- the input that was put under the name last
+abbrev pub input_under : List HeldInput → List ℕ → Option HeldInput
+input_under inputs name = find (λ input. bytes_eq input.name name) (reverse inputs)
+
+-- the bytes that stand under each name, if there are some
+abbrev pub bytes_under : List HeldInput → List ℕ → Option (Option (List ℕ))
+bytes_under inputs name = Some (option_map (λ input. input.bytes) (input_under inputs name))
+
+-- a new source over an input
+abbrev pub source_over : HeldInput → SourceState
+source_over input = record { left = input.bytes; step = 2 ^ 64 - 1; calls = no_calls input.fails }

@@ -1,0 +1,58 @@
+ghost use Rattle.std.specs.Prelude.{◌≡◌, true};
+ghost use Rattle.issuer_base.specs.OutsideFaults.{CountsFaults};
+ghost use Rattle.issuer_base.specs.OutsideMemory.{is_next_listed, no_calls, one_more};
+
+use std::marker::Model;
+
+/// Which calls of an object in memory fail, and how many were made and failed.
+///
+/// Both counts stop at 2^64 - 1.
+#[derive(Drop)]
+pub struct FailingCalls {
+    listed: Vec<u64>,
+    made: u64,
+    faults: u64,
+}
+
+impl Model for FailingCalls {
+    ghost use Rattle.issuer_base.specs.OutsideMemory.{Calls};
+
+    ghost Value = { Calls };
+
+    ghost view = { λ c. record { fails = c.listed.items; made = c.made; faults = c.faults } };
+}
+
+impl FailingCalls {
+    pub fn new(listed: Vec<u64>) -> FailingCalls
+        ensures { result ≡ no_calls listed.items }
+    {
+        FailingCalls {
+            listed,
+            made: 0,
+            faults: 0,
+        }
+    }
+
+    /// Counts a call, and says whether it is one of those that fail.
+    pub fn count_call(&mut self) -> bool
+        ensures listed { result ≡ is_next_listed self.old }
+        ensures counted { self.new ≡ record self.old { made = one_more self.old.made } }
+    {
+        let call = self.made;
+        self.made = call.saturating_add(1);
+        self.listed.contains(&call)
+    }
+
+    pub fn count_fault(&mut self)
+        ensures counted { self.new ≡ record self.old { faults = one_more self.old.faults } }
+        ensures count { CountsFaults self.old.faults self.new.faults true }
+    {
+        self.faults = self.faults.saturating_add(1);
+    }
+
+    pub fn faults(&self) -> u64
+        ensures { result ≡ self.now.faults }
+    {
+        self.faults
+    }
+}

@@ -1,0 +1,4 @@
+pub mod Pieces
+pub mod InLine
+pub mod LineLaws
+pub mod WholeLines

@@ -1,0 +1,45 @@
+-- What a reader of lines has given and has in memory, and the limits of an input of lines.
+use Rattle.std.specs.Prelude.{◌≡◌, ◌≢◌, ℕ, ◌+◌, ◌-◌, ◌<◌, ◌≤◌, ◌⊎◌, List, [], length, take}
+use Rattle.std.specs.List.{flat_map}
+use Rattle.line_reader.specs.declared.limits.TheConstants.{MAX_LINES, MAX_BYTES, KEPT_BYTES}
+use Rattle.line_reader.specs.Lines.{IsUnbroken, BeginsWithLines, ended}
+
+-- a reader of lines, as its callers see it
+pub record Reading : Type 0 where
+  -- the bytes that were read and stand in no line that was given
+  pub ahead : List ℕ
+  -- how many lines were given, and how many bytes these took with their newlines
+  pub lines : ℕ
+  pub bytes : ℕ
+  -- the line in hand, as far as it is kept
+  pub line : List ℕ
+
+-- a reader that has read nothing
+abbrev pub unread : Reading
+unread = record { ahead = []; lines = 0; bytes = 0; line = [] }
+
+-- a line as far as it is kept
+abbrev pub kept : List ℕ → List ℕ
+kept line = take KEPT_BYTES line
+
+-- so many lines, of so many bytes, are within the limits
+pub record IsWithinLimits (lines bytes : ℕ) : Type 0 where
+  pub lines_within : lines ≤ MAX_LINES
+  pub bytes_within : bytes ≤ MAX_BYTES
+
+-- after so many lines of so many bytes these bytes, in which no newline stands, go past no limit
+pub record StaysWithinLimits (lines bytes : ℕ) (more : List ℕ) : Type 0 where
+  pub line_fits : more ≢ [] → lines < MAX_LINES
+  pub bytes_fit : bytes + length more ≤ MAX_BYTES
+
+-- after so many lines of so many bytes a line too many begins, or the next line has a byte too many before a newline
+abbrev pub PassesLimit : ℕ → ℕ → List ℕ → Type 0
+PassesLimit lines bytes more =
+    ((lines ≡ MAX_LINES) × (more ≢ [])) ⊎ (IsUnbroken (take (MAX_BYTES - bytes) more) × (MAX_BYTES - bytes < length more))
+
+-- the reader has given these whole lines of the text that was read so far, the rest of which is ahead
+pub record HasGivenLines (reading : Reading) (text : List ℕ) (whole : List (List ℕ)) : Type 0 where
+  pub begins : BeginsWithLines text whole reading.ahead
+  pub lines_counted : reading.lines ≡ length whole
+  pub bytes_counted : reading.bytes ≡ length (flat_map ended whole)
+  pub within : IsWithinLimits reading.lines reading.bytes

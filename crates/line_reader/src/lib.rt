@@ -1,0 +1,11 @@
+//! The lines of an input, read in pieces of any size into one buffer of a fixed size.
+#![tactic(auto)]
+
+mod laws;
+mod limits;
+mod reader;
+mod window;
+
+pub use laws::lines_of_parts;
+pub use limits::{BUFFER_BYTES, KEPT_BYTES, MAX_BYTES, MAX_LINES, NEWLINE};
+pub use reader::{LineReader, NextLine};

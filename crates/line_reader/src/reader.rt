@@ -1,0 +1,139 @@
+//! The lines of an input, one at a time, up to the limits of an input.
+ghost use Rattle.std.specs.Prelude.{◌≡◌, ℕ, ◌-◌, ◌<◌, ◌≤◌, IfOk, if◌then◌else◌, ◌==◌};
+ghost use Rattle.issuer_base.specs.OutsideFaults.{CountsFaults};
+ghost use Rattle.line_reader.specs.declared.limits.TheConstants.{MAX_BYTES, MAX_LINES};
+ghost use Rattle.line_reader.specs.Reading.{unread};
+ghost use Rattle.line_reader.specs.NextLine.{GivesLine, GivesRest, ReachesEnd, StopsAtFault, StopsAtLimit, is_fault};
+
+use crate::limits::{MAX_BYTES, MAX_LINES};
+use crate::window::{Passed, Window};
+use issuer_base::{NoMemory, ReadFault, Source};
+use std::alloc::Global;
+use std::marker::Model;
+
+/// What comes next in an input of lines.
+#[derive(Clone, Copy, PartialEq, Eq, Debug)]
+pub enum NextLine {
+    /// A line that a newline ends.
+    Line,
+    /// The last line, which isn't empty and which no newline ends.
+    Rest,
+    /// The input is at its end, and every byte of it stands in a line that was given.
+    End,
+    /// The source failed. Every line that stands whole in the bytes read was given.
+    Fault,
+    /// A byte stands past a limit, in the line after those given.
+    TooLong,
+}
+
+/// Reads an input line by line, through one buffer of [`BUFFER_BYTES`](crate::BUFFER_BYTES).
+///
+/// After [`NextLine::End`], [`NextLine::Fault`] or [`NextLine::TooLong`] nobody asks again.
+#[derive(Drop)]
+pub struct LineReader {
+    window: Window,
+    lines: u32,
+    bytes: u64,
+}
+
+impl Model for LineReader {
+    ghost use Rattle.line_reader.specs.Reading.{Reading, IsWithinLimits};
+    ghost use Rattle.line_reader.specs.Window.{ahead_of, line_of};
+
+    ghost Value = { Reading };
+
+    ghost view = { λ r. record {
+      ahead = ahead_of r.window;
+      lines = r.lines;
+      bytes = r.bytes;
+      line = line_of r.window;
+    } };
+
+    ghost invariant = { λ r. IsWithinLimits r.lines r.bytes };
+}
+
+impl LineReader {
+    /// A reader that gave no line yet, with all the memory that it ever takes.
+    pub fn new(alloc: Global) -> Result<Self, NoMemory>
+        ensures { IfOk result (λ reader. reader ≡ unread) }
+    {
+        Ok(LineReader {
+            window: Window::new(alloc)?,
+            lines: 0,
+            bytes: 0,
+        })
+    }
+
+    /// The bytes of the line in hand without its newline, of which [`KEPT_BYTES`](crate::KEPT_BYTES) at most are kept.
+    pub fn line(&self) -> &[u8]
+        ensures { result.now ≡ self.now.line }
+    {
+        self.window.line()
+    }
+
+    /// How many lines were given: the number of the line in hand, counted from 1.
+    pub fn number(&self) -> u32
+        ensures lines { result ≡ self.now.lines }
+        ensures within { result ≤ MAX_LINES }
+    {
+        self.lines
+    }
+
+    /// Reads on to the end of the next line.
+    pub fn next_line<S: Source>(&mut self, source: &mut S) -> NextLine
+        ensures line { result ≡ NextLine.Line
+            → GivesLine (S.left source.old) (S.left source.new) self.old self.new }
+        ensures rest { result ≡ NextLine.Rest
+            → GivesRest (S.left source.old) (S.left source.new) self.old self.new }
+        ensures end { result ≡ NextLine.End
+            → ReachesEnd (S.left source.old) (S.left source.new) self.old self.new }
+        ensures fault { result ≡ NextLine.Fault
+            → StopsAtFault (S.left source.old) (S.left source.new) self.old self.new }
+        ensures too_long { result ≡ NextLine.TooLong
+            → StopsAtLimit (S.left source.old) (S.left source.new) self.old self.new }
+
+        // A fault is answered only where the source counted one.
+        ensures count { CountsFaults (S.faults source.old) (S.faults source.new) (is_fault result) }
+    {
+        let room = room_after(self.lines, self.bytes);
+        self.window.begin_line();
+        let mut length = 0;
+        loop {
+            match self.window.pass(room - length) {
+                Passed::ToNewline(count) => {
+                    self.lines += 1;
+                    self.bytes += length + count as u64 + 1;
+                    return NextLine::Line;
+                }
+                Passed::All(count) => length += count as u64,
+                Passed::NoRoom => return NextLine::TooLong,
+            }
+            match self.window.fill(source) {
+                Err(ReadFault) => return NextLine::Fault,
+                Ok(0) => break,
+                Ok(_) => {}
+            }
+        }
+        if length == 0 {
+            return NextLine::End;
+        }
+        self.lines += 1;
+        self.bytes += length;
+        NextLine::Rest
+    }
+}
+
+/// How many bytes the next line may have, its newline counted: none once all lines were given.
+fn room_after(lines: u32, bytes: u64) -> u64
+    requires { bytes ≤ MAX_BYTES }
+    ensures { result ≡ (if lines == MAX_LINES then 0 else MAX_BYTES - bytes) }
+{
+    if lines == MAX_LINES {
+        0
+    } else {
+        MAX_BYTES - bytes
+    }
+}
+
+#[cfg(test)]
+mod tests;

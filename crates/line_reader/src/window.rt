@@ -1,0 +1,146 @@
+//! The part of an input that is in memory: the line in hand, and the bytes ahead of it.
+ghost use Rattle.std.specs.Prelude.{◌≡◌, ℕ, ◌+◌, ◌-◌, ◌<◌, ◌≤◌, List, [], ◌∷◌, ◌++◌, length, take, drop, vec_len, is_err, IfOk, MatchOption, MatchResult};
+ghost use Rattle.std.specs.Io.KnownBytes.{Keeps};
+ghost use Rattle.issuer_base.specs.OutsideFaults.{CountsFaults};
+ghost use Rattle.line_reader.specs.declared.limits.TheConstants.{BUFFER_BYTES, KEPT_BYTES, NEWLINE};
+ghost use Rattle.line_reader.specs.Lines.{IsUnbroken, IsFirstNewline};
+
+use crate::limits::{BUFFER_BYTES, KEPT_BYTES, NEWLINE};
+use issuer_base::{ReadFault, Source};
+use memchr::memchr;
+use std::alloc::{AllocError, Global};
+
+/// What the bytes ahead say of the line in hand.
+pub(crate) enum Passed {
+    /// The line ends here: this many more bytes of it, and then its newline.
+    ToNewline(usize),
+    /// All that is ahead, this many bytes, is more of the line.
+    All(usize),
+    /// More of the line is ahead than there is room for.
+    NoRoom,
+}
+
+/// The part of an input that is in memory.
+#[derive(Drop)]
+pub(crate) struct Window {
+    bytes: Vec<u8>,
+    // The line in hand, as far as it is kept.
+    line_start: usize,
+    line_end: usize,
+    // The bytes ahead.
+    start: usize,
+    end: usize,
+    ghost sized: { vec_len bytes ≡ BUFFER_BYTES },
+    ghost line_in_order: { line_start ≤ line_end },
+    ghost line_kept: { line_end - line_start ≤ KEPT_BYTES },
+    ghost line_passed: { line_end ≤ start },
+    ghost ahead_in_order: { start ≤ end },
+    ghost in_bounds: { end ≤ BUFFER_BYTES },
+}
+
+impl Window {
+    ghost use Rattle.line_reader.specs.Window.{ahead_of, line_of, HasPassed, Passes, Gives};
+
+    pub(crate) fn new(alloc: Global) -> Result<Self, AllocError>
+        ensures ahead { IfOk result (λ window. ahead_of window ≡ []) }
+        ensures line { IfOk result (λ window. line_of window ≡ []) }
+    {
+        Ok(Window {
+            bytes: vec![in alloc; 0; BUFFER_BYTES]?,
+            line_start: 0,
+            line_end: 0,
+            start: 0,
+            end: 0,
+        })
+    }
+
+    pub(crate) fn line(&self) -> &[u8]
+        ensures { result.now ≡ line_of self.now }
+    {
+        &self.bytes[self.line_start..self.line_end]
+    }
+
+    /// An empty line in hand, which what is ahead goes on with.
+    pub(crate) fn begin_line(&mut self)
+        ensures ahead { ahead_of self.new ≡ ahead_of self.old }
+        ensures passed { HasPassed self.new [] }
+    {
+        self.line_start = self.start;
+        self.line_end = self.start;
+    }
+
+    /// Passes over what is ahead, up to the end of the line in hand, where that needs at most `room` bytes.
+    pub(crate) fn pass(&mut self, room: u64) -> Passed
+        ensures { Passes self.old self.new room result }
+    {
+        let ahead = &self.bytes[self.start..self.end];
+        let count = ahead.len();
+        match first_newline(ahead, room) {
+            Some(place) => {
+                self.take(place);
+                self.start += 1;
+                Passed::ToNewline(place)
+            }
+            None if (count as u64) > room => Passed::NoRoom,
+            None => {
+                self.take(count);
+                Passed::All(count)
+            }
+        }
+    }
+
+    /// Takes the next `count` bytes ahead into the line in hand, as far as it is kept.
+    fn take(&mut self, count: usize)
+        requires { count ≤ length (ahead_of self.old) }
+        ensures ahead { ahead_of self.new ≡ drop count (ahead_of self.old) }
+        ensures passed { (passed : List ℕ) → HasPassed self.old passed
+            → HasPassed self.new (passed ++ take count (ahead_of self.old)) }
+    {
+        let kept = self.line_end - self.line_start;
+        self.line_end += count.min(KEPT_BYTES - kept);
+        self.start += count;
+    }
+
+    /// Reads on where nothing is ahead: the line in hand goes to the front, and what is read stands after it.
+    pub(crate) fn fill<S: Source>(&mut self, source: &mut S) -> Result<usize, ReadFault>
+        ensures passed { (passed : List ℕ) → HasPassed self.old passed → HasPassed self.new passed }
+        ensures bytes { MatchResult result
+            (λ count. Gives (S.left source.old) (S.left source.new) (ahead_of self.new) count)
+            (λ _. Keeps (S.left source.old) (S.left source.new)) }
+        ensures count { CountsFaults (S.faults source.old) (S.faults source.new) (is_err result) }
+    {
+        self.move_to_front();
+        let count = source.read(&mut self.bytes[self.start..])?;
+        self.end += count;
+        Ok(count)
+    }
+
+    /// Moves the line in hand to the front of the buffer.
+    fn move_to_front(&mut self)
+        ensures line { line_of self.new ≡ line_of self.old }
+        ensures front { self.new.line_start ≡ 0 }
+        ensures joined { self.new.line_end ≡ self.new.start }
+        ensures none_ahead { self.new.end ≡ self.new.start }
+    {
+        let kept = self.line_end - self.line_start;
+        if self.line_start > 0 {
+            self.bytes.copy_within(self.line_start..self.line_end, 0);
+        }
+        self.line_start = 0;
+        self.line_end = kept;
+        self.start = kept;
+        self.end = kept;
+    }
+}
+
+/// The place of the first newline among the first `room` bytes.
+fn first_newline(bytes: &[u8], room: u64) -> Option<usize>
+    ensures { MatchOption result (IsUnbroken (take room bytes.now))
+        (λ place. IsFirstNewline (take room bytes.now) place) }
+{
+    if room < bytes.len() as u64 {
+        memchr(NEWLINE, &bytes[..room as usize])
+    } else {
+        memchr(NEWLINE, bytes)
+    }
+}

@@ -1,0 +1,4 @@
+pub mod Tlv
+pub mod Seen
+pub mod Grammar
+pub mod Writing

@@ -1,0 +1,109 @@
+ghost use Rattle.std.specs.Prelude.{ℕ, List, Option, ◌≡◌, ◌≢◌, ◌+◌, ◌<◌, ◌≤◌, [], IfSome, IfOk, IfErr, IfNone, OnSome, length, drop, slice_get};
+ghost use Rattle.tlv_objects.specs.Tlv.{TlvObject, objects_of, objects_ahead, in_front, torn_at, no_more};
+ghost use Rattle.tlv_objects.specs.Grammar.{Covers};
+ghost use Rattle.tlv_objects.specs.Seen.{seen, place_of};
+
+use crate::reading::{read_object, zeros_in_front};
+use std::marker::Model;
+
+/// A data object of a text.
+#[derive(Clone, Copy, Debug, PartialEq, Eq)]
+pub struct Object<'a> {
+    /// The one to three bytes of the tag as a big-endian number, as 0x9F02.
+    pub tag: u32,
+    /// The value, which lies in the text.
+    pub value: &'a [u8],
+    /// The place in the text where the object begins.
+    pub at: usize,
+}
+
+/// Why the objects of a text end before the text does.
+#[derive(Clone, Copy, Debug, PartialEq, Eq)]
+pub enum TlvFault {
+    /// What begins at this place is no object: its tag, length or value ends early, its tag has more than three
+    /// bytes, or its length has a form that is not taken.
+    Torn(usize),
+}
+
+/// A cursor over the objects of a text.
+#[derive(Debug, Drop)]
+pub struct Objects<'a> {
+    ahead: &'a [u8],
+    at: usize,
+}
+
+impl<'a> Model for Objects<'a> {
+    ghost use Rattle.std.specs.Prelude.{◌+◌, ◌<◌, ◌^◌, length};
+    ghost use Rattle.tlv_objects.specs.Tlv.{Ahead};
+
+    ghost Value = { Ahead };
+
+    ghost view = { λ cursor. record { bytes = cursor.ahead.now; at = cursor.at } };
+
+    ghost invariant = { λ cursor. cursor.at + length cursor.ahead.now < 2 ^ 64 };
+}
+
+impl<'a> Objects<'a> {
+    /// A cursor in front of the text.
+    pub fn new(bytes: &'a [u8]) -> Objects<'a>
+        ensures { result ≡ record { bytes = bytes.now; at = 0 } }
+    {
+        Objects {
+            ahead: bytes,
+            at: 0,
+        }
+    }
+
+    /// The next object, or the fault that ends the text. After a fault there is nothing more.
+    pub fn next(&mut self) -> Option<Result<Object<'a>, TlvFault>>
+        ensures object { IfSome result (λ item. IfOk item (λ found.
+            objects_ahead self.old ≡ in_front (seen found) (objects_ahead self.new))) }
+        ensures torn { IfSome result (λ item. IfErr item (λ fault.
+            (objects_ahead self.old ≡ torn_at (place_of fault)) × (self.new.bytes ≡ []))) }
+        ensures none { IfNone result ((objects_ahead self.old ≡ no_more) × (self.new.bytes ≡ [])) }
+
+        // The cursor goes on towards the end of the text, which stays where it is.
+        ensures shrinks { OnSome result (length self.new.bytes < length self.old.bytes) }
+        ensures end { self.new.at + length self.new.bytes ≡ self.old.at + length self.old.bytes }
+        ensures within { IfSome result (λ item. IfErr item (λ fault.
+            place_of fault < self.old.at + length self.old.bytes)) }
+    {
+        self.pass_zeros();
+        let (ahead, at) = (self.ahead, self.at);
+        if ahead.is_empty() {
+            return None;
+        }
+        let Some((tag, value, rest)) = read_object(ahead) else {
+            self.pass(ahead.len());
+            return Some(Err(TlvFault::Torn(at)));
+        };
+        self.pass(ahead.len() - rest.len());
+        Some(Ok(Object { tag, value, at }))
+    }
+
+    // Passes over the 00 bytes in front of the next object.
+    fn pass_zeros(&mut self)
+        ensures same { objects_ahead self.new ≡ objects_ahead self.old }
+        ensures first { slice_get self.new.bytes 0 ≢ Some 0 }
+        ensures shorter { length self.new.bytes ≤ length self.old.bytes }
+        ensures end { self.new.at + length self.new.bytes ≡ self.old.at + length self.old.bytes }
+    {
+        self.pass(zeros_in_front(self.ahead));
+    }
+
+    fn pass(&mut self, count: usize)
+        requires { count ≤ length self.old.bytes }
+        ensures { self.new ≡ record { bytes = drop count self.old.bytes; at = self.old.at + count } }
+    {
+        self.at += count;
+        self.ahead = &self.ahead[count..];
+    }
+}
+
+/// The objects of a text cover it: each is spelled at its place, and between them stand only 00 bytes, up to the end
+/// of the text or to the place where it is torn, where no object begins. Nothing else covers it so.
+pub fn objects_cover_the_text()
+    ensures covered { (text : List ℕ) → Covers 0 text (objects_of text).objects (objects_of text).torn }
+    ensures only { (text : List ℕ) (objects : List TlvObject) (torn : Option ℕ)
+        → Covers 0 text objects torn → objects_of text ≡ record { objects = objects; torn = torn } }
+{}

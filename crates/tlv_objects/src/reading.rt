@@ -1,0 +1,54 @@
+ghost use Rattle.std.specs.Prelude.{◌≡◌, ◌==◌, option_map, take_while, length};
+ghost use Rattle.tlv_objects.specs.Tlv.{tag_at, length_at, front_object};
+
+/// The number of 00 bytes at the front.
+pub fn zeros_in_front(bytes: &[u8]) -> usize
+    ensures { result ≡ length (take_while (λ byte. byte == 0) bytes.now) }
+{
+    bytes.iter().take_while(|byte| **byte == 0).count()
+}
+
+/// The tag at the front, and the bytes behind it.
+#[tactic(auto, unfolding(crate::specs::Tlv::tag_at))]
+pub fn read_tag(bytes: &[u8]) -> Option<(u32, &[u8])>
+    ensures { option_map (λ found. (found.0, found.1.now)) result ≡ tag_at bytes.now }
+{
+    match bytes {
+        [first, rest @ ..] if first & 0x1F != 0x1F => Some((u32::from(*first), rest)),
+        [first, last @ 0x00..=0x7F, rest @ ..] => {
+            Some((u32::from(*first) * 0x100 + u32::from(*last), rest))
+        }
+        [first, second, last @ 0x00..=0x7F, rest @ ..] => {
+            let front = u32::from(*first) * 0x100 + u32::from(*second);
+            Some((front * 0x100 + u32::from(*last), rest))
+        }
+        _ => None,
+    }
+}
+
+/// The length at the front, and the bytes behind it.
+#[tactic(auto, unfolding(crate::specs::Tlv::length_at))]
+pub fn read_length(bytes: &[u8]) -> Option<(usize, &[u8])>
+    ensures { option_map (λ found. (found.0, found.1.now)) result ≡ length_at bytes.now }
+{
+    match bytes {
+        [length @ 0x00..=0x7F, rest @ ..] => Some((usize::from(*length), rest)),
+        [0x81, length, rest @ ..] => Some((usize::from(*length), rest)),
+        [0x82, high, low, rest @ ..] => {
+            Some((usize::from(*high) * 0x100 + usize::from(*low), rest))
+        }
+        _ => None,
+    }
+}
+
+/// The tag and the value of the object at the front, and the bytes behind it.
+#[tactic(auto, unfolding(crate::specs::Tlv::front_object))]
+pub fn read_object(bytes: &[u8]) -> Option<(u32, &[u8], &[u8])>
+    ensures { option_map (λ found. record { tag = found.0; value = found.1.now; rest = found.2.now }) result
+        ≡ front_object bytes.now }
+{
+    let (tag, rest) = read_tag(bytes)?;
+    let (length, rest) = read_length(rest)?;
+    let (value, rest) = rest.split_at_checked(length)?;
+    Some((tag, value, rest))
+}

@@ -1,0 +1,79 @@
+ghost use Rattle.std.specs.Prelude.{◌≡◌, ◌+◌, ◌<◌, ◌≤◌, ◌↔◌, ◌++◌, length, IsTrue, IsErr, OnOk, OnErr};
+ghost use Rattle.arrayvec.specs.ArrayVec.{array_vec_len};
+ghost use Rattle.tlv_objects.specs.Tlv.{objects_of, in_front, no_more};
+ghost use Rattle.tlv_objects.specs.Writing.{is_tag_number, tag_bytes, length_bytes, object_text};
+
+use arrayvec::ArrayVec;
+
+/// The room that is left is too small for an object.
+#[derive(Clone, Copy, Debug, PartialEq, Eq)]
+pub struct Full;
+
+/// How many bytes the objects written in one place may take: a reply to a card has fewer.
+pub const ROOM: usize = 160;
+
+// The bytes in front of a value: a tag of up to three and a length of up to three.
+type Head = ArrayVec<u8, 6>;
+
+fn head_of(tag: u32, length: usize) -> Head
+    requires tag { IsTrue (is_tag_number tag) }
+    requires length { length ≤ 65535 }
+    ensures { result.items ≡ tag_bytes tag ++ length_bytes length }
+{
+    let mut head = Head::new();
+    push_tag(&mut head, tag);
+    push_length(&mut head, length);
+    head
+}
+
+fn push_tag(head: &mut Head, tag: u32)
+    requires room { array_vec_len head.old ≡ 0 }
+    requires tag { tag < 0x1000000 }
+    ensures { head.new.items ≡ tag_bytes tag }
+{
+    if tag >= 0x10000 {
+        head.push((tag / 0x10000) as u8);
+    }
+    if tag >= 0x100 {
+        head.push((tag / 0x100 % 0x100) as u8);
+    }
+    head.push((tag % 0x100) as u8);
+}
+
+fn push_length(head: &mut Head, length: usize)
+    requires room { array_vec_len head.old ≤ 3 }
+    requires length { length ≤ 65535 }
+    ensures { head.new.items ≡ head.old.items ++ length_bytes length }
+{
+    match length {
+        0x00..=0x7F => {}
+        0x80..=0xFF => head.push(0x81),
+        _ => {
+            head.push(0x82);
+            head.push((length / 0x100) as u8);
+        }
+    }
+    head.push((length % 0x100) as u8);
+}
+
+/// Writes an object in its shortest form behind what is there. Where it doesn't fit, nothing changes.
+pub fn put(out: &mut ArrayVec<u8, ROOM>, tag: u32, value: &[u8]) -> Result<(), Full>
+    requires tag { IsTrue (is_tag_number tag) }
+    requires length { length value.now ≤ 65535 }
+    ensures ok { OnOk result (out.new.items ≡ out.old.items ++ object_text tag value.now) }
+    ensures full { IsErr result
+        ↔ (ROOM < array_vec_len out.old + length (object_text tag value.now)) }
+    ensures err { OnErr result (out.new ≡ out.old) }
+
+    // What is written reads as that object and nothing more.
+    ensures alone { objects_of (object_text tag value.now)
+        ≡ in_front (record { tag = tag; value = value.now; at = 0 }) no_more }
+{
+    let head = head_of(tag, value.len());
+    if out.remaining_capacity() < head.len() + value.len() {
+        return Err(Full);
+    }
+    out.try_extend_from_slice(head.as_slice()).unwrap();
+    out.try_extend_from_slice(value).unwrap();
+    Ok(())
+}
