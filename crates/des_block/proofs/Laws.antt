@@ -7,7 +7,7 @@ use Rattle.std.proofs.lemmas.List.{ext_get_or, reverse-reverse, reverse-append, 
 use Rattle.std.proofs.lemmas.List.FromFn.{length-map-range_with_len, get_or-map-range_with_len}
 use Rattle.des_block.specs.Bits.{bits, number, picked, xor_bits}
 use Rattle.des_block.specs.Tables.{initial_permutation, inverse_permutation}
-use Rattle.des_block.specs.Cipher.{Halves, cipher_function, round, ciphered, round_keys, word_bytes, block_bits, block_bytes, des_encipher, des_decipher, tdes_encipher, tdes_decipher}
+use Rattle.des_block.specs.Cipher.{Halves, halves, cipher_function, round, ciphered, round_keys, word_bytes, block_bits, block_bytes, des_encipher, des_decipher, tdes_encipher, tdes_decipher}
 use Rattle.des_block.proofs.Digits.{length-picked, length-bits, length-xor_bits, bits-number, number-bits, number-lt}
 use Rattle.des_block.proofs.PlainSteps.{length-cipher_function}
 use mathlib.Core.Bool.{xor}
@@ -69,7 +69,7 @@ pub AreHalves-rounds : (h : Halves) (keys : List (List Bool)) → AreHalves h �
 AreHalves-rounds h [] w = w
 AreHalves-rounds h (key ∷ keys) w = AreHalves-rounds (round h key) keys (AreHalves-round h key w)
 
-pub exchanged : Halves → Halves
+unfoldable pub exchanged : Halves → Halves
 exchanged h = record { left = h.right; right = h.left }
 
 -- a round undoes itself between two exchanges
@@ -98,34 +98,30 @@ pub length-ciphered : (keys : List (List Bool)) (block : List Bool) → length (
 unfolding ciphered
 length-ciphered keys block = length-inverse _
 
--- the halves of 64 bits
-pub split : List Bool → Halves
-split bs = record { left = take 32 bs; right = drop 32 bs }
+pub AreHalves-halves : (bs : List Bool) → length bs ≡ 64 → AreHalves (halves bs)
+unfolding halves
+AreHalves-halves bs len = record { left = length-take-le 32 bs (omega arith); right = omega (arith, length-drop 32 bs) }
 
-pub AreHalves-split : (bs : List Bool) → length bs ≡ 64 → AreHalves (split bs)
-unfolding split
-AreHalves-split bs len = record { left = length-take-le 32 bs (omega arith); right = omega (arith, length-drop 32 bs) }
-
-pub split-exchanged : (h : Halves) → AreHalves h → split (h.right ++ h.left) ≡ exchanged h
-unfolding split exchanged
-split-exchanged h w = rw (take_at h.right h.left 32 w.right, drop_at h.right h.left 32 w.right) refl
+pub halves-exchanged : (h : Halves) → AreHalves h → halves (h.right ++ h.left) ≡ exchanged h
+unfolding halves exchanged
+halves-exchanged h w = rw (take_at h.right h.left 32 w.right, drop_at h.right h.left 32 w.right) refl
 
 pub length_joined : (h : Halves) → AreHalves h → length (h.right ++ h.left) ≡ 64
 length_joined h w = omega (arith, length-append h.right h.left, w.left, w.right)
 
 pub ciphered_back : (keys : List (List Bool)) (block : List Bool) → length block ≡ 64 → ciphered (reverse keys) (ciphered keys block) ≡ block
-unfolding ciphered split exchanged
+unfolding ciphered halves exchanged
 ciphered_back keys block len =
     let mixed : List Bool = picked initial_permutation block in
-    let start : Halves = split mixed in
+    let start : Halves = halves mixed in
     let end : Halves = fold round start keys in
-    let w : AreHalves start = AreHalves-split mixed (length-initial block) in
+    let w : AreHalves start = AreHalves-halves mixed (length-initial block) in
     let v : AreHalves end = AreHalves-rounds start keys w in
     let again : picked initial_permutation (picked inverse_permutation (end.right ++ end.left)) ≡ end.right ++ end.left =
     initial-inverse (end.right ++ end.left) (length_joined end v) in
-    let turn : split (picked initial_permutation (picked inverse_permutation (end.right ++ end.left))) ≡ exchanged end =
-    ap split again ∙ split-exchanged end v in
-    let back : fold round (split (picked initial_permutation (picked inverse_permutation (end.right ++ end.left)))) (reverse keys) ≡ exchanged start =
+    let turn : halves (picked initial_permutation (picked inverse_permutation (end.right ++ end.left))) ≡ exchanged end =
+    ap halves again ∙ halves-exchanged end v in
+    let back : fold round (halves (picked initial_permutation (picked inverse_permutation (end.right ++ end.left)))) (reverse keys) ≡ exchanged start =
     ap (λ s. fold round s (reverse keys)) turn ∙ rounds_back keys start w in
     ap (λ (h : Halves). picked inverse_permutation (h.right ++ h.left)) back
     ∙ ap (picked inverse_permutation) (take-append-drop 32 mixed) ∙ inverse-initial block len

@@ -6,7 +6,7 @@ use Rattle.std.proofs.lemmas.List.FromFn.{get_or-map-range_with_len}
 use Rattle.std.specs.List.{range_with_len}
 use Rattle.des_block.specs.Bits.{bits, digit, number, picked, xor_bits}
 use Rattle.des_block.specs.Tables.{key_choice_left, key_choice_right, round_key_choice, rotations, expansion, box_permutation, initial_permutation, inverse_permutation, s_boxes}
-use Rattle.des_block.specs.Cipher.{Halves, box_output, substituted, cipher_function, round, ciphered, turned, keys_from, round_keys}
+use Rattle.des_block.specs.Cipher.{Halves, halves, box_output, substituted, cipher_function, round, ciphered, turned, keys_from, round_keys}
 use Rattle.des_block.proofs.Digits.{bits_low, digit_of, digit_at, number-lt, number-bits, number-append, length-picked, length-bits, bits-number, take-bits, drop-bits, bits-xor, bits_mod}
 
 -- two functions with one table of values agree on its arguments
@@ -67,6 +67,16 @@ turned_is half n h =
     let width : n + (28 - n) ≡ 28 = omega arith in
     turned_parts half n (28 - n) width ∙ ap (λ k. number (turned n (bits k half))) width
 
+-- the same in a word of 32 bits, for short turns
+pub turned_short : (half n : ℕ) → n < 5
+    → bit_or (bit_and (bit_and half 268435455 * 2 ^ n % 2 ^ 32) 268435455) (bit_and half 268435455 / 2 ^ (28 - n)) ≡ number (turned n (bits 28 half))
+turned_short half n h =
+    let small : bit_and half 268435455 < 2 ^ 28 = omega (arith, and_mask half 28) in
+    let fits : bit_and half 268435455 * 2 ^ n < 2 ^ (28 + n) = shl_below (bit_and half 268435455) 28 n small in
+    let narrow : bit_and half 268435455 * 2 ^ n < 2 ^ 32 = omega (arith, fits, pow_mono {i = 28 + n} {j = 32} (omega arith)) in
+    let same : bit_and half 268435455 * 2 ^ n % 2 ^ 32 ≡ bit_and half 268435455 * 2 ^ n % 2 ^ 64 = omega arith in
+    ap (λ x. bit_or (bit_and x 268435455) (bit_and half 268435455 / 2 ^ (28 - n))) same ∙ turned_is half n (omega arith)
+
 abbrev row_and_column : ℕ → ℕ
 row_and_column six = 16 * bit_or (bit_and (six / 16) 2) (bit_and six 1) + bit_and (six / 2) 15
 
@@ -82,7 +92,7 @@ box_output_is box six h =
     agree_below row_and_column (λ x. 16 * number (picked (1 ∷ 6 ∷ []) (bits 6 x)) + number (picked (2 ∷ 3 ∷ 4 ∷ 5 ∷ []) (bits 6 x))) 64 refl six h in
     and_mask (slice_index box (row_and_column six)) 4 ∙ sym (number-bits 4 (slice_index box (row_and_column six))) ∙ ap (λ p. number (bits 4 (slice_index box p))) place
 
-length-box_output : (box : List ℕ) (six : List Bool) → length (box_output box six) ≡ 4
+pub length-box_output : (box : List ℕ) (six : List Bool) → length (box_output box six) ≡ 4
 unfolding box_output
 length-box_output box six = length-bits 4 _
 
@@ -198,8 +208,8 @@ cipher_function_is right key expanded boxed out e1 e2 e3 =
 
 -- the halves of the block after IP
 pub start_of : (mixed : ℕ) (table : List ℕ) (bs : List Bool) → length table ≡ 64 → mixed ≡ number (picked table bs)
-    → halves_of (mixed / 2 ^ 32) (bit_and mixed 4294967295) ≡ record { left = take 32 (picked table bs); right = drop 32 (picked table bs) }
-unfolding halves_of
+    → halves_of (mixed / 2 ^ 32) (bit_and mixed 4294967295) ≡ halves (picked table bs)
+unfolding halves_of halves
 start_of mixed table bs len e =
     let out : List Bool = picked table bs in
     let whole : bits 64 mixed ≡ out = ap (bits 64) e ∙ bits-number 64 out (length-picked table bs ∙ len) in
@@ -219,15 +229,15 @@ pub Ciphers_all : (keys : List ℕ) (block mixed l r out i : ℕ) → length key
     → Ciphers keys (mixed / 2 ^ 32) (bit_and mixed 4294967295) i l r
     → out ≡ number (picked inverse_permutation (bits 64 (bit_or (r * 2 ^ 32 % 2 ^ 64) l)))
     → out ≡ number (ciphered (map (bits 48) keys) (bits 64 block))
-unfolding ciphered initial_permutation
+unfolding ciphered halves initial_permutation
 Ciphers_all keys block mixed l r out i len ei em done eo =
     let start = start_of mixed initial_permutation (bits 64 block) refl em in
     let none : drop i keys ≡ [] = drop_all i keys (omega arith) in
-    let end : halves_of l r ≡ fold round (record { left = take 32 (picked initial_permutation (bits 64 block)); right = drop 32 (picked initial_permutation (bits 64 block)) }) (map (bits 48) keys) =
+    let end : halves_of l r ≡ fold round (halves (picked initial_permutation (bits 64 block))) (map (bits 48) keys) =
     ap (λ ks. fold round (halves_of l r) (map (bits 48) ks)) (sym none) ∙ done.joined ∙ ap (λ h. fold round h (map (bits 48) keys)) start in
     eo ∙ ap (λ b. number (picked inverse_permutation b)) (joined_of l r done.left_fits done.right_fits) ∙ ap (λ (h : Halves). number (picked inverse_permutation (h.right ++ h.left))) end
 
-length-turned : (n : ℕ) (bs : List Bool) → length (turned n bs) ≡ length bs
+pub length-turned : (n : ℕ) (bs : List Bool) → length (turned n bs) ≡ length bs
 unfolding turned
 length-turned n bs = omega (arith, length-append (drop n bs) (take n bs), length-drop n bs, length-take n bs)
 
@@ -244,11 +254,11 @@ MakesKeys_none key left right keys len el er =
     let r : bits 28 right ≡ picked key_choice_right (bits 64 key) = ap (bits 28) er ∙ bits-number 28 _ (length-picked key_choice_right (bits 64 key)) in
     record { len = len; joined = ap₂ (λ c d. keys_from c d rotations) l r }
 
-length-rotations : length rotations ≡ 16
+pub length-rotations : length rotations ≡ 16
 unfolding rotations
 length-rotations = refl
 
-length-round_key_choice : length round_key_choice ≡ 48
+pub length-round_key_choice : length round_key_choice ≡ 48
 unfolding round_key_choice
 length-round_key_choice = refl
 

@@ -24,6 +24,10 @@ pub record Halves : Type 0 where
   pub left : List Bool
   pub right : List Bool
 
+-- the halves of 64 bits
+unfoldable pub halves : List Bool → Halves
+halves bs = record { left = take 32 bs; right = drop 32 bs }
+
 -- a round takes (L, R) to (R, L xor f(R, K))
 unfoldable pub round : Halves → List Bool → Halves
 round h key = record { left = h.right; right = xor_bits h.left (cipher_function h.right key) }
@@ -31,8 +35,7 @@ round h key = record { left = h.right; right = xor_bits h.left (cipher_function 
 -- IP, a round with each key in turn, an exchange of the halves, and the inverse of IP
 unfoldable pub ciphered : List (List Bool) → List Bool → List Bool
 ciphered keys block =
-    let mixed = picked initial_permutation block in
-    let end = fold round (record { left = take 32 mixed; right = drop 32 mixed }) keys in
+    let end = fold round (halves (picked initial_permutation block)) keys in
     picked inverse_permutation (end.right ++ end.left)
 
 -- bits turned left by n places

@@ -2,10 +2,15 @@
 #![tactic(auto)]
 
 pub mod plain;
+mod rounds;
+mod schedule;
 
 ghost use Rattle.std.specs.Prelude.{◌≡◌, ℕ, List, take, drop};
 ghost use Rattle.des_block.specs.Cipher.{word_bytes, des_encipher, des_decipher, tdes_encipher, tdes_decipher};
 ghost use Rattle.des_block.specs.Keyed.{HasKey, HasKeyPair};
+
+use rounds::{joined, rounds, rounds_back, split};
+use schedule::{RoundKey, round_keys};
 
 /// A key of sixteen bytes: a left and a right half of eight bytes each.
 #[derive(Clone, Copy, PartialEq, Eq, Debug)]
@@ -32,7 +37,7 @@ impl Key16 {
 /// DES under a key of eight bytes, whose lowest bits do not count.
 #[derive(Clone, Copy)]
 pub struct Des {
-    keys: [u64; 16],
+    keys: [RoundKey; 16],
 }
 
 impl Des {
@@ -41,7 +46,7 @@ impl Des {
         ensures { HasKey result key }
     {
         Des {
-            keys: plain::round_keys(u64::from_be_bytes(key)),
+            keys: round_keys(u64::from_be_bytes(key)),
         }
     }
 
@@ -66,7 +71,9 @@ impl Des {
         ensures enciphered { (key : List ℕ) → HasKey self.now key → word_bytes result ≡ des_encipher key (word_bytes block) }
         ensures undone { (key : List ℕ) → HasKey self.now key → des_decipher key (word_bytes result) ≡ word_bytes block }
     {
-        plain::ciphered(&self.keys, block)
+        let (left, right) = split(block);
+        let (left, right) = rounds(&self.keys, left, right);
+        joined(left, right)
     }
 
     /// Deciphers a block that is written as a number, its first byte the highest.
@@ -74,9 +81,9 @@ impl Des {
         ensures deciphered { (key : List ℕ) → HasKey self.now key → word_bytes result ≡ des_decipher key (word_bytes block) }
         ensures undone { (key : List ℕ) → HasKey self.now key → des_encipher key (word_bytes result) ≡ word_bytes block }
     {
-        let mut keys = self.keys;
-        keys.reverse();
-        plain::ciphered(&keys, block)
+        let (left, right) = split(block);
+        let (left, right) = rounds_back(&self.keys, left, right);
+        joined(left, right)
     }
 }
 
@@ -119,8 +126,12 @@ impl Tdes {
         ensures enciphered { (key : List ℕ) → HasKeyPair self.now key → word_bytes result ≡ tdes_encipher key (word_bytes block) }
         ensures undone { (key : List ℕ) → HasKeyPair self.now key → tdes_decipher key (word_bytes result) ≡ word_bytes block }
     {
-        self.left
-            .encipher_word(self.right.decipher_word(self.left.encipher_word(block)))
+        // Between the three ciphers, IP undoes its inverse and the halves stay exchanged.
+        let (left1, right1) = split(block);
+        let (left2, right2) = rounds(&self.left.keys, left1, right1);
+        let (right3, left3) = rounds_back(&self.right.keys, right2, left2);
+        let (left4, right4) = rounds(&self.left.keys, left3, right3);
+        joined(left4, right4)
     }
 
     /// Deciphers a block that is written as a number, its first byte the highest.
@@ -128,7 +139,10 @@ impl Tdes {
         ensures deciphered { (key : List ℕ) → HasKeyPair self.now key → word_bytes result ≡ tdes_decipher key (word_bytes block) }
         ensures undone { (key : List ℕ) → HasKeyPair self.now key → tdes_encipher key (word_bytes result) ≡ word_bytes block }
     {
-        self.left
-            .decipher_word(self.right.encipher_word(self.left.decipher_word(block)))
+        let (left1, right1) = split(block);
+        let (left2, right2) = rounds_back(&self.left.keys, left1, right1);
+        let (right3, left3) = rounds(&self.right.keys, right2, left2);
+        let (left4, right4) = rounds_back(&self.left.keys, left3, right3);
+        joined(left4, right4)
     }
 }
