@@ -105,6 +105,13 @@ impl Tdes {
         }
     }
 
+    /// DES under the left half alone.
+    pub fn left(&self) -> &Des
+        ensures { (key : List ℕ) → HasKeyPair self.now key → HasKey result.now (take 8 key) }
+    {
+        &self.left
+    }
+
     /// Enciphers a block.
     pub fn encipher(&self, block: [u8; 8]) -> [u8; 8]
         ensures enciphered { (key : List ℕ) → HasKeyPair self.now key → result ≡ tdes_encipher key block }
