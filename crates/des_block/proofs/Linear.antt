@@ -103,11 +103,13 @@ abbrev pub word_picked : ℕ → List ℕ → ℕ → ℕ
 word_picked n table x = number (picked table (bits n x))
 
 pub picked_additive : (n : ℕ) (table : List ℕ) → Additive (word_picked n table)
-picked_additive n table = record { through = λ x y.
-    let len : length (bits n x) ≡ length (bits n y) = length-bits n x ∙ sym (length-bits n y) in
-    let out : length (picked table (bits n x)) ≡ length (picked table (bits n y)) = length-picked table (bits n x) ∙ sym (length-picked table (bits n y)) in
-    ap (λ b. number (picked table b)) (bits-xor n x y) ∙ ap number (picked-xor_bits table (bits n x) (bits n y) len)
-    ∙ number-xor_bits (picked table (bits n x)) (picked table (bits n y)) out }
+picked_additive n table = record {
+  through = λ x y.
+      let len : length (bits n x) ≡ length (bits n y) = length-bits n x ∙ sym (length-bits n y) in
+      let out : length (picked table (bits n x)) ≡ length (picked table (bits n y)) = length-picked table (bits n x) ∙ sym (length-picked table (bits n y)) in
+      ap (λ b. number (picked table b)) (bits-xor n x y) ∙ ap number (picked-xor_bits table (bits n x) (bits n y) len)
+      ∙ number-xor_bits (picked table (bits n x)) (picked table (bits n y)) out;
+}
 
 module _ (f g : ℕ → ℕ) (a : Additive f) (b : Additive g) where
   one_digit : (n d : ℕ) → d < 2 → f (2 ^ n) ≡ g (2 ^ n) → f (d * 2 ^ n) ≡ g (d * 2 ^ n)

@@ -1,5 +1,5 @@
 -- Each merged table, entry by entry, is what its definition computes.
-use Rattle.std.proofs.Common.{◌≡◌, ℕ, ◌*◌, ◌^◌, List, [], ◌∷◌, map, slice_index_or, refl}
+use Rattle.std.proofs.Common.{◌≡◌, [], map, slice_index_or, refl}
 use Rattle.std.specs.List.{range_with_len}
 use Rattle.des_block.specs.Bits.{bits, number, picked}
 use Rattle.des_block.specs.Tables.{box_permutation, s1, s2, s3, s4, s5, s6, s7, s8}

@@ -1,5 +1,5 @@
 -- The merged tables are the S boxes and P, and the round's word is the cipher function.
-use Rattle.std.proofs.Common.{◌≡◌, ℕ, zero, suc, ◌+◌, ◌-◌, ◌*◌, ◌/◌, ◌%◌, ◌^◌, ◌<◌, ◌≤◌, Bool, true, false, List, [], ◌∷◌, ◌++◌, length, map, take, drop, get_or, slice_index, slice_index_or, bit_xor, bit_and, bit_or, refl, sym, ap, ap₂, ◌∙◌, arith, append-nil, length-append, mod-lt, fold}
+use Rattle.std.proofs.Common.{◌≡◌, ℕ, ◌+◌, ◌*◌, ◌/◌, ◌%◌, ◌^◌, ◌<◌, ◌≤◌, Bool, List, [], ◌∷◌, ◌++◌, length, map, take, drop, get_or, slice_index, bit_xor, bit_and, bit_or, refl, sym, ap, ap₂, ◌∙◌, arith, append-nil, length-append, fold}
 use Rattle.std.specs.List.{range_with_len}
 use Rattle.std.proofs.lemmas.Nat.{or_comm, and_mask}
 use Rattle.std.proofs.lemmas.List.{drop_more, drop_all, length-map}
@@ -7,9 +7,9 @@ use Rattle.std.proofs.lemmas.List.FromFn.{get_or-map-range_with_len}
 use lib.Bits.{xor_shifted, xor_assoc}
 use Rattle.des_block.specs.Bits.{bits, number, picked, xor_bits}
 use Rattle.des_block.specs.Tables.{expansion, box_permutation, s1, s2, s3, s4, s5, s6, s7, s8, s_boxes}
-use Rattle.des_block.specs.Cipher.{Halves, halves, box_output, substituted, cipher_function, round, turned}
+use Rattle.des_block.specs.Cipher.{box_output, substituted, cipher_function, round, turned}
 use Rattle.des_block.specs.Keyed.{box_places, turned_halves}
-use Rattle.des_block.proofs.Digits.{length-bits, length-picked, bits-number, number-append, bits_mod, bits-xor, take-bits, drop-bits, number-lt}
+use Rattle.des_block.proofs.Digits.{length-bits, bits-number, number-append, bits_mod, bits-xor, take-bits, number-lt}
 use Rattle.des_block.proofs.PlainSteps.{length-turned, length-box_output, length-substituted, length-cipher_function}
 use Rattle.des_block.proofs.Linear.{Additive, picked_additive, word_picked, picked-xor_bits, xor_bits-append}
 use Rattle.des_block.proofs.WordSteps.{rotated_bits, turned_back}
@@ -66,7 +66,7 @@ length_boxes a b p q = omega (arith, length-append (box_output a p) (box_output 
 merged_boxes : (b1 b2 b3 b4 b5 b6 b7 b8 : List Bool) → length b2 ≡ 4 → length b3 ≡ 4 → length b4 ≡ 4 → length b5 ≡ 4 → length b6 ≡ 4 → length b7 ≡ 4 → length b8 ≡ 4
     → merged (number (b1 ++ (b2 ++ (b3 ++ (b4 ++ (b5 ++ (b6 ++ (b7 ++ b8))))))))
     ≡ bit_xor (merged (number b1 * 2 ^ 28)) (bit_xor (merged (number b2 * 2 ^ 24)) (bit_xor (merged (number b3 * 2 ^ 20)) (bit_xor (merged (number b4 * 2 ^ 16))
-      (bit_xor (merged (number b5 * 2 ^ 12)) (bit_xor (merged (number b6 * 2 ^ 8)) (bit_xor (merged (number b7 * 2 ^ 4)) (merged (number b8))))))))
+    (bit_xor (merged (number b5 * 2 ^ 12)) (bit_xor (merged (number b6 * 2 ^ 8)) (bit_xor (merged (number b7 * 2 ^ 4)) (merged (number b8))))))))
 merged_boxes b1 b2 b3 b4 b5 b6 b7 b8 l2 l3 l4 l5 l6 l7 l8 =
     let r7 : List Bool = b7 ++ b8 in
     let r6 : List Bool = b6 ++ r7 in
@@ -123,21 +123,21 @@ mixed_boxes o e =
     let list : substituted s_boxes (picked box_places (bits 32 o ++ bits 32 e)) ≡ b1 ++ (b2 ++ (b3 ++ (b4 ++ (b5 ++ (b6 ++ (b7 ++ b8)))))) =
     boxed o e
     ∙ ap₂ (λ b r. b ++ r) (ap (box_output s1) (take-bits 6 24 o)) (
-      ap₂ (λ b r. b ++ r) (ap (box_output s2) (take-bits 6 24 e)) (
-      ap₂ (λ b r. b ++ r) (ap (box_output s3) (take-bits 6 16 o)) (
-      ap₂ (λ b r. b ++ r) (ap (box_output s4) (take-bits 6 16 e)) (
-      ap₂ (λ b r. b ++ r) (ap (box_output s5) (take-bits 6 8 o)) (
-      ap₂ (λ b r. b ++ r) (ap (box_output s6) (take-bits 6 8 e)) (
-      ap₂ (λ b r. b ++ r) (ap (box_output s7) (whole o)) (
-      append-nil (box_output s8 (take 6 (bits 6 e))) ∙ ap (box_output s8) (whole e)))))))) in
+    ap₂ (λ b r. b ++ r) (ap (box_output s2) (take-bits 6 24 e)) (
+    ap₂ (λ b r. b ++ r) (ap (box_output s3) (take-bits 6 16 o)) (
+    ap₂ (λ b r. b ++ r) (ap (box_output s4) (take-bits 6 16 e)) (
+    ap₂ (λ b r. b ++ r) (ap (box_output s5) (take-bits 6 8 o)) (
+    ap₂ (λ b r. b ++ r) (ap (box_output s6) (take-bits 6 8 e)) (
+    ap₂ (λ b r. b ++ r) (ap (box_output s7) (whole o)) (
+    append-nil (box_output s8 (take 6 (bits 6 e))) ∙ ap (box_output s8) (whole e)))))))) in
     let last : merged (number b8) ≡ merged (number b8 * 2 ^ 0) = ap merged (omega arith) in
     merged_number (substituted s_boxes (picked box_places (bits 32 o ++ bits 32 e))) (length-substituted (picked box_places (bits 32 o ++ bits 32 e)))
     ∙ ap (λ l. merged (number l)) list
     ∙ merged_boxes b1 b2 b3 b4 b5 b6 b7 b8 (length-box_output s2 _) (length-box_output s3 _) (length-box_output s4 _) (length-box_output s5 _) (length-box_output s6 _) (length-box_output s7 _) (length-box_output s8 _)
     ∙ ap (λ x. bit_xor (merged (number b1 * 2 ^ 28)) (bit_xor (merged (number b2 * 2 ^ 24)) (bit_xor (merged (number b3 * 2 ^ 20)) (bit_xor (merged (number b4 * 2 ^ 16))
-      (bit_xor (merged (number b5 * 2 ^ 12)) (bit_xor (merged (number b6 * 2 ^ 8)) (bit_xor (merged (number b7 * 2 ^ 4)) x))))))) last
+    (bit_xor (merged (number b5 * 2 ^ 12)) (bit_xor (merged (number b6 * 2 ^ 8)) (bit_xor (merged (number b7 * 2 ^ 4)) x))))))) last
     ∙ sym (left_first (merged (number b1 * 2 ^ 28)) (merged (number b2 * 2 ^ 24)) (merged (number b3 * 2 ^ 20)) (merged (number b4 * 2 ^ 16))
-      (merged (number b5 * 2 ^ 12)) (merged (number b6 * 2 ^ 8)) (merged (number b7 * 2 ^ 4)) (merged (number b8 * 2 ^ 0)))
+    (merged (number b5 * 2 ^ 12)) (merged (number b6 * 2 ^ 8)) (merged (number b7 * 2 ^ 4)) (merged (number b8 * 2 ^ 0)))
 
 -- the word of a round is the cipher function, turned left by one place
 pub mixed_is : (half rot ko ke : ℕ) → half < 2 ^ 32 → rot ≡ bit_or (half / 2 ^ 4) (half * 2 ^ 28 % 2 ^ 32)
@@ -155,7 +155,7 @@ mixed_is half rot ko ke fits er =
     ap (λ b. xor_bits b (picked box_places (bits 32 ko ++ bits 32 ke))) expanded
     ∙ sym (picked-xor_bits box_places (bits 32 rot ++ bits 32 half) (bits 32 ko ++ bits 32 ke) len)
     ∙ ap (picked box_places) (xor_bits-append (bits 32 rot) (bits 32 half) (bits 32 ko) (bits 32 ke) (length-bits 32 rot ∙ sym (length-bits 32 ko))
-      ∙ ap₂ (λ p q. p ++ q) (sym (bits-xor 32 rot ko)) (sym (bits-xor 32 half ke))) in
+    ∙ ap₂ (λ p q. p ++ q) (sym (bits-xor 32 rot ko)) (sym (bits-xor 32 half ke))) in
     sym (mixed_boxes o e) ∙ ap (λ b. number (turned 1 (picked box_permutation (substituted s_boxes b)))) (sym joined)
 
 -- ---- the rounds

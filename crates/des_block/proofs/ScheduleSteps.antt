@@ -38,7 +38,7 @@ choice_at t table k x e =
 -- four look-ups make the whole half
 pub four_choices : (table : List ℕ) (x : ℕ)
     → bit_xor (bit_xor (bit_xor (word_picked 28 table (x / 2 ^ 21 % 128 * 2 ^ 21)) (word_picked 28 table (x / 2 ^ 14 % 128 * 2 ^ 14))) (word_picked 28 table (x / 2 ^ 7 % 128 * 2 ^ 7)))
-      (word_picked 28 table (x % 128 * 2 ^ 0)) ≡ word_picked 28 table x
+    (word_picked 28 table (x % 128 * 2 ^ 0)) ≡ word_picked 28 table x
 four_choices table x =
     let f : ℕ → ℕ = word_picked 28 table in
     let a : ℕ = x / 2 ^ 21 % 128 in
@@ -146,9 +146,9 @@ module _ (l r p q : ℕ) (bs : List Bool) (fl : l < 2 ^ 32) (fr : r < 2 ^ 32) (f
       let y_fits : bit_and (p / 2 ^ 20) 15 < 2 ^ 4 = omega (arith, and_mask (p / 2 ^ 20) 4) in
       packed (q / 2 ^ 24) (p / 2 ^ 24) (bit_and (q / 2 ^ 16) 255) (bit_and (p / 2 ^ 20) 15) (omega arith) (omega arith) x_fits y_fits
       ∙ ap₂ (λ s t. s ++ t) (ap₂ (λ s t. s ++ t) (ap₂ (λ s t. s ++ t)
-        (field 0 8 24 q ∙ ap (take 8) q_bits) (field 0 8 24 p ∙ ap (take 8) p_bits))
-        (masked 8 (q / 2 ^ 16) ∙ field 8 8 16 q ∙ ap (λ b. take 8 (drop 8 b)) q_bits))
-        (masked 4 (p / 2 ^ 20) ∙ field 8 4 20 p ∙ ap (λ b. take 4 (drop 8 b)) p_bits)
+      (field 0 8 24 q ∙ ap (take 8) q_bits) (field 0 8 24 p ∙ ap (take 8) p_bits))
+      (masked 8 (q / 2 ^ 16) ∙ field 8 8 16 q ∙ ap (λ b. take 8 (drop 8 b)) q_bits))
+      (masked 4 (p / 2 ^ 20) ∙ field 8 4 20 p ∙ ap (λ b. take 4 (drop 8 b)) p_bits)
       ∙ left_rows bs
 
   pub right_half : bits 28 (bit_or (bit_or (bit_or (bit_and q 255 * 2 ^ 8 % 2 ^ 32) (bit_and (p / 2 ^ 8) 255) * 2 ^ 8 % 2 ^ 32) (bit_and (q / 2 ^ 8) 255) * 2 ^ 4 % 2 ^ 32) (bit_and (p / 2 ^ 16) 15))
@@ -161,9 +161,9 @@ module _ (l r p q : ℕ) (bs : List Bool) (fl : l < 2 ^ 32) (fr : r < 2 ^ 32) (f
       let low : bits 8 q ≡ take 8 (drop 24 (bits 32 q)) = sym (ap (take 8) (drop-bits 24 8 q) ∙ take_all 8 (bits 8 q) (omega (arith, length-bits 8 q))) in
       packed (bit_and q 255) (bit_and (p / 2 ^ 8) 255) (bit_and (q / 2 ^ 8) 255) (bit_and (p / 2 ^ 16) 15) a_fits b_fits x_fits y_fits
       ∙ ap₂ (λ s t. s ++ t) (ap₂ (λ s t. s ++ t) (ap₂ (λ s t. s ++ t)
-        (masked 8 q ∙ low ∙ ap (λ b. take 8 (drop 24 b)) q_bits) (masked 8 (p / 2 ^ 8) ∙ field 16 8 8 p ∙ ap (λ b. take 8 (drop 16 b)) p_bits))
-        (masked 8 (q / 2 ^ 8) ∙ field 16 8 8 q ∙ ap (λ b. take 8 (drop 16 b)) q_bits))
-        (masked 4 (p / 2 ^ 16) ∙ field 12 4 16 p ∙ ap (λ b. take 4 (drop 12 b)) p_bits)
+      (masked 8 q ∙ low ∙ ap (λ b. take 8 (drop 24 b)) q_bits) (masked 8 (p / 2 ^ 8) ∙ field 16 8 8 p ∙ ap (λ b. take 8 (drop 16 b)) p_bits))
+      (masked 8 (q / 2 ^ 8) ∙ field 16 8 8 q ∙ ap (λ b. take 8 (drop 16 b)) q_bits))
+      (masked 4 (p / 2 ^ 16) ∙ field 12 4 16 p ∙ ap (λ b. take 4 (drop 12 b)) p_bits)
       ∙ right_rows bs
 
 -- ---- the loop over the rotations: the keys so far, and the keys that C and D still give
@@ -198,7 +198,7 @@ module _ {A : Type 0} (view : A → List Bool) where
       record {
         len = length-set keys i k ∙ len;
         joined = ap (λ x. x ++ keys_from (bits 28 l) (bits 28 r) (drop (i + 1) rotations)) front
-          ∙ append_assoc (map view (take i keys)) (view k ∷ []) _ ∙ ap (λ x. map view (take i keys) ++ x) (sym rest) ∙ done.joined;
+            ∙ append_assoc (map view (take i keys)) (view k ∷ []) _ ∙ ap (λ x. map view (take i keys) ++ x) (sym rest) ∙ done.joined;
       }
 
   pub Lays_all : (key i left right : ℕ) (keys : List A) → i ≡ 16 → Lays key i left right keys → map view keys ≡ round_keys (bits 64 key)

@@ -1,10 +1,10 @@
 -- The ciphers from their steps on words.
-use Rattle.std.proofs.Common.{◌≡◌, ℕ, ◌<◌, ◌^◌, Bool, List, ◌++◌, length, take, drop, map, reverse, fold, refl, sym, ap, ap₂, ◌∙◌}
+use Rattle.std.proofs.Common.{◌≡◌, ℕ, ◌<◌, ◌^◌, Bool, List, ◌++◌, length, take, drop, reverse, fold, refl, sym, ap, ◌∙◌}
 use Rattle.des_block.specs.Bits.{bits, number, picked}
 use Rattle.des_block.specs.Tables.{initial_permutation, inverse_permutation}
 use Rattle.des_block.specs.Cipher.{Halves, halves, round, ciphered, round_keys, word_bytes, block_bits, block_bytes, des_encipher, des_decipher, tdes_encipher, tdes_decipher}
 use Rattle.des_block.specs.Keyed.{turned_halves}
-use Rattle.des_block.proofs.Digits.{length-bits, length-picked}
+use Rattle.des_block.proofs.Digits.{length-picked}
 use Rattle.des_block.proofs.Laws.{AreHalves, AreHalves-halves, AreHalves-rounds, exchanged, halves-exchanged, length_joined, initial-inverse, length-ciphered, block_bits-block_bytes, block_bits-word_bytes}
 
 -- what leaves the rounds, exchanged and through the inverse of IP

@@ -1,11 +1,11 @@
 -- Halves of a block in words: rotations, and IP by exchanges of bits.
-use Rattle.std.proofs.Common.{◌≡◌, ℕ, zero, suc, ◌+◌, ◌-◌, ◌*◌, ◌/◌, ◌%◌, ◌^◌, ◌<◌, ◌≤◌, Bool, true, false, List, [], ◌∷◌, ◌++◌, length, map, take, drop, slice_index_or, bit_xor, bit_and, bit_or, refl, sym, ap, ap₂, ◌∙◌, arith, pow_pos, mod-lt, add_comm, take_at, drop_at, take-append-drop, length-take-le, length-drop}
+use Rattle.std.proofs.Common.{◌≡◌, ℕ, ◌+◌, ◌*◌, ◌/◌, ◌%◌, ◌^◌, ◌<◌, Bool, List, ◌++◌, length, take, drop, bit_xor, bit_and, bit_or, refl, sym, ap, ap₂, ◌∙◌, arith, pow_pos, mod-lt, add_comm, take_at, drop_at, take-append-drop, length-drop}
 use Rattle.std.proofs.lemmas.Nat.{shr_split, shr_below, shl_below, pow-add, mod_low, or_shifted, or_comm, and_mask}
 use Rattle.des_block.specs.Bits.{bits, number, picked}
 use Rattle.des_block.specs.Tables.{initial_permutation, inverse_permutation}
-use Rattle.des_block.specs.Cipher.{Halves, halves, turned}
+use Rattle.des_block.specs.Cipher.{halves, turned}
 use Rattle.des_block.specs.Keyed.{turned_halves}
-use Rattle.des_block.proofs.Digits.{length-bits, length-picked, bits-number, number-append, bits_mod, take-bits, drop-bits, number-lt}
+use Rattle.des_block.proofs.Digits.{length-bits, length-picked, bits-number, number-append, bits_mod, take-bits, drop-bits}
 use Rattle.des_block.proofs.PlainSteps.{bits-append}
 use Rattle.des_block.proofs.Linear.{Additive, shr_additive, low_additive, shl_additive, mask_additive, xor_additive, after_additive, picked_additive, word_picked, same_additive}
 
@@ -338,4 +338,3 @@ joined_is left right p q a1 b1 b2 a2 b3 a3 a4 b4 a5 b5 out fl fr fp fq fa fb hp 
     let sum : number word ≡ number (take 32 word) * 2 ^ 32 + number (drop 32 word) =
     ap number (sym (take-append-drop 32 word)) ∙ number-append (take 32 word) (drop 32 word) ∙ ap (λ w. number (take 32 word) * 2 ^ w + number (drop 32 word)) len in
     ho ∙ ap (λ x. bit_or x b5) whole ∙ or_shifted a5 32 b5 fb ∙ ap₂ (λ x y. x * 2 ^ 32 + y) high low ∙ sym sum ∙ ap (λ b. number (picked inverse_permutation b)) both
-

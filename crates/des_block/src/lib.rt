@@ -153,3 +153,6 @@ impl Tdes {
         joined(left4, right4)
     }
 }
+
+#[cfg(test)]
+mod tests;

@@ -12,7 +12,7 @@ use Rattle.retail_mac.specs.Mac.{padded, blocks, padded_blocks, xor_bytes, zero_
 -- eight bytes of a text, one by one
 eight_at : (text : List ℕ) (at : ℕ) → at + 8 ≤ length text
     → slice_index text at ∷ slice_index text (at + 1) ∷ slice_index text (at + 2) ∷ slice_index text (at + 3) ∷ slice_index text (at + 4)
-      ∷ slice_index text (at + 5) ∷ slice_index text (at + 6) ∷ slice_index text (at + 7) ∷ [] ≡ take 8 (drop at text)
+    ∷ slice_index text (at + 5) ∷ slice_index text (at + 6) ∷ slice_index text (at + 7) ∷ [] ≡ take 8 (drop at text)
 eight_at text at h =
     let next : (k m : ℕ) → k < 8 → at + k + 1 ≡ m → drop (at + k) text ≡ slice_index text (at + k) ∷ drop m text =
     λ k m l e. drop_more text (at + k) 0 (omega arith) ∙ ap (λ n. slice_index text (at + k) ∷ drop n text) e in
@@ -24,7 +24,7 @@ eight_at text at h =
     next 4 (at + 5) (omega arith) (omega arith) ∙ ap (λ r. slice_index text (at + 4) ∷ r) (
     next 5 (at + 6) (omega arith) (omega arith) ∙ ap (λ r. slice_index text (at + 5) ∷ r) (
     next 6 (at + 7) (omega arith) (omega arith) ∙ ap (λ r. slice_index text (at + 6) ∷ r) (
-    next 7 (at + 8) (omega arith) (omega arith)))))))))) 
+    next 7 (at + 8) (omega arith) (omega arith))))))))))
 
 -- eight pushes append eight bytes
 pub eight_pushed : (before bytes o1 o2 o3 o4 o5 o6 o7 o8 : List ℕ) (word : ℕ) → bytes ≡ to_be_bytes w64 word
@@ -75,7 +75,7 @@ drop_small text at small i = Rattle.std.proofs.Common.subst (λ x. x < 256) (sym
 
 pub word_at_is : (text : List ℕ) (at w : ℕ) → at + 8 ≤ length text → AreBytes text
     → w ≡ from_be_bytes w64 (slice_index text at ∷ slice_index text (at + 1) ∷ slice_index text (at + 2) ∷ slice_index text (at + 3) ∷ slice_index text (at + 4)
-      ∷ slice_index text (at + 5) ∷ slice_index text (at + 6) ∷ slice_index text (at + 7) ∷ [])
+    ∷ slice_index text (at + 5) ∷ slice_index text (at + 6) ∷ slice_index text (at + 7) ∷ [])
     → word_bytes w ≡ take 8 (drop at text)
 word_at_is text at w h small e =
     word_bytes-from_be_bytes (take 8 (drop at text)) w (omega (arith, length-take 8 (drop at text), length-drop at text)) (part_small text at small) (e ∙ ap (from_be_bytes w64) (eight_at text at h))
@@ -165,9 +165,11 @@ unfolding chained
 Chains_more key text i chain word next done h ew en =
     let step : des_encipher key (xor_bytes (word_bytes chain) (take 8 (drop (8 * i) text))) ≡ word_bytes next =
     sym (en ∙ ap (des_encipher key) (xor-word_bytes chain word ∙ ap (xor_bytes (word_bytes chain)) ew)) in
-    record { joined =
-      ap (λ b. fold (chained key) b (blocks_left text (i + 1))) (sym step)
-      ∙ sym (ap (fold (chained key) (word_bytes chain)) (blocks_left_more text i h)) ∙ done.joined }
+    record {
+      joined =
+          ap (λ b. fold (chained key) b (blocks_left text (i + 1))) (sym step)
+          ∙ sym (ap (fold (chained key) (word_bytes chain)) (blocks_left_more text i h)) ∙ done.joined;
+    }
 
 pub Chains_all : (key text : List ℕ) (i n chain word out : ℕ) → Chains (take 8 key) text i chain → i ≡ n → n ≡ length text / 8
     → word_bytes word ≡ drop (8 * n) text ++ 0x80 ∷ replicate (7 - (length text - 8 * n)) 0
@@ -207,7 +209,7 @@ Enciphers_more key text before i chain word next out done h ew en new eo =
     record {
       len = omega (arith, ap length eo, length-append out (word_bytes next), length-word_bytes next);
       joined = ap (λ o. o ++ cbc_from key (word_bytes next) (blocks_left text (i + 1))) eo
-        ∙ append_assoc out (word_bytes next) (cbc_from key (word_bytes next) (blocks_left text (i + 1))) ∙ ap (λ r. out ++ r) (sym rest) ∙ done.joined;
+          ∙ append_assoc out (word_bytes next) (cbc_from key (word_bytes next) (blocks_left text (i + 1))) ∙ ap (λ r. out ++ r) (sym rest) ∙ done.joined;
     }
 
 pub Enciphers_all : (key text before : List ℕ) (i n chain word next : ℕ) (out : List ℕ) → Enciphers key text before i chain out → i ≡ n → n ≡ length text / 8

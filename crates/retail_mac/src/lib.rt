@@ -93,11 +93,17 @@ pub fn cbc_encipher(key: &Key16, text: &[u8], out: &mut ArrayVec<u8, 160>) -> Re
         return Err(Full);
     }
     let cipher = Tdes::new(key);
-    let mut chain = 0;
+    let mut previous = 0;
     for i in 0..whole {
-        chain = cipher.encipher_word(chain ^ word_at(text, 8 * i));
-        append(out, chain);
+        previous = cipher.encipher_word(previous ^ word_at(text, 8 * i));
+        append(out, previous);
     }
-    append(out, cipher.encipher_word(chain ^ last_word(text, 8 * whole)));
+    append(
+        out,
+        cipher.encipher_word(previous ^ last_word(text, 8 * whole)),
+    );
     Ok(())
 }
+
+#[cfg(test)]
+mod tests;

@@ -1,6 +1,6 @@
 use Rattle.std.proofs.Common.{ap, ◌∙◌, map, reverse, arith}
 use Rattle.des_block.specs.Bits.{bits, number}
-use Rattle.des_block.specs.Cipher.{ciphered, word_bytes, des_encipher, des_decipher}
+use Rattle.des_block.specs.Cipher.{ciphered, word_bytes, des_encipher}
 use Rattle.des_block.specs.Keyed.{key_bits, HasKey}
 use Rattle.des_block.proofs.Laws.{word_deciphered, length-word_bytes, word_bytes_small, des_encipher-des_decipher}
 use Rattle.des_block.proofs.WholeSteps.{ciphered_is}

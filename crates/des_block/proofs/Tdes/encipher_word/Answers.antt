@@ -1,7 +1,7 @@
 use Rattle.std.proofs.Common.{ap, ap₂, ◌∙◌, map, reverse, arith}
 use Rattle.des_block.specs.Bits.{bits, number}
-use Rattle.des_block.specs.Cipher.{ciphered, word_bytes, tdes_encipher, tdes_decipher}
-use Rattle.des_block.specs.Keyed.{key_bits, HasKey, HasKeyPair}
+use Rattle.des_block.specs.Cipher.{ciphered, word_bytes, tdes_decipher}
+use Rattle.des_block.specs.Keyed.{key_bits, HasKey}
 use Rattle.des_block.proofs.Laws.{length-word_bytes, word_bytes_small, tdes_decipher-tdes_encipher}
 use Rattle.des_block.proofs.WholeSteps.{tripled_is, word_tripled}
 use Rattle.des_block.proofs.Tdes.encipher_word.Goals as goal
