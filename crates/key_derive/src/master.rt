@@ -6,6 +6,9 @@ use des_block::{Key16, Tdes};
 use issuer_base::{MasterOption, Pan};
 use sha1::Sha1;
 
+/// The most digits of an account number that option B does not hash.
+const LONGEST_UNHASHED: usize = 16;
+
 /// A card's master key by option A: EMV 4.3 Book 2, Annex A1.4.1. The sequence number is two decimal
 /// digits, 00 where the card has none. Sets up one key and enciphers two blocks.
 pub fn option_a(imk: &Key16, pan: &Pan, psn: u8) -> Key16
@@ -23,7 +26,7 @@ pub fn option_b(imk: &Key16, pan: &Pan, psn: u8) -> Key16
     ensures short { length pan.now ≤ 16 → result.0 ≡ option_a imk.now.0 pan.now psn }
 {
     let len = pan.digits().len();
-    if len <= 16 {
+    if len <= LONGEST_UNHASHED {
         return option_a(imk, pan, psn);
     }
     let unused = 11 - (len + 3) / 2;

@@ -8,9 +8,9 @@ use Rattle.key_derive.proofs.Packing.{drop-row-used}
 use Rattle.key_derive.proofs.Options.{option_b-short, option_b-long}
 use Rattle.key_derive.proofs.master.option_b.Goals as goal
 
-pub returns-then-len-le16-clause-exact : goal.returns-then-len-le16-clause-exact
-returns-then-len-le16-clause-exact c =
-    let short : length c.args.pan.now ≤ 16 = rw (sym c.digits-len.ensures.same) c.if-len-le16.true in
+pub returns-then-len-le-LONGEST_UNHASHED-clause-exact : goal.returns-then-len-le-LONGEST_UNHASHED-clause-exact
+returns-then-len-le-LONGEST_UNHASHED-clause-exact c =
+    let short : length c.args.pan.now ≤ 16 = rw (sym c.digits-len.ensures.same) c.if-len-le-LONGEST_UNHASHED.true in
     c.option_a.ensures ∙ sym (option_b-short c.args.imk.now.0 c.args.pan.now c.args.psn short)
 
 pub overflow_sub-unused : goal.overflow_sub-unused
@@ -21,7 +21,7 @@ overflow_sub-unused c =
 pub returns-clause-exact : goal.returns-clause-exact
 returns-clause-exact c =
     let pan = c.args.pan.now in
-    let long : 16 < length pan = rw (sym c.digits-len.ensures.same) c.if-len-le16.false in
+    let long : 16 < length pan = rw (sym c.digits-len.ensures.same) c.if-len-le-LONGEST_UNHASHED.false in
     let row : length c.written.result ≡ 11 = search rules in
     let unused : 11 - (length c.digits-len.result.now + 3) / 2 ≡ 11 - (length pan + 3) / 2 = ap (λ ds. 11 - (length ds + 3) / 2) c.digits-len.ensures.same in
     c.diversified.ensures
