@@ -1,4 +1,4 @@
-ghost use Rattle.std.specs.Prelude.{◌≡◌, ℕ, ◌+◌, ◌-◌, ◌*◌, ◌<◌, ◌≤◌, [], ◌∷◌, ◌++◌, length, take, drop, replicate, filter, slice_index};
+ghost use Rattle.std.specs.Prelude.{◌≡◌, ℕ, ◌-◌, ◌*◌, ◌<◌, ◌≤◌, [], ◌∷◌, ◌++◌, length, take, replicate, filter, slice_index};
 ghost use Rattle.std.specs.List.{flat_map};
 ghost use Rattle.issuer_base.specs.ChipData.{digits_of};
 ghost use Rattle.key_derive.specs.Digits.{packed, card_digits, is_digit, letters, decimal16};
@@ -95,6 +95,7 @@ pub fn written(pan: &Pan, psn: u8) -> [u8; 11]
     packed(&row_of(pan, psn))
 }
 
+// An account number has at most 19 digits, so the row begins with a zero at least.
 fn row_of(pan: &Pan, psn: u8) -> [u8; 22]
     ensures exact { result ≡ replicate (20 - length pan.now) 0 ++ card_digits pan.now psn }
     ensures nibbles { (k : ℕ) → slice_index result k < 16 }

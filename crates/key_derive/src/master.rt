@@ -1,4 +1,4 @@
-ghost use Rattle.std.specs.Prelude.{◌≡◌, ◌+◌, ◌-◌, ◌*◌, ◌/◌, ◌%◌, ◌≤◌, ◌++◌, length, map};
+ghost use Rattle.std.specs.Prelude.{◌≡◌, ◌≤◌, ◌++◌, length, map};
 ghost use Rattle.key_derive.specs.MasterKey.{with_odd_parity, complement, diversified, option_a, option_b, master_key};
 
 use crate::digits::{decimal16, written};
@@ -14,6 +14,7 @@ const LONGEST_UNHASHED: usize = 16;
 pub fn option_a(imk: &Key16, pan: &Pan, psn: u8) -> Key16
     ensures { result.0 ≡ option_a imk.now.0 pan.now psn }
 {
+    // The last eight bytes hold the rightmost sixteen digits.
     let mut block = [0; 8];
     block.copy_from_slice(&written(pan, psn)[3..]);
     diversified(imk, block)
@@ -29,6 +30,7 @@ pub fn option_b(imk: &Key16, pan: &Pan, psn: u8) -> Key16
     if len <= LONGEST_UNHASHED {
         return option_a(imk, pan, psn);
     }
+    // The bytes before the first digit or, where the digits are odd in number, before the zero in front of it.
     let unused = 11 - (len + 3) / 2;
     let digest = Sha1::digest(&written(pan, psn)[unused..]);
     diversified(imk, decimal16(&digest))
