@@ -1,0 +1,9 @@
+pub mod Digits
+pub mod PlainSteps
+pub mod Linear
+pub mod WordSteps
+pub mod MixedSteps
+pub mod ScheduleSteps
+pub mod MergedTables
+pub mod Laws
+pub mod WholeSteps

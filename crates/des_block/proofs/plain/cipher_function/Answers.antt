@@ -1,0 +1,8 @@
+use Rattle.des_block.specs.Tables.{box_permutation, expansion}
+use Rattle.des_block.proofs.PlainSteps.{cipher_function_is}
+use Rattle.des_block.proofs.plain.cipher_function.Goals as goal
+
+pub returns : goal.returns
+unfolding expansion box_permutation
+returns c = cipher_function_is c.args.right c.args.key c.picked-expanded.result c.substituted.result c.picked.result
+    c.picked-expanded.ensures c.substituted.ensures c.picked.ensures

@@ -1,0 +1,5 @@
+use Rattle.des_block.proofs.PlainSteps.{Ciphers}
+use Rattle.des_block.proofs.plain.ciphered.Given as goal
+
+abbrev pub invariant-loop-key : goal.invariant-loop-key
+invariant-loop-key l = Ciphers l.keys l.initial.left l.initial.right l.key-index l.left l.right

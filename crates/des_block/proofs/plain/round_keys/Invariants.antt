@@ -1,0 +1,5 @@
+use Rattle.des_block.proofs.PlainSteps.{MakesKeys}
+use Rattle.des_block.proofs.plain.round_keys.Given as goal
+
+abbrev pub invariant-loop-i : goal.invariant-loop-i
+invariant-loop-i l = MakesKeys l.key l.i l.left l.right l.keys

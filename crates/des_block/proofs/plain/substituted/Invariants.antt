@@ -1,0 +1,6 @@
+use Rattle.des_block.specs.Tables.{s_boxes}
+use Rattle.des_block.proofs.PlainSteps.{Substitutes}
+use Rattle.des_block.proofs.plain.substituted.Given as goal
+
+abbrev pub invariant-loop-i : goal.invariant-loop-i
+invariant-loop-i l = Substitutes s_boxes l.word l.i l.out

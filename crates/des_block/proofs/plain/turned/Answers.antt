@@ -1,0 +1,6 @@
+use Rattle.std.proofs.Common.{arith}
+use Rattle.des_block.proofs.PlainSteps.{turned_is}
+use Rattle.des_block.proofs.plain.turned.Goals as goal
+
+pub returns : goal.returns
+returns c = turned_is c.args.half c.args.n (omega arith)

@@ -1,0 +1,16 @@
+use Rattle.std.proofs.Common.{ℕ, ◌/◌, ◌^◌, bit_xor, ap₂, ◌∙◌, arith}
+use Rattle.des_block.specs.Tables.{s1, s2, s3, s4, s5, s6, s7, s8}
+use Rattle.des_block.specs.Keyed.{key_bits}
+use Rattle.des_block.proofs.MixedSteps.{box_at, mixed_word, mixed_is}
+use Rattle.des_block.proofs.MergedTables.{boxes_1, boxes_2, boxes_3, boxes_4, boxes_5, boxes_6, boxes_7, boxes_8}
+use Rattle.des_block.proofs.rounds.mixed.Goals as goal
+
+pub returns : goal.returns
+unfolding key_bits mixed_word
+returns c =
+    let o : ℕ = bit_xor c.rotate_right.result c.args.key.now.odd in
+    let e : ℕ = bit_xor c.args.half c.args.key.now.even in
+    ap₂ bit_xor (ap₂ bit_xor (ap₂ bit_xor (ap₂ bit_xor (ap₂ bit_xor (ap₂ bit_xor (ap₂ bit_xor
+    (box_at _ s1 28 (o / 2 ^ 24) boxes_1) (box_at _ s2 24 (e / 2 ^ 24) boxes_2)) (box_at _ s3 20 (o / 2 ^ 16) boxes_3)) (box_at _ s4 16 (e / 2 ^ 16) boxes_4))
+    (box_at _ s5 12 (o / 2 ^ 8) boxes_5)) (box_at _ s6 8 (e / 2 ^ 8) boxes_6)) (box_at _ s7 4 o boxes_7)) (box_at _ s8 0 e boxes_8)
+    ∙ mixed_is c.args.half c.rotate_right.result c.args.key.now.odd c.args.key.now.even (omega arith) c.rotate_right.ensures

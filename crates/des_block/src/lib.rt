@@ -1,0 +1,158 @@
+//! DES and two-key triple DES (FIPS 46-3).
+#![tactic(auto)]
+
+pub mod plain;
+mod rounds;
+mod schedule;
+
+ghost use Rattle.std.specs.Prelude.{◌≡◌, ℕ, List, take, drop};
+ghost use Rattle.des_block.specs.Cipher.{word_bytes, des_encipher, des_decipher, tdes_encipher, tdes_decipher};
+ghost use Rattle.des_block.specs.Keyed.{HasKey, HasKeyPair};
+
+use rounds::{joined, rounds, rounds_back, split};
+use schedule::{RoundKey, round_keys};
+
+/// A key of sixteen bytes: a left and a right half of eight bytes each.
+#[derive(Clone, Copy, PartialEq, Eq, Debug)]
+pub struct Key16(pub [u8; 16]);
+
+impl Key16 {
+    /// The first eight bytes.
+    pub fn left_half(&self) -> [u8; 8]
+        ensures { result ≡ take 8 self.now.0 }
+    {
+        let [a, b, c, d, e, f, g, h, ..] = self.0;
+        [a, b, c, d, e, f, g, h]
+    }
+
+    /// The last eight bytes.
+    pub fn right_half(&self) -> [u8; 8]
+        ensures { result ≡ drop 8 self.now.0 }
+    {
+        let [.., a, b, c, d, e, f, g, h] = self.0;
+        [a, b, c, d, e, f, g, h]
+    }
+}
+
+/// DES under a key of eight bytes, whose lowest bits do not count.
+#[derive(Clone, Copy)]
+pub struct Des {
+    keys: [RoundKey; 16],
+}
+
+impl Des {
+    /// Sets up the round keys of a key.
+    pub fn new(key: [u8; 8]) -> Des
+        ensures { HasKey result key }
+    {
+        Des {
+            keys: round_keys(u64::from_be_bytes(key)),
+        }
+    }
+
+    /// Enciphers a block.
+    pub fn encipher(&self, block: [u8; 8]) -> [u8; 8]
+        ensures enciphered { (key : List ℕ) → HasKey self.now key → result ≡ des_encipher key block }
+        ensures undone { (key : List ℕ) → HasKey self.now key → des_decipher key result ≡ block }
+    {
+        self.encipher_word(u64::from_be_bytes(block)).to_be_bytes()
+    }
+
+    /// Deciphers a block.
+    pub fn decipher(&self, block: [u8; 8]) -> [u8; 8]
+        ensures deciphered { (key : List ℕ) → HasKey self.now key → result ≡ des_decipher key block }
+        ensures undone { (key : List ℕ) → HasKey self.now key → des_encipher key result ≡ block }
+    {
+        self.decipher_word(u64::from_be_bytes(block)).to_be_bytes()
+    }
+
+    /// Enciphers a block that is written as a number, its first byte the highest.
+    pub fn encipher_word(&self, block: u64) -> u64
+        ensures enciphered { (key : List ℕ) → HasKey self.now key → word_bytes result ≡ des_encipher key (word_bytes block) }
+        ensures undone { (key : List ℕ) → HasKey self.now key → des_decipher key (word_bytes result) ≡ word_bytes block }
+    {
+        let (left, right) = split(block);
+        let (left, right) = rounds(&self.keys, left, right);
+        joined(left, right)
+    }
+
+    /// Deciphers a block that is written as a number, its first byte the highest.
+    pub fn decipher_word(&self, block: u64) -> u64
+        ensures deciphered { (key : List ℕ) → HasKey self.now key → word_bytes result ≡ des_decipher key (word_bytes block) }
+        ensures undone { (key : List ℕ) → HasKey self.now key → des_encipher key (word_bytes result) ≡ word_bytes block }
+    {
+        let (left, right) = split(block);
+        let (left, right) = rounds_back(&self.keys, left, right);
+        joined(left, right)
+    }
+}
+
+/// Triple DES with two keys: encipher with the left half, decipher with the right, encipher with the left.
+#[derive(Clone, Copy)]
+pub struct Tdes {
+    left: Des,
+    right: Des,
+}
+
+impl Tdes {
+    /// Sets up the round keys of both halves of a key.
+    pub fn new(key: &Key16) -> Tdes
+        ensures { HasKeyPair result key.now.0 }
+    {
+        Tdes {
+            left: Des::new(key.left_half()),
+            right: Des::new(key.right_half()),
+        }
+    }
+
+    /// DES under the left half alone.
+    pub fn left(&self) -> &Des
+        ensures { (key : List ℕ) → HasKeyPair self.now key → HasKey result.now (take 8 key) }
+    {
+        &self.left
+    }
+
+    /// Enciphers a block.
+    pub fn encipher(&self, block: [u8; 8]) -> [u8; 8]
+        ensures enciphered { (key : List ℕ) → HasKeyPair self.now key → result ≡ tdes_encipher key block }
+        ensures undone { (key : List ℕ) → HasKeyPair self.now key → tdes_decipher key result ≡ block }
+    {
+        self.encipher_word(u64::from_be_bytes(block)).to_be_bytes()
+    }
+
+    /// Deciphers a block.
+    pub fn decipher(&self, block: [u8; 8]) -> [u8; 8]
+        ensures deciphered { (key : List ℕ) → HasKeyPair self.now key → result ≡ tdes_decipher key block }
+        ensures undone { (key : List ℕ) → HasKeyPair self.now key → tdes_encipher key result ≡ block }
+    {
+        self.decipher_word(u64::from_be_bytes(block)).to_be_bytes()
+    }
+
+    /// Enciphers a block that is written as a number, its first byte the highest.
+    pub fn encipher_word(&self, block: u64) -> u64
+        ensures enciphered { (key : List ℕ) → HasKeyPair self.now key → word_bytes result ≡ tdes_encipher key (word_bytes block) }
+        ensures undone { (key : List ℕ) → HasKeyPair self.now key → tdes_decipher key (word_bytes result) ≡ word_bytes block }
+    {
+        // Between the three ciphers, IP undoes its inverse and the halves stay exchanged.
+        let (left1, right1) = split(block);
+        let (left2, right2) = rounds(&self.left.keys, left1, right1);
+        let (right3, left3) = rounds_back(&self.right.keys, right2, left2);
+        let (left4, right4) = rounds(&self.left.keys, left3, right3);
+        joined(left4, right4)
+    }
+
+    /// Deciphers a block that is written as a number, its first byte the highest.
+    pub fn decipher_word(&self, block: u64) -> u64
+        ensures deciphered { (key : List ℕ) → HasKeyPair self.now key → word_bytes result ≡ tdes_decipher key (word_bytes block) }
+        ensures undone { (key : List ℕ) → HasKeyPair self.now key → tdes_encipher key (word_bytes result) ≡ word_bytes block }
+    {
+        let (left1, right1) = split(block);
+        let (left2, right2) = rounds_back(&self.left.keys, left1, right1);
+        let (right3, left3) = rounds(&self.right.keys, right2, left2);
+        let (left4, right4) = rounds_back(&self.left.keys, left3, right3);
+        joined(left4, right4)
+    }
+}
+
+#[cfg(test)]
+mod tests;

@@ -1,0 +1,5 @@
+use Rattle.retail_mac.proofs.Blocks.{Enciphers}
+use Rattle.retail_mac.proofs.cbc_encipher.Given as goal
+
+abbrev pub invariant-loop-i : goal.invariant-loop-i
+invariant-loop-i l = Enciphers l.key.0 l.text l.initial.out.items l.i l.previous l.out.items
