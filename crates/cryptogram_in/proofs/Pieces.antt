@@ -1,5 +1,5 @@
 -- Pieces that are joined one after another.
-use Rattle.std.proofs.Common.{◌≡◌, ℕ, ◌+◌, ◌^◌, ◌<◌, ◌/◌, ◌%◌, List, [], ◌∷◌, ◌++◌, ap, ap₂, ◌∙◌, arith, w16}
+use Rattle.std.proofs.Common.{◌≡◌, ℕ, ◌^◌, ◌<◌, ◌/◌, ◌%◌, List, [], ◌∷◌, ◌++◌, ap, ◌∙◌, arith, w16}
 use Rattle.std.specs.Int.{to_be_bytes}
 use Rattle.key_derive.specs.SessionKey.{counter_bytes}
 

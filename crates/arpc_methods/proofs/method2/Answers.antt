@@ -1,4 +1,4 @@
-use Rattle.std.proofs.Common.{◌≡◌, ◌++◌, length, take, ap, ◌∙◌, arith, rules}
+use Rattle.std.proofs.Common.{◌≡◌, length, take, ap, ◌∙◌, arith, rules}
 use Rattle.retail_mac.specs.Mac.{retail_mac}
 use Rattle.arpc_methods.specs.Arpc.{method2}
 use Rattle.arpc_methods.proofs.Blocks.{first-four}
