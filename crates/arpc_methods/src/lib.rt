@@ -1,0 +1,70 @@
+//! The issuer's answer to an application cryptogram: EMV 4.3 Book 2, section 8.2.
+#![tactic(auto)]
+
+#[cfg(test)]
+mod tests;
+
+ghost use Rattle.std.specs.Prelude.{◌≡◌, ◌+◌, ◌≤◌, ◌++◌, length};
+ghost use Rattle.arpc_methods.specs.Arpc.{method1, method2, value91};
+
+use arrayvec::ArrayVec;
+use des_block::{Key16, Tdes};
+use issuer_base::Method;
+use retail_mac::mac;
+
+/// The issuer's cryptogram by method 1: triple DES under the session key for cryptograms of the application
+/// cryptogram, the response code joined to its first two bytes by xor. EMV 4.3 Book 2, section 8.2.1.
+pub fn method1(sk: &Key16, ac: &[u8; 8], arc: [u8; 2]) -> [u8; 8]
+    ensures { result ≡ method1 sk.now.0 ac.now arc }
+{
+    let mut block = *ac;
+    block[0] ^= arc[0];
+    block[1] ^= arc[1];
+    Tdes::new(sk).encipher(block)
+}
+
+/// The issuer's cryptogram by method 2: the first four bytes of the MAC, under the session key for cryptograms, of
+/// the application cryptogram and the card status update. EMV 4.3 Book 2, section 8.2.2, without proprietary
+/// authentication data.
+pub fn method2(sk: &Key16, ac: &[u8; 8], csu: [u8; 4]) -> [u8; 4]
+    ensures { result ≡ method2 sk.now.0 ac.now csu }
+{
+    let [a, b, c, d, ..] = mac(sk, &text_of(ac, csu));
+    [a, b, c, d]
+}
+
+fn text_of(ac: &[u8; 8], csu: [u8; 4]) -> [u8; 12]
+    ensures { result ≡ ac.now ++ csu }
+{
+    let mut text = [0; 12];
+    text[..8].copy_from_slice(ac);
+    text[8..].copy_from_slice(&csu);
+    text
+}
+
+/// The issuer authentication data, the value of tag 91: the issuer's cryptogram and, under method 1, the response
+/// code or, under method 2, the card status update.
+pub fn value91(
+    method: Method,
+    sk: &Key16,
+    ac: &[u8; 8],
+    arc: [u8; 2],
+    csu: [u8; 4],
+) -> ArrayVec<u8, 16>
+    ensures { result.items ≡ value91 method sk.now.0 ac.now arc csu }
+{
+    match method {
+        Method::One => joined(&method1(sk, ac, arc), &arc),
+        Method::Two => joined(&method2(sk, ac, csu), &csu),
+    }
+}
+
+fn joined(first: &[u8], second: &[u8]) -> ArrayVec<u8, 16>
+    requires { length first.now + length second.now ≤ 16 }
+    ensures { result.items ≡ first.now ++ second.now }
+{
+    let mut bytes = ArrayVec::new();
+    bytes.try_extend_from_slice(first).unwrap();
+    bytes.try_extend_from_slice(second).unwrap();
+    bytes
+}

@@ -1,0 +1,16 @@
+-- The application cryptogram of a request: EMV 4.3 Book 2, section 8.1.
+use Rattle.std.specs.Prelude.{ℕ, List, [], ◌∷◌, ◌++◌}
+use Rattle.issuer_base.specs.declared.request.Parts.{Parts}
+use Rattle.key_derive.specs.SessionKey.{counter_bytes, session_ac}
+use Rattle.retail_mac.specs.Mac.{retail_mac}
+
+-- what the cryptogram is a MAC of: the ten data of section 8.1.1, in its order, and the issuer
+-- application data, which is this project's profile
+unfoldable pub input : Parts → List ℕ
+input request =
+    request.amount ++ request.other ++ request.country ++ request.tvr ++ request.currency ++ request.date
+    ++ (request.kind ∷ []) ++ request.un ++ request.aip ++ counter_bytes request.atc ++ request.iad
+
+-- the cryptogram by a card's master key: the MAC under the session key of the request's transaction counter
+unfoldable pub application_cryptogram : List ℕ → Parts → List ℕ
+application_cryptogram mk request = retail_mac (session_ac mk request.atc) (input request)

@@ -1,0 +1,62 @@
+//! A card's application cryptogram, and the check of it: EMV 4.3 Book 2, section 8.1.
+#![tactic(auto)]
+
+mod joined;
+#[cfg(test)]
+mod tests;
+
+ghost use Rattle.std.specs.Prelude.{◌≡◌, ◌↔◌, IsTrue};
+ghost use Rattle.key_derive.specs.SessionKey.{counter_bytes};
+ghost use Rattle.cryptogram_in.specs.Cryptogram.{input, application_cryptogram};
+
+use des_block::Key16;
+use issuer_base::Request;
+use joined::Joined;
+use key_derive::session_ac;
+use retail_mac::mac;
+
+/// What the application cryptogram is a MAC of: the ten data that EMV 4.3 Book 2, section 8.1.1 recommends, and
+/// the issuer application data whole, which is this project's profile.
+pub fn input(request: &Request) -> [u8; 65]
+    ensures { result ≡ input request.now }
+{
+    let parts = request.parts();
+    let mut text = Joined::new();
+    text.add(&parts.amount);
+    text.add(&parts.other);
+    text.add(&parts.country);
+    text.add(&parts.tvr);
+    text.add(&parts.currency);
+    text.add(&parts.date);
+    text.add(&[parts.kind]);
+    text.add(&parts.un);
+    text.add(&parts.aip);
+    text.add(&counter_bytes(parts.atc));
+    text.add(&parts.iad);
+    text.whole()
+}
+
+fn counter_bytes(atc: u16) -> [u8; 2]
+    ensures { result ≡ counter_bytes atc }
+{
+    atc.to_be_bytes()
+}
+
+/// The application cryptogram that a card with this master key makes over the request: EMV 4.3 Book 2, section
+/// 8.1.2.
+///
+/// It takes four key schedules of DES, two for the session key's derivation and two for the MAC, and seventeen
+/// block operations of DES: six for the two halves of the session key and eleven for the MAC of nine blocks.
+pub fn expected(mk: &Key16, request: &Request) -> [u8; 8]
+    ensures { result ≡ application_cryptogram mk.now.0 request.now }
+{
+    let session_key = session_ac(mk, request.parts().atc);
+    mac(&session_key, &input(request))
+}
+
+/// Whether the request's cryptogram is the expected one, in all eight bytes.
+pub fn holds(mk: &Key16, request: &Request) -> bool
+    ensures { IsTrue result ↔ (request.now.ac ≡ application_cryptogram mk.now.0 request.now) }
+{
+    expected(mk, request) == request.parts().ac
+}

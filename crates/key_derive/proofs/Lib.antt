@@ -1,0 +1,5 @@
+pub mod Blocks
+pub mod Nibbles
+pub mod Options
+pub mod Packing
+pub mod Taking

@@ -1,0 +1,13 @@
+use Rattle.std.proofs.Common.{◌++◌, map, ap, ap₂, ◌∙◌}
+use Rattle.des_block.specs.Cipher.{tdes_encipher}
+use Rattle.key_derive.specs.MasterKey.{with_odd_parity, diversified}
+use Rattle.key_derive.proofs.master.diversified.Goals as goal
+
+pub returns : goal.returns
+unfolding diversified
+returns c =
+    let imk = c.args.imk.now.0 in
+    c.in_odd_parity.ensures
+    ∙ ap (map with_odd_parity) (c.joined.ensures ∙ ap₂ (λ left right. left ++ right)
+    (c.encipher-left.ensures.enciphered imk c.new-tdes.ensures)
+    (c.encipher-right.ensures.enciphered imk c.new-tdes.ensures ∙ ap (tdes_encipher imk) c.complement.ensures))

@@ -1,0 +1,31 @@
+use Rattle.std.proofs.Common.{◌≡◌, ◌<◌, ◌≤◌, ◌+◌, ◌-◌, ◌/◌, length, drop, sym, ap, ◌∙◌, arith, rules}
+use Rattle.std.proofs.lemmas.List.{take_all, length-drop}
+use Rattle.sha1.specs.Sha1.{sha1}
+use Rattle.issuer_base.proofs.CardNumberLemmas.{length-pan}
+use Rattle.key_derive.specs.Digits.{decimal16}
+use Rattle.key_derive.specs.MasterKey.{diversified}
+use Rattle.key_derive.proofs.Packing.{drop-row-used}
+use Rattle.key_derive.proofs.Options.{option_b-short, option_b-long}
+use Rattle.key_derive.proofs.master.option_b.Goals as goal
+
+pub returns-then-len-le-LONGEST_UNHASHED-clause-exact : goal.returns-then-len-le-LONGEST_UNHASHED-clause-exact
+returns-then-len-le-LONGEST_UNHASHED-clause-exact c =
+    let short : length c.args.pan.now ≤ 16 = rw (sym c.digits-len.ensures.same) c.if-len-le-LONGEST_UNHASHED.true in
+    c.option_a.ensures ∙ sym (option_b-short c.args.imk.now.0 c.args.pan.now c.args.psn short)
+
+pub overflow_sub-unused : goal.overflow_sub-unused
+overflow_sub-unused c =
+    let within = length-pan c.args.pan.now c.digits-len.ensures.valid in
+    rw c.digits-len.ensures.same (omega (arith, within.1))
+
+pub returns-clause-exact : goal.returns-clause-exact
+returns-clause-exact c =
+    let pan = c.args.pan.now in
+    let long : 16 < length pan = rw (sym c.digits-len.ensures.same) c.if-len-le-LONGEST_UNHASHED.false in
+    let row : length c.written.result ≡ 11 = search rules in
+    let unused : 11 - (length c.digits-len.result.now + 3) / 2 ≡ 11 - (length pan + 3) / 2 = ap (λ ds. 11 - (length ds + 3) / 2) c.digits-len.ensures.same in
+    c.diversified.ensures
+    ∙ ap (diversified c.args.imk.now.0) (c.decimal16.ensures ∙ ap decimal16 (c.digest-digest.ensures ∙ ap sha1 (
+    take_all (11 - (11 - (length c.digits-len.result.now + 3) / 2)) (drop (11 - (length c.digits-len.result.now + 3) / 2) c.written.result) (omega (arith, length-drop (11 - (length c.digits-len.result.now + 3) / 2) c.written.result))
+    ∙ ap (drop (11 - (length c.digits-len.result.now + 3) / 2)) c.written.ensures.exact ∙ drop-row-used pan c.args.psn _ (omega (arith, c.written.ensures.within)) unused)))
+    ∙ sym (option_b-long c.args.imk.now.0 pan c.args.psn long)

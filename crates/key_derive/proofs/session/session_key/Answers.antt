@@ -1,0 +1,13 @@
+use Rattle.std.proofs.Common.{◌++◌, ap, ap₂, ◌∙◌}
+use Rattle.des_block.specs.Cipher.{tdes_encipher}
+use Rattle.key_derive.specs.SessionKey.{session_key}
+use Rattle.key_derive.proofs.session.session_key.Goals as goal
+
+pub returns : goal.returns
+unfolding session_key
+returns c =
+    let mk = c.args.mk.now.0 in
+    c.joined.ensures
+    ∙ ap₂ (λ left right. left ++ right)
+    (c.encipher-left.ensures.enciphered mk c.new-tdes.ensures ∙ ap (tdes_encipher mk) c.with_third.ensures)
+    (c.encipher-right.ensures.enciphered mk c.new-tdes.ensures ∙ ap (tdes_encipher mk) c.with_third-2.ensures)

@@ -1,0 +1,6 @@
+use Rattle.key_derive.specs.SessionKey.{session_sm}
+use Rattle.key_derive.proofs.session.session_sm.Goals as goal
+
+pub returns : goal.returns
+unfolding session_sm
+returns c = c.session_key.ensures

@@ -1,0 +1,4 @@
+pub mod Digits
+pub mod MasterKey
+pub mod SessionKey
+pub mod CardKey

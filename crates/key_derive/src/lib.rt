@@ -1,0 +1,14 @@
+//! The card's master keys and the session keys: EMV 4.3 Book 2, Annex A1.3 and A1.4.
+#![tactic(auto)]
+
+mod card;
+mod digits;
+mod master;
+mod session;
+#[cfg(test)]
+mod tests;
+
+pub use card::{CardKeys, KeySet, card_keys};
+pub use digits::decimal16;
+pub use master::{master_key, option_a, option_b};
+pub use session::{session_ac, session_sm};

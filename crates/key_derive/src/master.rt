@@ -1,0 +1,100 @@
+ghost use Rattle.std.specs.Prelude.{◌≡◌, ◌≤◌, ◌++◌, length, map};
+ghost use Rattle.key_derive.specs.MasterKey.{with_odd_parity, complement, diversified, option_a, option_b, master_key};
+
+use crate::digits::{decimal16, written};
+use des_block::{Key16, Tdes};
+use issuer_base::{MasterOption, Pan};
+use sha1::Sha1;
+
+/// The most digits of an account number that option B does not hash.
+const LONGEST_UNHASHED: usize = 16;
+
+/// A card's master key by option A: EMV 4.3 Book 2, Annex A1.4.1. The sequence number is two decimal
+/// digits, 00 where the card has none. Sets up one key and enciphers two blocks.
+pub fn option_a(imk: &Key16, pan: &Pan, psn: u8) -> Key16
+    ensures { result.0 ≡ option_a imk.now.0 pan.now psn }
+{
+    // The last eight bytes hold the rightmost sixteen digits.
+    let mut block = [0; 8];
+    block.copy_from_slice(&written(pan, psn)[3..]);
+    diversified(imk, block)
+}
+
+/// A card's master key by option B: EMV 4.3 Book 2, Annex A1.4.2. An account number of at most sixteen
+/// digits gives the key of option A, and a longer one is hashed.
+pub fn option_b(imk: &Key16, pan: &Pan, psn: u8) -> Key16
+    ensures exact { result.0 ≡ option_b imk.now.0 pan.now psn }
+    ensures short { length pan.now ≤ 16 → result.0 ≡ option_a imk.now.0 pan.now psn }
+{
+    let len = pan.digits().len();
+    if len <= LONGEST_UNHASHED {
+        return option_a(imk, pan, psn);
+    }
+    // The bytes before the first digit or, where the digits are odd in number, before the zero in front of it.
+    let unused = 11 - (len + 3) / 2;
+    let digest = Sha1::digest(&written(pan, psn)[unused..]);
+    diversified(imk, decimal16(&digest))
+}
+
+/// A card's master key by the option that the issuer's keys are for.
+pub fn master_key(option: MasterOption, imk: &Key16, pan: &Pan, psn: u8) -> Key16
+    ensures { result.0 ≡ master_key option imk.now.0 pan.now psn }
+{
+    match option {
+        MasterOption::A => option_a(imk, pan, psn),
+        MasterOption::B => option_b(imk, pan, psn),
+    }
+}
+
+/// The key that an issuer's master key gives for a block of sixteen digits.
+fn diversified(imk: &Key16, block: [u8; 8]) -> Key16
+    ensures { result.0 ≡ diversified imk.now.0 block }
+{
+    let tdes = Tdes::new(imk);
+    let left = tdes.encipher(block);
+    let right = tdes.encipher(complement(block));
+    in_odd_parity(joined(left, right))
+}
+
+/// The block with each bit turned over.
+fn complement(mut block: [u8; 8]) -> [u8; 8]
+    ensures { result ≡ complement block }
+{
+    for byte in &mut block {
+        *byte ^= 0xFF;
+    }
+    block
+}
+
+/// The key with these halves.
+pub fn joined(left: [u8; 8], right: [u8; 8]) -> Key16
+    ensures { result.0 ≡ left ++ right }
+{
+    let mut bytes = [0; 16];
+    bytes[..8].copy_from_slice(&left);
+    bytes[8..].copy_from_slice(&right);
+    Key16(bytes)
+}
+
+/// The key with each byte in odd parity.
+fn in_odd_parity(key: Key16) -> Key16
+    ensures { result.0 ≡ map with_odd_parity key.0 }
+{
+    let mut bytes = key.0;
+    for byte in &mut bytes {
+        *byte = with_odd_parity(*byte);
+    }
+    Key16(bytes)
+}
+
+/// The byte with the least significant bit that makes its number of ones odd.
+fn with_odd_parity(byte: u8) -> u8
+    ensures { result ≡ with_odd_parity byte }
+{
+    let high = byte / 2;
+    if high.count_ones() % 2 == 0 {
+        2 * high + 1
+    } else {
+        2 * high
+    }
+}

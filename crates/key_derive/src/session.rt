@@ -1,0 +1,39 @@
+ghost use Rattle.std.specs.Prelude.{◌≡◌, slice_set};
+ghost use Rattle.key_derive.specs.SessionKey.{session_key, session_ac, session_sm};
+
+use crate::master::joined;
+use des_block::{Key16, Tdes};
+
+/// The session key for a transaction's cryptograms, from the card's master key and its transaction counter:
+/// EMV 4.3 Book 2, Annex A1.3.1. Sets up one key and enciphers two blocks.
+pub fn session_ac(mk: &Key16, atc: u16) -> Key16
+    ensures { result.0 ≡ session_ac mk.now.0 atc }
+{
+    let [high, low] = atc.to_be_bytes();
+    session_key(mk, [high, low, 0, 0, 0, 0, 0, 0])
+}
+
+/// The session key for a transaction's secure messages, from the card's master key and the application
+/// cryptogram of the first GENERATE AC: EMV 4.3 Book 2, Annex A1.3.1.
+pub fn session_sm(mk: &Key16, ac: &[u8; 8]) -> Key16
+    ensures { result.0 ≡ session_sm mk.now.0 ac.now }
+{
+    session_key(mk, *ac)
+}
+
+fn session_key(mk: &Key16, value: [u8; 8]) -> Key16
+    ensures { result.0 ≡ session_key mk.now.0 value }
+{
+    let tdes = Tdes::new(mk);
+    let left = tdes.encipher(with_third(value, 0xF0));
+    let right = tdes.encipher(with_third(value, 0x0F));
+    joined(left, right)
+}
+
+/// The block with its third byte replaced.
+fn with_third(mut block: [u8; 8], byte: u8) -> [u8; 8]
+    ensures { result ≡ slice_set block 2 byte }
+{
+    block[2] = byte;
+    block
+}
