@@ -3,11 +3,12 @@ ghost use Rattle.issuer_base.specs.declared.entry.Entry.{Entry};
 ghost use Rattle.card_history.specs.Records.{card_of};
 ghost use Rattle.card_history.specs.Turns.{IsUnused, decided_for, Answers, Turn};
 ghost use Rattle.row_core.specs.CardList.{number_of, AreCards};
-ghost use Rattle.memory_host.specs.Reading.{approval, of_known_card};
+ghost use Rattle.memory_host.specs.Reading.{approval, of_known_card, asked_in, reading};
 ghost use Rattle.memory_host.specs.Holding.{StandsFor};
 
 use arrayvec::ArrayVec;
 use card_history::Decision;
+use chip_request::{read_ask, read_request};
 use issuer_base::{Answer, NoMemory, Refusal, Reply, Request};
 use row_core::{Issuer, Outcome, Row};
 use std::alloc::Global;
@@ -55,8 +56,23 @@ impl MemoryHost {
         })
     }
 
+    /// The answer to a line, which is without its newline. The issuer's cards stay as they are.
+    ///
+    /// Where a request would be decided and no memory is left for its record, the answer says so, and
+    /// the host stands for the same history. No other line takes memory.
+    pub fn answer(&mut self, line: &[u8]) -> Answer
+        ensures turn { (history : List Entry) → StandsFor self.old history
+            → (after : List Entry) × StandsFor self.new after × Turn 0 (λ _. approval) history (reading self.old.cards line.now) result after }
+        ensures cards { self.new.cards ≡ self.old.cards }
+    {
+        match read_line(line) {
+            None => Answer::Refused(Refusal::BadLine(0)),
+            Some(request) => self.answer_request(request),
+        }
+    }
+
     /// The answer to a request.
-    pub fn answer_request(&mut self, request: Request) -> Answer
+    fn answer_request(&mut self, request: Request) -> Answer
         ensures turn { (history : List Entry) → StandsFor self.old history
             → (after : List Entry) × StandsFor self.new after × Turn 0 (λ _. approval) history (of_known_card self.old.cards request) result after }
         ensures cards { self.new.cards ≡ self.old.cards }
@@ -113,6 +129,14 @@ impl MemoryHost {
             Err(NoMemory) => Answer::Refused(Refusal::NoMemory),
         }
     }
+}
+
+/// The request that a line asks.
+fn read_line(line: &[u8]) -> Option<Request>
+    ensures { result ≡ asked_in line.now }
+{
+    let bytes = read_ask(line)?;
+    read_request(bytes.as_slice()).ok()
 }
 
 /// An empty row for each card.

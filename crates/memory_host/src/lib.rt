@@ -4,3 +4,6 @@
 mod host;
 
 pub use host::MemoryHost;
+
+#[cfg(test)]
+mod tests;

@@ -1,9 +1,7 @@
-use Rattle.std.proofs.Common.{◌≡◌, ◌<◌, List, length, Option, Some, ap, refl, sym, subst, ◌∙◌, arith}
+use Rattle.std.proofs.Common.{List, length, ap, subst, ◌∙◌, arith}
 use Rattle.card_history.specs.declared.decision.Decision.{Decision}
-use Rattle.card_history.specs.Records.{card_of}
-use Rattle.card_history.specs.Turns.{IsUnused, decided_for}
-use Rattle.row_core.specs.CardList.{number_of}
-use Rattle.memory_host.specs.Holding.{Holding, StandsFor}
+use Rattle.card_history.specs.Turns.{IsUnused}
+use Rattle.memory_host.specs.Holding.{Holding}
 use Rattle.memory_host.proofs.RowsAfter.{number-within, row-read}
 use Rattle.memory_host.proofs.host.MemoryHost.decide.Goals as goal
 

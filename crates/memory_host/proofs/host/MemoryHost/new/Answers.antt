@@ -1,5 +1,4 @@
-use Rattle.std.proofs.Common.{◌≡◌, List, [], replicate, ap, refl, sym, ◌∙◌}
-use Rattle.card_history.specs.declared.decision.Decision.{Decision}
+use Rattle.std.proofs.Common.{[], replicate, ap, refl, ◌∙◌}
 use Rattle.memory_host.proofs.RowsAfter.{rows-none}
 use Rattle.memory_host.proofs.host.MemoryHost.new.Goals as goal
 
