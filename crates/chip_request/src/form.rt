@@ -64,7 +64,9 @@ pub fn account_number(value: &[u8]) -> Option<Pan>
         return None;
     }
     let nibbles = nibbles_of(value);
-    let (digits, filling) = nibbles.as_slice().split_at(digits_in_front(nibbles.as_slice()));
+    let (digits, filling) = nibbles
+        .as_slice()
+        .split_at(digits_in_front(nibbles.as_slice()));
     if !is_filling(filling) {
         return None;
     }
