@@ -1,11 +1,11 @@
 -- What the crate `hex` decodes is what the definition of a line's chip data says.
-use Rattle.std.proofs.Common.{◌≡◌, ℕ, zero, suc, ◌+◌, ◌*◌, ◌/◌, ◌%◌, ◌<◌, ◌≤◌, ◌⊎◌, inl, inr, Bool, true, false, cond, eqb, List, [], ◌∷◌, length, Option, Some, None, Result, Ok, Err, MatchResult, option_and_then, refl, sym, ap, ◌∙◌, subst, arith, ◌==◌, ◌++◌, take, drop, leb, eqb-true, eq-eqb, le-leb}
+use Rattle.std.proofs.Common.{◌≡◌, ℕ, suc, ◌+◌, ◌*◌, ◌/◌, ◌%◌, ◌<◌, ◌≤◌, ◌⊎◌, inl, inr, Bool, true, false, List, [], ◌∷◌, length, Option, Some, None, Result, Ok, Err, MatchResult, option_and_then, refl, sym, ap, ◌∙◌, arith, ◌==◌, ◌++◌, take, drop, leb, eqb-true, eq-eqb, le-leb}
 use borrow.Author.Tests.{lt-leb}
 use Rattle.std.proofs.Math.Bool.{and-false}
 use Rattle.std.proofs.Math.Seq.{take-append_seam}
 use Rattle.std.specs.Result.{result_ok}
 use Rattle.hex.specs.declared.error.FromHexError.{FromHexError}
-use Rattle.hex.specs.Hex.{hex_digit_value, digit_or_error, value_at, pair_value, decode_pairs, decode_sized, ◌>>=◌}
+use Rattle.hex.specs.Hex.{hex_digit_value, digit_or_error, decode_pairs, decode_sized, ◌>>=◌}
 use Rattle.chip_request.specs.Ask.{pairs, within_line, data_bytes}
 
 -- one pair in front of others, by either definition
@@ -66,8 +66,8 @@ within_either text None h outside = refl
 within_either text (Some bytes) h outside =
     let half : length text / 2 ≡ length bytes = omega (arith, length-pairs text bytes h) in
     elim outside [
-      inl few ↦ let short : leb 1 (length bytes) ≡ false = lt-leb _ _ (omega arith) in rw short refl
-    | inr many ↦ let long : leb (length bytes) 1024 ≡ false = lt-leb _ _ (omega arith) in rw (long, and-false) refl
+      | inl few ↦ let short : leb 1 (length bytes) ≡ false = lt-leb _ _ (omega arith) in rw short refl
+      | inr many ↦ let long : leb (length bytes) 1024 ≡ false = lt-leb _ _ (omega arith) in rw (long, and-false) refl
     ]
 
 -- too few or too many digits are no chip data

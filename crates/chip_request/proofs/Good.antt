@@ -1,15 +1,15 @@
 -- Objects with which nothing is wrong make a request.
-use Rattle.std.proofs.Common.{◌≡◌, ℕ, ◌==◌, Bool, true, false, not, ◌&&◌, cond, eqb, List, [], ◌∷◌, map, length, replicate, Option, Some, None, option_and_then, refl, sym, ap, ◌∙◌, subst, slice_index}
+use Rattle.std.proofs.Common.{◌≡◌, ℕ, ◌==◌, Bool, true, false, not, cond, List, [], ◌∷◌, length, replicate, Option, Some, None, option_and_then, refl, ◌∙◌, slice_index}
 use Rattle.std.proofs.lemmas.Bool.{and_parts}
 use Rattle.std.specs.List.{list_all}
 use Rattle.tlv_objects.specs.Tlv.{TlvObject}
-use Rattle.issuer_base.specs.declared.request.Parts.{Parts}
 use Rattle.issuer_base.specs.ChipData.{is_bcd, has_profile, is_request, request_from}
 use Rattle.issuer_base.proofs.ChipDataLemmas.{request_from-valid}
 use Rattle.chip_request.specs.Fields.{Field, fields, has_bytes, has_decimal_bytes, has_account_number, has_application_data, leading_digits, required, optional}
 use Rattle.chip_request.specs.Forms.{account_number_in}
 use Rattle.chip_request.specs.Reading.{values_of, is_missing, is_misformed, first_wrong, first_or, parts_of}
-use Rattle.chip_request.specs.Slots.{Found, first_of, found_of, all_found, first_with_tag, sized, request_in}
+use Rattle.chip_request.proofs.Found.{first_of, all_found}
+use Rattle.chip_request.specs.Slots.{first_with_tag, sized, request_in}
 
 -- a field is good where it is there and of its form, or may be absent
 IsGood : Field → List (List ℕ) → Type 0

@@ -1,5 +1,5 @@
 -- What the slots hold after all objects, and which refusal comes.
-use Rattle.std.proofs.Common.{◌≡◌, ℕ, Bool, true, false, not, ◌&&◌, cond, eqb, List, [], ◌∷◌, map, length, ◌==◌, Option, Some, None, Result, Ok, Err, is_none, is_some, refl, sym, ap, ◌∙◌, subst, map-id}
+use Rattle.std.proofs.Common.{◌≡◌, ℕ, Bool, true, false, cond, List, [], ◌∷◌, map, ◌==◌, Option, Some, None, Result, Ok, Err, is_some, refl, sym, ap, ◌∙◌}
 use Rattle.std.proofs.Math.Bool.{and-true, and-false}
 use Rattle.tlv_objects.specs.Tlv.{TlvObject, Ahead, objects_of, objects_ahead}
 use Rattle.chip_request.specs.declared.reading.RequestFault.TheVariants.{BadTlv, Missing, BadField, Repeated}
@@ -7,7 +7,8 @@ use Rattle.chip_request.specs.declared.slots.Wrong.{Wrong}
 use Rattle.chip_request.specs.declared.slots.Wrong.TheVariants as wrongs
 use Rattle.chip_request.specs.Fields.{Field, fields}
 use Rattle.chip_request.specs.Reading.{values_of, is_missing, is_misformed, is_repeated, first_wrong, parts_of, request_of}
-use Rattle.chip_request.specs.Slots.{Found, with_value, with_object, with_objects, unfound, first_of, found_of, all_found, is_wrong, first_wrong_found}
+use Rattle.chip_request.proofs.Found.{found_of, all_found}
+use Rattle.chip_request.specs.Slots.{Found, with_value, with_object, with_objects, unfound, is_wrong, first_wrong_found}
 
 -- what was found of a field after more values
 after : Found → List (List ℕ) → Found
@@ -140,9 +141,9 @@ takes_request bytes whole present formed once = rw (whole, present, formed, once
 -- a walk over a whole text leaves in the slots what all its objects say
 pub walked : (bytes : List ℕ) (ahead : Ahead) (first last : List Found) → ahead ≡ record { bytes = bytes; at = 0 } → first ≡ map unfound fields → ((objects_ahead ahead).torn ≡ None) × (last ≡ with_objects first (objects_ahead ahead).objects) → ((objects_of bytes).torn ≡ None) × (last ≡ all_found (objects_of bytes).objects)
 walked bytes ahead first last begins empty ends = (
-    ap (λ (ahead : Ahead). (objects_ahead ahead).torn) (sym begins) ∙ ends.0,
-    ends.1 ∙ ap (λ (founds : List Found). with_objects founds (objects_ahead ahead).objects) empty ∙ ap (λ (ahead : Ahead). with_objects (map unfound fields) (objects_ahead ahead).objects) begins ∙ with_objects-unfound (objects_of bytes).objects,
-  )
+  ap (λ (ahead : Ahead). (objects_ahead ahead).torn) (sym begins) ∙ ends.0,
+  ends.1 ∙ ap (λ (founds : List Found). with_objects founds (objects_ahead ahead).objects) empty ∙ ap (λ (ahead : Ahead). with_objects (map unfound fields) (objects_ahead ahead).objects) begins ∙ with_objects-unfound (objects_of bytes).objects,
+)
 
 -- what a look at the slots gives is what is wrong with the objects
 pub looked_missing : (objects : List TlvObject) (founds : List Found) (tag : Option ℕ) → founds ≡ all_found objects → tag ≡ first_wrong_found wrongs.Missing founds → first_wrong is_missing objects fields ≡ tag

@@ -1,11 +1,10 @@
 -- What a walk over the objects leaves in the slots.
-use Rattle.std.proofs.Common.{◌≡◌, ℕ, zero, suc, ◌+◌, ◌<◌, List, [], ◌∷◌, ◌++◌, map, length, get_or, set, Bool, true, false, eqb, Some, None, ◌≤◌, drop-cons, drop_of_length-le, eq-eqb, ne_eqb, take, drop, refl, sym, ap, ◌∙◌, subst, add-one, arith}
+use Rattle.std.proofs.Common.{◌≡◌, ℕ, zero, suc, ◌+◌, ◌<◌, List, [], ◌∷◌, ◌++◌, map, length, get_or, set, true, false, eqb, Some, None, ◌≤◌, drop-cons, drop_of_length-le, take, drop, refl, sym, ap, ◌∙◌, add-one, arith}
 use Rattle.std.proofs.lemmas.List.{map-set, length-map}
-use Rattle.tlv_objects.specs.Tlv.{TlvObject}
 use Rattle.chip_request.specs.declared.slots.Slot.{Slot}
 use Rattle.chip_request.specs.declared.slots.Wrong.{Wrong}
 use Rattle.chip_request.specs.SlotViews.{found_in}
-use Rattle.chip_request.specs.Slots.{Found, with_object, first_with_tag, first_wrong_found, is_wrong}
+use Rattle.chip_request.specs.Slots.{first_with_tag, first_wrong_found, is_wrong}
 
 -- one more element of a list that is taken through f from the front
 taken_more : {A : Type 0} (f : A → A) (xs : List A) (i : ℕ) (y d : A) → i < length xs → y ≡ f (get_or xs i d) → set (map f (take i xs) ++ drop i xs) i y ≡ map f (take (suc i) xs) ++ drop (suc i) xs
@@ -30,7 +29,7 @@ taken_more_seen {A} {B} v f xs initial i d new below so_far is_new =
     let seen : List B = map v initial in
     let within : i < length seen = omega (arith, length-map initial v) in
     let was : v (get_or xs i d) ≡ get_or seen i (v d) =
-      sym (get_or-map v xs i d) ∙ ap (λ zs. get_or zs i (v d)) so_far ∙ untaken_at f seen i (v d) within
+    sym (get_or-map v xs i d) ∙ ap (λ zs. get_or zs i (v d)) so_far ∙ untaken_at f seen i (v d) within
     in
     map-set v xs i new ∙ ap (λ zs. set zs i (v new)) so_far ∙ rw add-one (taken_more f seen i (v new) (v d) within (is_new ∙ ap f was))
 

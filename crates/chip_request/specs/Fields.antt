@@ -43,19 +43,19 @@ optional tag has_form = record { tag = tag; is_required = false; has_form = has_
 -- the fields in the order in which what is wrong with them is looked for
 abbrev pub fields : List Field
 fields =
-    required 0x5A has_account_number            -- primary account number
-    ∷ optional 0x5F34 (has_decimal_bytes 1)     -- its sequence number
-    ∷ required 0x82 (has_bytes 2)               -- application interchange profile
-    ∷ required 0x95 (has_bytes 5)               -- terminal verification results
-    ∷ required 0x9A (has_bytes 3)               -- transaction date
-    ∷ required 0x9C (has_bytes 1)               -- transaction type
-    ∷ required 0x9F02 (has_decimal_bytes 6)     -- amount authorised
-    ∷ optional 0x9F03 (has_bytes 6)             -- amount other
-    ∷ required 0x9F10 has_application_data      -- issuer application data
-    ∷ required 0x9F1A (has_bytes 2)             -- terminal country code
-    ∷ required 0x5F2A (has_bytes 2)             -- transaction currency code
-    ∷ required 0x9F26 (has_bytes 8)             -- application cryptogram
-    ∷ required 0x9F27 (has_bytes 1)             -- cryptogram information data
-    ∷ required 0x9F36 (has_bytes 2)             -- application transaction counter
-    ∷ required 0x9F37 (has_bytes 4)             -- unpredictable number
+    required 0x5A has_account_number  -- primary account number
+    ∷ optional 0x5F34 (has_decimal_bytes 1)  -- its sequence number
+    ∷ required 0x82 (has_bytes 2)  -- application interchange profile
+    ∷ required 0x95 (has_bytes 5)  -- terminal verification results
+    ∷ required 0x9A (has_bytes 3)  -- transaction date
+    ∷ required 0x9C (has_bytes 1)  -- transaction type
+    ∷ required 0x9F02 (has_decimal_bytes 6)  -- amount authorised
+    ∷ optional 0x9F03 (has_bytes 6)  -- amount other
+    ∷ required 0x9F10 has_application_data  -- issuer application data
+    ∷ required 0x9F1A (has_bytes 2)  -- terminal country code
+    ∷ required 0x5F2A (has_bytes 2)  -- transaction currency code
+    ∷ required 0x9F26 (has_bytes 8)  -- application cryptogram
+    ∷ required 0x9F27 (has_bytes 1)  -- cryptogram information data
+    ∷ required 0x9F36 (has_bytes 2)  -- application transaction counter
+    ∷ required 0x9F37 (has_bytes 4)  -- unpredictable number
     ∷ []

@@ -1,6 +1,6 @@
 -- The request that chip data say, or the first thing that is wrong with them.
 use Rattle.std.specs.Prelude.{ℕ, ◌+◌, ◌*◌, Bool, true, false, not, List, [], ◌∷◌, replicate, slice_index, Option, Some, None, Result, Ok, Err, ◌==◌, if◌then◌else◌}
-use Rattle.tlv_objects.specs.Tlv.{TlvObject, TlvText, objects_of}
+use Rattle.tlv_objects.specs.Tlv.{TlvObject, objects_of}
 use Rattle.issuer_base.specs.declared.request.Parts.{Parts}
 use Rattle.chip_request.specs.declared.reading.RequestFault.{RequestFault}
 use Rattle.chip_request.specs.declared.reading.RequestFault.TheVariants.{BadTlv, Missing, BadField, Repeated}
@@ -72,6 +72,6 @@ unfoldable pub request_of : List ℕ → Result Parts RequestFault
 request_of bytes =
     let text = objects_of bytes in
     refused text.torn BadTlv (
-      refused (first_wrong is_missing text.objects fields) Missing (
-        refused (first_wrong is_misformed text.objects fields) BadField (
-          refused (first_wrong is_repeated text.objects fields) Repeated (Ok (parts_of text.objects)))))
+    refused (first_wrong is_missing text.objects fields) Missing (
+    refused (first_wrong is_misformed text.objects fields) BadField (
+    refused (first_wrong is_repeated text.objects fields) Repeated (Ok (parts_of text.objects)))))

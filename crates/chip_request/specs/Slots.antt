@@ -1,8 +1,7 @@
 -- What a walk over the objects keeps of each field.
-use Rattle.std.specs.Prelude.{ℕ, ◌+◌, ◌*◌, Bool, true, false, not, ◌&&◌, ◌||◌, List, [], ◌∷◌, map, length, take, replicate, slice_index, Option, Some, None, option_map, option_and_then, is_some, is_none, ◌==◌, if◌then◌else◌}
+use Rattle.std.specs.Prelude.{ℕ, ◌+◌, ◌*◌, Bool, true, false, not, ◌&&◌, List, [], ◌∷◌, map, length, replicate, slice_index, Option, Some, None, option_and_then, is_some, is_none, ◌==◌, if◌then◌else◌}
 use Rattle.tlv_objects.specs.Tlv.{TlvObject}
-use Rattle.chip_request.specs.Fields.{Field, fields, leading_digits}
-use Rattle.chip_request.specs.Reading.{values_of, is_repeated}
+use Rattle.chip_request.specs.Fields.{Field}
 use Rattle.issuer_base.specs.declared.request.Parts.{Parts}
 use Rattle.issuer_base.specs.ChipData.{request_from}
 use Rattle.chip_request.specs.Forms.{account_number_in}
@@ -32,19 +31,6 @@ with_objects founds (object ∷ objects) = with_objects (map (with_object object
 abbrev pub unfound : Field → Found
 unfound field = record { field = field; first = None; is_repeated = false }
 
--- the first of some values
-abbrev pub first_of : List (List ℕ) → Option (List ℕ)
-first_of [] = None
-first_of (value ∷ values) = Some value
-
--- what was found of a field when all values of it are seen
-abbrev pub found_of : Field → List (List ℕ) → Found
-found_of field values = record { field = field; first = first_of values; is_repeated = is_repeated field values }
-
--- what was found of each field when all objects are seen
-abbrev pub all_found : List TlvObject → List Found
-all_found objects = map (λ field. found_of field (values_of field.tag objects)) fields
-
 -- whether this is wrong with a field
 abbrev pub is_wrong : Wrong → Found → Bool
 is_wrong Missing found = found.field.is_required && is_none found.first
@@ -70,22 +56,22 @@ sized count (Some value) = if length value == count then value else replicate co
 -- the request that was found, if what was found makes one
 unfoldable pub request_in : List Found → Option Parts
 request_in founds = option_and_then (λ pan. request_from (record {
-    pan = pan;
-    psn = slice_index (bytes 1 0x5F34) 0;
-    aip = bytes 2 0x82;
-    atc = 256 * slice_index (bytes 2 0x9F36) 0 + slice_index (bytes 2 0x9F36) 1;
-    tvr = bytes 5 0x95;
-    date = bytes 3 0x9A;
-    kind = slice_index (bytes 1 0x9C) 0;
-    amount = bytes 6 0x9F02;
-    other = bytes 6 0x9F03;
-    country = bytes 2 0x9F1A;
-    currency = bytes 2 0x5F2A;
-    un = bytes 4 0x9F37;
-    cid = slice_index (bytes 1 0x9F27) 0;
-    iad = bytes 32 0x9F10;
-    ac = bytes 8 0x9F26;
-  })) (option_and_then account_number_in (first_with_tag 0x5A founds))
+  pan = pan;
+  psn = slice_index (bytes 1 0x5F34) 0;
+  aip = bytes 2 0x82;
+  atc = 256 * slice_index (bytes 2 0x9F36) 0 + slice_index (bytes 2 0x9F36) 1;
+  tvr = bytes 5 0x95;
+  date = bytes 3 0x9A;
+  kind = slice_index (bytes 1 0x9C) 0;
+  amount = bytes 6 0x9F02;
+  other = bytes 6 0x9F03;
+  country = bytes 2 0x9F1A;
+  currency = bytes 2 0x5F2A;
+  un = bytes 4 0x9F37;
+  cid = slice_index (bytes 1 0x9F27) 0;
+  iad = bytes 32 0x9F10;
+  ac = bytes 8 0x9F26;
+})) (option_and_then account_number_in (first_with_tag 0x5A founds))
   where
     bytes : ℕ → ℕ → List ℕ
     bytes count tag = sized count (first_with_tag tag founds)

@@ -48,11 +48,11 @@ fn is_decimal(byte: u8) -> bool
 }
 
 #[tactic(auto, unfolding(issuer_base::specs::ChipData::has_profile))]
-fn has_profile(data: &[u8]) -> bool
-    requires { length data.now ≡ 32 }
-    ensures { result ≡ has_profile data.now }
+fn has_profile(value: &[u8]) -> bool
+    requires { length value.now ≡ 32 }
+    ensures { result ≡ has_profile value.now }
 {
-    data[0] == 0x0F && data[1] == 0xA5 && data[16] == 0x0F
+    value[0] == 0x0F && value[1] == 0xA5 && value[16] == 0x0F
 }
 
 /// The account number in a value of that form.
@@ -64,7 +64,9 @@ pub fn account_number(value: &[u8]) -> Option<Pan>
         return None;
     }
     let nibbles = nibbles_of(value);
-    let (digits, filling) = nibbles.as_slice().split_at(digits_in_front(nibbles.as_slice()));
+    let (digits, filling) = nibbles
+        .as_slice()
+        .split_at(digits_in_front(nibbles.as_slice()));
     if !is_filling(filling) {
         return None;
     }

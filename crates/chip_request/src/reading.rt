@@ -3,7 +3,7 @@ ghost use Rattle.std.specs.Prelude.{◌≡◌, ◌≤◌, ◌<◌, ◌+◌, ◌^
 ghost use Rattle.tlv_objects.specs.Tlv.{objects_of, objects_ahead};
 ghost use Rattle.chip_request.specs.Fields.{fields};
 ghost use Rattle.chip_request.specs.Reading.{request_of};
-ghost use Rattle.chip_request.specs.Slots.{all_found, request_in, unfound, with_objects};
+ghost use Rattle.chip_request.specs.Slots.{request_in, unfound, with_objects};
 ghost use Rattle.chip_request.specs.SlotViews.{found_in};
 
 use crate::form::account_number;
@@ -14,12 +14,12 @@ use tlv_objects::{Objects, TlvFault};
 /// The most bytes that chip data may have.
 pub const LONGEST: usize = 1024;
 
-/// Why chip data are no request. The first of these that is so is told.
+/// Why chip data are no request: the first of these that is so.
 #[derive(Clone, Copy, Debug, PartialEq, Eq)]
 pub enum RequestFault {
-    /// What stands at this place is no object.
+    /// What begins at this place is no BER-TLV object.
     BadTlv(u32),
-    /// No object has this tag, which a request must have. It is the first such tag in the order of the table.
+    /// No object has this tag, and a request has to have one.
     Missing(u32),
     /// The value of the first object with this tag isn't of the field's form.
     BadField(u32),
@@ -27,7 +27,9 @@ pub enum RequestFault {
     Repeated(u32),
 }
 
-/// The request that chip data say, BER-TLV objects in any order. Objects of other tags are passed over.
+/// The request that chip data say, which are BER-TLV objects in any order. Objects of other tags are passed over.
+/// A torn text is refused first, then a missing field, a misformed one and a repeated one, each time the first in the
+/// order of the table.
 pub fn read_request(bytes: &[u8]) -> Result<Request, RequestFault>
     requires { length bytes.now ≤ LONGEST }
     ensures { result ≡ request_of bytes.now }
@@ -70,7 +72,7 @@ impl<'a> Walk<'a> {
         requires { self.old.ahead.at + length self.old.ahead.bytes < 2 ^ 32 }
         ensures ok { OnOk result (((objects_ahead self.old.ahead).torn ≡ None)
             × (map found_in self.new.slots
-                ≡ with_objects (map found_in self.old.slots) (objects_ahead self.old.ahead).objects)) }
+            ≡ with_objects (map found_in self.old.slots) (objects_ahead self.old.ahead).objects)) }
         ensures err { IfErr result (λ fault. (place : ℕ)
             × ((objects_ahead self.old.ahead).torn ≡ Some place) × (fault ≡ RequestFault.BadTlv place)) }
     {
@@ -84,6 +86,7 @@ impl<'a> Walk<'a> {
     }
 }
 
+// The request that was found, where each field that is there has its form.
 #[tactic(auto, unfolding(crate::specs::Slots::request_in))]
 fn request_in(slots: &[Slot<'_>; 15]) -> Option<Request>
     ensures { result ≡ request_in (map found_in slots.now) }

@@ -1,12 +1,12 @@
-use Rattle.std.proofs.Common.{◌≡◌, ◌/◌, ◌≤◌, length, inl, inr, sym, ap, ◌∙◌, Some, arith}
+use Rattle.std.proofs.Common.{◌≡◌, ◌/◌, length, inl, inr, sym, ap, ◌∙◌, Some, arith}
 use Rattle.chip_request.proofs.Digits.{outside_line, decoded_data, undecoded_data, refilled}
 use Rattle.chip_request.proofs.ask.read_data.Goals as goal
 
 pub returns-then-count-eq0 : goal.returns-then-count-eq0
 returns-then-count-eq0 c = elim c.then-count-eq0.either [
-    inl none ↦ sym (outside_line c.args.digits.now (inl (omega arith)))
+  | inl none ↦ sym (outside_line c.args.digits.now (inl (omega arith)))
   | inr many ↦ sym (outside_line c.args.digits.now (inr many.1))
-  ]
+]
 
 pub returns-in_err-ok : goal.returns-in_err-ok
 returns-in_err-ok c =

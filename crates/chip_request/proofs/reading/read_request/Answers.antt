@@ -1,4 +1,4 @@
-use Rattle.std.proofs.Common.{◌≡◌, sym, ap, ◌∙◌, Err, is_some}
+use Rattle.std.proofs.Common.{sym, ap, ◌∙◌, Err, is_some}
 use Rattle.std.proofs.lemmas.Result.{err_from_is_err_and}
 use Rattle.tlv_objects.specs.Tlv.{Ahead, objects_ahead, objects_of}
 use Rattle.chip_request.specs.Slots.{request_in}

@@ -10,7 +10,7 @@ invariant-loop-item l = record {
   found : with_objects (map found_in l.self.slots) (objects_ahead l.self.ahead).objects ≡ with_objects (map found_in l.fn.self.slots) (objects_ahead l.fn.self.ahead).objects;
   torn : (objects_ahead l.self.ahead).torn ≡ (objects_ahead l.fn.self.ahead).torn;
   end : l.self.ahead.at + length l.self.ahead.bytes ≡ l.fn.self.ahead.at + length l.fn.self.ahead.bytes;
-  }
+}
 
 abbrev pub decreases-loop-item : goal.decreases-loop-item
 decreases-loop-item l = length l.self.ahead.bytes
