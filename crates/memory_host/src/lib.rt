@@ -6,3 +6,6 @@ mod reading;
 mod reply;
 
 pub use host::MemoryHost;
+
+#[cfg(test)]
+mod tests;
