@@ -21,6 +21,23 @@ pub struct KeySet {
     pub smi: Key16,
 }
 
+/// The index 0, option A and keys of zeros: what fills the unused places of an array of key sets.
+impl Default for KeySet {
+    ghost use Rattle.std.specs.Prelude.{◌≡◌, replicate};
+    ghost use Rattle.issuer_base.specs.declared.answer.MasterOption.TheVariants.{A};
+
+    ghost is_default = { λ set. set ≡ record { dki = 0; option = A; ac = record { 0 = replicate 16 0 }; smi = record { 0 = replicate 16 0 } } };
+
+    fn default() -> KeySet {
+        KeySet {
+            dki: 0,
+            option: MasterOption::A,
+            ac: Key16([0; 16]),
+            smi: Key16([0; 16]),
+        }
+    }
+}
+
 /// A card's master keys.
 #[derive(Clone, Copy, PartialEq, Eq, Debug)]
 pub struct CardKeys {

@@ -1,4 +1,5 @@
 pub mod Names
+pub mod KeyListLemmas
 pub mod CardListLemmas
 pub mod CardOrderLemmas
 pub mod UnusedCounters

@@ -6,7 +6,7 @@ use Rattle.issuer_base.specs.ChipData.{is_bcd}
 use Rattle.card_history.specs.Records.{CardName}
 use Rattle.row_core.specs.declared.card.CardInfo.{CardInfo}
 use Rattle.row_core.specs.declared.issuer.IssuerFault.{IssuerFault}
-use Rattle.row_core.specs.declared.issuer.IssuerFault.TheVariants.{Card, NoMemory}
+use Rattle.row_core.specs.declared.issuer.IssuerFault.TheVariants.{Key, Card, NoMemory}
 
 -- the name of a card
 abbrev pub name_of : CardInfo → CardName
@@ -34,10 +34,11 @@ first_bad before (card ∷ cards) =
 unfoldable pub bad_card : List CardInfo → Option ℕ
 bad_card cards = if nat_le 1 (length cards) && nat_le (length cards) 4096 then first_bad [] cards else Some 0
 
--- a list of cards is refused at that place, or for want of memory
-abbrev pub IsFaultOf : List CardInfo → IssuerFault → Type 0
-IsFaultOf cards (Card index) = bad_card cards ≡ Some index
-IsFaultOf cards NoMemory = Unit {0}
+-- a list of cards is refused at that card, or for want of memory
+abbrev pub IsCardFault : List CardInfo → IssuerFault → Type 0
+IsCardFault cards (Key index) = ⊥
+IsCardFault cards (Card index) = bad_card cards ≡ Some index
+IsCardFault cards NoMemory = Unit {0}
 
 -- what an issuer's cards are: 1 to 4,096, with decimal sequence numbers, no two of one name
 pub record AreCards (cards : List CardInfo) : Type 0 where
@@ -45,7 +46,3 @@ pub record AreCards (cards : List CardInfo) : Type 0 where
   pub few : length cards ≤ 4096
   pub decimal : All (λ card. IsTrue (is_bcd card.psn)) cards
   pub distinct : AllPairs (λ first second. name_of first ≢ name_of second) cards
-
--- what an issuer has
-pub record Setup : Type 0 where
-  pub cards : List CardInfo

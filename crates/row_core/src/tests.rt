@@ -3,7 +3,9 @@
 use super::*;
 use arrayvec::ArrayVec;
 use card_history::Decision;
-use issuer_base::{Method, Pan, Parts, Reply, Request};
+use des_block::Key16;
+use issuer_base::{MasterOption, Method, Pan, Parts, Reply, Request};
+use key_derive::{KeySet, card_keys};
 use std::alloc::Global;
 use std::test::Fail;
 
@@ -21,6 +23,22 @@ fn three_cards(alloc: Global) -> Result<Vec<CardInfo>, Fail> {
         cards.push(card(last_digit, psn).ok_or("a card")?)?;
     }
     Ok(cards)
+}
+
+fn key_set(dki: u8, option: MasterOption) -> KeySet {
+    KeySet {
+        dki,
+        option,
+        ac: Key16([dki; 16]),
+        smi: Key16([0x10; 16]),
+    }
+}
+
+fn two_key_sets() -> ArrayVec<KeySet, 16> {
+    let mut keys = ArrayVec::new();
+    keys.push(key_set(7, MasterOption::B));
+    keys.push(key_set(0, MasterOption::A));
+    keys
 }
 
 fn request(counter: u16, un: u8) -> Option<Request> {
@@ -61,7 +79,9 @@ fn decision(counter: u16, place: u64) -> Result<Decision, Fail> {
 
 #[test]
 fn finds_cards_by_name(rt: HostRuntime) -> Result<(), Fail> {
-    let issuer = Issuer::new(rt.alloc(), three_cards(rt.alloc())?).map_err(|_| "an issuer")?;
+    let issuer = Issuer::new(rt.alloc(), two_key_sets(), three_cards(rt.alloc())?).map_err(
+        |_| "an issuer",
+    )?;
     assert_eq!(rt; issuer.cards(), 3);
     for (last_digit, psn, number) in [
         (2, 0x01, Some(0)),
@@ -83,14 +103,55 @@ fn finds_cards_by_name(rt: HostRuntime) -> Result<(), Fail> {
 
 #[test]
 fn names_the_card_that_may_not_stand(rt: HostRuntime) -> Result<(), Fail> {
-    let none = Issuer::new(rt.alloc(), Vec::new(rt.alloc()));
+    let none = Issuer::new(rt.alloc(), two_key_sets(), Vec::new(rt.alloc()));
     assert!(rt; none.err() == Some(IssuerFault::Card(0)));
     for (name, last_digit, psn) in [("a repeat", 2, 0x00), ("a nibble of ten", 9, 0x0A)] {
         let mut cards = three_cards(rt.alloc())?;
         cards.push(card(last_digit, psn).ok_or("a card")?)?;
         cards.push(card(8, 0x00).ok_or("a card")?)?;
-        let refused = Issuer::new(rt.alloc(), cards);
+        let refused = Issuer::new(rt.alloc(), two_key_sets(), cards);
         assert!(rt; refused.err() == Some(IssuerFault::Card(3)), "{name}");
+    }
+    Ok(())
+}
+
+#[test]
+fn finds_keys_by_index(rt: HostRuntime) -> Result<(), Fail> {
+    let issuer = Issuer::new(rt.alloc(), two_key_sets(), three_cards(rt.alloc())?).map_err(
+        |_| "an issuer",
+    )?;
+    assert!(rt; *issuer.first_key() == key_set(7, MasterOption::B));
+    for (name, dki, expected) in [
+        ("the first", 7, Some(key_set(7, MasterOption::B))),
+        (
+            "an index that is no place",
+            0,
+            Some(key_set(0, MasterOption::A)),
+        ),
+        ("a place that is no index", 1, None),
+    ] {
+        assert!(rt; issuer.key(dki).copied() == expected, "{name}");
+    }
+    // The request's index is 0.
+    let asked = request(1, 1).ok_or("a request")?;
+    let wanted = card(8, 0x00).ok_or("a card")?;
+    let expected = card_keys(&key_set(0, MasterOption::A), &wanted.pan, wanted.psn);
+    if issuer.cards() == 3 {
+        assert!(rt; issuer.keys_of(1, &asked) == Some(expected));
+    }
+    Ok(())
+}
+
+#[test]
+fn names_the_key_set_that_may_not_stand(rt: HostRuntime) -> Result<(), Fail> {
+    let mut repeated = two_key_sets();
+    repeated
+        .try_push(key_set(7, MasterOption::A))
+        .map_err(|_| "no room")?;
+    for (name, keys, index) in [("none", ArrayVec::new(), 0), ("a repeat", repeated, 2)] {
+        // That there is no card either isn't looked at.
+        let refused = Issuer::new(rt.alloc(), keys, Vec::new(rt.alloc()));
+        assert!(rt; refused.err() == Some(IssuerFault::Key(index)), "{name}");
     }
     Ok(())
 }

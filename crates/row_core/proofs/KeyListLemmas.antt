@@ -1,0 +1,65 @@
+-- What the definitions of an issuer's key sets say: which lists are taken, and which key set an index names.
+use Rattle.std.proofs.Common.{◌≡◌, ◌≢◌, ℕ, zero, suc, ◌+◌, ◌<◌, ◌≤◌, ◌==◌, true, false, ◌||◌, List, [], ◌∷◌, ◌++◌, length, get_or, take, drop, ap, sym, ◌∙◌, subst, inl, inr, None, Some, append-nil, append_assoc, arith}
+use Rattle.std.proofs.lemmas.Bool.{eqb-false, cond-true, cond-false, cases_Bool}
+use Rattle.std.proofs.lemmas.List.{at_drop_more, at_drop_all, take_more, length-take-le}
+use Rattle.std.proofs.lemmas.List.Quantifiers.{all_pairs_push}
+use Rattle.std.specs.List.{list_any, AllPairs}
+use Rattle.key_derive.specs.declared.card.KeySet.{KeySet}
+use Rattle.row_core.specs.KeyList.{has_dki, first_repeat, bad_key, AreKeys}
+
+-- one more key set that repeats no index
+pub first_repeat-more : (keys : List KeySet) (i : ℕ) (set : KeySet) → i < length keys → set ≡ get_or keys i set → list_any (has_dki set.dki) (take i keys) ≡ false → first_repeat (take i keys) (drop i keys) ≡ first_repeat (take (i + 1) keys) (drop (i + 1) keys)
+first_repeat-more keys i set below read new =
+    at_drop_more (first_repeat (take i keys)) keys i set below
+    ∙ ap (λ (first : KeySet). first_repeat (take i keys) (first ∷ drop (i + 1) keys)) (sym read)
+    ∙ cond-false (list_any (has_dki set.dki) (take i keys)) _ _ new
+    ∙ ap (λ before. first_repeat before (drop (i + 1) keys)) (ap (λ (last : KeySet). take i keys ++ last ∷ []) read ∙ sym (take_more keys i set below))
+
+-- the first that repeats one
+pub first_repeat-here : (keys : List KeySet) (i : ℕ) (set : KeySet) → i < length keys → set ≡ get_or keys i set → list_any (has_dki set.dki) (take i keys) ≡ true → first_repeat (take i keys) (drop i keys) ≡ Some i
+first_repeat-here keys i set below read repeated =
+    at_drop_more (first_repeat (take i keys)) keys i set below
+    ∙ ap (λ (first : KeySet). first_repeat (take i keys) (first ∷ drop (i + 1) keys)) (sym read)
+    ∙ cond-true (list_any (has_dki set.dki) (take i keys)) _ _ repeated
+    ∙ ap Some (length-take-le i keys (omega arith))
+
+-- none repeats one
+pub first_repeat-all : (keys : List KeySet) (i : ℕ) → length keys ≤ i → first_repeat (take i keys) (drop i keys) ≡ None
+first_repeat-all keys i all = at_drop_all (first_repeat (take i keys)) keys i all
+
+-- no key set before has the index
+unnamed : (dki : ℕ) (before : List KeySet) → list_any (has_dki dki) before ≡ false → (k : ℕ) (d : KeySet) → k < length before → (get_or before k d).dki ≡ dki → ⊥
+unnamed dki [] absent k d below same = absurd (omega arith)
+unnamed dki (set ∷ before) absent zero d below same =
+    elim (cases_Bool (has_dki dki set)) [
+      | inl named ↦ let some : true ≡ false = sym (ap (λ b. b || list_any (has_dki dki) before) named) ∙ absent in absurd (cc)
+      | inr other ↦ eqb-false set.dki dki other same
+    ]
+unnamed dki (set ∷ before) absent (suc k) d below same =
+    elim (cases_Bool (has_dki dki set)) [
+      | inl named ↦ let some : true ≡ false = sym (ap (λ b. b || list_any (has_dki dki) before) named) ∙ absent in absurd (cc)
+      | inr other ↦ unnamed dki before (sym (ap (λ b. b || list_any (has_dki dki) before) other) ∙ absent) k d (omega arith) same
+    ]
+
+distinct-all : (before keys : List KeySet) → AllPairs (λ first second. first.dki ≢ second.dki) before → first_repeat before keys ≡ None → AllPairs (λ first second. first.dki ≢ second.dki) (before ++ keys)
+distinct-all before [] distinct none = subst (AllPairs (λ first second. first.dki ≢ second.dki)) (sym (append-nil before)) distinct
+distinct-all before (set ∷ keys) distinct none =
+    elim (cases_Bool (list_any (has_dki set.dki) before)) [
+      | inl repeated ↦ absurd (let some : Some (length before) ≡ None = sym (cond-true (list_any (has_dki set.dki) before) _ _ repeated) ∙ none in cc)
+      | inr new ↦
+          let rest : first_repeat (before ++ set ∷ []) keys ≡ None = sym (cond-false (list_any (has_dki set.dki) before) _ _ new) ∙ none in
+          let more = all_pairs_push (λ first second. first.dki ≢ second.dki) before set distinct (unnamed set.dki before new) in
+          subst (AllPairs (λ first second. first.dki ≢ second.dki)) (append_assoc before (set ∷ []) keys) (distinct-all (before ++ set ∷ []) keys more rest)
+    ]
+
+-- a list of key sets that is taken is what an issuer's key sets are
+pub bad_key-none : (keys : List KeySet) → bad_key keys ≡ None → AreKeys keys
+unfolding bad_key
+bad_key-none keys none =
+    elim (cases_Bool (length keys == 0)) [
+      | inl empty ↦ absurd (let some : Some 0 ≡ None = sym (cond-true (length keys == 0) _ _ empty) ∙ none in cc)
+      | inr some ↦
+          let all : first_repeat [] keys ≡ None = sym (cond-false (length keys == 0) _ _ some) ∙ none in
+          let there : length keys ≢ 0 = eqb-false (length keys) 0 some in
+          record { some = omega (arith, there); distinct = distinct-all [] keys (λ i j d lower below. absurd (omega arith)) all }
+    ]
