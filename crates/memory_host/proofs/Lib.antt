@@ -1,1 +1,2 @@
 pub mod RowsAfter
+pub mod KeptLines

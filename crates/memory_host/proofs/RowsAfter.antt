@@ -88,10 +88,10 @@ rows-none [] = refl
 rows-none (card ∷ cards) = ap (λ rows. [] ∷ rows) (rows-none cards)
 
 -- the rows with one more decision, and one more record, stand for the history with that record
-pub stands-more : (host : Holding) (history : List Entry) (request : Request) (reply : Reply) (number : ℕ) (rows' : List (List Decision)) → AreCards host.cards → number_of (card_of request) host.cards ≡ Some number → StandsFor host history → rows' ≡ set host.rows number (get_or host.rows number [] ++ record { request = request; reply = reply; place = host.records } ∷ []) → StandsFor (record { cards = host.cards; rows = rows'; records = host.records + 1 }) (history ++ Decided request reply ∷ [])
+pub stands-more : (host : Holding) (history : List Entry) (request : Request) (reply : Reply) (number : ℕ) (rows' : List (List Decision)) → AreCards host.issuer.cards → number_of (card_of request) host.issuer.cards ≡ Some number → StandsFor host history → rows' ≡ set host.rows number (get_or host.rows number [] ++ record { request = request; reply = reply; place = host.records } ∷ []) → StandsFor (record { issuer = host.issuer; rows = rows'; records = host.records + 1 }) (history ++ Decided request reply ∷ [])
 stands-more host history request reply number rows' valid known stands set_is =
     let at_end : rows' ≡ set host.rows number (get_or host.rows number [] ++ record { request = request; reply = reply; place = length history } ∷ []) = set_is ∙ ap (λ place. set host.rows number (get_or host.rows number [] ++ record { request = request; reply = reply; place = place } ∷ [])) stands.records_are in
     record {
-      rows_are = rows-more host.cards history request reply number known valid host.rows rows' stands.rows_are at_end;
+      rows_are = rows-more host.issuer.cards history request reply number known valid host.rows rows' stands.rows_are at_end;
       records_are = ap (λ n. n + 1) stands.records_are ∙ sym (length_push history (Decided request reply));
     }

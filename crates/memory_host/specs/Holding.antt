@@ -5,10 +5,11 @@ use Rattle.card_history.specs.declared.decision.Decision.{Decision}
 use Rattle.card_history.specs.Records.{decided}
 use Rattle.row_core.specs.declared.card.CardInfo.{CardInfo}
 use Rattle.row_core.specs.CardList.{name_of}
+use Rattle.row_core.specs.IssuerSetup.{Setup}
 
--- the cards of the issuer, a row of decisions for each of them, and the number of records
+-- what the issuer has, a row of decisions for each of its cards, and the number of records
 pub record Holding : Type 0 where
-  pub cards : List CardInfo
+  pub issuer : Setup
   pub rows : List (List Decision)
   pub records : ℕ
 
@@ -18,5 +19,5 @@ rows_of cards history = map (λ card. decided (name_of card) history) cards
 
 -- a host stands for a history where its rows are those of the history, and its number of records is the history's length
 pub record StandsFor (host : Holding) (history : List Entry) : Type 0 where
-  pub rows_are : host.rows ≡ rows_of host.cards history
+  pub rows_are : host.rows ≡ rows_of host.issuer.cards history
   pub records_are : host.records ≡ length history

@@ -1,2 +1,4 @@
 pub mod Reading
+pub mod Replying
+pub mod AtHand
 pub mod Holding

@@ -1,38 +1,61 @@
--- What a line says to an issuer with these cards, and what is decided.
-use Rattle.std.specs.Prelude.{ℕ, true, List, [], ◌∷◌, Option, None, Some, option_and_then, Result, Ok, Err}
-use Rattle.std.specs.Result.{result_ok}
+-- What a line says to an issuer: a request that is to be answered, or the first thing that is wrong.
+use Rattle.std.specs.Prelude.{ℕ, Bool, List, Option, None, Some, Result, Ok, Err, if◌then◌else◌}
+use Rattle.std.specs.Result.{result_map_both}
+use Rattle.std.specs.Str.{bytes_eq}
 use Rattle.issuer_base.specs.declared.request.Request.{Request}
-use Rattle.issuer_base.specs.declared.answer.Reply.{Reply}
 use Rattle.issuer_base.specs.declared.answer.Refusal.{Refusal}
-use Rattle.issuer_base.specs.declared.answer.Refusal.TheVariants.{BadLine, UnknownCard}
+use Rattle.issuer_base.specs.declared.answer.Refusal.TheVariants.{BadLine, BadTlv, Missing, BadField, Repeated, UnknownCard, NotArqc, UnknownKey, BadCryptogram}
+use Rattle.issuer_base.specs.ChipData.{dki, is_arqc}
 use Rattle.card_history.specs.Records.{card_of}
+use Rattle.chip_request.specs.declared.reading.RequestFault.{RequestFault}
+use Rattle.chip_request.specs.declared.reading.RequestFault.TheVariants.{BadTlv as IsTorn, Missing as Lacks, BadField as HasBadField, Repeated as Repeats}
 use Rattle.chip_request.specs.Ask.{ask_bytes}
 use Rattle.chip_request.specs.Reading.{request_of}
-use Rattle.row_core.specs.declared.card.CardInfo.{CardInfo}
+use Rattle.key_derive.specs.declared.card.CardKeys.{CardKeys}
+use Rattle.cryptogram_in.specs.Cryptogram.{application_cryptogram}
 use Rattle.row_core.specs.CardList.{number_of}
+use Rattle.row_core.specs.IssuerSetup.{Setup, keys_of}
 
--- every request is approved, with the response code 00: the bytes are tag 8A, its length, and the code
-abbrev pub approval : Reply
-approval = record { arc = 0x30 ∷ 0x30 ∷ []; approve = true; bytes = record { items = 0x8A ∷ 0x02 ∷ 0x30 ∷ 0x30 ∷ [] } }
+-- what is wrong with chip data, as the refusal of their line
+abbrev pub refusal_of : RequestFault → Refusal
+refusal_of (IsTorn place) = BadTlv place
+refusal_of (Lacks tag) = Missing tag
+refusal_of (HasBadField tag) = BadField tag
+refusal_of (Repeats tag) = Repeated tag
 
--- a request is taken where the number of its card is known
-abbrev pub where_known : Option ℕ → Request → Result Request Refusal
-where_known None request = Err UnknownCard
-where_known (Some number) request = Ok request
+-- a line with no chip data is a bad line, and else its chip data say a request or what is wrong with them
+abbrev pub said_by : Option (List ℕ) → Result Request Refusal
+said_by None = Err (BadLine 0)
+said_by (Some bytes) = result_map_both (λ request. request) refusal_of (request_of bytes)
 
--- a request is taken where one of the cards has its account and sequence number
-abbrev pub of_known_card : List CardInfo → Request → Result Request Refusal
-of_known_card cards request = where_known (number_of (card_of request) cards) request
+-- the request that a line asks, whoever its issuer is
+abbrev pub asked_in : List ℕ → Result Request Refusal
+asked_in line = said_by (ask_bytes line)
 
--- the request that a line asks: it has the form of such a line, and its chip data make a request
-abbrev pub asked_in : List ℕ → Option Request
-asked_in line = option_and_then (λ bytes. result_ok (request_of bytes)) (ask_bytes line)
+-- whether the cryptogram is the one that a card with these master keys makes over the request: EMV 4.3 Book 2, section 8.1
+abbrev pub is_right : CardKeys → Request → Bool
+is_right keys request = bytes_eq request.ac (application_cryptogram keys.ac.0 request)
 
--- a line that asks no request is a bad line, whatever is wrong with it
-abbrev pub where_asked : List CardInfo → Option Request → Result Request Refusal
-where_asked cards None = Err (BadLine 0)
-where_asked cards (Some request) = of_known_card cards request
+-- a request is taken where its key set is known and its cryptogram is right
+abbrev pub under_keys : Option CardKeys → Request → Result Request Refusal
+under_keys None request = Err (UnknownKey (dki request))
+under_keys (Some keys) request = if is_right keys request then Ok request else Err BadCryptogram
 
--- what a line says to an issuer with these cards
-abbrev pub reading : List CardInfo → List ℕ → Result Request Refusal
-reading cards line = where_asked cards (asked_in line)
+-- a request is looked at further where its card is known and asks to go online
+abbrev pub of_card : Setup → Option ℕ → Request → Result Request Refusal
+of_card issuer None request = Err UnknownCard
+of_card issuer (Some card) request =
+    if is_arqc request then under_keys (keys_of issuer card request) request else Err NotArqc
+
+-- a request to this issuer: of a card that it has, for an ARQC, with a key set that it has and the right cryptogram, looked at in this order
+abbrev pub checked : Setup → Request → Result Request Refusal
+checked issuer request = of_card issuer (number_of (card_of request) issuer.cards) request
+
+-- what was asked is checked, and what was refused stays refused
+abbrev pub where_asked : Setup → Result Request Refusal → Result Request Refusal
+where_asked issuer (Err refusal) = Err refusal
+where_asked issuer (Ok request) = checked issuer request
+
+-- what a line says to this issuer
+abbrev pub reading : Setup → List ℕ → Result Request Refusal
+reading issuer line = where_asked issuer (asked_in line)

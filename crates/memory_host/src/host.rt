@@ -1,15 +1,16 @@
 ghost use Rattle.std.specs.Prelude.{◌≡◌, ◌+◌, ◌<◌, ◌++◌, List, [], ◌∷◌, length, slice_index_or, slice_set, replicate, IfOk, OnOk, OnErr, MatchOption, Some};
 ghost use Rattle.issuer_base.specs.declared.entry.Entry.{Entry};
-ghost use Rattle.card_history.specs.Records.{card_of};
 ghost use Rattle.card_history.specs.Turns.{IsUnused, decided_for, Answers, Turn};
-ghost use Rattle.row_core.specs.CardList.{number_of, AreCards};
-ghost use Rattle.memory_host.specs.Reading.{approval, of_known_card, asked_in, reading};
+ghost use Rattle.row_core.specs.IssuerSetup.{Setup};
+ghost use Rattle.memory_host.specs.Reading.{reading};
+ghost use Rattle.memory_host.specs.Replying.{reply_to};
+ghost use Rattle.memory_host.specs.AtHand.{IsAtHand};
 ghost use Rattle.memory_host.specs.Holding.{StandsFor};
 
-use arrayvec::ArrayVec;
+use crate::reading::{Checked, read_line};
+use crate::reply::reply_to;
 use card_history::Decision;
-use chip_request::{read_ask, read_request};
-use issuer_base::{Answer, NoMemory, Refusal, Reply, Request};
+use issuer_base::{Answer, NoMemory, Refusal, Request};
 use row_core::{Issuer, Outcome, Row};
 use std::alloc::Global;
 use std::marker::Model;
@@ -19,7 +20,7 @@ const SHARD: u8 = 0;
 
 /// The host of one caller: it answers line after line, and keeps what it decided in memory.
 ///
-/// A contract sees the issuer's cards, a row of decisions for each of them, and the number of records.
+/// A contract sees what the issuer has, a row of decisions for each of its cards, and the number of records.
 #[derive(Drop)]
 pub struct MemoryHost {
     issuer: Issuer,
@@ -37,7 +38,7 @@ impl Model for MemoryHost {
 
     ghost Value = { Holding };
 
-    ghost view = { λ host. record { cards = host.issuer.cards; rows = host.rows.items; records = host.records } };
+    ghost view = { λ host. record { issuer = host.issuer; rows = host.rows.items; records = host.records } };
 
     ghost invariant = { λ host. length host.rows.items ≡ length host.issuer.cards };
 }
@@ -45,7 +46,7 @@ impl Model for MemoryHost {
 impl MemoryHost {
     /// The host of this issuer, before any line.
     pub fn new(alloc: Global, issuer: Issuer) -> Result<MemoryHost, NoMemory>
-        ensures cards { IfOk result (λ host. host.cards ≡ issuer.cards) }
+        ensures issuer { IfOk result (λ host. host.issuer ≡ issuer) }
         ensures empty { IfOk result (λ host. StandsFor host []) }
     {
         let rows = empty_rows(alloc, issuer.cards())?;
@@ -56,68 +57,54 @@ impl MemoryHost {
         })
     }
 
-    /// The answer to a line, which is without its newline. The issuer's cards stay as they are.
+    /// The answer to a line, which is without its newline. What the issuer has stays as it is.
     ///
     /// Where a request would be decided and no memory is left for its record, the answer says so, and
     /// the host stands for the same history. No other line takes memory.
     pub fn answer(&mut self, line: &[u8]) -> Answer
         ensures turn { (history : List Entry) → StandsFor self.old history
-            → (after : List Entry) × StandsFor self.new after × Turn 0 (λ _. approval) history (reading self.old.cards line.now) result after }
-        ensures cards { self.new.cards ≡ self.old.cards }
+            → (after : List Entry) × StandsFor self.new after × Turn 0 (reply_to self.old.issuer) history (reading self.old.issuer line.now) result after }
+        ensures issuer { self.new.issuer ≡ self.old.issuer }
     {
-        match read_line(line) {
-            None => Answer::Refused(Refusal::BadLine(0)),
-            Some(request) => self.answer_request(request),
+        match read_line(&self.issuer, line) {
+            Ok(checked) => self.decide(checked),
+            Err(refusal) => Answer::Refused(refusal),
         }
     }
 
-    /// The answer to a request.
-    fn answer_request(&mut self, request: Request) -> Answer
+    /// The answer to a request that was checked.
+    fn decide(&mut self, checked: Checked) -> Answer
+        requires { IsAtHand self.old.issuer checked }
         ensures turn { (history : List Entry) → StandsFor self.old history
-            → (after : List Entry) × StandsFor self.new after × Turn 0 (λ _. approval) history (of_known_card self.old.cards request) result after }
-        ensures cards { self.new.cards ≡ self.old.cards }
+            → (after : List Entry) × StandsFor self.new after × Answers 0 (reply_to self.old.issuer) history checked.request result after }
+        ensures issuer { self.new.issuer ≡ self.old.issuer }
     {
-        let parts = request.parts();
-        match self.issuer.card(&parts.pan, parts.psn) {
-            None => Answer::Refused(Refusal::UnknownCard),
-            Some(card) => self.decide(card, request),
-        }
-    }
-
-    /// The answer to a request of the card with this number.
-    fn decide(&mut self, card: u32, request: Request) -> Answer
-        requires valid { AreCards self.old.cards }
-        requires known { number_of (card_of request) self.old.cards ≡ Some card }
-        ensures turn { (history : List Entry) → StandsFor self.old history
-            → (after : List Entry) × StandsFor self.new after × Answers 0 (λ _. approval) history request result after }
-        ensures cards { self.new.cards ≡ self.old.cards }
-    {
-        match known_answer(&self.rows[card as usize], &request) {
+        match known_answer(&self.rows[checked.card as usize], &checked.request) {
             Some(answer) => answer,
-            None => self.record(card, request),
+            None => self.record(checked),
         }
     }
 
-    /// Decides a request on an unused counter of the card with this number.
-    fn record(&mut self, card: u32, request: Request) -> Answer
-        requires valid { AreCards self.old.cards }
-        requires known { number_of (card_of request) self.old.cards ≡ Some card }
-        requires unused { (history : List Entry) → StandsFor self.old history → IsUnused (decided_for request history) request }
+    /// Decides a request that was checked and is on an unused counter of its card.
+    fn record(&mut self, checked: Checked) -> Answer
+        requires at_hand { IsAtHand self.old.issuer checked }
+        requires unused { (history : List Entry) → StandsFor self.old history → IsUnused (decided_for checked.request history) checked.request }
         ensures turn { (history : List Entry) → StandsFor self.old history
-            → (after : List Entry) × StandsFor self.new after × Answers 0 (λ _. approval) history request result after }
-        ensures cards { self.new.cards ≡ self.old.cards }
+            → (after : List Entry) × StandsFor self.new after × Answers 0 (reply_to self.old.issuer) history checked.request result after }
+        ensures issuer { self.new.issuer ≡ self.old.issuer }
     {
         let place = self.records;
         if place == u64::MAX {
             return Answer::Refused(Refusal::NoMemory);
         }
-        let reply = approval();
+        let reply = reply_to(&self.issuer, &checked);
+        let row = checked.card as usize;
         let decision = Decision {
-            request,
+            request: checked.request,
             reply: reply.copy(),
             place,
         };
-        match add_to(self.rows.as_mut_slice(), card as usize, decision) {
+        match add_to(self.rows.as_mut_slice(), row, decision) {
             Ok(()) => {
                 self.records = place + 1;
                 Answer::Fresh {
@@ -129,14 +116,6 @@ impl MemoryHost {
             Err(NoMemory) => Answer::Refused(Refusal::NoMemory),
         }
     }
-}
-
-/// The request that a line asks.
-fn read_line(line: &[u8]) -> Option<Request>
-    ensures { result ≡ asked_in line.now }
-{
-    let bytes = read_ask(line)?;
-    read_request(bytes.as_slice()).ok()
 }
 
 /// An empty row for each card.
@@ -152,8 +131,8 @@ fn empty_rows(alloc: Global, cards: u32) -> Result<Vec<Row>, NoMemory>
 
 /// The answer that the row's decisions give to a request, or `None` where it is to be decided.
 fn known_answer(row: &Row, request: &Request) -> Option<Answer>
-    ensures { (history : List Entry) → row.now ≡ decided_for request.now history
-        → MatchOption result (IsUnused row.now request.now) (λ answer. Answers 0 (λ _. approval) history request.now answer history) }
+    ensures { (issuer : Setup) (history : List Entry) → row.now ≡ decided_for request.now history
+        → MatchOption result (IsUnused row.now request.now) (λ answer. Answers 0 (reply_to issuer) history request.now answer history) }
 {
     match row.plan(request) {
         Outcome::Fresh => None,
@@ -177,20 +156,4 @@ fn add_to(rows: &mut [Row], row: usize, decision: Decision) -> Result<(), NoMemo
     ensures refused { OnErr result (rows.new ≡ rows.old) }
 {
     rows[row].add(decision)
-}
-
-/// Every request is approved, with the response code 00.
-fn approval() -> Reply
-    ensures { result ≡ approval }
-{
-    let mut bytes = ArrayVec::new();
-    bytes.push(0x8A);
-    bytes.push(0x02);
-    bytes.push(0x30);
-    bytes.push(0x30);
-    Reply {
-        arc: [0x30, 0x30],
-        approve: true,
-        bytes,
-    }
 }

@@ -2,8 +2,7 @@
 #![tactic(auto)]
 
 mod host;
+mod reading;
+mod reply;
 
 pub use host::MemoryHost;
-
-#[cfg(test)]
-mod tests;
