@@ -1,0 +1,3 @@
+pub mod CardList
+pub mod CardOrder
+pub mod Plan

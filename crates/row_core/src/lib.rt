@@ -2,5 +2,12 @@
 #![tactic(auto)]
 
 mod card;
+mod issuer;
+mod row;
 
 pub use card::CardInfo;
+pub use issuer::{Issuer, IssuerFault};
+pub use row::{Outcome, Row};
+
+#[cfg(test)]
+mod tests;

@@ -1,0 +1,6 @@
+pub mod Fields
+pub mod Forms
+pub mod Reading
+pub mod Slots
+pub mod SlotViews
+pub mod Ask

@@ -1,0 +1,77 @@
+-- What a walk over the objects keeps of each field.
+use Rattle.std.specs.Prelude.{ℕ, ◌+◌, ◌*◌, Bool, true, false, not, ◌&&◌, List, [], ◌∷◌, map, length, replicate, slice_index, Option, Some, None, option_and_then, is_some, is_none, ◌==◌, if◌then◌else◌}
+use Rattle.tlv_objects.specs.Tlv.{TlvObject}
+use Rattle.chip_request.specs.Fields.{Field}
+use Rattle.issuer_base.specs.declared.request.Parts.{Parts}
+use Rattle.issuer_base.specs.ChipData.{request_from}
+use Rattle.chip_request.specs.Forms.{account_number_in}
+use Rattle.chip_request.specs.declared.slots.Wrong.{Wrong}
+use Rattle.chip_request.specs.declared.slots.Wrong.TheVariants.{Missing, Misformed, Repeated}
+
+-- a field, the value of the first object with its tag, and whether there is another
+pub record Found : Type 0 where
+  pub field : Field
+  pub first : Option (List ℕ)
+  pub is_repeated : Bool
+
+-- after one more value of the field
+abbrev pub with_value : Found → List ℕ → Found
+with_value found value = if is_some found.first then record found { is_repeated = true } else record found { first = Some value }
+
+-- after one more object
+abbrev pub with_object : TlvObject → Found → Found
+with_object object found = if found.field.tag == object.tag then with_value found object.value else found
+
+-- what was found of each field, after more objects
+abbrev pub with_objects : List Found → List TlvObject → List Found
+with_objects founds [] = founds
+with_objects founds (object ∷ objects) = with_objects (map (with_object object) founds) objects
+
+-- before any object
+abbrev pub unfound : Field → Found
+unfound field = record { field = field; first = None; is_repeated = false }
+
+-- whether this is wrong with a field
+abbrev pub is_wrong : Wrong → Found → Bool
+is_wrong Missing found = found.field.is_required && is_none found.first
+is_wrong Misformed found = elim (found.first) [ None ↦ false | Some value ↦ not (found.field.has_form value) ]
+is_wrong Repeated found = found.is_repeated
+
+-- the tag of the first field with which this is wrong
+unfoldable pub first_wrong_found : Wrong → List Found → Option ℕ
+first_wrong_found wrong [] = None
+first_wrong_found wrong (found ∷ others) =
+    if is_wrong wrong found then Some found.field.tag else first_wrong_found wrong others
+
+-- the first value of the field with a tag
+unfoldable pub first_with_tag : ℕ → List Found → Option (List ℕ)
+first_with_tag tag [] = None
+first_with_tag tag (found ∷ others) = if found.field.tag == tag then found.first else first_with_tag tag others
+
+-- a value of so many bytes, and 00 bytes in place of another
+abbrev pub sized : ℕ → Option (List ℕ) → List ℕ
+sized count None = replicate count 0
+sized count (Some value) = if length value == count then value else replicate count 0
+
+-- the request that was found, if what was found makes one
+unfoldable pub request_in : List Found → Option Parts
+request_in founds = option_and_then (λ pan. request_from (record {
+  pan = pan;
+  psn = slice_index (bytes 1 0x5F34) 0;
+  aip = bytes 2 0x82;
+  atc = 256 * slice_index (bytes 2 0x9F36) 0 + slice_index (bytes 2 0x9F36) 1;
+  tvr = bytes 5 0x95;
+  date = bytes 3 0x9A;
+  kind = slice_index (bytes 1 0x9C) 0;
+  amount = bytes 6 0x9F02;
+  other = bytes 6 0x9F03;
+  country = bytes 2 0x9F1A;
+  currency = bytes 2 0x5F2A;
+  un = bytes 4 0x9F37;
+  cid = slice_index (bytes 1 0x9F27) 0;
+  iad = bytes 32 0x9F10;
+  ac = bytes 8 0x9F26;
+})) (option_and_then account_number_in (first_with_tag 0x5A founds))
+  where
+    bytes : ℕ → ℕ → List ℕ
+    bytes count tag = sized count (first_with_tag tag founds)

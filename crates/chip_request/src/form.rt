@@ -1,0 +1,99 @@
+//! The forms of the fields' values.
+ghost use Rattle.std.specs.Prelude.{◌≡◌, ◌==◌, ◌≤◌, length, nat_le, take_while};
+ghost use Rattle.std.specs.List.{list_all, flat_map};
+ghost use Rattle.issuer_base.specs.ChipData.{is_bcd, has_profile, digits_of};
+ghost use Rattle.chip_request.specs.Forms.{fits, account_number_in};
+
+use arrayvec::ArrayVec;
+use issuer_base::Pan;
+
+/// What the value of a field has to be.
+#[derive(Clone, Copy, Debug, PartialEq, Eq)]
+pub enum Form {
+    /// So many bytes.
+    Bytes(usize),
+    /// So many bytes of two decimal digits each.
+    Decimal(usize),
+    /// An account number of 8 to 19 digits in 4 to 10 bytes, and nibbles F behind it.
+    AccountNumber,
+    /// Issuer application data of the profile's form, in 32 bytes.
+    ApplicationData,
+}
+
+impl Form {
+    /// Whether a value has this form.
+    pub fn fits(self, value: &[u8]) -> bool
+        ensures { result ≡ fits self value.now }
+    {
+        match self {
+            Form::Bytes(count) => value.len() == count,
+            Form::Decimal(count) => value.len() == count && are_decimal(value),
+            Form::AccountNumber => account_number(value).is_some(),
+            Form::ApplicationData => value.len() == 32 && has_profile(value),
+        }
+    }
+}
+
+fn are_decimal(value: &[u8]) -> bool
+    ensures { result ≡ list_all is_bcd value.now }
+{
+    value.iter().all(|byte| is_decimal(*byte))
+}
+
+#[tactic(auto, unfolding(issuer_base::specs::ChipData::is_bcd))]
+fn is_decimal(byte: u8) -> bool
+    ensures { result ≡ is_bcd byte }
+{
+    byte / 16 <= 9 && byte % 16 <= 9
+}
+
+#[tactic(auto, unfolding(issuer_base::specs::ChipData::has_profile))]
+fn has_profile(value: &[u8]) -> bool
+    requires { length value.now ≡ 32 }
+    ensures { result ≡ has_profile value.now }
+{
+    value[0] == 0x0F && value[1] == 0xA5 && value[16] == 0x0F
+}
+
+/// The account number in a value of that form.
+#[tactic(auto, unfolding(crate::specs::Fields::has_account_number, crate::specs::Fields::leading_digits, issuer_base::specs::CardNumber::pan_from))]
+pub fn account_number(value: &[u8]) -> Option<Pan>
+    ensures { result ≡ account_number_in value.now }
+{
+    if !(4..=10).contains(&value.len()) {
+        return None;
+    }
+    let nibbles = nibbles_of(value);
+    let (digits, filling) = nibbles
+        .as_slice()
+        .split_at(digits_in_front(nibbles.as_slice()));
+    if !is_filling(filling) {
+        return None;
+    }
+    Pan::new(digits)
+}
+
+fn nibbles_of(value: &[u8]) -> ArrayVec<u8, 20>
+    requires { length value.now ≤ 10 }
+    ensures { result.items ≡ flat_map digits_of value.now }
+{
+    let mut nibbles = ArrayVec::new();
+    for byte in value {
+        nibbles.push(byte / 16);
+        nibbles.push(byte % 16);
+    }
+    nibbles
+}
+
+fn digits_in_front(nibbles: &[u8]) -> usize
+    ensures count { result ≡ length (take_while (λ nibble. nat_le nibble 9) nibbles.now) }
+    ensures within { result ≤ length nibbles.now }
+{
+    nibbles.iter().take_while(|nibble| **nibble <= 9).count()
+}
+
+fn is_filling(nibbles: &[u8]) -> bool
+    ensures { result ≡ list_all (λ nibble. nibble == 15) nibbles.now }
+{
+    nibbles.iter().all(|nibble| *nibble == 0xF)
+}

@@ -1,0 +1,113 @@
+//! Reading a request's chip data.
+ghost use Rattle.std.specs.Prelude.{◌≡◌, ◌≤◌, ◌<◌, ◌+◌, ◌^◌, ℕ, length, map, Some, None, OnOk, IfErr};
+ghost use Rattle.tlv_objects.specs.Tlv.{objects_of, objects_ahead};
+ghost use Rattle.chip_request.specs.Fields.{fields};
+ghost use Rattle.chip_request.specs.Reading.{request_of};
+ghost use Rattle.chip_request.specs.Slots.{request_in, unfound, with_objects};
+ghost use Rattle.chip_request.specs.SlotViews.{found_in};
+
+use crate::form::account_number;
+use crate::slots::{Slot, Wrong, bytes, first_value, first_wrong, note, unfound};
+use issuer_base::{Parts, Request};
+use tlv_objects::{Objects, TlvFault};
+
+/// The most bytes that chip data may have.
+pub const LONGEST: usize = 1024;
+
+/// Why chip data are no request: the first of these that is so.
+#[derive(Clone, Copy, Debug, PartialEq, Eq)]
+pub enum RequestFault {
+    /// What begins at this place is no BER-TLV object.
+    BadTlv(u32),
+    /// No object has this tag, and a request has to have one.
+    Missing(u32),
+    /// The value of the first object with this tag isn't of the field's form.
+    BadField(u32),
+    /// Two objects have this tag.
+    Repeated(u32),
+}
+
+/// The request that chip data say, which are BER-TLV objects in any order. Objects of other tags are passed over.
+/// A torn text is refused first, then a missing field, a misformed one and a repeated one, each time the first in the
+/// order of the table.
+pub fn read_request(bytes: &[u8]) -> Result<Request, RequestFault>
+    requires { length bytes.now ≤ LONGEST }
+    ensures { result ≡ request_of bytes.now }
+{
+    let mut walk = Walk::new(bytes);
+    walk.finish()?;
+    let slots = walk.slots;
+    if let Some(tag) = first_wrong(&slots, Wrong::Missing) {
+        return Err(RequestFault::Missing(tag));
+    }
+    if let Some(tag) = first_wrong(&slots, Wrong::Misformed) {
+        return Err(RequestFault::BadField(tag));
+    }
+    if let Some(tag) = first_wrong(&slots, Wrong::Repeated) {
+        return Err(RequestFault::Repeated(tag));
+    }
+    Ok(request_in(&slots).unwrap())
+}
+
+// A walk over the objects of a text, with what it has found of each field.
+#[derive(Drop)]
+struct Walk<'a> {
+    ahead: Objects<'a>,
+    slots: [Slot<'a>; 15],
+}
+
+impl<'a> Walk<'a> {
+    fn new(bytes: &'a [u8]) -> Walk<'a>
+        ensures ahead { result.ahead ≡ record { bytes = bytes.now; at = 0 } }
+        ensures slots { map found_in result.slots ≡ map unfound fields }
+    {
+        Walk {
+            ahead: Objects::new(bytes),
+            slots: unfound(),
+        }
+    }
+
+    // Goes on to the end of the text.
+    fn finish(&mut self) -> Result<(), RequestFault>
+        requires { self.old.ahead.at + length self.old.ahead.bytes < 2 ^ 32 }
+        ensures ok { OnOk result (((objects_ahead self.old.ahead).torn ≡ None)
+            × (map found_in self.new.slots
+            ≡ with_objects (map found_in self.old.slots) (objects_ahead self.old.ahead).objects)) }
+        ensures err { IfErr result (λ fault. (place : ℕ)
+            × ((objects_ahead self.old.ahead).torn ≡ Some place) × (fault ≡ RequestFault.BadTlv place)) }
+    {
+        while let Some(item) = self.ahead.next() {
+            match item {
+                Ok(object) => note(&mut self.slots, object),
+                Err(TlvFault::Torn(at)) => return Err(RequestFault::BadTlv(at as u32)),
+            }
+        }
+        Ok(())
+    }
+}
+
+// The request that was found, where each field that is there has its form.
+#[tactic(auto, unfolding(crate::specs::Slots::request_in))]
+fn request_in(slots: &[Slot<'_>; 15]) -> Option<Request>
+    ensures { result ≡ request_in (map found_in slots.now) }
+{
+    let pan = account_number(first_value(slots, 0x5A)?)?;
+    let atc = bytes::<2>(slots, 0x9F36);
+    Request::new(Parts {
+        pan,
+        psn: bytes::<1>(slots, 0x5F34)[0],
+        aip: bytes(slots, 0x82),
+        atc: u16::from(atc[0]) * 256 + u16::from(atc[1]),
+        tvr: bytes(slots, 0x95),
+        date: bytes(slots, 0x9A),
+        kind: bytes::<1>(slots, 0x9C)[0],
+        amount: bytes(slots, 0x9F02),
+        other: bytes(slots, 0x9F03),
+        country: bytes(slots, 0x9F1A),
+        currency: bytes(slots, 0x5F2A),
+        un: bytes(slots, 0x9F37),
+        cid: bytes::<1>(slots, 0x9F27)[0],
+        iad: bytes(slots, 0x9F10),
+        ac: bytes(slots, 0x9F26),
+    })
+}

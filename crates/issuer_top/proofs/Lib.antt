@@ -1,0 +1,6 @@
+pub mod FiveWords
+pub mod ServingSteps
+pub mod ConfigurationReads
+pub mod EndingSteps
+pub mod Statuses
+pub mod KeptLines

@@ -1,0 +1,28 @@
+use Rattle.std.proofs.Common.{rules, refl, subst, sym, ap}
+use Rattle.issuer_base.specs.Desk.{GivesHeld}
+use Rattle.issuer_top.proofs.EndingSteps.{ends_usage, ends_no_config, ends_no_cards, ends_no_requests, IsSetUp-from_lists}
+use Rattle.issuer_top.proofs.top_call.run.Goals as goal
+
+pub returns-in-Err : goal.returns-in-Err
+returns-in-Err g c =
+    ends_no_config (Unit {0}) _ _ _ _ _ _ _ _ _ _ _ c.in-Err.fault c.in-Some.ensures.serve refl refl c.in-Err.ensures.count c.in-Err.ensures.last
+    (rw c.stop_at.ensures at c.stop-in-Err.ensures.ended) c.stop-in-Err.ensures.count
+
+pub returns-in-Err-set_up : goal.returns-in-Err-set_up
+returns-in-Err-set_up g c =
+    ends_no_cards (Unit {0}) _ _ _ _ _ _ _ _ _ _ _ _ _ c.in-Err-set_up.cause c.in-Some.ensures.serve c.in-Ok.ensures.input refl refl c.in-Err-set_up.ensures.none
+    c.in-Ok.ensures.new c.in-Err-set_up.ensures.count c.stop-in-Err-set_up.ensures.ended c.stop-in-Err-set_up.ensures.count
+
+pub returns-in-Err-read : goal.returns-in-Err-read
+returns-in-Err-read g c =
+    ends_no_requests (Unit {0}) _ _ _ _ _ _ _ _ _ _ _ _ _ c.in-Err-read.fault c.in-Some.ensures.serve
+    (IsSetUp-from_lists _ _ _ _ _ _ c.in-Some.ensures.serve c.in-Ok.ensures.input c.in-Ok-set_up.ensures.lists)
+    refl c.in-Ok.ensures.count.never_falls c.in-Err-read.ensures.count c.in-Err-read.ensures.last
+    (rw c.stop_at-in-Err-read.ensures at c.stop-in-Err-read.ensures.ended) c.stop-in-Err-read.ensures.count
+
+pub returns : goal.returns
+returns g c =
+    c.answer_requests-ending.ensures _ _ _ _
+    (IsSetUp-from_lists _ _ _ _ _ _ c.in-Some.ensures.serve c.in-Ok.ensures.input c.in-Ok-set_up.ensures.lists)
+    (subst (λ told. GivesHeld (told c.in-Some.names.requests.now) (g.D.Input.Source.left c.in-Ok-read.input)) c.in-Ok.ensures.kept c.in-Ok-read.ensures.input)
+    refl

@@ -1,0 +1,9 @@
+pub mod Command
+pub mod Content
+pub mod Configuration
+pub mod Answered
+pub mod Serving
+pub mod Status
+pub mod Endings
+pub mod Stopping
+pub mod Opening

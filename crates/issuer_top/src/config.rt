@@ -1,0 +1,75 @@
+//! The configuration: read to its end, and taken as a list of cards.
+ghost use Rattle.std.specs.Prelude.{◌≡◌, ℕ, List, IfOk, IfErr, Some};
+ghost use Rattle.issuer_base.specs.OutsideFaults.{CountsFaults};
+ghost use Rattle.issuer_top.specs.Configuration.{IsRead, is_read_fault, Lists, GivesNoCards, IsNoList, is_read_stop, cards_from};
+
+use answer_text::Stop;
+use card_list::{ListFault, read_cards};
+use issuer_base::{ReadFault, Source};
+use row_core::{Issuer, IssuerFault};
+use std::alloc::Global;
+
+/// How many bytes a configuration may have.
+pub const MAX_CONFIG_BYTES: usize = 4_194_304;
+
+const CHUNK_BYTES: usize = 4_096;
+
+/// Why a text was not read to its end.
+pub(crate) enum TextFault {
+    /// The input failed.
+    Read,
+    /// No memory was left.
+    NoMemory,
+}
+
+/// The bytes of an input, to its end or to the first past the limit.
+pub(crate) fn read_text<S: Source>(alloc: Global, source: &mut S) -> Result<Vec<u8>, TextFault>
+    ensures text { IfOk result (λ text. IsRead (S.left source.old) (S.left source.new) text.items) }
+    ensures count { CountsFaults (S.faults source.old) (S.faults source.new) (is_read_fault result) }
+{
+    let mut text = Vec::new(alloc);
+    let mut chunk = [0; CHUNK_BYTES];
+    while text.len() <= MAX_CONFIG_BYTES {
+        let room = CHUNK_BYTES.min(MAX_CONFIG_BYTES + 1 - text.len());
+        let count = match source.read(&mut chunk[..room]) {
+            Ok(0) => break,
+            Ok(count) => count,
+            Err(ReadFault) => return Err(TextFault::Read),
+        };
+        if text.extend_from_slice(&chunk[..count]).is_err() {
+            return Err(TextFault::NoMemory);
+        }
+    }
+    Ok(text)
+}
+
+/// The issuer that a configuration lists, or why it lists none.
+pub(crate) fn read_issuer<S: Source>(alloc: Global, source: &mut S) -> Result<Issuer, Stop>
+    ensures lists { IfOk result (λ issuer. Lists (S.left source.old) issuer.cards) }
+    ensures none { IfErr result (GivesNoCards (S.left source.old)) }
+    ensures count { CountsFaults (S.faults source.old) (S.faults source.new) (is_read_stop result) }
+{
+    let text = match read_text(alloc, source) {
+        Ok(text) => text,
+        Err(TextFault::Read) => return Err(Stop::ReadFault),
+        Err(TextFault::NoMemory) => return Err(Stop::NoMemory),
+    };
+    issuer_of(alloc, &text)
+}
+
+/// The issuer that a text lists, or why it lists none.
+fn issuer_of(alloc: Global, text: &[u8]) -> Result<Issuer, Stop>
+    ensures lists { IfOk result (λ issuer. cards_from text.now ≡ Some issuer.cards) }
+    ensures none { IfErr result (IsNoList text.now) }
+{
+    let cards = match read_cards(alloc, text) {
+        Ok(cards) => cards,
+        Err(ListFault::Broken) => return Err(Stop::Config { part: 0, index: 0 }),
+        Err(ListFault::NoMemory) => return Err(Stop::NoMemory),
+    };
+    match Issuer::new(alloc, cards) {
+        Ok(issuer) => Ok(issuer),
+        Err(IssuerFault::Card(_)) => Err(Stop::Config { part: 0, index: 0 }),
+        Err(IssuerFault::NoMemory) => Err(Stop::NoMemory),
+    }
+}

@@ -1,0 +1,397 @@
+//! Whole runs over a desk and a sink in memory.
+ghost use Rattle.std.specs.Prelude.{None};
+
+use super::*;
+use issuer_base::{
+    Desk, DeskFault, MemoryDesk, MemorySink, MemorySource, ReadFault, Sink, Source, Words,
+    WriteFault,
+};
+use std::alloc::{AllocError, Global};
+use std::process::Abort;
+use std::test::Fail;
+
+const LIST: &str = "card 4000000000000002 00 1\n";
+
+const COMMAND: [&str; 5] = ["serve", "--config", "config", "--requests", "requests"];
+
+const FRESH: &str = "fresh 0 0 yes 3030 8a023030\n";
+
+/// A request line of the first card with this counter, and a newline.
+fn line(alloc: Global, counter: u16) -> Result<String, AllocError> {
+    request(alloc, "4000000000000002", counter, "1A2B3C4D")
+}
+
+fn request(alloc: Global, pan: &str, counter: u16, number: &str) -> Result<String, AllocError> {
+    format!(in alloc;
+        "A 5A08{pan}9F260800000000000000009F2701809F10200FA501A00000000000000000000000000F0000000000000000000000000000009F3704{number}9F3602{counter:04X}950500000080009A032601159C01009F02060000000123455F2A020978820239009F1A0202769F3303E0F8C89F34031E03009F3501229F1E0831323334353637388407A00000000410109F090200029F41040000012300\n"
+    )
+}
+
+fn status_of<D: Desk + Drop>(ended: Ended<D>) -> u8
+where
+    D::Input: Drop,
+{
+    let Ended {
+        status,
+        desk: _desk,
+        config: _config,
+        requests: _requests,
+    } = ended;
+    status
+}
+
+fn words_of(alloc: Global, words: &[&str]) -> Result<Words, Fail> {
+    let mut all = Words::new(alloc);
+    for word in words {
+        all.push(word)?;
+    }
+    Ok(all)
+}
+
+fn desk_of(alloc: Global, config: &str, requests: &str) -> Result<MemoryDesk, Fail> {
+    let mut desk = MemoryDesk::new(alloc, Vec::new(alloc));
+    let name = String::from_str(alloc, "config")?;
+    desk.input(name, config.as_bytes().to_vec(alloc)?, Vec::new(alloc))?;
+    let name = String::from_str(alloc, "requests")?;
+    desk.input(name, requests.as_bytes().to_vec(alloc)?, Vec::new(alloc))?;
+    Ok(desk)
+}
+
+/// What a run writes, and the status that it ends with.
+fn run<R: AllocGlobal>(
+    rt: &R,
+    words: &[&str],
+    config: &str,
+    requests: &str,
+) -> Result<(u8, String), Fail> {
+    let desk = desk_of(rt.alloc(), config, requests)?;
+    let mut out = MemorySink::new(rt.alloc(), 65_536, Vec::new(rt.alloc()))?;
+    let status = status_of(issue(rt, &words_of(rt.alloc(), words)?, desk, &mut out));
+    let text = String::from_utf8(out.bytes().to_vec(rt.alloc())?)?;
+    Ok((status, text))
+}
+
+/// Checks that a run over the list answers all lines, and just so.
+fn check<R: AllocGlobal + Abort>(rt: &R, requests: &str, expected: &str) -> Result<(), Fail> {
+    let (status, text) = run(rt, &COMMAND, LIST, requests)?;
+    assert_eq!(rt; text.as_str(), expected, "for {requests}");
+    assert_eq!(rt; status, 0);
+    Ok(())
+}
+
+#[test]
+fn answers_repeats_and_old_counters(rt: HostRuntime) -> Result<(), Fail> {
+    let alloc = rt.alloc();
+    check(&rt, "", "")?;
+
+    let seven = line(alloc, 7)?;
+    let twice = format!(in alloc; "{seven}{seven}")?;
+    check(
+        &rt,
+        twice.as_str(),
+        "fresh 0 0 yes 3030 8a023030\nkept 0 0 yes 3030 8a023030\n",
+    )?;
+
+    let one = line(alloc, 1)?;
+    let reordered = format!(in alloc; "{}{}{}{}", one, line(alloc, 65)?, one, line(alloc, 2)?)?;
+    check(
+        &rt,
+        reordered.as_str(),
+        "fresh 0 0 yes 3030 8a023030\nfresh 0 1 yes 3030 8a023030\nrefused 10 65\nfresh 0 2 yes 3030 8a023030\n",
+    )?;
+
+    let taken = format!(in alloc;
+        "{seven}{}",
+        request(alloc, "4000000000000002", 7, "00000000")?
+    )?;
+    check(
+        &rt,
+        taken.as_str(),
+        "fresh 0 0 yes 3030 8a023030\nrefused 11 0 0\n",
+    )?;
+
+    let unknown = request(alloc, "4000000000000028", 7, "1A2B3C4D")?;
+    check(&rt, unknown.as_str(), "refused 6\n")
+}
+
+#[test]
+fn refuses_what_it_cannot_read(rt: HostRuntime) -> Result<(), Fail> {
+    check(
+        &rt,
+        "\nX\nA 9F3602\nQ 1\n",
+        "refused 1 0\nrefused 1 0\nrefused 1 0\nrefused 1 0\n",
+    )?;
+    let alloc = rt.alloc();
+    let seven = line(alloc, 7)?;
+    let whole = seven.as_str().trim_end();
+    check(&rt, whole, FRESH)?;
+    let lower = whole.replace(alloc, "9F3704", "9f3704")?;
+    check(&rt, lower.as_str(), FRESH)?;
+    let changes = [
+        ("9F360200", "9F36030000"),
+        ("9F36020007", ""),
+        ("9F36020007", "9F360200079F36020007"),
+        ("9F02060000", "9F0206000A"),
+        ("5A084000", "5A08F000"),
+        ("9F10200F", "9F10200E"),
+        ("9F360200", "9F3683020000"),
+        ("9F360200", "1F818181019F360200"),
+        ("2300", "230"),
+    ];
+    for (old, new) in changes {
+        let broken = whole.replace(alloc, old, new)?;
+        check(&rt, broken.as_str(), "refused 1 0\n")?;
+    }
+    let spellings = [
+        ("9F360200", "9F36810200"),
+        ("9F360200", "9F3682000200"),
+        ("9F360200", "0000DF8101009F360200"),
+    ];
+    for (old, new) in spellings {
+        let spelled = whole.replace(alloc, old, new)?;
+        check(&rt, spelled.as_str(), FRESH)?;
+    }
+    Ok(())
+}
+
+#[test]
+fn drops_what_is_past_the_longest_line(rt: HostRuntime) -> Result<(), Fail> {
+    let alloc = rt.alloc();
+    let seven = line(alloc, 7)?;
+    for count in [1_024, 1_025, 2_500] {
+        let mut text = String::from_str(alloc, "A ")?;
+        for _ in 0..count {
+            text.push_str("00")?;
+        }
+        text.push_str("\n")?;
+        text.push_str(seven.as_str())?;
+        check(
+            &rt,
+            text.as_str(),
+            "refused 1 0\nfresh 0 0 yes 3030 8a023030\n",
+        )?;
+    }
+    Ok(())
+}
+
+#[test]
+fn stops_where_words_or_lists_are_none(rt: HostRuntime) -> Result<(), Fail> {
+    let stops = [
+        ["serve", "--requests", "requests", "--config", "config"],
+        ["serve", "--config", "", "--requests", "requests"],
+        ["serve", "--config", "-c", "--requests", "requests"],
+        ["Serve", "--config", "config", "--requests", "requests"],
+    ];
+    for words in &stops {
+        let (status, text) = run(&rt, words, LIST, "X\n")?;
+        assert_eq!(rt; status, 1);
+        assert_eq!(rt; text.as_str(), "stop 1\n");
+    }
+    let broken = [
+        "",
+        "card 4000000000000002 00 3\n",
+        "card 4000000000000002 00 1",
+        "card 4000000000000002 00 1\ncard 4000000000000002 00 2\n",
+    ];
+    for config in broken {
+        let (status, text) = run(&rt, &COMMAND, config, "X\n")?;
+        assert_eq!(rt; status, 2);
+        assert_eq!(rt; text.as_str(), "stop 2 0 0\n");
+    }
+    for words in [
+        ["serve", "--config", "none", "--requests", "requests"],
+        ["serve", "--config", "config", "--requests", "none"],
+    ] {
+        let (status, text) = run(&rt, &words, LIST, "X\n")?;
+        assert_eq!(rt; status, 3);
+        assert_eq!(rt; text.as_str(), "stop 3\n");
+    }
+    Ok(())
+}
+
+/// A desk whose inputs give one byte a read, and fail at one call.
+#[derive(Drop)]
+struct SippingDesk {
+    requests: &'static str,
+    fails_at: u64,
+    alloc: Global,
+}
+
+impl Desk for SippingDesk {
+    type Input = MemorySource;
+
+    ghost faults = { λ _. 0 };
+
+    ghost last_fault = { λ _. None };
+
+    fn read(&mut self, name: &str) -> Result<MemorySource, DeskFault> {
+        let text = if name == "config" {
+            LIST
+        } else {
+            self.requests
+        };
+        let bytes = text
+            .as_bytes()
+            .to_vec(self.alloc)
+            .map_err(|_| DeskFault::NoMemory)?;
+        let mut fails = Vec::new(self.alloc);
+        if name != "config" {
+            fails.push(self.fails_at).map_err(|_| DeskFault::NoMemory)?;
+        }
+        Ok(MemorySource::with_step(bytes, fails, 1))
+    }
+}
+
+/// The status of a run whose request file gives one byte a read and fails at one call, and what it writes.
+fn run_sipping<R: AllocGlobal>(rt: &R, fails_at: u64) -> Result<(u8, String), Fail> {
+    let desk = SippingDesk {
+        requests: "X\nAB\n\nC",
+        fails_at,
+        alloc: rt.alloc(),
+    };
+    let mut out = MemorySink::new(rt.alloc(), 1_024, Vec::new(rt.alloc()))?;
+    let status = status_of(issue(rt, &words_of(rt.alloc(), &COMMAND)?, desk, &mut out));
+    let text = String::from_utf8(out.bytes().to_vec(rt.alloc())?)?;
+    Ok((status, text))
+}
+
+#[test]
+fn answers_the_lines_read_whole_before_a_fault(rt: HostRuntime) -> Result<(), Fail> {
+    let answered = [0, 0, 1, 1, 1, 2, 3, 3];
+    for (fails_at, lines) in answered.iter().enumerate() {
+        let (status, text) = run_sipping(&rt, fails_at as u64)?;
+        let mut expected = String::new(rt.alloc());
+        for _ in 0..*lines {
+            expected.push_str("refused 1 0\n")?;
+        }
+        expected.push_str("stop 3\n")?;
+        assert_eq!(rt; status, 3, "at {fails_at}");
+        assert_eq!(rt; text, expected, "at {fails_at}");
+    }
+    let (status, text) = run_sipping(&rt, 8)?;
+    assert_eq!(rt; status, 0);
+    assert_eq!(rt;
+        text.as_str(),
+        "refused 1 0\nrefused 1 0\nrefused 1 0\nrefused 1 0\n"
+    );
+    Ok(())
+}
+
+/// A sink that takes one byte a call, and fails at one call.
+#[derive(Drop)]
+struct SippingSink {
+    calls: u64,
+    fails_at: u64,
+    faults: u64,
+}
+
+impl Sink for SippingSink {
+    ghost faults = { λ s. s.faults };
+
+    fn write(&mut self, _piece: &[u8]) -> Result<usize, WriteFault> {
+        self.calls = self.calls.saturating_add(1);
+        if self.calls > self.fails_at {
+            self.faults = self.faults.saturating_add(1);
+            return Err(WriteFault);
+        }
+        Ok(1)
+    }
+}
+
+#[test]
+fn stops_where_the_sink_fails(rt: HostRuntime) -> Result<(), Fail> {
+    for fails_at in 0..12 {
+        let desk = desk_of(rt.alloc(), LIST, "X")?;
+        let mut out = SippingSink {
+            calls: 0,
+            fails_at,
+            faults: 0,
+        };
+        let status = status_of(issue(&rt, &words_of(rt.alloc(), &COMMAND)?, desk, &mut out));
+        assert_eq!(rt; status, 4, "at {fails_at}");
+    }
+    let desk = desk_of(rt.alloc(), LIST, "X")?;
+    let mut out = SippingSink {
+        calls: 0,
+        fails_at: 12,
+        faults: 0,
+    };
+    let status = status_of(issue(&rt, &words_of(rt.alloc(), &COMMAND)?, desk, &mut out));
+    assert_eq!(rt; status, 0);
+    Ok(())
+}
+
+/// A text, so many times.
+#[derive(Drop)]
+struct Repeated {
+    text: &'static [u8],
+    times: u32,
+}
+
+impl Source for Repeated {
+    ghost faults = { λ _. 0 };
+
+    fn read(&mut self, into: &mut [u8]) -> Result<usize, ReadFault> {
+        let count = self.text.len();
+        if self.times == 0 || count == 0 || count > into.len() {
+            return Ok(0);
+        }
+        self.times -= 1;
+        into[..count].copy_from_slice(self.text);
+        Ok(count)
+    }
+}
+
+/// A desk over a list and so many lines.
+#[derive(Drop)]
+struct LongDesk {
+    lines: u32,
+}
+
+impl Desk for LongDesk {
+    type Input = Repeated;
+
+    ghost faults = { λ _. 0 };
+
+    ghost last_fault = { λ _. None };
+
+    fn read(&mut self, name: &str) -> Result<Repeated, DeskFault> {
+        if name == "config" {
+            Ok(Repeated {
+                text: LIST.as_bytes(),
+                times: 1,
+            })
+        } else {
+            Ok(Repeated {
+                text: b"x\n",
+                times: self.lines,
+            })
+        }
+    }
+}
+
+/// A sink that counts its bytes.
+#[derive(Drop)]
+struct Counting {
+    bytes: u64,
+}
+
+impl Sink for Counting {
+    ghost faults = { λ _. 0 };
+
+    fn write(&mut self, piece: &[u8]) -> Result<usize, WriteFault> {
+        self.bytes = self.bytes.saturating_add(piece.len() as u64);
+        Ok(piece.len())
+    }
+}
+
+#[test]
+fn stops_at_a_line_too_many(rt: HostRuntime) -> Result<(), Fail> {
+    let mut out = Counting { bytes: 0 };
+    let desk = LongDesk { lines: 1_048_577 };
+    let status = status_of(issue(&rt, &words_of(rt.alloc(), &COMMAND)?, desk, &mut out));
+    assert_eq!(rt; status, 8);
+    // 1,048,576 times `refused 1 0`, and `stop 8 1048577`.
+    assert_eq!(rt; out.bytes, 12 * 1_048_576 + 15);
+    Ok(())
+}

@@ -1,0 +1,189 @@
+//! The top call.
+ghost use Rattle.std.specs.Prelude.{◌≡◌, ◌⊎◌, ℕ, List, Some, IfOk, IfErr};
+ghost use Rattle.std.specs.Option.{option_map};
+ghost use Rattle.issuer_base.specs.OutsideFaults.{CountsFaults};
+ghost use Rattle.issuer_base.specs.Desk.{GivesHeld};
+ghost use Rattle.issuer_top.specs.Configuration.{Lists, GivesNoCards, is_read_stop};
+ghost use Rattle.issuer_top.specs.Content.{Told};
+ghost use Rattle.issuer_top.specs.Opening.{stop_of};
+ghost use Rattle.issuer_top.specs.Serving.{IsNew};
+ghost use Rattle.issuer_top.specs.Status.{IsStatus};
+ghost use Rattle.issuer_top.specs.Endings.{Counts, counts_of, IsSetUp, EndsBy, Writes, IsServed, IsUsage, IsBadConfig, CannotRead, IsBrokenOff, IsOutOfMemory, IsTooLong, IsInOrder};
+
+use crate::config::read_issuer;
+use crate::ending::{Ending, status_of_ending};
+use crate::serve::{Served, Server};
+use crate::stopping::stop;
+use crate::words::read_words;
+use answer_text::Stop;
+use issuer_base::{Desk, DeskFault, NoMemory, Sink, Source, Words};
+use std::alloc::Global;
+
+/// What a run gives back: its status, the desk, and the inputs that were opened.
+pub struct Ended<D: Desk> {
+    /// 0: all lines were answered; 1: the words are no command; 2: the configuration lists no cards; 3: an
+    /// input failed; 4: the sink failed; 7: no memory was left; 8: the request file goes past a limit.
+    pub status: u8,
+    /// The desk that was given.
+    pub desk: D,
+    /// The configuration, if it was opened.
+    pub config: Option<D::Input>,
+    /// The request file, if it was opened.
+    pub requests: Option<D::Input>,
+}
+
+/// Does all that the program does: reads the words, the configuration and the request file at the desk, and
+/// answers each request line at the sink.
+pub fn issue<R: AllocGlobal, D: Desk, W: Sink>(
+    rt: &R,
+    words: &Words,
+    mut desk: D,
+    out: &mut W,
+) -> Ended<D>
+    ensures statuses { IsStatus result.status }
+
+    // What each status says of the words, of the inputs, and of what was written.
+    ensures served { result.status ≡ 0
+        → Writes (W.held out.old) (W.held out.new) (IsServed words.now (D.holds desk)) }
+    ensures no_command { result.status ≡ 1
+        → Writes (W.held out.old) (W.held out.new) (IsUsage words.now) }
+    ensures bad_config { result.status ≡ 2
+        → Writes (W.held out.old) (W.held out.new) (IsBadConfig words.now (D.holds desk)) }
+    ensures input_failed { result.status ≡ 3
+        → Writes (W.held out.old) (W.held out.new) (CannotRead words.now (D.holds desk) (counts_of (D.faults desk) (D.faults result.desk) (D.last_fault result.desk)
+        (option_map D.Input.faults result.config) (option_map D.Input.faults result.requests))) }
+    ensures sink_failed { result.status ≡ 4
+        → IsBrokenOff words.now (D.holds desk) (counts_of (D.faults desk) (D.faults result.desk) (D.last_fault result.desk)
+        (option_map D.Input.faults result.config) (option_map D.Input.faults result.requests))
+        (W.held out.old) (W.held out.new) (W.faults out.old) (W.faults out.new) }
+    ensures out_of_memory { result.status ≡ 7
+        → Writes (W.held out.old) (W.held out.new) (IsOutOfMemory words.now (counts_of (D.faults desk) (D.faults result.desk) (D.last_fault result.desk)
+        (option_map D.Input.faults result.config) (option_map D.Input.faults result.requests))) }
+    ensures past_limit { result.status ≡ 8
+        → Writes (W.held out.old) (W.held out.new) (IsTooLong words.now (D.holds desk)) }
+
+    // Where words, configuration and request file are in order and no count rose, all lines are answered, or memory was wanting.
+    ensures in_order { IsInOrder words.now (D.holds desk) (counts_of (D.faults desk) (D.faults result.desk) (D.last_fault result.desk)
+        (option_map D.Input.faults result.config) (option_map D.Input.faults result.requests)) (W.faults out.old) (W.faults out.new)
+        → (result.status ≡ 0) ⊎ (result.status ≡ 7) }
+{
+    let Outcome {
+        ending,
+        config,
+        requests,
+    } = run(rt.alloc(), words, &mut desk, out);
+    Ended {
+        status: status_of_ending(ending),
+        desk,
+        config,
+        requests,
+    }
+}
+
+/// How a run ended, and the inputs that it opened.
+struct Outcome<I> {
+    ending: Ending,
+    config: Option<I>,
+    requests: Option<I>,
+}
+
+/// Reads words, configuration and request file, answers each line, and says how the run ended.
+fn run<D: Desk, W: Sink>(
+    alloc: Global,
+    words: &Words,
+    desk: &mut D,
+    out: &mut W,
+) -> Outcome<D::Input>
+    ensures { EndsBy words.now (D.holds desk.old)
+        (counts_of (D.faults desk.old) (D.faults desk.new) (D.last_fault desk.new)
+        (option_map D.Input.faults result.config) (option_map D.Input.faults result.requests))
+        (W.held out.old) (W.held out.new) (W.faults out.old) (W.faults out.new) result.ending }
+{
+    let Some(names) = read_words(words) else {
+        return Outcome {
+            ending: stop(&Stop::Usage, out),
+            config: None,
+            requests: None,
+        };
+    };
+    let mut config = match desk.read(names.config) {
+        Ok(input) => input,
+        Err(fault) => {
+            return Outcome {
+                ending: stop(&stop_at(fault), out),
+                config: None,
+                requests: None,
+            };
+        }
+    };
+    let mut server = match set_up(alloc, &mut config) {
+        Ok(server) => server,
+        Err(cause) => {
+            return Outcome {
+                ending: stop(&cause, out),
+                config: Some(config),
+                requests: None,
+            };
+        }
+    };
+    let mut requests = match desk.read(names.requests) {
+        Ok(input) => input,
+        Err(fault) => {
+            return Outcome {
+                ending: stop(&stop_at(fault), out),
+                config: Some(config),
+                requests: None,
+            };
+        }
+    };
+    let ending = answer_requests(&mut server, &mut requests, out);
+    Outcome {
+        ending,
+        config: Some(config),
+        requests: Some(requests),
+    }
+}
+
+/// Why a run stops where the desk gives no input.
+fn stop_at(fault: DeskFault) -> Stop
+    ensures { result ≡ stop_of fault }
+{
+    match fault {
+        DeskFault::Fault => Stop::ReadFault,
+        DeskFault::NoMemory => Stop::NoMemory,
+    }
+}
+
+/// A server of the cards that the configuration lists, with all the memory that it needs, but for records.
+fn set_up<S: Source>(alloc: Global, config: &mut S) -> Result<Server, Stop>
+    ensures new { IfOk result (λ server. IsNew server server.host.cards) }
+    ensures lists { IfOk result (λ server. Lists (S.left config.old) server.host.cards) }
+    ensures none { IfErr result (GivesNoCards (S.left config.old)) }
+    ensures count { CountsFaults (S.faults config.old) (S.faults config.new) (is_read_stop result) }
+{
+    let issuer = match read_issuer(alloc, config) {
+        Ok(issuer) => issuer,
+        Err(cause) => return Err(cause),
+    };
+    match Server::new(alloc, issuer) {
+        Ok(server) => Ok(server),
+        Err(NoMemory) => Err(Stop::NoMemory),
+    }
+}
+
+/// Answers all lines of the request file, and says how the run ends.
+fn answer_requests<S: Source, W: Sink>(server: &mut Server, requests: &mut S, out: &mut W) -> Ending
+    requires new { IsNew server.old server.old.host.cards }
+    requires fresh { S.faults requests.old ≡ 0 }
+    ensures { (words : List (List ℕ)) (desk : Told) (name : List ℕ) (counts : Counts)
+        → IsSetUp words desk name server.old.host.cards → GivesHeld (desk name) (S.left requests.old)
+        → counts.requests ≡ Some (S.faults requests.new)
+        → EndsBy words desk counts (W.held out.old) (W.held out.new) (W.faults out.old) (W.faults out.new) result }
+{
+    match server.serve(requests, out) {
+        Served::All => Ending::Served,
+        Served::ReadFault => stop(&Stop::ReadFault, out),
+        Served::WriteFault => Ending::SinkFailed,
+        Served::TooLong { line } => stop(&Stop::TooLong { line }, out),
+    }
+}

@@ -1,0 +1,4 @@
+pub mod Names
+pub mod CardListLemmas
+pub mod CardOrderLemmas
+pub mod UnusedCounters
