@@ -5,7 +5,7 @@ use Rattle.std.specs.Option.{option_map, IfSome}
 use Rattle.issuer_base.specs.CardNumber.{is_pan, pan_from}
 use Rattle.row_core.specs.declared.card.CardInfo.{CardInfo}
 use Rattle.card_list.specs.CardLine.{card_of_line, pan_of, digit}
-use Rattle.card_list.specs.CardList.{card_before, cards_of_pieces}
+use Rattle.card_list.specs.ConfigList.{card_before, cards_of_pieces}
 use Rattle.card_list.specs.Pieces.{pieces, newline}
 use Rattle.card_list.proofs.PiecesLemmas.{pieces-cons}
 

@@ -1,4 +1,4 @@
 pub mod Pieces
 pub mod CardLine
-pub mod CardList
-pub mod CardText
+pub mod KeyLine
+pub mod ConfigList

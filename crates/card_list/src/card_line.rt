@@ -1,7 +1,7 @@
-ghost use Rattle.std.specs.Prelude.{◌≡◌, if◌then◌else◌, [], ◌∷◌, Some, None, MatchOption};
+ghost use Rattle.std.specs.Prelude.{◌≡◌, if◌then◌else◌, Some, None};
 ghost use Rattle.card_list.specs.CardLine.{card_of_line, card_of_words, pan_of, psn_of, method_of, is_digit, digit};
 
-use crate::pieces::cut;
+use crate::pieces::four_words;
 use arrayvec::ArrayVec;
 use issuer_base::{Method, Pan};
 use row_core::CardInfo;
@@ -20,21 +20,6 @@ pub fn read_card(line: &[u8]) -> Option<CardInfo>
         psn: read_psn(psn)?,
         method: read_method(method)?,
     })
-}
-
-fn four_words(line: &[u8]) -> Option<(&[u8], &[u8], &[u8], &[u8])>
-    ensures { MatchOption result
-        (card_of_line line.now ≡ None)
-        (λ words. card_of_line line.now
-        ≡ card_of_words (words.0.now ∷ words.1.now ∷ words.2.now ∷ words.3.now ∷ [])) }
-{
-    let (first, rest) = cut(line, b' ')?;
-    let (second, rest) = cut(rest, b' ')?;
-    let (third, fourth) = cut(rest, b' ')?;
-    match cut(fourth, b' ') {
-        None => Some((first, second, third, fourth)),
-        Some(_) => None,
-    }
 }
 
 #[tactic(auto, unfolding(crate::specs::CardLine::pan_of))]

@@ -1,5 +1,5 @@
 -- How a run ends, from what its parts did.
-use Rattle.std.proofs.Common.{◌≡◌, ℕ, ◌+◌, ◌<◌, ◌≤◌, ◌⊎◌, Bool, true, false, List, [], ◌++◌, Option, None, Some, refl, sym, subst, ap, ◌∙◌, inl, inr, ⊎_elim, Err, cond, arith}
+use Rattle.std.proofs.Common.{◌≡◌, ℕ, ◌<◌, ◌≤◌, true, false, List, [], ◌++◌, Option, None, Some, refl, sym, subst, ap, ◌∙◌, inl, inr, ⊎_elim, Err, cond, arith}
 use Rattle.std.specs.Prelude.{IsSomeAnd}
 use Rattle.std.specs.Io.KnownBytes.{Appends}
 use Rattle.std.proofs.KnownBytes.{Appends-nil, Appends-trans}
@@ -8,20 +8,20 @@ use Rattle.issuer_base.specs.Sink.{AppendsFront}
 use Rattle.issuer_base.specs.declared.outside.DeskFault.{DeskFault}
 use Rattle.issuer_base.specs.declared.outside.DeskFault.TheVariants.{Fault, NoMemory as NoRoom}
 use Rattle.issuer_base.specs.Desk.{GivesHeld, is_fault}
-use Rattle.issuer_base.proofs.ManyCalls.{AppendsFront-after, Rose-from_none, Rose-since, CountsFaults-no_call}
+use Rattle.issuer_base.proofs.ManyCalls.{AppendsFront-after, Rose-from_none, Rose-since}
 use Rattle.answer_text.specs.StopText.{stop_text}
 use Rattle.answer_text.specs.declared.stop_line.Stop.{Stop}
 use Rattle.answer_text.specs.declared.stop_line.Stop.TheVariants.{Usage, Config, ReadFault, NoMemory, TooLong}
-use Rattle.row_core.specs.declared.card.CardInfo.{CardInfo}
+use Rattle.row_core.specs.IssuerSetup.{Setup}
 use Rattle.issuer_top.specs.declared.ending.Ending.{Ending}
-use Rattle.issuer_top.specs.declared.ending.Ending.TheVariants.{Served, NoCommand, BadConfig, InputFailed, SinkFailed, OutOfMemory, PastLimit}
-use Rattle.issuer_top.specs.Content.{Told, Holds, HasLeft}
-use Rattle.issuer_top.specs.Configuration.{Lists, ListsNone, GivesNoCards, is_read_stop}
+use Rattle.issuer_top.specs.declared.ending.Ending.TheVariants.{Served, SinkFailed}
+use Rattle.issuer_top.specs.Content.{Told, HasLeft}
+use Rattle.issuer_top.specs.Configuration.{Lists, GivesNoIssuer, is_read_stop}
 use Rattle.issuer_top.specs.Opening.{stop_of}
 use Rattle.issuer_top.specs.Command.{IsServe, IsNoCommand}
 use Rattle.issuer_top.specs.Serving.{ServesAll, ServesWhole, ServesFront, ServesToLimit}
 use Rattle.issuer_top.specs.Stopping.{ending_of, StopsBy, is_broken}
-use Rattle.issuer_top.specs.Endings.{Counts, IsSetUp, IsServed, IsUsage, IsBadConfig, CannotOpenConfig, CannotReadConfig, CannotOpenRequests, CannotReadRequests, CannotRead, IsOutOfMemory, IsTooLong, IsAnswering, IsDue, Writes, IsBrokenOff, EndsBy}
+use Rattle.issuer_top.specs.Endings.{Counts, IsSetUp, IsUsage, IsBadConfig, CannotRead, IsOutOfMemory, IsTooLong, IsDue, Writes, EndsBy}
 use Rattle.issuer_top.specs.Endings.IsDue.{Stopped1, Stopped2, Stopped3, Stopped7, Stopped8, Answering}
 
 -- what the desk tells of a name is what the input under it had
@@ -74,19 +74,19 @@ ends_at_once words desk counts held_before held_after sink_before sink_after sto
 -- ---- the ways that serving ends
 
 -- the request file failed
-pub ends_cannot_read_requests : (words : List (List ℕ)) (desk : Told) (name : List ℕ) (counts : Counts) (cards : List CardInfo) (left held_before held_between held_after : Option (List ℕ))
+pub ends_cannot_read_requests : (words : List (List ℕ)) (desk : Told) (name : List ℕ) (counts : Counts) (issuer : Setup) (left held_before held_between held_after : Option (List ℕ))
     (faults_before faults sink_before sink_between sink_after : ℕ) (ending : Ending)
-    → IsSetUp words desk name cards → GivesHeld (desk name) left → counts.requests ≡ Some faults → faults_before ≡ 0 → CountsFaults faults_before faults true
-    → ServesWhole cards left held_before held_between → CountsFaults sink_before sink_between false
+    → IsSetUp words desk name issuer → GivesHeld (desk name) left → counts.requests ≡ Some faults → faults_before ≡ 0 → CountsFaults faults_before faults true
+    → ServesWhole issuer left held_before held_between → CountsFaults sink_before sink_between false
     → StopsBy held_between held_after ReadFault ending → CountsFaults sink_between sink_after (is_broken ending)
     → EndsBy words desk counts held_before held_after sink_before sink_after ending
-ends_cannot_read_requests words desk name counts cards left held_before held_between held_after faults_before faults sink_before sink_between sink_after ending set_up given counted fresh failed served stood stops count =
+ends_cannot_read_requests words desk name counts issuer left held_before held_between held_after faults_before faults sink_before sink_between sink_after ending set_up given counted fresh failed served stood stops count =
     let rose : Rose 0 faults = subst (λ (n : ℕ). Rose n faults) fresh failed.counted in
     ends_by_stop words desk counts held_before held_between held_after sink_before sink_between sink_after ReadFault ending served.text (CannotRead words desk counts)
     (λ writes. writes) (λ text cannot. Stopped3 cannot)
     (inr (inr (inr (record {
       requests = name;
-      cards = cards;
+      issuer = issuer;
       file = served.file;
       answers = served.text;
       set_up = set_up;
@@ -98,18 +98,18 @@ ends_cannot_read_requests words desk name counts cards left held_before held_bet
     served.written stood.never_falls stops count
 
 -- the request file goes past a limit
-pub ends_too_long : (words : List (List ℕ)) (desk : Told) (name : List ℕ) (counts : Counts) (cards : List CardInfo) (left held_before held_between held_after : Option (List ℕ))
+pub ends_too_long : (words : List (List ℕ)) (desk : Told) (name : List ℕ) (counts : Counts) (issuer : Setup) (left held_before held_between held_after : Option (List ℕ))
     (sink_before sink_between sink_after : ℕ) (number : ℕ) (ending : Ending)
-    → IsSetUp words desk name cards → GivesHeld (desk name) left
-    → ServesToLimit cards left held_before held_between number → CountsFaults sink_before sink_between false
+    → IsSetUp words desk name issuer → GivesHeld (desk name) left
+    → ServesToLimit issuer left held_before held_between number → CountsFaults sink_before sink_between false
     → StopsBy held_between held_after (TooLong number) ending → CountsFaults sink_between sink_after (is_broken ending)
     → EndsBy words desk counts held_before held_after sink_before sink_after ending
-ends_too_long words desk name counts cards left held_before held_between held_after sink_before sink_between sink_after number ending set_up given served stood stops count =
+ends_too_long words desk name counts issuer left held_before held_between held_after sink_before sink_between sink_after number ending set_up given served stood stops count =
     ends_by_stop words desk counts held_before held_between held_after sink_before sink_between sink_after (TooLong number) ending served.text (IsTooLong words desk)
     (λ writes. writes) (λ text long. Stopped8 long)
     (record {
       requests = name;
-      cards = cards;
+      issuer = issuer;
       file = served.file;
       answers = served.text;
       number = number;
@@ -121,14 +121,14 @@ ends_too_long words desk name counts cards left held_before held_between held_af
     served.written stood.never_falls stops count
 
 -- all lines were answered
-pub ends_served : (words : List (List ℕ)) (desk : Told) (name : List ℕ) (counts : Counts) (cards : List CardInfo) (left held_before held_after : Option (List ℕ)) (sink_before sink_after : ℕ)
-    → IsSetUp words desk name cards → GivesHeld (desk name) left → ServesAll cards left held_before held_after
+pub ends_served : (words : List (List ℕ)) (desk : Told) (name : List ℕ) (counts : Counts) (issuer : Setup) (left held_before held_after : Option (List ℕ)) (sink_before sink_after : ℕ)
+    → IsSetUp words desk name issuer → GivesHeld (desk name) left → ServesAll issuer left held_before held_after
     → EndsBy words desk counts held_before held_after sink_before sink_after Served
-ends_served words desk name counts cards left held_before held_after sink_before sink_after set_up given served = (
+ends_served words desk name counts issuer left held_before held_after sink_before sink_after set_up given served = (
   served.text,
   record {
     requests = name;
-    cards = cards;
+    issuer = issuer;
     file = served.file;
     set_up = set_up;
     held = Holds-from_left (desk name) left served.file given served.content;
@@ -138,14 +138,14 @@ ends_served words desk name counts cards left held_before held_after sink_before
 )
 
 -- the sink failed at an answer
-pub ends_broken : (words : List (List ℕ)) (desk : Told) (name : List ℕ) (counts : Counts) (cards : List CardInfo) (left held_before held_after : Option (List ℕ)) (sink_before sink_after : ℕ)
-    → IsSetUp words desk name cards → GivesHeld (desk name) left → ServesFront cards left held_before held_after → CountsFaults sink_before sink_after true
+pub ends_broken : (words : List (List ℕ)) (desk : Told) (name : List ℕ) (counts : Counts) (issuer : Setup) (left held_before held_after : Option (List ℕ)) (sink_before sink_after : ℕ)
+    → IsSetUp words desk name issuer → GivesHeld (desk name) left → ServesFront issuer left held_before held_after → CountsFaults sink_before sink_after true
     → EndsBy words desk counts held_before held_after sink_before sink_after SinkFailed
-ends_broken words desk name counts cards left held_before held_after sink_before sink_after set_up given served failed =
+ends_broken words desk name counts issuer left held_before held_after sink_before sink_after set_up given served failed =
     broken_off words desk counts held_before held_after sink_before sink_after served.text failed.counted
     (Answering (record {
       requests = name;
-      cards = cards;
+      issuer = issuer;
       file = served.file;
       set_up = set_up;
       held = Holds-from_left (desk name) left served.file given served.content;
@@ -196,26 +196,26 @@ ends_no_config T other words desk config requests counts held_before held_after 
     ends_out_of_memory words desk config requests counts held_before held_after sink_before sink_after ending serve no_requests stops count
 
 -- the desk gave no request file
-pub ends_no_requests : (T : Type 0) (other : Option (List ℕ)) (between : ℕ) (words : List (List ℕ)) (desk : Told) (config requests : List ℕ) (cards : List CardInfo) (counts : Counts) (held_before held_after : Option (List ℕ)) (sink_before sink_after : ℕ) (ending : Ending)
-    (fault : DeskFault) → IsServe words config requests → IsSetUp words desk requests cards → counts.requests ≡ None
+pub ends_no_requests : (T : Type 0) (other : Option (List ℕ)) (between : ℕ) (words : List (List ℕ)) (desk : Told) (config requests : List ℕ) (issuer : Setup) (counts : Counts) (held_before held_after : Option (List ℕ)) (sink_before sink_after : ℕ) (ending : Ending)
+    (fault : DeskFault) → IsServe words config requests → IsSetUp words desk requests issuer → counts.requests ≡ None
     → counts.desk_before ≤ between → CountsFaults between counts.desk_after (is_fault {T = T} (Err fault))
     → counts.last_fault ≡ cond (is_fault {T = T} (Err fault)) (Some requests) other
     → StopsBy held_before held_after (stop_of fault) ending → CountsFaults sink_before sink_after (is_broken ending)
     → EndsBy words desk counts held_before held_after sink_before sink_after ending
-ends_no_requests T other between words desk config requests cards counts held_before held_after sink_before sink_after ending Fault serve set_up no_requests earlier desk_count last stops count =
+ends_no_requests T other between words desk config requests issuer counts held_before held_after sink_before sink_after ending Fault serve set_up no_requests earlier desk_count last stops count =
     ends_cannot_read words desk counts held_before held_after sink_before sink_after ending
-    (inr (inr (inl (record { requests = requests; cards = cards; set_up = set_up; rose = Rose-since counts.desk_before between counts.desk_after earlier desk_count.counted; name = last; no_requests = no_requests; last = refl }))))
+    (inr (inr (inl (record { requests = requests; issuer = issuer; set_up = set_up; rose = Rose-since counts.desk_before between counts.desk_after earlier desk_count.counted; name = last; no_requests = no_requests; last = refl }))))
     stops count
-ends_no_requests T other between words desk config requests cards counts held_before held_after sink_before sink_after ending NoRoom serve set_up no_requests earlier desk_count last stops count =
+ends_no_requests T other between words desk config requests issuer counts held_before held_after sink_before sink_after ending NoRoom serve set_up no_requests earlier desk_count last stops count =
     ends_out_of_memory words desk config requests counts held_before held_after sink_before sink_after ending serve no_requests stops count
 
--- the configuration gave no cards
-pub ends_no_cards : (T : Type 0) (first : ℕ) (words : List (List ℕ)) (desk : Told) (config requests : List ℕ) (counts : Counts) (left held_before held_after : Option (List ℕ)) (sink_before sink_after : ℕ) (ending : Ending)
+-- the configuration gave no issuer
+pub ends_no_issuer : (T : Type 0) (first : ℕ) (words : List (List ℕ)) (desk : Told) (config requests : List ℕ) (counts : Counts) (left held_before held_after : Option (List ℕ)) (sink_before sink_after : ℕ) (ending : Ending)
     (faults : ℕ) (stop : Stop) → IsServe words config requests → GivesHeld (desk config) left → counts.config ≡ Some faults → counts.requests ≡ None
-    → GivesNoCards left stop → first ≡ 0 → CountsFaults first faults (is_read_stop {T = T} (Err stop))
+    → GivesNoIssuer left stop → first ≡ 0 → CountsFaults first faults (is_read_stop {T = T} (Err stop))
     → StopsBy held_before held_after stop ending → CountsFaults sink_before sink_after (is_broken ending)
     → EndsBy words desk counts held_before held_after sink_before sink_after ending
-ends_no_cards T first words desk config requests counts left held_before held_after sink_before sink_after ending faults (Config part index) serve given config_count no_requests none fresh count_faults stops count =
+ends_no_issuer T first words desk config requests counts left held_before held_after sink_before sink_after ending faults (Config part index) serve given config_count no_requests none fresh count_faults stops count =
     ends_at_once words desk counts held_before held_after sink_before sink_after (Config part index) ending (IsBadConfig words desk) (λ writes. writes) (λ text bad. Stopped2 bad)
     (record {
       config = config;
@@ -226,7 +226,7 @@ ends_no_cards T first words desk config requests counts left held_before held_af
       broken = none.0.broken;
       last = ap (λ (n : ℕ). stop_text (Config n index)) none.1 ∙ ap (λ (n : ℕ). stop_text (Config 0 n)) none.2;
     }) stops count
-ends_no_cards T first words desk config requests counts left held_before held_after sink_before sink_after ending faults ReadFault serve given config_count no_requests none fresh count_faults stops count =
+ends_no_issuer T first words desk config requests counts left held_before held_after sink_before sink_after ending faults ReadFault serve given config_count no_requests none fresh count_faults stops count =
     ends_cannot_read words desk counts held_before held_after sink_before sink_after ending
     (inr (inl (record {
       config = config;
@@ -237,15 +237,15 @@ ends_no_cards T first words desk config requests counts left held_before held_af
       last = refl;
     })))
     stops count
-ends_no_cards T first words desk config requests counts left held_before held_after sink_before sink_after ending faults NoMemory serve given config_count no_requests none fresh count_faults stops count =
+ends_no_issuer T first words desk config requests counts left held_before held_after sink_before sink_after ending faults NoMemory serve given config_count no_requests none fresh count_faults stops count =
     ends_out_of_memory words desk config requests counts held_before held_after sink_before sink_after ending serve no_requests stops count
-ends_no_cards T first words desk config requests counts left held_before held_after sink_before sink_after ending faults Usage serve given config_count no_requests none fresh count_faults stops count = absurd none
-ends_no_cards T first words desk config requests counts left held_before held_after sink_before sink_after ending faults (TooLong line) serve given config_count no_requests none fresh count_faults stops count = absurd none
+ends_no_issuer T first words desk config requests counts left held_before held_after sink_before sink_after ending faults Usage serve given config_count no_requests none fresh count_faults stops count = absurd none
+ends_no_issuer T first words desk config requests counts left held_before held_after sink_before sink_after ending faults (TooLong line) serve given config_count no_requests none fresh count_faults stops count = absurd none
 
 -- the words and the configuration are as they should be
-pub IsSetUp-from_lists : (words : List (List ℕ)) (desk : Told) (config requests : List ℕ) (left : Option (List ℕ)) (cards : List CardInfo)
-    → IsServe words config requests → GivesHeld (desk config) left → Lists left cards → IsSetUp words desk requests cards
-IsSetUp-from_lists words desk config requests left cards serve given lists = record {
+pub IsSetUp-from_lists : (words : List (List ℕ)) (desk : Told) (config requests : List ℕ) (left : Option (List ℕ)) (issuer : Setup)
+    → IsServe words config requests → GivesHeld (desk config) left → Lists left issuer → IsSetUp words desk requests issuer
+IsSetUp-from_lists words desk config requests left issuer serve given lists = record {
   config = config;
   content = lists.content;
   serve = serve;

@@ -1,6 +1,6 @@
 -- The five words of the command, one by one and as a list.
-use Rattle.std.proofs.Common.{◌≡◌, ◌≢◌, ℕ, List, [], ◌∷◌, length, refl, sym, ap, subst, arith, ◌∙◌}
-use Rattle.std.specs.Prelude.{slice_get, Some, codes}
+use Rattle.std.proofs.Common.{◌≡◌, ℕ, List, [], ◌∷◌, length, refl, sym, ap, subst, arith}
+use Rattle.std.specs.Prelude.{slice_get, Some}
 use Rattle.issuer_top.specs.Command.{IsName, IsServe, HasOptions}
 
 -- a list of five is its five elements

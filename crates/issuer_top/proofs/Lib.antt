@@ -3,4 +3,3 @@ pub mod ServingSteps
 pub mod ConfigurationReads
 pub mod EndingSteps
 pub mod Statuses
-pub mod KeptLines

@@ -1,30 +1,27 @@
 -- Serving, one line more and to each of its ends.
-use Rattle.std.proofs.Common.{◌≡◌, ◌≢◌, ℕ, ◌+◌, List, [], ◌∷◌, ◌++◌, length, Option, None, Some, Result, refl, sym, ap, subst, ◌∙◌, ◌-◌, ◌≤◌, inl, inr, ⊎_elim, arith, append_assoc, append-nil}
+use Rattle.std.proofs.Common.{◌≡◌, ℕ, ◌+◌, List, [], ◌∷◌, ◌++◌, length, Option, None, Some, refl, sym, ap, subst, ◌∙◌, ◌-◌, ◌≤◌, inl, inr, ⊎_elim, arith, append-nil}
 use Rattle.std.proofs.lemmas.List.{length-append, flat_map_more, take-append-le}
 use Rattle.std.specs.List.{flat_map}
-use Rattle.std.specs.Prelude.{option_and_then}
-use Rattle.std.specs.Result.{result_ok}
 use Rattle.std.specs.Io.KnownBytes.{Appends, Consumes, IsAtEnd}
 use Rattle.std.proofs.KnownBytes.{Appends-nil, Appends-trans, Consumes-nil, Consumes-trans}
 use Rattle.issuer_base.specs.declared.answer.Answer.{Answer}
 use Rattle.issuer_base.specs.declared.entry.Entry.{Entry}
 use Rattle.issuer_base.specs.Sink.{AppendsFront}
 use Rattle.issuer_base.proofs.ManyCalls.{AppendsFront-after}
-use Rattle.line_reader.specs.Lines.{lines, ended, BeginsWithLines, IsUnbroken}
+use Rattle.line_reader.specs.Lines.{lines, ended, IsUnbroken}
 use Rattle.line_reader.specs.Reading.{Reading, HasGivenLines, IsWithinLimits, StaysWithinLimits, PassesLimit, unread, kept}
 use Rattle.line_reader.specs.NextLine.{GivesLine, GivesRest, ReachesEnd, StopsAtFault, StopsAtLimit}
 use Rattle.line_reader.proofs.LineLaws.{lines-begins, length-begins, BeginsWithLines-given}
 use Rattle.line_reader.proofs.WholeLines.{HasGivenLines-unread, HasGivenLines-line, IsLinesAndRest-rest, lines-rest_given, IsLinesAndRest-end, lines-end_reached, IsLinesAndRest-fault, PassesLimit-stopped}
 use Rattle.card_history.specs.Turns.{Run, Turn}
 use Rattle.card_history.proofs.Runs.{run_more}
-use Rattle.row_core.specs.declared.card.CardInfo.{CardInfo}
+use Rattle.row_core.specs.IssuerSetup.{Setup}
 use Rattle.answer_text.specs.AnswerText.{printed}
 use Rattle.memory_host.specs.Holding.{Holding, StandsFor}
-use Rattle.memory_host.specs.Reading.{reading, approval, asked_in, where_asked}
-use Rattle.chip_request.specs.Reading.{request_of}
-use Rattle.issuer_top.proofs.KeptLines.{ask_bytes-kept}
+use Rattle.memory_host.specs.Reading.{reading}
+use Rattle.memory_host.specs.Replying.{reply_to}
+use Rattle.memory_host.proofs.KeptLines.{reading-kept}
 use Rattle.issuer_top.specs.Content.{HasLeft}
-use Rattle.issuer_top.specs.Answered.{AreAnswered, AllAnswered, WholeAnswered, PassedAnswered, FrontAnswered}
 use Rattle.issuer_top.specs.Serving.{HasServed, ServesAll, ServesWhole, ServesFront, ServesToLimit}
 
 -- ---- what an input had
@@ -47,53 +44,50 @@ HasLeft-whole (Some file) (Some rest) bytes read end = read ∙ ap (λ xs. bytes
 texts-more : (answers : List Answer) (answer : Answer) → flat_map printed (answers ++ answer ∷ []) ≡ flat_map printed answers ++ printed answer
 texts-more answers answer = sym (flat_map_more printed [] answers answer)
 
--- a line cut to what is kept of it reads as the whole line
-reading-kept : (cards : List CardInfo) (line : List ℕ) → reading cards (kept line) ≡ reading cards line
-reading-kept cards line = ap (λ found. where_asked cards (option_and_then (λ bytes. result_ok (request_of bytes)) found)) (ask_bytes-kept line)
-
 -- what one turn of a host does
 abbrev pub Turns : Holding → Holding → List ℕ → Answer → Type 0
 Turns old new line answer = (before : List Entry) → StandsFor old before → (after : List Entry) × StandsFor new after
-    × Turn 0 (λ _. approval) before (reading old.cards line) answer after
+    × Turn 0 (reply_to old.issuer) before (reading old.issuer line) answer after
 
 -- a turn on a line as far as it is kept is a turn on the line
-turn-kept : (cards others : List CardInfo) (before : List Entry) (line hand : List ℕ) (answer : Answer) (after : List Entry) → others ≡ cards → hand ≡ kept line
-    → Turn 0 (λ _. approval) before (reading others hand) answer after → Turn 0 (λ _. approval) before (reading cards line) answer after
-turn-kept cards others before line hand answer after same cut turn =
-    subst (λ r. Turn 0 (λ _. approval) before r answer after) (ap (λ cs. reading cs hand) same ∙ ap (reading cards) cut ∙ reading-kept cards line) turn
+turn-kept : (issuer other : Setup) (before : List Entry) (line hand : List ℕ) (answer : Answer) (after : List Entry) → other ≡ issuer → hand ≡ kept line
+    → Turn 0 (reply_to other) before (reading other hand) answer after → Turn 0 (reply_to issuer) before (reading issuer line) answer after
+turn-kept issuer other before line hand answer after same cut turn =
+    let at : Turn 0 (reply_to issuer) before (reading issuer hand) answer after = subst (λ (i : Setup). Turn 0 (reply_to i) before (reading i hand) answer after) same turn in
+    subst (λ r. Turn 0 (reply_to issuer) before r answer after) (ap (reading issuer) cut ∙ reading-kept issuer line) at
 
 -- the line after those served is answered
-run-line : (cards : List CardInfo) (host next : Holding) (whole : List (List ℕ)) (answers : List Answer) (history : List Entry) (line hand : List ℕ) (answer : Answer)
-    → host.cards ≡ cards → StandsFor host history → Run 0 (reading cards) (λ _. approval) [] whole answers history → hand ≡ kept line → Turns host next hand answer
-    → (after : List Entry) × StandsFor next after × Run 0 (reading cards) (λ _. approval) [] (whole ++ line ∷ []) (answers ++ answer ∷ []) after
-run-line cards host next whole answers history line hand answer same stands run cut turns =
+run-line : (issuer : Setup) (host next : Holding) (whole : List (List ℕ)) (answers : List Answer) (history : List Entry) (line hand : List ℕ) (answer : Answer)
+    → host.issuer ≡ issuer → StandsFor host history → Run 0 (reading issuer) (reply_to issuer) [] whole answers history → hand ≡ kept line → Turns host next hand answer
+    → (after : List Entry) × StandsFor next after × Run 0 (reading issuer) (reply_to issuer) [] (whole ++ line ∷ []) (answers ++ answer ∷ []) after
+run-line issuer host next whole answers history line hand answer same stands run cut turns =
     let t = turns history stands in
-    (t.0, t.1, run_more 0 (reading cards) (λ _. approval) [] whole answers history line answer t.0 run (turn-kept cards host.cards history line hand answer t.0 same cut t.2))
+    (t.0, t.1, run_more 0 (reading issuer) (reply_to issuer) [] whole answers history line answer t.0 run (turn-kept issuer host.issuer history line hand answer t.0 same cut t.2))
 
 -- ---- the run
 
 -- nothing is served yet
-pub HasServed-none : (cards : List CardInfo) (was held : Option (List ℕ)) (host : Holding) (reader : Reading) → host.cards ≡ cards → StandsFor host [] → reader ≡ unread
-    → HasServed cards was was held held host reader
-HasServed-none cards was held host reader same stands first = record {
+pub HasServed-none : (issuer : Setup) (was held : Option (List ℕ)) (host : Holding) (reader : Reading) → host.issuer ≡ issuer → StandsFor host [] → reader ≡ unread
+    → HasServed issuer was was held held host reader
+HasServed-none issuer was held host reader same stands first = record {
   read = [];
   whole = [];
   answers = [];
   history = [];
   consumed = Consumes-nil was;
   given = subst (λ r. HasGivenLines r [] []) (sym first) HasGivenLines-unread;
-  cards_are = same;
+  issuer_is = same;
   stands = stands;
   run = refl;
   written = Appends-nil held;
 }
 
 -- one line more is served
-pub HasServed-line : (cards : List CardInfo) (was mid now first held next : Option (List ℕ)) (host after : Holding) (reader new : Reading) (answer : Answer)
-    → HasServed cards was mid first held host reader → GivesLine mid now reader new → Turns host after new.line answer → after.cards ≡ host.cards
-    → Appends held next (printed answer) → HasServed cards was now first next after new
-HasServed-line cards was mid now first held next host after reader new answer so_far gives turns same prints =
-    let more = run-line cards host after so_far.whole so_far.answers so_far.history gives.line new.line answer so_far.cards_are so_far.stands so_far.run gives.counted.in_hand turns in
+pub HasServed-line : (issuer : Setup) (was mid now first held next : Option (List ℕ)) (host after : Holding) (reader new : Reading) (answer : Answer)
+    → HasServed issuer was mid first held host reader → GivesLine mid now reader new → Turns host after new.line answer → after.issuer ≡ host.issuer
+    → Appends held next (printed answer) → HasServed issuer was now first next after new
+HasServed-line issuer was mid now first held next host after reader new answer so_far gives turns same prints =
+    let more = run-line issuer host after so_far.whole so_far.answers so_far.history gives.line new.line answer so_far.issuer_is so_far.stands so_far.run gives.counted.in_hand turns in
     record {
       read = so_far.read ++ gives.given;
       whole = so_far.whole ++ gives.line ∷ [];
@@ -101,7 +95,7 @@ HasServed-line cards was mid now first held next host after reader new answer so
       history = more.0;
       consumed = Consumes-trans was mid now so_far.read gives.given so_far.consumed gives.consumed;
       given = HasGivenLines-line mid now reader new so_far.read so_far.whole so_far.given gives;
-      cards_are = same ∙ so_far.cards_are;
+      issuer_is = same ∙ so_far.issuer_is;
       stands = more.1;
       run = more.2;
       written = subst (Appends first next) (sym (texts-more so_far.answers answer)) (Appends-trans first held next _ _ so_far.written prints);
@@ -110,9 +104,9 @@ HasServed-line cards was mid now first held next host after reader new answer so
 -- ---- the ends
 
 -- the end of the input
-pub ServesAll-end : (cards : List CardInfo) (was mid now first held : Option (List ℕ)) (host : Holding) (reader new : Reading)
-    → HasServed cards was mid first held host reader → ReachesEnd mid now reader new → ServesAll cards was first held
-ServesAll-end cards was mid now first held host reader new so_far ends =
+pub ServesAll-end : (issuer : Setup) (was mid now first held : Option (List ℕ)) (host : Holding) (reader new : Reading)
+    → HasServed issuer was mid first held host reader → ReachesEnd mid now reader new → ServesAll issuer was first held
+ServesAll-end issuer was mid now first held host reader new so_far ends =
     let file = so_far.read ++ ends.given in
     let lines_are = lines-end_reached mid now reader new so_far.read so_far.whole so_far.given ends in
     let parted = IsLinesAndRest-end mid now reader new so_far.read so_far.whole so_far.given ends in
@@ -124,7 +118,7 @@ ServesAll-end cards was mid now first held host reader new so_far ends =
         answered = record {
           answers = so_far.answers;
           history = so_far.history;
-          run = subst (λ ls. Run 0 (reading cards) (λ _. approval) [] ls so_far.answers so_far.history) (sym lines_are) so_far.run;
+          run = subst (λ ls. Run 0 (reading issuer) (reply_to issuer) [] ls so_far.answers so_far.history) (sym lines_are) so_far.run;
           printed_is = refl;
         };
         within = record {
@@ -136,14 +130,14 @@ ServesAll-end cards was mid now first held host reader new so_far ends =
     }
 
 -- the last line, which no newline ends
-pub ServesAll-rest : (cards : List CardInfo) (was mid now first held next : Option (List ℕ)) (host after : Holding) (reader new : Reading) (answer : Answer)
-    → HasServed cards was mid first held host reader → GivesRest mid now reader new → Turns host after new.line answer → Appends held next (printed answer)
-    → ServesAll cards was first next
-ServesAll-rest cards was mid now first held next host after reader new answer so_far gives turns prints =
+pub ServesAll-rest : (issuer : Setup) (was mid now first held next : Option (List ℕ)) (host after : Holding) (reader new : Reading) (answer : Answer)
+    → HasServed issuer was mid first held host reader → GivesRest mid now reader new → Turns host after new.line answer → Appends held next (printed answer)
+    → ServesAll issuer was first next
+ServesAll-rest issuer was mid now first held next host after reader new answer so_far gives turns prints =
     let file = so_far.read ++ gives.given in
     let lines_are = lines-rest_given mid now reader new so_far.read so_far.whole so_far.given gives in
     let parted = IsLinesAndRest-rest mid now reader new so_far.read so_far.whole so_far.given gives in
-    let more = run-line cards host after so_far.whole so_far.answers so_far.history gives.line new.line answer so_far.cards_are so_far.stands so_far.run gives.counted.in_hand turns in
+    let more = run-line issuer host after so_far.whole so_far.answers so_far.history gives.line new.line answer so_far.issuer_is so_far.stands so_far.run gives.counted.in_hand turns in
     record {
       file = file;
       text = flat_map printed (so_far.answers ++ answer ∷ []);
@@ -152,7 +146,7 @@ ServesAll-rest cards was mid now first held next host after reader new answer so
         answered = record {
           answers = so_far.answers ++ answer ∷ [];
           history = more.0;
-          run = subst (λ ls. Run 0 (reading cards) (λ _. approval) [] ls (so_far.answers ++ answer ∷ []) more.0) (sym lines_are) more.2;
+          run = subst (λ ls. Run 0 (reading issuer) (reply_to issuer) [] ls (so_far.answers ++ answer ∷ []) more.0) (sym lines_are) more.2;
           printed_is = refl;
         };
         within = record {
@@ -164,15 +158,15 @@ ServesAll-rest cards was mid now first held next host after reader new answer so
     }
 
 -- the sink failed at the answer of a line
-pub ServesFront-line : (cards : List CardInfo) (was mid now first held next : Option (List ℕ)) (host after : Holding) (reader new : Reading) (answer : Answer)
-    → HasServed cards was mid first held host reader → GivesLine mid now reader new → Turns host after new.line answer → AppendsFront held next (printed answer)
-    → ServesFront cards was first next
-ServesFront-line cards was mid now first held next host after reader new answer so_far gives turns prints =
+pub ServesFront-line : (issuer : Setup) (was mid now first held next : Option (List ℕ)) (host after : Holding) (reader new : Reading) (answer : Answer)
+    → HasServed issuer was mid first held host reader → GivesLine mid now reader new → Turns host after new.line answer → AppendsFront held next (printed answer)
+    → ServesFront issuer was first next
+ServesFront-line issuer was mid now first held next host after reader new answer so_far gives turns prints =
     let read = so_far.read ++ gives.given in
     let left = HasLeft-front was now read (Consumes-trans was mid now so_far.read gives.given so_far.consumed gives.consumed) in
     let front = so_far.whole ++ gives.line ∷ [] in
     let begins = BeginsWithLines-given read front new.ahead left.0 (HasGivenLines-line mid now reader new so_far.read so_far.whole so_far.given gives).begins in
-    let more = run-line cards host after so_far.whole so_far.answers so_far.history gives.line new.line answer so_far.cards_are so_far.stands so_far.run gives.counted.in_hand turns in
+    let more = run-line issuer host after so_far.whole so_far.answers so_far.history gives.line new.line answer so_far.issuer_is so_far.stands so_far.run gives.counted.in_hand turns in
     record {
       file = read ++ left.0;
       text = flat_map printed (so_far.answers ++ answer ∷ []);
@@ -187,13 +181,13 @@ ServesFront-line cards was mid now first held next host after reader new answer 
     }
 
 -- the sink failed at the answer of the last line, which no newline ends
-pub ServesFront-rest : (cards : List CardInfo) (was mid now first held next : Option (List ℕ)) (host after : Holding) (reader new : Reading) (answer : Answer)
-    → HasServed cards was mid first held host reader → GivesRest mid now reader new → Turns host after new.line answer → AppendsFront held next (printed answer)
-    → ServesFront cards was first next
-ServesFront-rest cards was mid now first held next host after reader new answer so_far gives turns prints =
+pub ServesFront-rest : (issuer : Setup) (was mid now first held next : Option (List ℕ)) (host after : Holding) (reader new : Reading) (answer : Answer)
+    → HasServed issuer was mid first held host reader → GivesRest mid now reader new → Turns host after new.line answer → AppendsFront held next (printed answer)
+    → ServesFront issuer was first next
+ServesFront-rest issuer was mid now first held next host after reader new answer so_far gives turns prints =
     let file = so_far.read ++ gives.given in
     let lines_are = lines-rest_given mid now reader new so_far.read so_far.whole so_far.given gives in
-    let more = run-line cards host after so_far.whole so_far.answers so_far.history gives.line new.line answer so_far.cards_are so_far.stands so_far.run gives.counted.in_hand turns in
+    let more = run-line issuer host after so_far.whole so_far.answers so_far.history gives.line new.line answer so_far.issuer_is so_far.stands so_far.run gives.counted.in_hand turns in
     record {
       file = file;
       text = flat_map printed (so_far.answers ++ answer ∷ []);
@@ -208,9 +202,9 @@ ServesFront-rest cards was mid now first held next host after reader new answer 
     }
 
 -- the input failed
-pub ServesWhole-fault : (cards : List CardInfo) (was mid now first held : Option (List ℕ)) (host : Holding) (reader new : Reading)
-    → HasServed cards was mid first held host reader → StopsAtFault mid now reader new → ServesWhole cards was first held
-ServesWhole-fault cards was mid now first held host reader new so_far stops =
+pub ServesWhole-fault : (issuer : Setup) (was mid now first held : Option (List ℕ)) (host : Holding) (reader new : Reading)
+    → HasServed issuer was mid first held host reader → StopsAtFault mid now reader new → ServesWhole issuer was first held
+ServesWhole-fault issuer was mid now first held host reader new so_far stops =
     let read = so_far.read ++ stops.given in
     let left = HasLeft-front was now read (Consumes-trans was mid now so_far.read stops.given so_far.consumed stops.consumed) in
     let rest = reader.ahead ++ stops.given in
@@ -248,9 +242,9 @@ passes-more lines_before bytes ahead rest passes =
     passes
 
 -- the input goes past a limit
-pub ServesToLimit-stop : (cards : List CardInfo) (was mid now first held : Option (List ℕ)) (host : Holding) (reader new : Reading) (number : ℕ)
-    → HasServed cards was mid first held host reader → StopsAtLimit mid now reader new → number ≡ reader.lines + 1 → ServesToLimit cards was first held number
-ServesToLimit-stop cards was mid now first held host reader new number so_far stops counted =
+pub ServesToLimit-stop : (issuer : Setup) (was mid now first held : Option (List ℕ)) (host : Holding) (reader new : Reading) (number : ℕ)
+    → HasServed issuer was mid first held host reader → StopsAtLimit mid now reader new → number ≡ reader.lines + 1 → ServesToLimit issuer was first held number
+ServesToLimit-stop issuer was mid now first held host reader new number so_far stops counted =
     let read = so_far.read ++ stops.given in
     let left = HasLeft-front was now read (Consumes-trans was mid now so_far.read stops.given so_far.consumed stops.consumed) in
     let ahead = reader.ahead ++ stops.given in

@@ -1,17 +1,15 @@
 -- What a status says of how a run ended, and that all goes well where all is in order.
-use Rattle.std.proofs.Common.{◌≡◌, ◌≢◌, ℕ, ◌<◌, ◌≤◌, ◌⊎◌, List, [], ◌∷◌, length, Option, None, Some, refl, sym, subst, ap, ◌∙◌, inl, inr, ⊎_elim, arith}
-use Rattle.std.specs.Prelude.{IsSomeAnd, slice_get}
-use Rattle.issuer_base.specs.OutsideFaults.{Rose}
+use Rattle.std.proofs.Common.{◌≡◌, ℕ, ◌⊎◌, List, length, Option, None, Some, sym, subst, ap, ◌∙◌, inl, inr, ⊎_elim, arith}
 use Rattle.issuer_base.specs.Desk.{GivesHeld}
 use Rattle.line_reader.specs.Lines.{lines}
 use Rattle.line_reader.specs.Reading.{IsWithinLimits}
 use Rattle.line_reader.proofs.WholeLines.{PassesLimit-over}
-use Rattle.row_core.specs.declared.card.CardInfo.{CardInfo}
+use Rattle.row_core.specs.IssuerSetup.{Setup}
 use Rattle.issuer_top.specs.declared.ending.Ending.{Ending}
 use Rattle.issuer_top.specs.declared.ending.Ending.TheVariants.{Served, NoCommand, BadConfig, InputFailed, SinkFailed, OutOfMemory, PastLimit}
 use Rattle.issuer_top.specs.Command.{IsServe}
 use Rattle.issuer_top.specs.Content.{Told, Holds}
-use Rattle.issuer_top.specs.Configuration.{cards_from}
+use Rattle.issuer_top.specs.Configuration.{issuer_from}
 use Rattle.issuer_top.specs.Answered.{PassedAnswered}
 use Rattle.issuer_top.specs.Status.{status_of, IsStatus}
 use Rattle.issuer_top.specs.Endings.{Counts, IsServed, IsUsage, IsBadConfig, CannotRead, IsOutOfMemory, IsTooLong, Writes, IsBrokenOff, EndsBy, IsInOrder}
@@ -116,14 +114,14 @@ same_content desk name other content told same tells holds =
     let e : Some content ≡ Some told = subst (λ (t : Option (Option (List ℕ))). GivesHeld t (Some content)) tells at_name in
     cc
 
--- a text doesn't list cards and list none
-not_both : (content told : List ℕ) (cards : List CardInfo) → content ≡ told → cards_from told ≡ Some cards → cards_from content ≡ None → ⊥
-not_both content told cards same lists none =
-    let e : None ≡ Some cards = sym none ∙ ap cards_from same ∙ lists in cc
+-- a text doesn't list issuer and list none
+not_both : (content told : List ℕ) (issuer : Setup) → content ≡ told → issuer_from told ≡ Some issuer → issuer_from content ≡ None → ⊥
+not_both content told issuer same lists none =
+    let e : None ≡ Some issuer = sym none ∙ ap issuer_from same ∙ lists in cc
 
 -- a file within the limits goes past none
-not_past : (cards : List CardInfo) (file told answers : List ℕ) (number : ℕ) → file ≡ told → IsWithinLimits (length (lines told)) (length told) → PassedAnswered cards file answers number → ⊥
-not_past cards file told answers number same within passed =
+not_past : (issuer : Setup) (file told answers : List ℕ) (number : ℕ) → file ≡ told → IsWithinLimits (length (lines told)) (length told) → PassedAnswered issuer file answers number → ⊥
+not_past issuer file told answers number same within passed =
     ⊎_elim
     (λ lines_over. omega (arith, lines_over, within.lines_within, ap (λ t. length (lines t)) same))
     (λ bytes_over. omega (arith, bytes_over, within.bytes_within, ap length same))
@@ -145,7 +143,7 @@ in_order words desk counts held_before held_after sink_before sink_after status 
 in_order words desk counts held_before held_after sink_before sink_after status BadConfig is ends order =
     let same = same_content desk order.config ends.1.config ends.1.content order.content
     (same_config words order.config order.requests ends.1.config ends.1.requests order.serve ends.1.serve) order.config_held ends.1.held in
-    absurd (not_both ends.1.content order.content order.cards same order.listed ends.1.broken)
+    absurd (not_both ends.1.content order.content order.issuer same order.listed ends.1.broken)
 in_order words desk counts held_before held_after sink_before sink_after status InputFailed is ends order =
     absurd (not_unread words desk counts sink_before sink_after ends.0 order ends.1)
 in_order words desk counts held_before held_after sink_before sink_after status SinkFailed is ends order = absurd (order.sink_stood ends.rose)
@@ -153,4 +151,4 @@ in_order words desk counts held_before held_after sink_before sink_after status 
 in_order words desk counts held_before held_after sink_before sink_after status PastLimit is ends order =
     let same = same_content desk order.requests ends.1.requests ends.1.file order.file
     (same_requests words order.config order.requests ends.1.set_up.config ends.1.requests order.serve ends.1.set_up.serve) order.requests_held ends.1.held in
-    absurd (not_past ends.1.cards ends.1.file order.file ends.1.answers ends.1.number same order.within ends.1.answered)
+    absurd (not_past ends.1.issuer ends.1.file order.file ends.1.answers ends.1.number same order.within ends.1.answered)

@@ -1,30 +1,30 @@
 -- Which lines of a request file were answered, and the text of their answers.
-use Rattle.std.specs.Prelude.{◌≡◌, ℕ, ◌+◌, ◌≤◌, List, [], ◌++◌, length}
+use Rattle.std.specs.Prelude.{◌≡◌, ℕ, ◌+◌, List, [], ◌++◌, length}
 use Rattle.std.specs.List.{flat_map}
 use Rattle.issuer_base.specs.declared.answer.Answer.{Answer}
 use Rattle.issuer_base.specs.declared.entry.Entry.{Entry}
-use Rattle.line_reader.specs.declared.limits.TheConstants.{MAX_LINES, MAX_BYTES}
 use Rattle.line_reader.specs.Lines.{lines, ended, BeginsWithLines, IsLinesAndRest}
 use Rattle.line_reader.specs.Reading.{IsWithinLimits, StaysWithinLimits, PassesLimit}
 use Rattle.card_history.specs.Turns.{Run}
-use Rattle.row_core.specs.declared.card.CardInfo.{CardInfo}
-use Rattle.memory_host.specs.Reading.{reading, approval}
+use Rattle.row_core.specs.IssuerSetup.{Setup}
+use Rattle.memory_host.specs.Reading.{reading}
+use Rattle.memory_host.specs.Replying.{reply_to}
 use Rattle.answer_text.specs.AnswerText.{printed}
 
 -- the text of the answers to these lines, one turn after another from the empty history
-pub record AreAnswered (cards : List CardInfo) (asked : List (List ℕ)) (text : List ℕ) : Type 0 where
+pub record AreAnswered (issuer : Setup) (asked : List (List ℕ)) (text : List ℕ) : Type 0 where
   pub answers : List Answer
   pub history : List Entry
-  pub run : Run 0 (reading cards) (λ _. approval) [] asked answers history
+  pub run : Run 0 (reading issuer) (reply_to issuer) [] asked answers history
   pub printed_is : text ≡ flat_map printed answers
 
 -- all lines of the file were answered, and it is within the limits
-pub record AllAnswered (cards : List CardInfo) (file text : List ℕ) : Type 0 where
-  pub answered : AreAnswered cards (lines file) text
+pub record AllAnswered (issuer : Setup) (file text : List ℕ) : Type 0 where
+  pub answered : AreAnswered issuer (lines file) text
   pub within : IsWithinLimits (length (lines file)) (length file)
 
 -- a front of the file was read, which passes no limit, and the lines that stand whole in it were answered
-pub record WholeAnswered (cards : List CardInfo) (file text : List ℕ) : Type 0 where
+pub record WholeAnswered (issuer : Setup) (file text : List ℕ) : Type 0 where
   pub read : List ℕ
   pub unread : List ℕ
   pub whole : List (List ℕ)
@@ -32,21 +32,21 @@ pub record WholeAnswered (cards : List CardInfo) (file text : List ℕ) : Type 0
   pub split : file ≡ read ++ unread
   pub parted : IsLinesAndRest read whole rest
   pub within : StaysWithinLimits (length whole) (length (flat_map ended whole)) rest
-  pub answered : AreAnswered cards whole text
+  pub answered : AreAnswered issuer whole text
 
 -- a byte of the file stands past a limit, in the line of this number, and the lines before it were answered
-pub record PassedAnswered (cards : List CardInfo) (file text : List ℕ) (number : ℕ) : Type 0 where
+pub record PassedAnswered (issuer : Setup) (file text : List ℕ) (number : ℕ) : Type 0 where
   pub whole : List (List ℕ)
   pub ahead : List ℕ
   pub parted : BeginsWithLines file whole ahead
   pub within : IsWithinLimits (length whole) (length (flat_map ended whole))
   pub passes : PassesLimit (length whole) (length (flat_map ended whole)) ahead
   pub number_is : number ≡ length whole + 1
-  pub answered : AreAnswered cards whole text
+  pub answered : AreAnswered issuer whole text
 
 -- the first lines of the file were answered
-pub record FrontAnswered (cards : List CardInfo) (file text : List ℕ) : Type 0 where
+pub record FrontAnswered (issuer : Setup) (file text : List ℕ) : Type 0 where
   pub front : List (List ℕ)
   pub more : List (List ℕ)
   pub split : lines file ≡ front ++ more
-  pub answered : AreAnswered cards front text
+  pub answered : AreAnswered issuer front text

@@ -2,9 +2,10 @@
 use Rattle.std.specs.Prelude.{◌≡◌, ℕ, ◌+◌, ◌≤◌, Bool, true, false, List, length, Option, None, Some, Result, Ok, Err}
 use Rattle.answer_text.specs.declared.stop_line.Stop.{Stop}
 use Rattle.answer_text.specs.declared.stop_line.Stop.TheVariants.{Usage, Config, ReadFault, NoMemory as Memory, TooLong}
-use Rattle.row_core.specs.declared.card.CardInfo.{CardInfo}
+use Rattle.row_core.specs.IssuerSetup.{Setup}
 use Rattle.row_core.specs.CardList.{bad_card}
-use Rattle.card_list.specs.CardList.{listed_cards}
+use Rattle.row_core.specs.KeyList.{bad_key}
+use Rattle.card_list.specs.ConfigList.{listed}
 use Rattle.issuer_top.specs.Content.{HasLeft}
 use Rattle.std.specs.Io.KnownBytes.{Consumes, IsAtEnd}
 use Rattle.issuer_top.specs.declared.config.TheConstants.{MAX_CONFIG_BYTES}
@@ -23,46 +24,47 @@ is_read_fault (Ok text) = false
 is_read_fault (Err Read) = true
 is_read_fault (Err NoMemory) = false
 
--- cards that an issuer may have: 1 to 4,096, with decimal sequence numbers, none named twice
-abbrev pub where_good : Option ℕ → List CardInfo → Option (List CardInfo)
-where_good None cards = Some cards
-where_good (Some index) cards = None
+-- key sets and cards that an issuer may have: neither has a place at which it is refused
+abbrev pub where_good : Option ℕ → Option ℕ → Setup → Option Setup
+where_good None None issuer = Some issuer
+where_good None (Some index) issuer = None
+where_good (Some index) bad issuer = None
 
-abbrev pub good_cards : Option (List CardInfo) → Option (List CardInfo)
-good_cards None = None
-good_cards (Some cards) = where_good (bad_card cards) cards
+abbrev pub good_setup : Option Setup → Option Setup
+good_setup None = None
+good_setup (Some issuer) = where_good (bad_key issuer.keys) (bad_card issuer.cards) issuer
 
--- the cards that a configuration lists, or none
-abbrev pub cards_from : List ℕ → Option (List CardInfo)
-cards_from text = good_cards (listed_cards text)
+-- the issuer that a configuration lists, or none
+abbrev pub issuer_from : List ℕ → Option Setup
+issuer_from text = good_setup (listed text)
 
--- why a text gave no cards: it lists none, or memory was wanting
+-- why a text gave no issuer: it lists none, or memory was wanting
 abbrev pub IsNoList : List ℕ → Stop → Type 0
-IsNoList text (Config part index) = (cards_from text ≡ None) × (part ≡ 0) × (index ≡ 0)
+IsNoList text (Config part index) = (issuer_from text ≡ None) × (part ≡ 0) × (index ≡ 0)
 IsNoList text Memory = Unit {0}
 IsNoList text ReadFault = ⊥
 IsNoList text Usage = ⊥
 IsNoList text (TooLong line) = ⊥
 
--- the configuration lists these cards
-pub record Lists (left : Option (List ℕ)) (cards : List CardInfo) : Type 0 where
+-- the configuration lists this issuer
+pub record Lists (left : Option (List ℕ)) (issuer : Setup) : Type 0 where
   pub content : List ℕ
   pub held : HasLeft left content
-  pub listed : cards_from content ≡ Some cards
+  pub listed : issuer_from content ≡ Some issuer
 
--- the configuration lists no cards
+-- the configuration lists no issuer
 pub record ListsNone (left : Option (List ℕ)) : Type 0 where
   pub content : List ℕ
   pub held : HasLeft left content
-  pub broken : cards_from content ≡ None
+  pub broken : issuer_from content ≡ None
 
--- why a configuration gave no cards
-abbrev pub GivesNoCards : Option (List ℕ) → Stop → Type 0
-GivesNoCards left (Config part index) = ListsNone left × (part ≡ 0) × (index ≡ 0)
-GivesNoCards left ReadFault = Unit {0}
-GivesNoCards left Memory = Unit {0}
-GivesNoCards left Usage = ⊥
-GivesNoCards left (TooLong line) = ⊥
+-- why a configuration gave no issuer
+abbrev pub GivesNoIssuer : Option (List ℕ) → Stop → Type 0
+GivesNoIssuer left (Config part index) = ListsNone left × (part ≡ 0) × (index ≡ 0)
+GivesNoIssuer left ReadFault = Unit {0}
+GivesNoIssuer left Memory = Unit {0}
+GivesNoIssuer left Usage = ⊥
+GivesNoIssuer left (TooLong line) = ⊥
 
 -- the input failed
 abbrev pub is_read_stop : {T : Type 0} → Result T Stop → Bool

@@ -2,13 +2,13 @@
 -- text that was due.
 use Rattle.std.specs.Prelude.{◌≡◌, ℕ, ◌<◌, ◌⊎◌, List, length, ◌++◌, Option, None, Some, IsSomeAnd}
 use Rattle.issuer_base.specs.OutsideFaults.{Rose}
-use Rattle.row_core.specs.declared.card.CardInfo.{CardInfo}
+use Rattle.row_core.specs.IssuerSetup.{Setup}
 use Rattle.answer_text.specs.StopText.{stop_text}
 use Rattle.answer_text.specs.declared.stop_line.Stop.TheVariants.{Usage, Config, ReadFault, NoMemory, TooLong}
 use Rattle.issuer_top.specs.Command.{IsServe, IsNoCommand}
 use Rattle.issuer_top.specs.Content.{Told, Holds}
 use Rattle.issuer_top.specs.Answered.{AllAnswered, WholeAnswered, PassedAnswered, FrontAnswered}
-use Rattle.issuer_top.specs.Configuration.{cards_from}
+use Rattle.issuer_top.specs.Configuration.{issuer_from}
 use Rattle.issuer_top.specs.declared.ending.Ending.{Ending}
 use Rattle.issuer_top.specs.declared.ending.Ending.TheVariants.{Served, NoCommand, BadConfig, InputFailed, SinkFailed, OutOfMemory, PastLimit}
 use Rattle.line_reader.specs.Lines.{lines}
@@ -29,36 +29,36 @@ abbrev pub counts_of : ℕ → ℕ → Option (List ℕ) → Option ℕ → Opti
 counts_of desk_before desk_after last_fault config requests =
     record { desk_before = desk_before; desk_after = desk_after; last_fault = last_fault; config = config; requests = requests }
 
--- the words are the command, and the configuration lists these cards
-pub record IsSetUp (words : List (List ℕ)) (desk : Told) (requests : List ℕ) (cards : List CardInfo) : Type 0 where
+-- the words are the command, and the configuration lists an issuer
+pub record IsSetUp (words : List (List ℕ)) (desk : Told) (requests : List ℕ) (issuer : Setup) : Type 0 where
   pub config : List ℕ
   pub content : List ℕ
   pub serve : IsServe words config requests
   pub held : Holds desk config content
-  pub listed : cards_from content ≡ Some cards
+  pub listed : issuer_from content ≡ Some issuer
 
 -- status 0: all lines of the request file were answered
 pub record IsServed (words : List (List ℕ)) (desk : Told) (text : List ℕ) : Type 0 where
   pub requests : List ℕ
-  pub cards : List CardInfo
+  pub issuer : Setup
   pub file : List ℕ
-  pub set_up : IsSetUp words desk requests cards
+  pub set_up : IsSetUp words desk requests issuer
   pub held : Holds desk requests file
-  pub answered : AllAnswered cards file text
+  pub answered : AllAnswered issuer file text
 
 -- status 1: the words are no command
 pub record IsUsage (words : List (List ℕ)) (text : List ℕ) : Type 0 where
   pub no_command : IsNoCommand words
   pub last : text ≡ stop_text Usage
 
--- status 2: the configuration lists no cards
+-- status 2: the configuration lists no issuer
 pub record IsBadConfig (words : List (List ℕ)) (desk : Told) (text : List ℕ) : Type 0 where
   pub config : List ℕ
   pub requests : List ℕ
   pub content : List ℕ
   pub serve : IsServe words config requests
   pub held : Holds desk config content
-  pub broken : cards_from content ≡ None
+  pub broken : issuer_from content ≡ None
   pub last : text ≡ stop_text (Config 0 0)
 
 -- status 3: the desk failed at the configuration's name
@@ -84,8 +84,8 @@ pub record CannotReadConfig (words : List (List ℕ)) (counts : Counts) (text : 
 -- status 3: the desk failed at the request file's name
 pub record CannotOpenRequests (words : List (List ℕ)) (desk : Told) (counts : Counts) (text : List ℕ) : Type 0 where
   pub requests : List ℕ
-  pub cards : List CardInfo
-  pub set_up : IsSetUp words desk requests cards
+  pub issuer : Setup
+  pub set_up : IsSetUp words desk requests issuer
   pub rose : Rose counts.desk_before counts.desk_after
   pub name : counts.last_fault ≡ Some requests
   pub no_requests : counts.requests ≡ None
@@ -94,13 +94,13 @@ pub record CannotOpenRequests (words : List (List ℕ)) (desk : Told) (counts : 
 -- status 3: the request file failed while it was read, and the lines read whole were answered
 pub record CannotReadRequests (words : List (List ℕ)) (desk : Told) (counts : Counts) (text : List ℕ) : Type 0 where
   pub requests : List ℕ
-  pub cards : List CardInfo
+  pub issuer : Setup
   pub file : List ℕ
   pub answers : List ℕ
-  pub set_up : IsSetUp words desk requests cards
+  pub set_up : IsSetUp words desk requests issuer
   pub held : Holds desk requests file
   pub failed : IsSomeAnd counts.requests (λ count. 0 < count)
-  pub answered : WholeAnswered cards file answers
+  pub answered : WholeAnswered issuer file answers
   pub last : text ≡ answers ++ stop_text ReadFault
 
 -- status 3: an input failed, or the desk at the name of one
@@ -120,23 +120,23 @@ pub record IsOutOfMemory (words : List (List ℕ)) (counts : Counts) (text : Lis
 -- status 8: the request file goes past a limit, and the lines before were answered
 pub record IsTooLong (words : List (List ℕ)) (desk : Told) (text : List ℕ) : Type 0 where
   pub requests : List ℕ
-  pub cards : List CardInfo
+  pub issuer : Setup
   pub file : List ℕ
   pub answers : List ℕ
   pub number : ℕ
-  pub set_up : IsSetUp words desk requests cards
+  pub set_up : IsSetUp words desk requests issuer
   pub held : Holds desk requests file
-  pub answered : PassedAnswered cards file answers number
+  pub answered : PassedAnswered issuer file answers number
   pub last : text ≡ answers ++ stop_text (TooLong number)
 
 -- the answers to the first lines of the request file
 pub record IsAnswering (words : List (List ℕ)) (desk : Told) (text : List ℕ) : Type 0 where
   pub requests : List ℕ
-  pub cards : List CardInfo
+  pub issuer : Setup
   pub file : List ℕ
-  pub set_up : IsSetUp words desk requests cards
+  pub set_up : IsSetUp words desk requests issuer
   pub held : Holds desk requests file
-  pub answered : FrontAnswered cards file text
+  pub answered : FrontAnswered issuer file text
 
 -- status 4: the texts of which the sink may have taken a front alone
 pub data IsDue (words : List (List ℕ)) (desk : Told) (counts : Counts) (text : List ℕ) : Type 0 where
@@ -169,16 +169,16 @@ EndsBy words desk counts held_before held_after sink_before sink_after SinkFaile
 EndsBy words desk counts held_before held_after sink_before sink_after OutOfMemory = Writes held_before held_after (IsOutOfMemory words counts)
 EndsBy words desk counts held_before held_after sink_before sink_after PastLimit = Writes held_before held_after (IsTooLong words desk)
 
--- the words are the command, the desk tells of a list of cards and of a request file within the limits, and no count rose
+-- the words are the command, the desk tells of an issuer and of a request file within the limits, and no count rose
 pub record IsInOrder (words : List (List ℕ)) (desk : Told) (counts : Counts) (sink_before sink_after : ℕ) : Type 0 where
   pub config : List ℕ
   pub requests : List ℕ
   pub content : List ℕ
-  pub cards : List CardInfo
+  pub issuer : Setup
   pub file : List ℕ
   pub serve : IsServe words config requests
   pub config_held : desk config ≡ Some (Some content)
-  pub listed : cards_from content ≡ Some cards
+  pub listed : issuer_from content ≡ Some issuer
   pub requests_held : desk requests ≡ Some (Some file)
   pub within : IsWithinLimits (length (lines file)) (length file)
   pub desk_stood : Rose counts.desk_before counts.desk_after → ⊥

@@ -8,19 +8,20 @@ use Rattle.issuer_base.specs.declared.faults.WriteFault.{WriteFault}
 use Rattle.issuer_base.specs.Sink.{AppendsFront, WritesAll}
 use Rattle.line_reader.specs.Reading.{Reading, HasGivenLines, unread}
 use Rattle.card_history.specs.Turns.{Run, Turn}
-use Rattle.row_core.specs.declared.card.CardInfo.{CardInfo}
+use Rattle.row_core.specs.IssuerSetup.{Setup}
 use Rattle.answer_text.specs.AnswerText.{printed}
 use Rattle.memory_host.specs.Holding.{Holding, StandsFor}
-use Rattle.memory_host.specs.Reading.{reading, approval}
+use Rattle.memory_host.specs.Reading.{reading}
+use Rattle.memory_host.specs.Replying.{reply_to}
 use Rattle.issuer_top.specs.declared.serve.Server.{Server}
 use Rattle.issuer_top.specs.declared.serve.Served.{Served}
 use Rattle.issuer_top.specs.declared.serve.Served.TheVariants.{All, ReadFault, WriteFault as SinkFault, TooLong}
 use Rattle.issuer_top.specs.Content.{HasLeft}
 use Rattle.issuer_top.specs.Answered.{AllAnswered, WholeAnswered, PassedAnswered, FrontAnswered}
 
--- a server of these cards that has read and answered nothing
-pub record IsNew (server : Server) (cards : List CardInfo) : Type 0 where
-  pub cards_are : server.host.cards ≡ cards
+-- a server of this issuer that has read and answered nothing
+pub record IsNew (server : Server) (issuer : Setup) : Type 0 where
+  pub issuer_is : server.host.issuer ≡ issuer
   pub stands : StandsFor server.host []
   pub reads_first : server.reader ≡ unread
 
@@ -28,62 +29,62 @@ pub record IsNew (server : Server) (cards : List CardInfo) : Type 0 where
 pub record AnswersLine (old new : Server) (held_before held_after : Option (List ℕ)) (written : Result (Unit {0}) WriteFault) : Type 0 where
   pub answer : Answer
   pub turn : (before : List Entry) → StandsFor old.host before → (after : List Entry) × StandsFor new.host after
-      × Turn 0 (λ _. approval) before (reading old.host.cards old.reader.line) answer after
+      × Turn 0 (reply_to old.host.issuer) before (reading old.host.issuer old.reader.line) answer after
   pub prints : WritesAll held_before held_after written (printed answer)
-  pub same_cards : new.host.cards ≡ old.host.cards
+  pub same_issuer : new.host.issuer ≡ old.host.issuer
   pub same_reader : new.reader ≡ old.reader
 
 -- these bytes were read so far, and the lines that stand whole in them were answered, but for what the reader has ahead
-pub record HasServed (cards : List CardInfo) (was now held_before held_after : Option (List ℕ)) (host : Holding) (reader : Reading) : Type 0 where
+pub record HasServed (issuer : Setup) (was now held_before held_after : Option (List ℕ)) (host : Holding) (reader : Reading) : Type 0 where
   pub read : List ℕ
   pub whole : List (List ℕ)
   pub answers : List Answer
   pub history : List Entry
   pub consumed : Consumes was now read
   pub given : HasGivenLines reader read whole
-  pub cards_are : host.cards ≡ cards
+  pub issuer_is : host.issuer ≡ issuer
   pub stands : StandsFor host history
-  pub run : Run 0 (reading cards) (λ _. approval) [] whole answers history
+  pub run : Run 0 (reading issuer) (reply_to issuer) [] whole answers history
   pub written : Appends held_before held_after (flat_map printed answers)
 
 -- all lines were answered
-pub record ServesAll (cards : List CardInfo) (was held_before held_after : Option (List ℕ)) : Type 0 where
+pub record ServesAll (issuer : Setup) (was held_before held_after : Option (List ℕ)) : Type 0 where
   pub file : List ℕ
   pub text : List ℕ
   pub content : HasLeft was file
-  pub answered : AllAnswered cards file text
+  pub answered : AllAnswered issuer file text
   pub written : Appends held_before held_after text
 
 -- the lines read whole were answered
-pub record ServesWhole (cards : List CardInfo) (was held_before held_after : Option (List ℕ)) : Type 0 where
+pub record ServesWhole (issuer : Setup) (was held_before held_after : Option (List ℕ)) : Type 0 where
   pub file : List ℕ
   pub text : List ℕ
   pub content : HasLeft was file
-  pub answered : WholeAnswered cards file text
+  pub answered : WholeAnswered issuer file text
   pub written : Appends held_before held_after text
 
 -- the lines before the one that goes past a limit were answered
-pub record ServesToLimit (cards : List CardInfo) (was held_before held_after : Option (List ℕ)) (number : ℕ) : Type 0 where
+pub record ServesToLimit (issuer : Setup) (was held_before held_after : Option (List ℕ)) (number : ℕ) : Type 0 where
   pub file : List ℕ
   pub text : List ℕ
   pub content : HasLeft was file
-  pub answered : PassedAnswered cards file text number
+  pub answered : PassedAnswered issuer file text number
   pub written : Appends held_before held_after text
 
 -- the first lines were answered, and the sink took a front of their answers
-pub record ServesFront (cards : List CardInfo) (was held_before held_after : Option (List ℕ)) : Type 0 where
+pub record ServesFront (issuer : Setup) (was held_before held_after : Option (List ℕ)) : Type 0 where
   pub file : List ℕ
   pub text : List ℕ
   pub content : HasLeft was file
-  pub answered : FrontAnswered cards file text
+  pub answered : FrontAnswered issuer file text
   pub written : AppendsFront held_before held_after text
 
 -- what serving did, by how it ended
-abbrev pub Serves : List CardInfo → Option (List ℕ) → Option (List ℕ) → Option (List ℕ) → Served → Type 0
-Serves cards was held_before held_after All = ServesAll cards was held_before held_after
-Serves cards was held_before held_after ReadFault = ServesWhole cards was held_before held_after
-Serves cards was held_before held_after SinkFault = ServesFront cards was held_before held_after
-Serves cards was held_before held_after (TooLong number) = ServesToLimit cards was held_before held_after number
+abbrev pub Serves : Setup → Option (List ℕ) → Option (List ℕ) → Option (List ℕ) → Served → Type 0
+Serves issuer was held_before held_after All = ServesAll issuer was held_before held_after
+Serves issuer was held_before held_after ReadFault = ServesWhole issuer was held_before held_after
+Serves issuer was held_before held_after SinkFault = ServesFront issuer was held_before held_after
+Serves issuer was held_before held_after (TooLong number) = ServesToLimit issuer was held_before held_after number
 
 -- whether the input failed
 abbrev pub read_failed : Served → Bool

@@ -1,10 +1,10 @@
-//! The configuration: read to its end, and taken as a list of cards.
+//! The configuration: read to its end, and taken as an issuer's keys and cards.
 ghost use Rattle.std.specs.Prelude.{◌≡◌, ℕ, List, IfOk, IfErr, Some};
 ghost use Rattle.issuer_base.specs.OutsideFaults.{CountsFaults};
-ghost use Rattle.issuer_top.specs.Configuration.{IsRead, is_read_fault, Lists, GivesNoCards, IsNoList, is_read_stop, cards_from};
+ghost use Rattle.issuer_top.specs.Configuration.{IsRead, is_read_fault, Lists, GivesNoIssuer, IsNoList, is_read_stop, issuer_from};
 
 use answer_text::Stop;
-use card_list::{ListFault, read_cards};
+use card_list::{ListFault, read_list};
 use issuer_base::{ReadFault, Source};
 use row_core::{Issuer, IssuerFault};
 use std::alloc::Global;
@@ -45,8 +45,8 @@ pub(crate) fn read_text<S: Source>(alloc: Global, source: &mut S) -> Result<Vec<
 
 /// The issuer that a configuration lists, or why it lists none.
 pub(crate) fn read_issuer<S: Source>(alloc: Global, source: &mut S) -> Result<Issuer, Stop>
-    ensures lists { IfOk result (λ issuer. Lists (S.left source.old) issuer.cards) }
-    ensures none { IfErr result (GivesNoCards (S.left source.old)) }
+    ensures lists { IfOk result (λ issuer. Lists (S.left source.old) issuer) }
+    ensures none { IfErr result (GivesNoIssuer (S.left source.old)) }
     ensures count { CountsFaults (S.faults source.old) (S.faults source.new) (is_read_stop result) }
 {
     let text = match read_text(alloc, source) {
@@ -59,17 +59,17 @@ pub(crate) fn read_issuer<S: Source>(alloc: Global, source: &mut S) -> Result<Is
 
 /// The issuer that a text lists, or why it lists none.
 fn issuer_of(alloc: Global, text: &[u8]) -> Result<Issuer, Stop>
-    ensures lists { IfOk result (λ issuer. cards_from text.now ≡ Some issuer.cards) }
+    ensures lists { IfOk result (λ issuer. issuer_from text.now ≡ Some issuer) }
     ensures none { IfErr result (IsNoList text.now) }
 {
-    let cards = match read_cards(alloc, text) {
-        Ok(cards) => cards,
+    let listed = match read_list(alloc, text) {
+        Ok(listed) => listed,
         Err(ListFault::Broken) => return Err(Stop::Config { part: 0, index: 0 }),
         Err(ListFault::NoMemory) => return Err(Stop::NoMemory),
     };
-    match Issuer::new(alloc, cards) {
+    match Issuer::new(alloc, listed.keys, listed.cards) {
         Ok(issuer) => Ok(issuer),
-        Err(IssuerFault::Card(_)) => Err(Stop::Config { part: 0, index: 0 }),
+        Err(IssuerFault::Key(_) | IssuerFault::Card(_)) => Err(Stop::Config { part: 0, index: 0 }),
         Err(IssuerFault::NoMemory) => Err(Stop::NoMemory),
     }
 }

@@ -9,7 +9,7 @@ pub enum Ending {
     Served,
     /// The words are no command.
     NoCommand,
-    /// The configuration lists no cards.
+    /// The configuration is none.
     BadConfig,
     /// An input failed, or the desk at the name of one.
     InputFailed,

@@ -38,7 +38,7 @@ impl Server {
 
     /// All the memory that serving takes, but for the records.
     pub(crate) fn new(alloc: Global, issuer: Issuer) -> Result<Self, NoMemory>
-        ensures { IfOk result (λ server. IsNew server issuer.cards) }
+        ensures { IfOk result (λ server. IsNew server issuer) }
     {
         Ok(Server {
             host: MemoryHost::new(alloc, issuer)?,
@@ -49,8 +49,8 @@ impl Server {
 
     /// Answers the lines of an input, each before the next is read.
     pub(crate) fn serve<S: Source, W: Sink>(&mut self, source: &mut S, out: &mut W) -> Served
-        requires { IsNew self.old self.old.host.cards }
-        ensures served { Serves self.old.host.cards (S.left source.old)
+        requires { IsNew self.old self.old.host.issuer }
+        ensures served { Serves self.old.host.issuer (S.left source.old)
             (W.held out.old) (W.held out.new) result }
         ensures source_count { CountsFaults (S.faults source.old) (S.faults source.new) (read_failed result) }
         ensures sink_count { CountsFaults (W.faults out.old) (W.faults out.new) (write_failed result) }

@@ -10,20 +10,29 @@ use std::alloc::{AllocError, Global};
 use std::process::Abort;
 use std::test::Fail;
 
-const LIST: &str = "card 4000000000000002 00 1\n";
+const LIST: &str =
+    "key 01 A 000102030405060708090A0B0C0D0E0F 101112131415161718191A1B1C1D1E1F\ncard 4000000000000002 00 1\ncard 4000000000000010 00 2\n";
 
 const COMMAND: [&str; 5] = ["serve", "--config", "config", "--requests", "requests"];
 
-const FRESH: &str = "fresh 0 0 yes 3030 8a023030\n";
+const AC: &str = "6317DE17856BF19A";
 
-/// A request line of the first card with this counter, and a newline.
-fn line(alloc: Global, counter: u16) -> Result<String, AllocError> {
-    request(alloc, "4000000000000002", counter, "1A2B3C4D")
+const FRESH: &str = "fresh 0 0 yes 3030 8a023030910a02369be26b4161bc3030\n";
+
+/// A request line of the first card with this counter and cryptogram, and a newline.
+fn line(alloc: Global, counter: u16, ac: &str) -> Result<String, AllocError> {
+    request(alloc, "4000000000000002", counter, "1A2B3C4D", ac)
 }
 
-fn request(alloc: Global, pan: &str, counter: u16, number: &str) -> Result<String, AllocError> {
+fn request(
+    alloc: Global,
+    pan: &str,
+    counter: u16,
+    number: &str,
+    ac: &str,
+) -> Result<String, AllocError> {
     format!(in alloc;
-        "A 5A08{pan}9F260800000000000000009F2701809F10200FA501A00000000000000000000000000F0000000000000000000000000000009F3704{number}9F3602{counter:04X}950500000080009A032601159C01009F02060000000123455F2A020978820239009F1A0202769F3303E0F8C89F34031E03009F3501229F1E0831323334353637388407A00000000410109F090200029F41040000012300\n"
+        "A 5A08{pan}9F2608{ac}9F2701809F10200FA501A00000000000000000000000000F0000000000000000000000000000009F3704{number}9F3602{counter:04X}950500000080009A032601159C01009F02060000000123455F2A020978820239009F1A0202769F3303E0F8C89F34031E03009F3501229F1E0831323334353637388407A00000000410109F090200029F41040000012300\n"
     )
 }
 
@@ -84,72 +93,91 @@ fn answers_repeats_and_old_counters(rt: HostRuntime) -> Result<(), Fail> {
     let alloc = rt.alloc();
     check(&rt, "", "")?;
 
-    let seven = line(alloc, 7)?;
+    let seven = line(alloc, 7, AC)?;
     let twice = format!(in alloc; "{seven}{seven}")?;
     check(
         &rt,
         twice.as_str(),
-        "fresh 0 0 yes 3030 8a023030\nkept 0 0 yes 3030 8a023030\n",
+        "fresh 0 0 yes 3030 8a023030910a02369be26b4161bc3030\nkept 0 0 yes 3030 8a023030910a02369be26b4161bc3030\n",
     )?;
 
-    let one = line(alloc, 1)?;
-    let reordered = format!(in alloc; "{}{}{}{}", one, line(alloc, 65)?, one, line(alloc, 2)?)?;
+    let one = line(alloc, 1, "7C5104B1CE25F56E")?;
+    let last = line(alloc, 65, "93EED1B2ED608C61")?;
+    let two = line(alloc, 2, "CBFA5F912723FC48")?;
+    let reordered = format!(in alloc; "{one}{last}{one}{two}")?;
     check(
         &rt,
         reordered.as_str(),
-        "fresh 0 0 yes 3030 8a023030\nfresh 0 1 yes 3030 8a023030\nrefused 10 65\nfresh 0 2 yes 3030 8a023030\n",
+        "fresh 0 0 yes 3030 8a023030910a21aa145ef9f7fca43030\nfresh 0 1 yes 3030 8a023030910a2460f3fa6de401fa3030\nrefused 10 65\nfresh 0 2 yes 3030 8a023030910a8c25c52ab4d925d93030\n",
     )?;
 
-    let taken = format!(in alloc;
-        "{seven}{}",
-        request(alloc, "4000000000000002", 7, "00000000")?
-    )?;
+    let other = request(alloc, "4000000000000002", 7, "00000000", "CF0ED6665D446E24")?;
+    let taken = format!(in alloc; "{seven}{other}")?;
     check(
         &rt,
         taken.as_str(),
-        "fresh 0 0 yes 3030 8a023030\nrefused 11 0 0\n",
-    )?;
-
-    let unknown = request(alloc, "4000000000000028", 7, "1A2B3C4D")?;
-    check(&rt, unknown.as_str(), "refused 6\n")
+        "fresh 0 0 yes 3030 8a023030910a02369be26b4161bc3030\nrefused 11 0 0\n",
+    )
 }
 
 #[test]
-fn refuses_what_it_cannot_read(rt: HostRuntime) -> Result<(), Fail> {
+fn answers_the_least_and_the_greatest_counter(rt: HostRuntime) -> Result<(), Fail> {
+    let alloc = rt.alloc();
+    let least = line(alloc, 0, "3E3303B6A6EF1E00")?;
+    let greatest = line(alloc, 65_535, "1E18E39C18AB6CAF")?;
+    let both = format!(in alloc; "{least}{greatest}")?;
     check(
         &rt,
-        "\nX\nA 9F3602\nQ 1\n",
+        both.as_str(),
+        "fresh 0 0 yes 3030 8a023030910a7689da1068630d733030\nfresh 0 1 yes 3030 8a023030910ad85c87f2f624e6e23030\n",
+    )
+}
+
+#[test]
+fn refuses_by_the_first_cause(rt: HostRuntime) -> Result<(), Fail> {
+    check(
+        &rt,
+        "\nX\nA 9F3\nQ 1\n",
         "refused 1 0\nrefused 1 0\nrefused 1 0\nrefused 1 0\n",
     )?;
+    check(
+        &rt,
+        "A 9F3602\nA 9F36810207\nA 9F3681020007\nA 0000\n",
+        "refused 2 0\nrefused 2 0\nrefused 3 5a\nrefused 3 5a\n",
+    )?;
     let alloc = rt.alloc();
-    let seven = line(alloc, 7)?;
+    let seven = line(alloc, 7, AC)?;
     let whole = seven.as_str().trim_end();
-    check(&rt, whole, FRESH)?;
-    let lower = whole.replace(alloc, "9F3704", "9f3704")?;
-    check(&rt, lower.as_str(), FRESH)?;
     let changes = [
-        ("9F360200", "9F36030000"),
-        ("9F36020007", ""),
-        ("9F36020007", "9F360200079F36020007"),
-        ("9F02060000", "9F0206000A"),
-        ("5A084000", "5A08F000"),
-        ("9F10200F", "9F10200E"),
-        ("9F360200", "9F3683020000"),
-        ("9F360200", "1F818181019F360200"),
-        ("2300", "230"),
+        ("9F3602", "9f3602", FRESH),
+        ("9F36020007", "9F3681020007", FRESH),
+        ("9F36020007", "9F368200020007", FRESH),
+        ("9F36020007", "0000DF810101009F36020007", FRESH),
+        ("9F36020007", "9F3683020007", "refused 2 67\n"),
+        ("9F36020007", "1F8181810100", "refused 2 67\n"),
+        ("9F36020007", "", "refused 3 9f36\n"),
+        ("9F36020007", "9F360100", "refused 4 9f36\n"),
+        (
+            "9F0206000000012345",
+            "9F02060000000A2345",
+            "refused 4 9f02\n",
+        ),
+        ("5A0840", "5A08F0", "refused 4 5a\n"),
+        ("9F10200FA5", "9F10200FA7", "refused 4 9f10\n"),
+        ("9F36020007", "9F360200079F36020007", "refused 5 9f36\n"),
+        (
+            "5A084000000000000002",
+            "5A084000000000000028",
+            "refused 6\n",
+        ),
+        ("9F270180", "9F270140", "refused 7\n"),
+        ("0FA501A0", "0FA50190", "refused 7\n"),
+        ("0FA501A0", "0FA509A0", "refused 8 09\n"),
+        (AC, "6317DE17856BF19B", "refused 9\n"),
     ];
-    for (old, new) in changes {
-        let broken = whole.replace(alloc, old, new)?;
-        check(&rt, broken.as_str(), "refused 1 0\n")?;
-    }
-    let spellings = [
-        ("9F360200", "9F36810200"),
-        ("9F360200", "9F3682000200"),
-        ("9F360200", "0000DF8101009F360200"),
-    ];
-    for (old, new) in spellings {
-        let spelled = whole.replace(alloc, old, new)?;
-        check(&rt, spelled.as_str(), FRESH)?;
+    for (old, new, answer) in changes {
+        let changed = whole.replace(alloc, old, new)?;
+        check(&rt, changed.as_str(), answer)?;
     }
     Ok(())
 }
@@ -157,19 +185,20 @@ fn refuses_what_it_cannot_read(rt: HostRuntime) -> Result<(), Fail> {
 #[test]
 fn drops_what_is_past_the_longest_line(rt: HostRuntime) -> Result<(), Fail> {
     let alloc = rt.alloc();
-    let seven = line(alloc, 7)?;
-    for count in [1_024, 1_025, 2_500] {
+    let seven = line(alloc, 7, AC)?;
+    for (count, answer) in [
+        (1_024, "refused 3 5a\n"),
+        (1_025, "refused 1 0\n"),
+        (2_500, "refused 1 0\n"),
+    ] {
         let mut text = String::from_str(alloc, "A ")?;
         for _ in 0..count {
             text.push_str("00")?;
         }
         text.push_str("\n")?;
         text.push_str(seven.as_str())?;
-        check(
-            &rt,
-            text.as_str(),
-            "refused 1 0\nfresh 0 0 yes 3030 8a023030\n",
-        )?;
+        let expected = format!(in alloc; "{answer}{FRESH}")?;
+        check(&rt, text.as_str(), expected.as_str())?;
     }
     Ok(())
 }
@@ -189,9 +218,11 @@ fn stops_where_words_or_lists_are_none(rt: HostRuntime) -> Result<(), Fail> {
     }
     let broken = [
         "",
-        "card 4000000000000002 00 3\n",
-        "card 4000000000000002 00 1",
-        "card 4000000000000002 00 1\ncard 4000000000000002 00 2\n",
+        "card 4000000000000002 00 1\n",
+        "key 01 A 000102030405060708090A0B0C0D0E0F 101112131415161718191A1B1C1D1E1F\n",
+        "key 01 C 000102030405060708090A0B0C0D0E0F 101112131415161718191A1B1C1D1E1F\ncard 4000000000000002 00 1\n",
+        "key 01 A 000102030405060708090A0B0C0D0E0F 101112131415161718191A1B1C1D1E1F\ncard 4000000000000002 00 1\ncard 4000000000000002 00 2\n",
+        "key 01 A 000102030405060708090A0B0C0D0E0F 101112131415161718191A1B1C1D1E1F\ncard 4000000000000002 00 1",
     ];
     for config in broken {
         let (status, text) = run(&rt, &COMMAND, config, "X\n")?;

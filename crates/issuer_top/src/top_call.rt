@@ -3,7 +3,7 @@ ghost use Rattle.std.specs.Prelude.{◌≡◌, ◌⊎◌, ℕ, List, Some, IfOk,
 ghost use Rattle.std.specs.Option.{option_map};
 ghost use Rattle.issuer_base.specs.OutsideFaults.{CountsFaults};
 ghost use Rattle.issuer_base.specs.Desk.{GivesHeld};
-ghost use Rattle.issuer_top.specs.Configuration.{Lists, GivesNoCards, is_read_stop};
+ghost use Rattle.issuer_top.specs.Configuration.{Lists, GivesNoIssuer, is_read_stop};
 ghost use Rattle.issuer_top.specs.Content.{Told};
 ghost use Rattle.issuer_top.specs.Opening.{stop_of};
 ghost use Rattle.issuer_top.specs.Serving.{IsNew};
@@ -21,7 +21,7 @@ use std::alloc::Global;
 
 /// What a run gives back: its status, the desk, and the inputs that were opened.
 pub struct Ended<D: Desk> {
-    /// 0: all lines were answered; 1: the words are no command; 2: the configuration lists no cards; 3: an
+    /// 0: all lines were answered; 1: the words are no command; 2: the configuration is none; 3: an
     /// input failed; 4: the sink failed; 7: no memory was left; 8: the request file goes past a limit.
     pub status: u8,
     /// The desk that was given.
@@ -154,11 +154,11 @@ fn stop_at(fault: DeskFault) -> Stop
     }
 }
 
-/// A server of the cards that the configuration lists, with all the memory that it needs, but for records.
+/// A server of the issuer that the configuration lists, with all the memory that it needs, but for records.
 fn set_up<S: Source>(alloc: Global, config: &mut S) -> Result<Server, Stop>
-    ensures new { IfOk result (λ server. IsNew server server.host.cards) }
-    ensures lists { IfOk result (λ server. Lists (S.left config.old) server.host.cards) }
-    ensures none { IfErr result (GivesNoCards (S.left config.old)) }
+    ensures new { IfOk result (λ server. IsNew server server.host.issuer) }
+    ensures lists { IfOk result (λ server. Lists (S.left config.old) server.host.issuer) }
+    ensures none { IfErr result (GivesNoIssuer (S.left config.old)) }
     ensures count { CountsFaults (S.faults config.old) (S.faults config.new) (is_read_stop result) }
 {
     let issuer = match read_issuer(alloc, config) {
@@ -173,10 +173,10 @@ fn set_up<S: Source>(alloc: Global, config: &mut S) -> Result<Server, Stop>
 
 /// Answers all lines of the request file, and says how the run ends.
 fn answer_requests<S: Source, W: Sink>(server: &mut Server, requests: &mut S, out: &mut W) -> Ending
-    requires new { IsNew server.old server.old.host.cards }
+    requires new { IsNew server.old server.old.host.issuer }
     requires fresh { S.faults requests.old ≡ 0 }
     ensures { (words : List (List ℕ)) (desk : Told) (name : List ℕ) (counts : Counts)
-        → IsSetUp words desk name server.old.host.cards → GivesHeld (desk name) (S.left requests.old)
+        → IsSetUp words desk name server.old.host.issuer → GivesHeld (desk name) (S.left requests.old)
         → counts.requests ≡ Some (S.faults requests.new)
         → EndsBy words desk counts (W.held out.old) (W.held out.new) (W.faults out.old) (W.faults out.new) result }
 {

@@ -1,23 +1,26 @@
-use Rattle.std.proofs.Common.{arith, rules}
-use Rattle.card_list.specs.Pieces.{pieces, newline}
-use Rattle.card_list.proofs.Complete.{not_listed, listed_cards-long, listed_cards-many, listed_cards-empty}
-use Rattle.card_list.proofs.ListLaws.{cards_of_pieces-listable}
-use Rattle.card_list.proofs.Written.{pieces-written}
+use Rattle.std.proofs.Common.{arith}
+use Rattle.card_list.proofs.CardListLemmas.{HasRead-nothing, HasRead-line, too_many, no_card, no_newline, all_read}
 use Rattle.card_list.proofs.list.read_cards.Goals as goal
 
-pub returns-clause-lists : goal.returns-clause-lists
-returns-clause-lists c = record {
-  written = pieces-written c.args.text.now c.in_ok-cards.cards.items c.in_ok-cards.ensures.ok;
-  number = (grind arith, grind arith);
-  listable = cards_of_pieces-listable (pieces newline c.args.text.now) c.in_ok-cards.cards.items c.in_ok-cards.ensures.ok;
-}
+pub loop-line-init : goal.loop-line-init
+loop-line-init c = rw c.new-cards.ensures.items (HasRead-nothing c.args.text.now)
 
-pub returns-then-text-gt-MOST_BYTES-clause-no_list : goal.returns-then-text-gt-MOST_BYTES-clause-no_list
-returns-then-text-gt-MOST_BYTES-clause-no_list c = λ _. not_listed c.args.text.now (listed_cards-long c.args.text.now (omega arith))
+pub loop-line-preserved : goal.loop-line-preserved
+loop-line-preserved c =
+    rw c.in_ok-push.ensures.items
+    (HasRead-line _ c.loop-line.cards.items c.loop-line.rest.now c.in-Some.line.now c.in-Some.after.now c.in-Some-read_card.card c.loop-line.invariant (omega arith) c.in-Some.ensures.pieces c.in-Some-read_card.ensures)
 
-pub returns-in_err-cards-clause-no_list : goal.returns-in_err-cards-clause-no_list
-returns-in_err-cards-clause-no_list c = λ broken. not_listed c.args.text.now (listed_cards-many c.args.text.now (search rules))
+pub returns-then-len-eq-MOST_CARDS-clause-broken : goal.returns-then-len-eq-MOST_CARDS-clause-broken
+returns-then-len-eq-MOST_CARDS-clause-broken c = λ _. too_many _ c.loop-line.cards.items c.loop-line.rest.now _ c.in-Some.after.now c.loop-line.invariant (omega arith) c.in-Some.ensures.pieces
 
-pub returns-then-is_empty-clause-no_list : goal.returns-then-is_empty-clause-no_list
-returns-then-is_empty-clause-no_list c =
-    λ _. not_listed c.args.text.now (listed_cards-empty c.args.text.now c.in_ok-cards.cards.items c.in_ok-cards.ensures.ok (grind arith))
+pub returns-in_default-read_card-clause-broken : goal.returns-in_default-read_card-clause-broken
+returns-in_default-read_card-clause-broken c =
+    λ _. no_card _ c.loop-line.cards.items c.loop-line.rest.now c.in-Some.line.now c.in-Some.after.now c.loop-line.invariant c.in-Some.ensures.pieces c.in_default-read_card.ensures
+
+pub returns-then-not-is_empty-clause-broken : goal.returns-then-not-is_empty-clause-broken
+returns-then-not-is_empty-clause-broken c =
+    λ _. no_newline _ c.loop-line.cards.items c.loop-line.rest.now c.loop-line.invariant c.in_default.ensures.pieces (grind arith)
+
+pub returns-clause-ok : goal.returns-clause-ok
+returns-clause-ok c =
+    all_read _ c.loop-line.cards.items c.loop-line.rest.now c.loop-line.invariant (grind arith)

@@ -1,4 +1,3 @@
-use Rattle.std.proofs.Common.{rules, refl}
 use Rattle.issuer_top.proofs.ConfigurationReads.{lists_or_none, none_or_lists}
 use Rattle.issuer_top.proofs.config.read_issuer.Goals as goal
 

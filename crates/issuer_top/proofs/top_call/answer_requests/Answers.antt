@@ -1,4 +1,3 @@
-use Rattle.std.proofs.Common.{rules, refl}
 use Rattle.issuer_top.proofs.EndingSteps.{ends_cannot_read_requests, ends_too_long, ends_served, ends_broken}
 use Rattle.issuer_top.proofs.top_call.answer_requests.Goals as goal
 

@@ -1,6 +1,6 @@
-use Rattle.std.proofs.Common.{rules, refl, subst, sym, ap}
+use Rattle.std.proofs.Common.{refl, subst}
 use Rattle.issuer_base.specs.Desk.{GivesHeld}
-use Rattle.issuer_top.proofs.EndingSteps.{ends_usage, ends_no_config, ends_no_cards, ends_no_requests, IsSetUp-from_lists}
+use Rattle.issuer_top.proofs.EndingSteps.{ends_no_config, ends_no_issuer, ends_no_requests, IsSetUp-from_lists}
 use Rattle.issuer_top.proofs.top_call.run.Goals as goal
 
 pub returns-in-Err : goal.returns-in-Err
@@ -10,7 +10,7 @@ returns-in-Err g c =
 
 pub returns-in-Err-set_up : goal.returns-in-Err-set_up
 returns-in-Err-set_up g c =
-    ends_no_cards (Unit {0}) _ _ _ _ _ _ _ _ _ _ _ _ _ c.in-Err-set_up.cause c.in-Some.ensures.serve c.in-Ok.ensures.input refl refl c.in-Err-set_up.ensures.none
+    ends_no_issuer (Unit {0}) _ _ _ _ _ _ _ _ _ _ _ _ _ c.in-Err-set_up.cause c.in-Some.ensures.serve c.in-Ok.ensures.input refl refl c.in-Err-set_up.ensures.none
     c.in-Ok.ensures.new c.in-Err-set_up.ensures.count c.stop-in-Err-set_up.ensures.ended c.stop-in-Err-set_up.ensures.count
 
 pub returns-in-Err-read : goal.returns-in-Err-read

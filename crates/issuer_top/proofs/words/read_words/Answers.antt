@@ -1,5 +1,5 @@
-use Rattle.std.proofs.Common.{rules, arith, ◌≡◌, sym, subst, ◌∙◌}
-use Rattle.issuer_top.proofs.FiveWords.{serve_from_five, serve-five, serve-options, serve-third, serve-fifth}
+use Rattle.std.proofs.Common.{rules, arith}
+use Rattle.issuer_top.proofs.FiveWords.{serve_from_five, serve-five, serve-options}
 use Rattle.issuer_top.proofs.words.read_words.Goals as goal
 use Rattle.issuer_top.proofs.words.read_words.Goals.{then-count-ne5-via-then-count-ne5, then-count-ne5-via-else-count-ne5+then-not-has_options}
 

@@ -1,11 +1,11 @@
-use Rattle.std.proofs.Common.{rules, ◌≡◌, refl, sym, subst, ◌∙◌, arith}
+use Rattle.std.proofs.Common.{rules, refl, sym, subst, ◌∙◌}
 use Rattle.issuer_top.specs.Serving.{HasServed}
 use Rattle.issuer_top.proofs.ServingSteps.{HasServed-none, HasServed-line, ServesAll-end, ServesAll-rest, ServesFront-line, ServesFront-rest, ServesWhole-fault, ServesToLimit-stop}
 use Rattle.issuer_top.proofs.serve.Server.serve.Goals as goal
 
 pub loop-self-init : goal.loop-self-init
 loop-self-init g c = record {
-  served = HasServed-none _ _ _ _ _ c.requires.cards_are c.requires.stands c.requires.reads_first;
+  served = HasServed-none _ _ _ _ _ c.requires.issuer_is c.requires.stands c.requires.reads_first;
   source_stood = refl;
   sink_stood = refl;
 }
@@ -14,8 +14,8 @@ pub loop-self-preserved : goal.loop-self-preserved
 loop-self-preserved g c =
     let answered = c.in-Ok.ensures.answered in
     record {
-      served = subst (λ r. HasServed c.args.self.now.host.cards (g.S.Source.left c.args.source.now) (g.S.Source.left c.next_line.new.source) (g.W.Sink.held c.args.out.now) (g.W.Sink.held c.answer_line.new.out) c.answer_line.new.self.host r) (sym answered.same_reader)
-          (HasServed-line _ _ _ _ _ _ _ _ _ _ _ answered.answer c.loop-self.invariant.served (c.in-Line.ensures.line refl) answered.turn answered.same_cards answered.prints);
+      served = subst (λ r. HasServed c.args.self.now.host.issuer (g.S.Source.left c.args.source.now) (g.S.Source.left c.next_line.new.source) (g.W.Sink.held c.args.out.now) (g.W.Sink.held c.answer_line.new.out) c.answer_line.new.self.host r) (sym answered.same_reader)
+          (HasServed-line _ _ _ _ _ _ _ _ _ _ _ answered.answer c.loop-self.invariant.served (c.in-Line.ensures.line refl) answered.turn answered.same_issuer answered.prints);
       source_stood = c.in-Line.ensures.count.counted ∙ c.loop-self.invariant.source_stood;
       sink_stood = c.in-Ok.ensures.count.counted ∙ c.loop-self.invariant.sink_stood;
     }

@@ -1,6 +1,6 @@
 use Rattle.std.proofs.Common.{length}
 use Rattle.card_list.proofs.CardListLemmas.{HasRead}
-use Rattle.card_list.proofs.list.read_lines.Given as goal
+use Rattle.card_list.proofs.list.read_cards.Given as goal
 
 abbrev pub invariant-loop-line : goal.invariant-loop-line
 invariant-loop-line l = HasRead l.fn.text l.cards.items l.rest
