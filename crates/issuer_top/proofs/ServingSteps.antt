@@ -15,6 +15,7 @@ use Rattle.line_reader.proofs.LineLaws.{lines-begins, length-begins, BeginsWithL
 use Rattle.line_reader.proofs.WholeLines.{HasGivenLines-unread, HasGivenLines-line, IsLinesAndRest-rest, lines-rest_given, IsLinesAndRest-end, lines-end_reached, IsLinesAndRest-fault, PassesLimit-stopped}
 use Rattle.card_history.specs.Turns.{Run, Turn}
 use Rattle.card_history.proofs.Runs.{run_more}
+use Rattle.card_history.proofs.ConsistentRuns.{run-consistent}
 use Rattle.row_core.specs.IssuerSetup.{Setup}
 use Rattle.answer_text.specs.AnswerText.{printed}
 use Rattle.memory_host.specs.Holding.{Holding, StandsFor}
@@ -22,6 +23,7 @@ use Rattle.memory_host.specs.Reading.{reading}
 use Rattle.memory_host.specs.Replying.{reply_to}
 use Rattle.memory_host.proofs.KeptLines.{reading-kept}
 use Rattle.issuer_top.specs.Content.{HasLeft}
+use Rattle.issuer_top.specs.Answered.{AreAnswered}
 use Rattle.issuer_top.specs.Serving.{HasServed, ServesAll, ServesWhole, ServesFront, ServesToLimit}
 
 -- ---- what an input had
@@ -103,6 +105,17 @@ HasServed-line issuer was mid now first held next host after reader new answer s
 
 -- ---- the ends
 
+-- a run of turns from the empty history, with what is sure after it
+are_answered : (issuer : Setup) (asked : List (List ℕ)) (answers : List Answer) (history : List Entry) → Run 0 (reading issuer) (reply_to issuer) [] asked answers history
+    → AreAnswered issuer asked (flat_map printed answers)
+are_answered issuer asked answers history run = record {
+  answers = answers;
+  history = history;
+  run = run;
+  printed_is = refl;
+  consistent = run-consistent 0 (reading issuer) (reply_to issuer) asked answers history run;
+}
+
 -- the end of the input
 pub ServesAll-end : (issuer : Setup) (was mid now first held : Option (List ℕ)) (host : Holding) (reader new : Reading)
     → HasServed issuer was mid first held host reader → ReachesEnd mid now reader new → ServesAll issuer was first held
@@ -115,12 +128,8 @@ ServesAll-end issuer was mid now first held host reader new so_far ends =
       text = flat_map printed so_far.answers;
       content = HasLeft-whole was now file (Consumes-trans was mid now so_far.read ends.given so_far.consumed ends.consumed) ends.at_end;
       answered = record {
-        answered = record {
-          answers = so_far.answers;
-          history = so_far.history;
-          run = subst (λ ls. Run 0 (reading issuer) (reply_to issuer) [] ls so_far.answers so_far.history) (sym lines_are) so_far.run;
-          printed_is = refl;
-        };
+        answered = are_answered issuer (lines file) so_far.answers so_far.history
+            (subst (λ ls. Run 0 (reading issuer) (reply_to issuer) [] ls so_far.answers so_far.history) (sym lines_are) so_far.run);
         within = record {
           lines_within = omega (arith, ap length lines_are, so_far.given.lines_counted, so_far.given.within.lines_within);
           bytes_within = omega (arith, length-begins file so_far.whole [] parted.begins, so_far.given.bytes_counted, so_far.given.within.bytes_within);
@@ -143,12 +152,8 @@ ServesAll-rest issuer was mid now first held next host after reader new answer s
       text = flat_map printed (so_far.answers ++ answer ∷ []);
       content = HasLeft-whole was now file (Consumes-trans was mid now so_far.read gives.given so_far.consumed gives.consumed) gives.at_end;
       answered = record {
-        answered = record {
-          answers = so_far.answers ++ answer ∷ [];
-          history = more.0;
-          run = subst (λ ls. Run 0 (reading issuer) (reply_to issuer) [] ls (so_far.answers ++ answer ∷ []) more.0) (sym lines_are) more.2;
-          printed_is = refl;
-        };
+        answered = are_answered issuer (lines file) (so_far.answers ++ answer ∷ []) more.0
+            (subst (λ ls. Run 0 (reading issuer) (reply_to issuer) [] ls (so_far.answers ++ answer ∷ []) more.0) (sym lines_are) more.2);
         within = record {
           lines_within = omega (arith, ap length lines_are, length-append so_far.whole (gives.line ∷ []), so_far.given.lines_counted, gives.counted.one_more, gives.counted.within.lines_within);
           bytes_within = omega (arith, length-begins file so_far.whole gives.line parted.begins, so_far.given.bytes_counted, gives.counted.more_bytes, gives.counted.within.bytes_within);
@@ -175,7 +180,7 @@ ServesFront-line issuer was mid now first held next host after reader new answer
         front = front;
         more = lines (new.ahead ++ left.0);
         split = lines-begins (read ++ left.0) front (new.ahead ++ left.0) begins;
-        answered = record { answers = so_far.answers ++ answer ∷ []; history = more.0; run = more.2; printed_is = refl };
+        answered = are_answered issuer (so_far.whole ++ gives.line ∷ []) (so_far.answers ++ answer ∷ []) more.0 more.2;
       };
       written = subst (AppendsFront first next) (sym (texts-more so_far.answers answer)) (AppendsFront-after first held next _ _ so_far.written prints);
     }
@@ -196,7 +201,7 @@ ServesFront-rest issuer was mid now first held next host after reader new answer
         front = so_far.whole ++ gives.line ∷ [];
         more = [];
         split = lines_are ∙ sym (append-nil _);
-        answered = record { answers = so_far.answers ++ answer ∷ []; history = more.0; run = more.2; printed_is = refl };
+        answered = are_answered issuer (so_far.whole ++ gives.line ∷ []) (so_far.answers ++ answer ∷ []) more.0 more.2;
       };
       written = subst (AppendsFront first next) (sym (texts-more so_far.answers answer)) (AppendsFront-after first held next _ _ so_far.written prints);
     }
@@ -221,7 +226,7 @@ ServesWhole-fault issuer was mid now first held host reader new so_far stops =
         parted = IsLinesAndRest-fault mid now reader new so_far.read so_far.whole so_far.given stops;
         within = subst (λ (n : ℕ). StaysWithinLimits n (length (flat_map ended so_far.whole)) rest) so_far.given.lines_counted
             (subst (λ (n : ℕ). StaysWithinLimits reader.lines n rest) so_far.given.bytes_counted stops.within);
-        answered = record { answers = so_far.answers; history = so_far.history; run = so_far.run; printed_is = refl };
+        answered = are_answered issuer so_far.whole so_far.answers so_far.history so_far.run;
       };
       written = so_far.written;
     }
@@ -261,7 +266,7 @@ ServesToLimit-stop issuer was mid now first held host reader new number so_far s
             (subst (λ (n : ℕ). IsWithinLimits reader.lines n) so_far.given.bytes_counted so_far.given.within);
         passes = passes-more (length so_far.whole) (length (flat_map ended so_far.whole)) ahead left.0 passes;
         number_is = counted ∙ ap (λ n. n + 1) so_far.given.lines_counted;
-        answered = record { answers = so_far.answers; history = so_far.history; run = so_far.run; printed_is = refl };
+        answered = are_answered issuer so_far.whole so_far.answers so_far.history so_far.run;
       };
       written = so_far.written;
     }

@@ -6,17 +6,20 @@ use Rattle.issuer_base.specs.declared.entry.Entry.{Entry}
 use Rattle.line_reader.specs.Lines.{lines, ended, BeginsWithLines, IsLinesAndRest}
 use Rattle.line_reader.specs.Reading.{IsWithinLimits, StaysWithinLimits, PassesLimit}
 use Rattle.card_history.specs.Turns.{Run}
+use Rattle.card_history.specs.OneReply.{IsConsistent}
 use Rattle.row_core.specs.IssuerSetup.{Setup}
 use Rattle.memory_host.specs.Reading.{reading}
 use Rattle.memory_host.specs.Replying.{reply_to}
 use Rattle.answer_text.specs.AnswerText.{printed}
 
--- the text of the answers to these lines, one turn after another from the empty history
+-- the text of the answers to these lines, one turn after another from the empty history: so no counter of a card was decided
+-- twice, and each request has one reply
 pub record AreAnswered (issuer : Setup) (asked : List (List ℕ)) (text : List ℕ) : Type 0 where
   pub answers : List Answer
   pub history : List Entry
   pub run : Run 0 (reading issuer) (reply_to issuer) [] asked answers history
   pub printed_is : text ≡ flat_map printed answers
+  pub consistent : IsConsistent (reading issuer) asked answers history
 
 -- all lines of the file were answered, and it is within the limits
 pub record AllAnswered (issuer : Setup) (file text : List ℕ) : Type 0 where
