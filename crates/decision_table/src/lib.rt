@@ -1,0 +1,11 @@
+//! The issuer's decision table: its rows, and the row that decides a request.
+#![tactic(auto)]
+
+mod row;
+mod table;
+
+pub use row::TableRow;
+pub use table::{Table, decide, first_bad_row};
+
+#[cfg(test)]
+mod tests;
