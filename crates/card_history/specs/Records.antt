@@ -1,7 +1,9 @@
 -- What the records of a shard say of a card: its decisions, its recorded counters and their window.
 use Rattle.std.specs.Prelude.{ℕ, ◌+◌, ◌≤◌, max, Bool, ◌&&◌, ◌==◌, nat_eq, if◌then◌else◌, List, [], ◌∷◌, Option, None, Some}
 use Rattle.std.specs.Cmp.Lexicographic.{pointwise}
-use Rattle.std.specs.Option.{option_map_or}
+use Rattle.std.specs.List.{last_or}
+use Rattle.std.specs.Option.{option_map_or, unwrap_or}
+use Rattle.issuer_base.specs.declared.command.Command.{Command}
 use Rattle.issuer_base.specs.declared.request.Request.{Request}
 use Rattle.issuer_base.specs.declared.entry.Entry.{Entry}
 use Rattle.issuer_base.specs.declared.entry.Entry.TheVariants.{Decided, Queued, Status}
@@ -19,6 +21,10 @@ card_of request = record { pan = request.pan; psn = request.psn }
 -- whether the request is of this card
 unfoldable pub is_of : CardName → Request → Bool
 is_of card request = pointwise nat_eq request.pan card.pan && request.psn == card.psn
+
+-- whether the account and sequence number are this card's
+unfoldable pub has_numbers : CardName → List ℕ → ℕ → Bool
+has_numbers card pan psn = pointwise nat_eq pan card.pan && psn == card.psn
 
 -- the card's decisions among records of which the first stands at this place, oldest first
 abbrev pub decided_from : ℕ → CardName → List Entry → List Decision
@@ -44,3 +50,23 @@ greatest (decision ∷ decisions) =
 abbrev pub IsBelow : Option ℕ → ℕ → Type 0
 IsBelow None counter = ⊥
 IsBelow (Some top) counter = counter + 64 ≤ top
+
+-- the commands that were queued for a card, oldest first
+abbrev pub queue : CardName → List Entry → List Command
+queue card [] = []
+queue card (Queued pan psn command ∷ records) =
+    if has_numbers card pan psn then command ∷ queue card records else queue card records
+queue card (Decided request reply ∷ records) = queue card records
+queue card (Status pan psn status ∷ records) = queue card records
+
+-- the statuses that a card was given, oldest first
+abbrev pub statuses : CardName → List Entry → List ℕ
+statuses card [] = []
+statuses card (Status pan psn status ∷ records) =
+    if has_numbers card pan psn then status ∷ statuses card records else statuses card records
+statuses card (Decided request reply ∷ records) = statuses card records
+statuses card (Queued pan psn command ∷ records) = statuses card records
+
+-- a card's status: the last one that it was given, or 0
+abbrev pub status_of : CardName → List Entry → ℕ
+status_of card history = unwrap_or (last_or None (statuses card history)) 0

@@ -1,5 +1,5 @@
--- One turn of a host with one caller, by cases on its answer, and a run of turns.
-use Rattle.std.specs.Prelude.{◌≡◌, ◌≢◌, ℕ, ◌+◌, ◌≤◌, List, [], ◌∷◌, ◌++◌, length, Some, Result, Ok, Err, All, Contains}
+-- One turn of a host with one caller over its shards, by cases on its answer, and a run of turns.
+use Rattle.std.specs.Prelude.{◌≡◌, ◌≢◌, ℕ, ◌+◌, ◌≤◌, List, [], ◌∷◌, ◌++◌, length, replicate, slice_get, slice_set, Some, Result, Ok, Err, All, Contains}
 use Rattle.issuer_base.specs.declared.request.Request.{Request}
 use Rattle.issuer_base.specs.declared.answer.Reply.{Reply}
 use Rattle.issuer_base.specs.declared.answer.Answer.{Answer}
@@ -9,7 +9,7 @@ use Rattle.issuer_base.specs.declared.answer.Refusal.TheVariants.{Below, Taken, 
 use Rattle.issuer_base.specs.declared.entry.Entry.{Entry}
 use Rattle.issuer_base.specs.declared.entry.Entry.TheVariants.{Decided}
 use Rattle.card_history.specs.declared.decision.Decision.{Decision}
-use Rattle.card_history.specs.Records.{decided, card_of, greatest, IsBelow}
+use Rattle.card_history.specs.Records.{CardName, decided, card_of, greatest, IsBelow}
 
 -- the counter of the request is in the window of these decisions, and none of them is on it
 pub record IsUnused (decisions : List Decision) (request : Request) : Type 0 where
@@ -31,11 +31,11 @@ pub record IsTooOld (decisions : List Decision) (request : Request) (top : ℕ) 
 abbrev pub decided_for : Request → List Entry → List Decision
 decided_for request history = decided (card_of request) history
 
--- what shard number `shard` may answer to a request, and its history afterwards; `reply_to` is the issuer's decision
-abbrev pub Answers : ℕ → (Request → Reply) → List Entry → Request → Answer → List Entry → Type 0
+-- what shard number `shard` may answer to a request, and its history afterwards; `reply_to` is the issuer's decision after a history
+abbrev pub Answers : ℕ → (List Entry → Request → Reply) → List Entry → Request → Answer → List Entry → Type 0
 -- a new counter is decided, and its record stands at the place after the last
 Answers shard reply_to before request (Fresh at place reply) after =
-    IsUnused (decided_for request before) request × (at ≡ shard) × (place ≡ length before) × (reply ≡ reply_to request)
+    IsUnused (decided_for request before) request × (at ≡ shard) × (place ≡ length before) × (reply ≡ reply_to before request)
     × (after ≡ before ++ Decided request reply ∷ [])
 -- the same request again gets the reply that is kept for it
 Answers shard reply_to before request (Kept at place reply) after =
@@ -52,16 +52,34 @@ Answers shard reply_to before request (Refused NoMemory) after = IsUnused (decid
 -- no other answer is possible
 Answers shard reply_to before request _ after = ⊥
 
--- one turn: a line that is refused as it is read leaves the history; a request is answered
-abbrev pub Turn : ℕ → (Request → Reply) → List Entry → Result Request Refusal → Answer → List Entry → Type 0
-Turn shard reply_to before (Err refusal) answer after = (answer ≡ Refused refusal) × (after ≡ before)
-Turn shard reply_to before (Ok request) answer after = Answers shard reply_to before request answer after
+-- how a host answers: what a line says to it, the shard of a card, and its reply to a request that it decides after the
+-- history of that shard
+pub record Rules : Type 0 where
+  pub read : List ℕ → Result Request Refusal
+  pub shard_of : CardName → ℕ
+  pub reply_to : List Entry → Request → Reply
 
--- a run of turns: these answers to these lines, each read by `read`, one after another
-abbrev pub Run : ℕ → (List ℕ → Result Request Refusal) → (Request → Reply) → List Entry → List (List ℕ) → List Answer → List Entry → Type 0
-Run shard read reply_to before [] [] after = after ≡ before
-Run shard read reply_to before (line ∷ lines) (answer ∷ answers) after =
-    (between : List Entry) × Turn shard reply_to before (read line) answer between
-    × Run shard read reply_to between lines answers after
-Run shard read reply_to before [] (answer ∷ answers) after = ⊥
-Run shard read reply_to before (line ∷ lines) [] after = ⊥
+-- a request is answered on the history of its card's shard, and the histories of the other shards stay
+pub record AnswersIn (rules : Rules) (before : List (List Entry)) (request : Request) (answer : Answer) (after : List (List Entry)) : Type 0 where
+  pub old : List Entry
+  pub new : List Entry
+  pub old_is : slice_get before (rules.shard_of (card_of request)) ≡ Some old
+  pub answers : Answers (rules.shard_of (card_of request)) rules.reply_to old request answer new
+  pub after_is : after ≡ slice_set before (rules.shard_of (card_of request)) new
+
+-- one turn, on one history per shard: a line that is refused as it is read leaves them; a request is answered
+abbrev pub Turn : Rules → List (List Entry) → Result Request Refusal → Answer → List (List Entry) → Type 0
+Turn rules before (Err refusal) answer after = (answer ≡ Refused refusal) × (after ≡ before)
+Turn rules before (Ok request) answer after = AnswersIn rules before request answer after
+
+-- a run of turns: these answers to these lines, one after another
+abbrev pub Run : Rules → List (List Entry) → List (List ℕ) → List Answer → List (List Entry) → Type 0
+Run rules before [] [] after = after ≡ before
+Run rules before (line ∷ lines) (answer ∷ answers) after =
+    (between : List (List Entry)) × Turn rules before (rules.read line) answer between × Run rules between lines answers after
+Run rules before [] (answer ∷ answers) after = ⊥
+Run rules before (line ∷ lines) [] after = ⊥
+
+-- no records in any of so many shards
+abbrev pub no_records : ℕ → List (List Entry)
+no_records shards = replicate shards []

@@ -1,0 +1,129 @@
+-- What an answer keeps of its shard's history: one decision a counter, decisions of its own cards only, each record at its place.
+use Rattle.std.proofs.Common.{◌≡◌, ℕ, zero, suc, List, [], ◌∷◌, ◌++◌, length, Some, refl, ap, sym, ◌∙◌, subst, inl, inr, ◌⊎◌}
+use Rattle.std.proofs.lemmas.List.Elements.{All-contains}
+use Rattle.std.specs.List.{slice_get, slice_index_or}
+use Rattle.issuer_base.specs.declared.request.Request.{Request}
+use Rattle.issuer_base.specs.declared.answer.Reply.{Reply}
+use Rattle.issuer_base.specs.declared.answer.Answer.{Answer}
+use Rattle.issuer_base.specs.declared.answer.Answer.TheVariants.{Fresh, Kept, Refused}
+use Rattle.issuer_base.specs.declared.answer.Refusal.TheVariants.{Below, Taken, NoMemory}
+use Rattle.issuer_base.specs.declared.entry.Entry.{Entry}
+use Rattle.issuer_base.specs.declared.entry.Entry.TheVariants.{Decided}
+use Rattle.card_history.specs.declared.decision.Decision.{Decision}
+use Rattle.card_history.specs.Records.{card_of}
+use Rattle.card_history.specs.Turns.{IsUnused, decided_for, Answers, Rules}
+use Rattle.card_history.specs.OneReply.{record_at, IsOfItsRecord}
+use Rattle.card_history.proofs.CardNames.{is_of-same}
+use Rattle.card_history.proofs.RecordPlaces.{decided-recorded, recorded-decided}
+
+-- no two decided records of this history are of the same card and counter
+abbrev pub IsOnceIn : List Entry → Type 0
+IsOnceIn history =
+    (first second : ℕ) (request other : Request) (reply other_reply : Reply)
+    → slice_get history first ≡ Some (Decided request reply) → slice_get history second ≡ Some (Decided other other_reply)
+    → card_of request ≡ card_of other → request.atc ≡ other.atc → first ≡ second
+
+-- each decided record of this history is of a card of this shard
+abbrev pub IsHomeOf : Rules → ℕ → List Entry → Type 0
+IsHomeOf rules shard history =
+    (place : ℕ) (request : Request) (reply : Reply)
+    → slice_get history place ≡ Some (Decided request reply) → shard ≡ rules.shard_of (card_of request)
+
+-- what is sure of a shard's history
+pub record IsSound (rules : Rules) (shard : ℕ) (history : List Entry) : Type 0 where
+  pub once : IsOnceIn history
+  pub home : IsHomeOf rules shard history
+
+-- each record stays at its place
+abbrev pub Stays : List Entry → List Entry → Type 0
+Stays before after = (place : ℕ) (entry : Entry) → slice_get before place ≡ Some entry → slice_get after place ≡ Some entry
+
+-- a record stays where one is added
+stays-push : (history : List Entry) (entry : Entry) → Stays history (history ++ entry ∷ [])
+stays-push [] entry place other is = absurd (cc)
+stays-push (first ∷ history) entry zero other is = is
+stays-push (first ∷ history) entry (suc place) other is = stays-push history entry place other is
+
+-- the record that was added stands after the last
+slice_get-push : (history : List Entry) (entry : Entry) → slice_get (history ++ entry ∷ []) (length history) ≡ Some entry
+slice_get-push [] entry = refl
+slice_get-push (first ∷ history) entry = slice_get-push history entry
+
+-- and each other record was there before
+slice_get-push_cases : (history : List Entry) (entry : Entry) (place : ℕ) (other : Entry) → slice_get (history ++ entry ∷ []) place ≡ Some other → (slice_get history place ≡ Some other) ⊎ ((place ≡ length history) × (entry ≡ other))
+slice_get-push_cases [] entry zero other is = inr (refl, cc)
+slice_get-push_cases [] entry (suc place) other is = absurd (cc)
+slice_get-push_cases (first ∷ history) entry zero other is = inl is
+slice_get-push_cases (first ∷ history) entry (suc place) other is =
+    elim (slice_get-push_cases history entry place other is) [
+      | inl before ↦ inl before
+      | inr last ↦ inr (ap suc last.0, last.1)
+    ]
+
+-- a request on an unused counter has no record on it
+unused-unrecorded : (history : List Entry) (request : Request) → IsUnused (decided_for request history) request → (place : ℕ) (other : Request) (reply : Reply) → slice_get history place ≡ Some (Decided other reply) → card_of request ≡ card_of other → other.atc ≡ request.atc → ⊥
+unused-unrecorded history request unused place other reply is card counter =
+    let here = recorded-decided (card_of request) history place other reply is (is_of-same request other card) in
+    All-contains (λ (decision : Decision). decision.request.atc ≡ request.atc → ⊥) _ _ unused.unrecorded here counter
+
+-- so its record keeps each counter decided once
+once-more : (history : List Entry) (request : Request) (reply : Reply) → IsUnused (decided_for request history) request → IsOnceIn history → IsOnceIn (history ++ Decided request reply ∷ [])
+once-more history request reply unused once first second asked other given other_reply first_is second_is card counter =
+    elim (slice_get-push_cases history (Decided request reply) first (Decided asked given) first_is) [
+      | inl first_before ↦
+          elim (slice_get-push_cases history (Decided request reply) second (Decided other other_reply) second_is) [
+            | inl second_before ↦ once first second asked other given other_reply first_before second_before card counter
+            | inr second_last ↦
+                let same : request ≡ other = cc (second_last.1) in
+                absurd (unused-unrecorded history request unused first asked given first_before (ap card_of same ∙ sym card) (counter ∙ sym (ap (λ (r : Request). r.atc) same)))
+          ]
+      | inr first_last ↦
+          elim (slice_get-push_cases history (Decided request reply) second (Decided other other_reply) second_is) [
+            | inl second_before ↦
+                let same : request ≡ asked = cc (first_last.1) in
+                absurd (unused-unrecorded history request unused second other other_reply second_before (ap card_of same ∙ card) (sym counter ∙ sym (ap (λ (r : Request). r.atc) same)))
+            | inr second_last ↦ first_last.0 ∙ sym second_last.0
+          ]
+    ]
+
+module _ (rules : Rules) where
+  -- and a request of one of the shard's cards keeps its decisions of these cards only
+  home-more : (history : List Entry) (request : Request) (reply : Reply) → IsHomeOf rules (rules.shard_of (card_of request)) history → IsHomeOf rules (rules.shard_of (card_of request)) (history ++ Decided request reply ∷ [])
+  home-more history request reply home place other given is =
+      elim (slice_get-push_cases history (Decided request reply) place (Decided other given) is) [
+        | inl before ↦ home place other given before
+        | inr last ↦
+            let same : request ≡ other = cc (last.1) in
+            ap (λ (r : Request). rules.shard_of (card_of r)) same
+      ]
+
+  -- what an answer keeps: a sound history, each record, and the answer is of its record wherever the shard has this history
+  pub record Keeps (before : List Entry) (request : Request) (answer : Answer) (after : List Entry) : Type 0 where
+    pub sound : IsSound rules (rules.shard_of (card_of request)) after
+    pub stays : Stays before after
+    pub recorded : (histories : List (List Entry)) → slice_index_or histories (rules.shard_of (card_of request)) [] ≡ after → IsOfItsRecord histories request answer
+
+  same-keeps : (before : List Entry) (request : Request) (answer : Answer) (after : List Entry) → IsSound rules (rules.shard_of (card_of request)) before → after ≡ before → ((histories : List (List Entry)) → slice_index_or histories (rules.shard_of (card_of request)) [] ≡ before → IsOfItsRecord histories request answer) → Keeps before request answer after
+  same-keeps before request answer after sound same recorded =
+      subst (λ (after : List Entry). Keeps before request answer after) (sym same) (record { sound = sound; stays = λ place entry is. is; recorded = recorded })
+
+  -- a record of the shard's history is at its place of the shard
+  placed : (histories : List (List Entry)) (home : ℕ) (history : List Entry) (shard place : ℕ) (entry : Entry) → slice_index_or histories home [] ≡ history → shard ≡ home → slice_get history place ≡ Some entry → record_at histories shard place ≡ Some entry
+  placed histories home history shard place entry here shard_is is =
+      ap (λ (shard : ℕ). record_at histories shard place) shard_is ∙ ap (λ (history : List Entry). slice_get history place) here ∙ is
+
+  pub answers-keep : (before : List Entry) (request : Request) (answer : Answer) (after : List Entry) → IsSound rules (rules.shard_of (card_of request)) before → Answers (rules.shard_of (card_of request)) rules.reply_to before request answer after → Keeps before request answer after
+  answers-keep before request (Fresh at place reply) after sound (unused, at_is, place_is, reply_is, after_is) =
+      let last : slice_get (before ++ Decided request reply ∷ []) place ≡ Some (Decided request reply) = ap (slice_get (before ++ Decided request reply ∷ [])) place_is ∙ slice_get-push before (Decided request reply) in
+      subst (λ (after : List Entry). Keeps before request (Fresh at place reply) after) (sym after_is) (record {
+        sound = record { once = once-more before request reply unused sound.once; home = home-more before request reply sound.home };
+        stays = stays-push before (Decided request reply);
+        recorded = λ histories here. placed histories (rules.shard_of (card_of request)) _ at place _ here at_is last;
+      })
+  answers-keep before request (Kept at place reply) after sound (used, at_is, after_is) =
+      let kept = decided-recorded (card_of request) before (record { request = request; reply = reply; place = place }) used.recorded in
+      same-keeps before request (Kept at place reply) after sound after_is (λ histories here. placed histories (rules.shard_of (card_of request)) before at place (Decided request reply) here at_is kept.0)
+  answers-keep before request (Refused (Below top)) after sound (too_old, after_is) = same-keeps before request (Refused (Below top)) after sound after_is (λ histories here. tt)
+  answers-keep before request (Refused (Taken at place)) after sound (taken, at_is, after_is) = same-keeps before request (Refused (Taken at place)) after sound after_is (λ histories here. tt)
+  answers-keep before request (Refused NoMemory) after sound (unused, after_is) = same-keeps before request (Refused NoMemory) after sound after_is (λ histories here. tt)
+  answers-keep before request _ after sound turn = absurd turn
