@@ -80,7 +80,7 @@ fn has_bits(mask: &[u8; 5], value: &[u8; 5], bytes: &[u8; 5]) -> bool
 
 /// Whether the row's card status update says what the row decides.
 #[tactic(auto, unfolding(crate::specs::Tables::tells_approval))]
-pub(crate) fn tells_approval(row: &TableRow) -> bool
+pub fn tells_approval(row: &TableRow) -> bool
     ensures { result ≡ tells_approval row.now }
 {
     let approved = row.csu[1] & 0x80 == 0x80;
