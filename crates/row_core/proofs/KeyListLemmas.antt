@@ -1,11 +1,14 @@
 -- What the definitions of an issuer's key sets say: which lists are taken, and which key set an index names.
 use Rattle.std.proofs.Common.{◌≡◌, ◌≢◌, ℕ, zero, suc, ◌+◌, ◌<◌, ◌≤◌, ◌==◌, true, false, ◌||◌, List, [], ◌∷◌, ◌++◌, length, get_or, take, drop, ap, sym, ◌∙◌, subst, inl, inr, None, Some, append-nil, append_assoc, arith}
-use Rattle.std.proofs.lemmas.Bool.{eqb-false, cond-true, cond-false, cases_Bool}
+use Rattle.std.proofs.lemmas.Bool.{eqb-false, ltb-true, ltb-false, cond-true, cond-false, cases_Bool}
 use Rattle.std.proofs.lemmas.List.{at_drop_more, at_drop_all, take_more, length-take-le}
+use Rattle.std.proofs.lemmas.List.Folds.{find_at}
 use Rattle.std.proofs.lemmas.List.Quantifiers.{all_pairs_push}
-use Rattle.std.specs.List.{list_any, AllPairs}
+use Rattle.std.proofs.lemmas.Option.{cond_some, slice_get_past}
+use Rattle.std.specs.List.{list_any, AllPairs, position, position_or_len, slice_get}
+use Rattle.std.specs.Prelude.{nat_lt}
 use Rattle.key_derive.specs.declared.card.KeySet.{KeySet}
-use Rattle.row_core.specs.KeyList.{has_dki, first_repeat, bad_key, AreKeys}
+use Rattle.row_core.specs.KeyList.{has_dki, key_of, first_repeat, bad_key, AreKeys}
 
 -- one more key set that repeats no index
 pub first_repeat-more : (keys : List KeySet) (i : ℕ) (set : KeySet) → i < length keys → set ≡ get_or keys i set → list_any (has_dki set.dki) (take i keys) ≡ false → first_repeat (take i keys) (drop i keys) ≡ first_repeat (take (i + 1) keys) (drop (i + 1) keys)
@@ -62,4 +65,28 @@ bad_key-none keys none =
           let all : first_repeat [] keys ≡ None = sym (cond-false (length keys == 0) _ _ some) ∙ none in
           let there : length keys ≢ 0 = eqb-false (length keys) 0 some in
           record { some = omega (arith, there); distinct = distinct-all [] keys (λ i j d lower below. absurd (omega arith)) all }
+    ]
+
+-- what the first place of an index says
+found-parts : (dki : ℕ) (keys : List KeySet) (place : ℕ) → position (has_dki dki) keys ≡ Some place → (nat_lt (position_or_len (has_dki dki) keys) (length keys) ≡ true) × (position_or_len (has_dki dki) keys ≡ place)
+found-parts dki keys place found =
+    cond_some (nat_lt (position_or_len (has_dki dki) keys) (length keys)) (position_or_len (has_dki dki) keys) place found
+
+-- the first key set with an index stands at the first place of the index
+pub key_of-place : (dki : ℕ) (keys : List KeySet) (place : ℕ) → position (has_dki dki) keys ≡ Some place → key_of dki keys ≡ slice_get keys place
+key_of-place dki keys place found = find_at (has_dki dki) keys ∙ ap (slice_get keys) (found-parts dki keys place found).1
+
+-- and that place is one of the places
+pub key_of-within : (dki : ℕ) (keys : List KeySet) (place : ℕ) → position (has_dki dki) keys ≡ Some place → place < length keys
+key_of-within dki keys place found =
+    let parts = found-parts dki keys place found in
+    let within = ltb-true (position_or_len (has_dki dki) keys) (length keys) parts.0 in
+    subst (λ (place : ℕ). place < length keys) parts.1 within
+
+-- an index that stands at no place is that of no key set
+pub key_of-none : (dki : ℕ) (keys : List KeySet) → position (has_dki dki) keys ≡ None → key_of dki keys ≡ None
+key_of-none dki keys absent =
+    elim (cases_Bool (nat_lt (position_or_len (has_dki dki) keys) (length keys))) [
+      | inl within ↦ absurd (let some : Some (position_or_len (has_dki dki) keys) ≡ None = sym (cond-true (nat_lt (position_or_len (has_dki dki) keys) (length keys)) _ _ within) ∙ absent in cc)
+      | inr past ↦ find_at (has_dki dki) keys ∙ slice_get_past keys (position_or_len (has_dki dki) keys) (ltb-false _ _ past)
     ]

@@ -1,6 +1,5 @@
 -- Where a counter is surely unused: in a row with no decisions, and above the greatest counter.
-use Rattle.std.proofs.Common.{◌≡◌, ◌≢◌, ℕ, ◌+◌, ◌<◌, ◌≤◌, ◌++◌, if◌then◌else◌, List, [], ◌∷◌, max, Bool, true, Option, None, Some, All, ap, sym, ◌∙◌, subst, arith}
-use Rattle.std.proofs.lemmas.Bool.{cond-true}
+use Rattle.std.proofs.Common.{◌≡◌, ◌≢◌, ℕ, ◌+◌, ◌<◌, ◌≤◌, ◌++◌, List, [], ◌∷◌, max, Option, None, Some, All, ap, sym, ◌∙◌, subst, arith}
 use Rattle.std.specs.Option.{option_map_or}
 use Rattle.issuer_base.specs.declared.request.Request.{Request}
 use Rattle.card_history.specs.declared.decision.Decision.{Decision}
@@ -23,8 +22,7 @@ unused-above decisions request top is above =
     }
 
 -- the greatest counter after one more decision
-pub greatest-pushed : (before after : List Decision) (decision : Decision) (kept : Bool) (top : Option ℕ) (counter raised : ℕ) → top ≡ greatest before → counter ≡ decision.request.atc → raised ≡ option_map_or (λ top. max top counter) top counter → kept ≡ true → after ≡ (if kept then before ++ decision ∷ [] else before) → Some raised ≡ greatest after
-greatest-pushed before after decision kept top counter raised top_is counter_is raised_is is after_is =
-    let grown : after ≡ before ++ decision ∷ [] = after_is ∙ cond-true kept _ _ is in
+pub greatest-pushed : (before after : List Decision) (decision : Decision) (top : Option ℕ) (counter raised : ℕ) → top ≡ greatest before → counter ≡ decision.request.atc → raised ≡ option_map_or (λ top. max top counter) top counter → after ≡ before ++ decision ∷ [] → Some raised ≡ greatest after
+greatest-pushed before after decision top counter raised top_is counter_is raised_is grown =
     ap Some (raised_is ∙ ap (λ counter. option_map_or (λ top. max top counter) top counter) counter_is ∙ ap (λ top. option_map_or (λ top. max top decision.request.atc) top decision.request.atc) top_is)
     ∙ sym (greatest-more before decision) ∙ ap greatest (sym grown)

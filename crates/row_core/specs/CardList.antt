@@ -6,7 +6,7 @@ use Rattle.issuer_base.specs.ChipData.{is_bcd}
 use Rattle.card_history.specs.Records.{CardName}
 use Rattle.row_core.specs.declared.card.CardInfo.{CardInfo}
 use Rattle.row_core.specs.declared.issuer.IssuerFault.{IssuerFault}
-use Rattle.row_core.specs.declared.issuer.IssuerFault.TheVariants.{Key, Card, NoMemory}
+use Rattle.row_core.specs.declared.issuer.IssuerFault.TheVariants.{Shards, Key, Card, NoMemory}
 
 -- the name of a card
 abbrev pub name_of : CardInfo → CardName
@@ -36,6 +36,7 @@ bad_card cards = if nat_le 1 (length cards) && nat_le (length cards) 4096 then f
 
 -- a list of cards is refused at that card, or for want of memory
 abbrev pub IsCardFault : List CardInfo → IssuerFault → Type 0
+IsCardFault cards Shards = ⊥
 IsCardFault cards (Key index) = ⊥
 IsCardFault cards (Card index) = bad_card cards ≡ Some index
 IsCardFault cards NoMemory = Unit {0}

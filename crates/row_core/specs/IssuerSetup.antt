@@ -1,26 +1,37 @@
--- What an issuer has, which key sets and cards make one, and the keys of a card for a request.
-use Rattle.std.specs.Prelude.{◌≡◌, ℕ, List, Option, None, Some, slice_get}
+-- What an issuer has, which parts make one, the keys of a card for a request, and the shard of a card.
+use Rattle.std.specs.Prelude.{◌≡◌, ℕ, ◌%◌, Bool, true, false, ◌&&◌, nat_le, List, Option, None, Some, slice_get}
+use Rattle.std.specs.Option.{option_map_or}
 use Rattle.issuer_base.specs.declared.request.Request.{Request}
 use Rattle.issuer_base.specs.ChipData.{dki}
+use Rattle.card_history.specs.Records.{CardName}
 use Rattle.key_derive.specs.declared.card.KeySet.{KeySet}
 use Rattle.key_derive.specs.declared.card.CardKeys.{CardKeys}
 use Rattle.key_derive.specs.CardKey.{card_keys}
+use Rattle.decision_table.specs.declared.row.TableRow.{TableRow}
 use Rattle.row_core.specs.declared.card.CardInfo.{CardInfo}
 use Rattle.row_core.specs.declared.issuer.IssuerFault.{IssuerFault}
-use Rattle.row_core.specs.declared.issuer.IssuerFault.TheVariants.{Key, Card, NoMemory}
+use Rattle.row_core.specs.declared.issuer.IssuerFault.TheVariants.{Shards, Key, Card, NoMemory}
 use Rattle.row_core.specs.KeyList.{bad_key, key_of}
-use Rattle.row_core.specs.CardList.{bad_card}
+use Rattle.row_core.specs.CardList.{bad_card, number_of}
 
--- what an issuer has
+-- what an issuer has: the number of its shards, its key sets, its cards, and the rows of its decision table
 pub record Setup : Type 0 where
+  pub shards : ℕ
   pub keys : List KeySet
   pub cards : List CardInfo
+  pub table : List TableRow
 
--- key sets and cards are refused at that key set or, where the key sets are good, at that card or for want of memory
-abbrev pub IsFaultOf : List KeySet → List CardInfo → IssuerFault → Type 0
-IsFaultOf keys cards (Key index) = bad_key keys ≡ Some index
-IsFaultOf keys cards (Card index) = (bad_key keys ≡ None) × (bad_card cards ≡ Some index)
-IsFaultOf keys cards NoMemory = bad_key keys ≡ None
+-- an issuer has 1 to 16 shards
+abbrev pub are_shards : ℕ → Bool
+are_shards shards = nat_le 1 shards && nat_le shards 16
+
+-- parts are refused at their first bad one: the number of shards, then the key sets, then the cards; or for want of memory
+abbrev pub IsFaultOf : ℕ → List KeySet → List CardInfo → IssuerFault → Type 0
+IsFaultOf shards keys cards Shards = are_shards shards ≡ false
+IsFaultOf shards keys cards (Key index) = (are_shards shards ≡ true) × (bad_key keys ≡ Some index)
+IsFaultOf shards keys cards (Card index) =
+    (are_shards shards ≡ true) × (bad_key keys ≡ None) × (bad_card cards ≡ Some index)
+IsFaultOf shards keys cards NoMemory = (are_shards shards ≡ true) × (bad_key keys ≡ None)
 
 -- the master keys of a card from a key set, where there are both
 abbrev pub keys_from : Option KeySet → Option CardInfo → Option CardKeys
@@ -30,3 +41,7 @@ keys_from _ _ = None
 -- the master keys of the card with this number, from the key set that the request's derivation key index names
 abbrev pub keys_of : Setup → ℕ → Request → Option CardKeys
 keys_of issuer card request = keys_from (key_of (dki request) issuer.keys) (slice_get issuer.cards card)
+
+-- the shard of a card: its number modulo the number of shards; a name that no card has is of shard 0
+abbrev pub shard_of : Setup → CardName → ℕ
+shard_of issuer name = option_map_or (λ number. number % issuer.shards) (number_of name issuer.cards) 0

@@ -1,5 +1,9 @@
 pub mod KeyList
 pub mod CardList
 pub mod CardOrder
+pub mod KeptKeys
 pub mod IssuerSetup
+pub mod CardRow
+pub mod Known
+pub mod Replying
 pub mod Plan

@@ -1,20 +1,49 @@
--- What is to be done with a request of a card, beside the decisions that the card's row has.
-use Rattle.std.specs.Prelude.{◌≡◌, ◌≢◌, List, All}
+-- What is planned for a request of a card: the answer of its shard, and the record that goes with it.
+use Rattle.std.specs.Prelude.{◌≡◌, ℕ, List, [], ◌∷◌, ◌++◌, length}
 use Rattle.issuer_base.specs.declared.request.Request.{Request}
+use Rattle.issuer_base.specs.declared.answer.Answer.{Answer}
+use Rattle.issuer_base.specs.declared.answer.Answer.TheVariants.{Fresh as AnswerFresh, Kept as AnswerKept, Refused}
+use Rattle.issuer_base.specs.declared.answer.Refusal.TheVariants.{Below as IsBelowWindow, Taken as IsTaken}
+use Rattle.issuer_base.specs.declared.entry.Entry.{Entry}
+use Rattle.issuer_base.specs.declared.entry.Entry.TheVariants.{Decided}
 use Rattle.card_history.specs.declared.decision.Decision.{Decision}
-use Rattle.card_history.specs.Turns.{IsUnused, IsUsed, IsTooOld}
+use Rattle.card_history.specs.Records.{card_of, status_of}
+use Rattle.card_history.specs.Turns.{Answers}
+use Rattle.key_derive.specs.declared.card.CardKeys.{CardKeys}
+use Rattle.decision_table.specs.declared.row.TableRow.{TableRow}
+use Rattle.row_core.specs.declared.card.CardInfo.{CardInfo}
+use Rattle.row_core.specs.CardList.{name_of}
+use Rattle.row_core.specs.CardRow.{CardRow, StandsFor}
+use Rattle.row_core.specs.Replying.{decided_reply}
 use Rattle.row_core.specs.declared.row.Outcome.{Outcome}
 use Rattle.row_core.specs.declared.row.Outcome.TheVariants.{Fresh, Kept, Below, Taken}
 
--- the one thing that is to be done with the request, beside these decisions of its card
-abbrev pub IsPlan : List Decision → Request → Outcome → Type 0
--- its counter is in the window and unused: it is to be decided
-IsPlan decisions request Fresh = IsUnused decisions request
--- it was decided: its reply is to be given again
-IsPlan decisions request (Kept decision) = IsUsed decisions request decision.now × (decision.now.request ≡ request)
--- its counter is below the window
-IsPlan decisions request (Below top) = IsTooOld decisions request top
--- it wasn't decided, but another request was decided on its counter
-IsPlan decisions request (Taken place) =
-    ((decision : Decision) × IsUsed decisions request decision × (decision.place ≡ place))
-    × All (λ decision. decision.request ≢ request) decisions
+-- the answer of this shard to a request for which this is planned
+abbrev pub answer_of : ℕ → Outcome → Answer
+answer_of shard (Fresh reply step) = AnswerFresh shard step.place reply
+answer_of shard (Kept reply place) = AnswerKept shard place reply
+answer_of shard (Below top) = Refused (IsBelowWindow top)
+answer_of shard (Taken place) = Refused (IsTaken shard place)
+
+-- a history with the record of this decision
+abbrev pub with_record : List Entry → Decision → List Entry
+with_record history decision = history ++ Decided decision.request decision.reply ∷ []
+
+-- the shard's history once the plan is carried out
+abbrev pub history_after : List Entry → Outcome → List Entry
+history_after history (Fresh reply step) = with_record history step
+history_after history _ = history
+
+-- a plan for a request of the row's card, whose record would stand at this place, is one turn's answer to it: by the decisions
+-- on its counter, and for a fresh one by the first row of the table that fits
+abbrev pub IsPlan : CardRow → CardKeys → List TableRow → Request → ℕ → Outcome → Type 0
+IsPlan row keys table request place outcome =
+    (shard : ℕ) (card : CardInfo) (history : List Entry)
+    → StandsFor card row history → card_of request ≡ name_of card → place ≡ length history
+    → Answers shard (λ history request. decided_reply card.method keys table (status_of (name_of card) history) request)
+    history request (answer_of shard outcome) (history_after history outcome)
+
+-- the decision is the next one of the row's card after this history
+pub record IsNext (card : CardInfo) (history : List Entry) (decision : Decision) : Type 0 where
+  pub of_card : card_of decision.request ≡ name_of card
+  pub at_end : decision.place ≡ length history

@@ -1,0 +1,15 @@
+-- What the decisions of a card say of a request that isn't new to them.
+use Rattle.std.specs.Prelude.{◌≡◌, ◌≢◌, List}
+use Rattle.issuer_base.specs.declared.request.Request.{Request}
+use Rattle.card_history.specs.declared.decision.Decision.{Decision}
+use Rattle.card_history.specs.Turns.{IsUsed, IsTooOld}
+use Rattle.row_core.specs.declared.row.Outcome.{Outcome}
+use Rattle.row_core.specs.declared.row.Outcome.TheVariants.{Fresh, Kept, Below, Taken}
+
+-- the decisions show that this is to be done with the request
+abbrev pub IsKnown : List Decision → Request → Outcome → Type 0
+IsKnown decisions request (Fresh reply step) = ⊥
+IsKnown decisions request (Kept reply place) = IsUsed decisions request (record { request = request; reply = reply; place = place })
+IsKnown decisions request (Below top) = IsTooOld decisions request top
+IsKnown decisions request (Taken place) =
+    (decision : Decision) × IsUsed decisions request decision × (decision.place ≡ place) × (decision.request ≢ request)

@@ -1,0 +1,52 @@
+-- What an issuer replies to a request that it decides.
+use Rattle.std.specs.Prelude.{ℕ, false, List, [], ◌∷◌, ◌++◌, Option, None, Some, slice_get}
+use Rattle.std.specs.Option.{option_map_or}
+use Rattle.issuer_base.specs.declared.request.Request.{Request}
+use Rattle.issuer_base.specs.declared.answer.Reply.{Reply}
+use Rattle.issuer_base.specs.declared.answer.Method.{Method}
+use Rattle.issuer_base.specs.declared.entry.Entry.{Entry}
+use Rattle.card_history.specs.Records.{card_of, status_of}
+use Rattle.tlv_objects.specs.Writing.{object_text}
+use Rattle.key_derive.specs.declared.card.CardKeys.{CardKeys}
+use Rattle.key_derive.specs.SessionKey.{session_ac}
+use Rattle.arpc_methods.specs.Arpc.{value91}
+use Rattle.decision_table.specs.declared.row.TableRow.{TableRow}
+use Rattle.decision_table.specs.Fitting.{decision}
+use Rattle.row_core.specs.declared.card.CardInfo.{CardInfo}
+use Rattle.row_core.specs.CardList.{number_of}
+use Rattle.row_core.specs.IssuerSetup.{Setup, keys_of}
+
+-- the reply by a row of the table, under the session key for cryptograms: the row's response code and approval; tag 8A has
+-- the response code, and tag 91 the issuer's cryptogram of the response code or of the status update
+abbrev pub reply_by_row : Method → List ℕ → Request → TableRow → Reply
+reply_by_row method session_key request row = record {
+  arc = row.arc;
+  approve = row.approve;
+  bytes = record { items = object_text 0x8A row.arc ++ object_text 0x91 (value91 method session_key request.ac row.arc row.csu) };
+}
+
+-- no reply: nothing for the card, and no approval
+abbrev pub no_reply : Reply
+no_reply = record { arc = 0 ∷ 0 ∷ []; approve = false; bytes = record { items = [] } }
+
+-- the reply to a request of a card of this method, these master keys and this status: that by the first row of the table that fits
+abbrev pub decided_reply : Method → CardKeys → List TableRow → ℕ → Request → Reply
+decided_reply method keys table status request =
+    option_map_or (reply_by_row method (session_ac keys.ac.0 request.atc) request) (decision table status request) no_reply
+
+-- where there are the card and its keys
+abbrev pub reply_by : Option CardInfo → Option CardKeys → List TableRow → List Entry → Request → Reply
+reply_by (Some card) (Some keys) table history request =
+    decided_reply card.method keys table (status_of (card_of request) history) request
+reply_by _ _ table history request = no_reply
+
+-- to a request of the card with this number
+abbrev pub reply_of_card : Setup → Option ℕ → List Entry → Request → Reply
+reply_of_card issuer None history request = no_reply
+reply_of_card issuer (Some card) history request =
+    reply_by (slice_get issuer.cards card) (keys_of issuer card request) issuer.table history request
+
+-- what this issuer replies to a request that it decides after the history of its card's shard; only to one whose card or key
+-- set it lacks, and which it never decides, there is none
+abbrev pub reply_to : Setup → List Entry → Request → Reply
+reply_to issuer history request = reply_of_card issuer (number_of (card_of request) issuer.cards) history request
