@@ -1,4 +1,0 @@
-pub mod CardLineLemmas
-pub mod CardListLemmas
-pub mod ListLaws
-pub mod PiecesLemmas

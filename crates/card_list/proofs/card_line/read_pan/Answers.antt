@@ -1,9 +1,0 @@
-use Rattle.std.proofs.Common.{◌<◌, length, sym, arith}
-use Rattle.std.proofs.lemmas.Grind.{common_steps}
-use Rattle.card_list.proofs.CardListLemmas.{pan_of-long}
-use Rattle.card_list.proofs.card_line.read_pan.Goals as goal
-
-pub returns-in_err-ok : goal.returns-in_err-ok
-returns-in_err-ok c =
-    let long : 19 < length c.args.text.now = grind (arith, common_steps) in
-    rw c.from_residual-in_err-ok.ensures (sym (pan_of-long c.args.text.now long))

@@ -1,9 +1,0 @@
-use Rattle.std.proofs.Common.{◌≡◌, true, map, take}
-use Rattle.std.specs.List.{list_all}
-use Rattle.card_list.specs.CardLine.{is_digit, digit}
-use Rattle.card_list.proofs.card_line.read_pan.Given as goal
-
-abbrev pub invariant-loop-character : goal.invariant-loop-character
-invariant-loop-character l =
-    (list_all is_digit (take l.character-index l.text) ≡ true)
-    × (l.digits.items ≡ map digit (take l.character-index l.text))

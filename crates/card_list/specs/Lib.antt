@@ -1,4 +1,0 @@
-pub mod Pieces
-pub mod CardLine
-pub mod KeyLine
-pub mod ConfigList

@@ -1,0 +1,7 @@
+pub mod JsonLemmas
+pub mod WordsLemmas
+pub mod RowPartsLemmas
+pub mod FrontLemmas
+pub mod PartsLemmas
+pub mod TableLemmas
+pub mod ConfigurationLemmas

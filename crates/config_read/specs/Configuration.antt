@@ -1,0 +1,32 @@
+-- What a configuration says: an issuer, or its first broken place.
+use Rattle.std.specs.Prelude.{ℕ, nat_le, if◌then◌else◌, List, length, Option, Some, None, is_some, Result, Ok, Err}
+use Rattle.serde_json.specs.Data.{Data}
+use Rattle.serde_json.specs.Find.{as_object}
+use Rattle.row_core.specs.IssuerSetup.{Setup}
+use Rattle.config_read.specs.declared.fault.ConfigFault.{ConfigFault}
+use Rattle.config_read.specs.declared.fault.ConfigFault.TheVariants.{NotJson, At}
+use Rattle.config_read.specs.Json.{json_of}
+use Rattle.config_read.specs.Parts.{◌>>=◌, shards_in, keys_in, cards_in, table_in}
+
+-- a value that is an object
+abbrev pub object_in : Data → Result Data ConfigFault
+object_in value = if is_some (as_object value) then Ok value else Err (At 1 0)
+
+-- what an object says: the parts, tested in order; other members are ignored
+abbrev pub setup_in : Data → Result Setup ConfigFault
+setup_in value = do
+  object ← object_in value
+  shards ← shards_in object
+  keys ← keys_in object
+  cards ← cards_in object
+  table ← table_in object
+  Ok (record { shards = shards; keys = keys; cards = cards; table = table })
+
+-- what a text that may be JSON says
+abbrev pub where_json : Option Data → Result Setup ConfigFault
+where_json None = Err NotJson
+where_json (Some value) = setup_in value
+
+-- what a configuration of these bytes says; that it has more than 4,194,304 is looked for first
+unfoldable pub configured : List ℕ → Result Setup ConfigFault
+configured bytes = if nat_le (length bytes) 4194304 then where_json (json_of bytes) else Err (At 1 0)

@@ -1,0 +1,6 @@
+pub mod Json
+pub mod Words
+pub mod Elements
+pub mod RowParts
+pub mod Parts
+pub mod Configuration

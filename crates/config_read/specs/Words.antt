@@ -1,0 +1,50 @@
+-- What the texts and numbers of a configuration write.
+use Rattle.std.specs.Prelude.{ℕ, ◌+◌, ◌-◌, ◌*◌, Bool, ◌&&◌, ◌==◌, nat_le, if◌then◌else◌, List, [], ◌∷◌, map, codes, Option, Some, None}
+use Rattle.std.specs.List.{list_all}
+use Rattle.std.specs.Result.{result_ok}
+use Rattle.std.specs.Str.{bytes_eq}
+use Rattle.hex.specs.Hex.{decode_sized}
+use Rattle.issuer_base.specs.CardNumber.{pan_from}
+use Rattle.issuer_base.specs.declared.answer.MasterOption.{MasterOption}
+use Rattle.issuer_base.specs.declared.answer.MasterOption.TheVariants.{A, B}
+use Rattle.issuer_base.specs.declared.answer.Method.{Method}
+use Rattle.issuer_base.specs.declared.answer.Method.TheVariants.{One, Two}
+
+-- so many bytes: two hexadecimal digits each, of either case
+abbrev pub bytes_of : ℕ → List ℕ → Option (List ℕ)
+bytes_of count text = result_ok (decode_sized text count)
+
+-- a character is one of the digits `0` to `9`
+abbrev pub is_digit : ℕ → Bool
+is_digit character = nat_le 48 character && nat_le character 57
+
+-- the digit that such a character writes
+abbrev pub digit : ℕ → ℕ
+digit character = character - 48
+
+-- an account number: 8 to 19 digits
+unfoldable pub pan_of : List ℕ → Option (List ℕ)
+pan_of text = if list_all is_digit text then pan_from (map digit text) else None
+
+-- a sequence number: two digits, a nibble each
+unfoldable pub psn_of : List ℕ → Option ℕ
+psn_of (tens ∷ units ∷ []) = if is_digit tens && is_digit units then Some (digit tens * 16 + digit units) else None
+psn_of _ = None
+
+-- how a card's master key is derived: `A` or `B`
+unfoldable pub option_of : List ℕ → Option MasterOption
+option_of text =
+    if bytes_eq text (codes "A") then Some A
+    else if bytes_eq text (codes "B") then Some B
+    else None
+
+-- how the issuer's cryptogram is made: 1 or 2
+unfoldable pub method_of : ℕ → Option Method
+method_of number =
+    if number == 1 then Some One
+    else if number == 2 then Some Two
+    else None
+
+-- a number that isn't above the greatest
+abbrev pub at_most : ℕ → ℕ → Option ℕ
+at_most most number = if nat_le number most then Some number else None

@@ -1,0 +1,89 @@
+//! The faults of a configuration, and its parts by their numbers.
+ghost use Rattle.std.specs.Prelude.{◌≡◌, ◌+◌, ◌<◌};
+
+use issuer_base::NoMemory;
+use row_core::IssuerFault;
+
+/// The number by which a fault names the whole configuration.
+pub const WHOLE: u8 = 1;
+
+/// That of the member `shards`.
+pub const SHARDS: u8 = 2;
+
+/// That of the member `keys`.
+pub const KEYS: u8 = 3;
+
+/// That of the member `cards`.
+pub const CARDS: u8 = 4;
+
+/// That of the member `table`.
+pub const TABLE: u8 = 5;
+
+/// Why a configuration gives no issuer.
+#[derive(Clone, Copy, PartialEq, Eq, Debug)]
+pub enum ConfigFault {
+    /// The bytes aren't one JSON value: whoever wrote them is to blame.
+    NotJson,
+
+    /// The configuration is broken at this place. Part 1 is the whole, 2 `shards`, 3 `keys`, 4 `cards`, 5 `table`;
+    /// the index is 0 for the part itself, and i + 1 for its element i.
+    At { part: u8, index: u32 },
+
+    /// No memory was left.
+    NoMemory,
+}
+
+impl ConfigFault {
+    /// The fault of a part itself.
+    pub(crate) fn of_part(part: u8) -> ConfigFault
+        ensures { result ≡ ConfigFault.At part 0 }
+    {
+        ConfigFault::At { part, index: 0 }
+    }
+
+    /// The fault of the element of a part with this place, from 0.
+    pub(crate) fn of_element(part: u8, place: u32) -> ConfigFault
+        requires { place < 4096 }
+        ensures { result ≡ ConfigFault.At part (place + 1) }
+    {
+        ConfigFault::At {
+            part,
+            index: place + 1,
+        }
+    }
+}
+
+impl From<NoMemory> for ConfigFault {
+    ghost use Rattle.std.specs.Prelude.{◌≡◌};
+    ghost use Rattle.config_read.specs.declared.fault.ConfigFault.TheVariants.{NoMemory};
+
+    ghost from_gives = { λ _ fault. fault ≡ NoMemory };
+
+    fn from(_fault: NoMemory) -> ConfigFault {
+        ConfigFault::NoMemory
+    }
+}
+
+/// The place that the parts would be refused for. Once they are read, only the want of memory is left.
+impl From<IssuerFault> for ConfigFault {
+    ghost use Rattle.std.specs.Prelude.{◌≡◌};
+    ghost use Rattle.row_core.specs.declared.issuer.IssuerFault.TheVariants as issuer_fault;
+    ghost use Rattle.config_read.specs.declared.fault.ConfigFault.TheVariants.{NoMemory};
+
+    ghost from_gives = { λ refused fault. refused ≡ issuer_fault.NoMemory → fault ≡ NoMemory };
+
+    fn from(refused: IssuerFault) -> ConfigFault {
+        match refused {
+            IssuerFault::Shards => ConfigFault::of_part(SHARDS),
+            IssuerFault::Key(place) => ConfigFault::At {
+                part: KEYS,
+                index: place.saturating_add(1),
+            },
+            IssuerFault::Card(place) => ConfigFault::At {
+                part: CARDS,
+                index: place.saturating_add(1),
+            },
+            IssuerFault::NoMemory => ConfigFault::NoMemory,
+        }
+    }
+}

@@ -1,0 +1,59 @@
+//! What the elements of a part say, up to the first that says nothing.
+ghost use Rattle.std.specs.Prelude.{◌≡◌, ◌≤◌, length, map, IfOk};
+ghost use Rattle.serde_json.specs.View.{view};
+ghost use Rattle.config_read.specs.Elements.{card_in, key_set_in, row_in};
+ghost use Rattle.config_read.specs.Parts.{front};
+
+use crate::elements::{read_card, read_key_set, read_row};
+use arrayvec::ArrayVec;
+use decision_table::TableRow;
+use issuer_base::NoMemory;
+use key_derive::KeySet;
+use row_core::CardInfo;
+use serde_json::Value;
+use std::alloc::Global;
+
+/// The key sets that the elements say, up to the first that says none.
+pub fn front_keys(elements: &[Value]) -> ArrayVec<KeySet, 16>
+    requires { length elements.now ≤ 16 }
+    ensures { result.items ≡ front key_set_in (map view elements.now) }
+{
+    let mut keys = ArrayVec::new();
+    for element in elements {
+        let Some(set) = read_key_set(element) else {
+            return keys;
+        };
+        keys.push(set);
+    }
+    keys
+}
+
+/// The cards that the elements say, up to the first that says none.
+pub fn front_cards(alloc: Global, elements: &[Value]) -> Result<Vec<CardInfo>, NoMemory>
+    ensures cards { IfOk result (λ cards. cards.items ≡ front card_in (map view elements.now)) }
+    ensures few { IfOk result (λ cards. length cards.items ≤ length elements.now) }
+{
+    let mut cards = Vec::new(alloc);
+    for element in elements {
+        let Some(card) = read_card(element) else {
+            return Ok(cards);
+        };
+        cards.push(card)?;
+    }
+    Ok(cards)
+}
+
+/// The rows that the elements say, up to the first that says none.
+pub fn front_rows(elements: &[Value]) -> ArrayVec<TableRow, 64>
+    requires { length elements.now ≤ 64 }
+    ensures { result.items ≡ front row_in (map view elements.now) }
+{
+    let mut rows = ArrayVec::new();
+    for element in elements {
+        let Some(row) = read_row(element) else {
+            return rows;
+        };
+        rows.push(row);
+    }
+    rows
+}

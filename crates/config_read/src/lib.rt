@@ -1,0 +1,15 @@
+//! The configuration: an issuer's shards, key sets, cards and decision table, as JSON.
+#![tactic(auto)]
+
+mod config;
+mod elements;
+mod fault;
+mod front;
+mod json_value;
+mod parts;
+#[cfg(test)]
+mod tests;
+mod words;
+
+pub use config::read_config;
+pub use fault::ConfigFault;

@@ -1,0 +1,77 @@
+//! What the texts and numbers of a configuration write.
+ghost use Rattle.std.specs.Prelude.{◌≡◌, if◌then◌else◌, Some, None};
+ghost use Rattle.config_read.specs.Words.{at_most, bytes_of, digit, is_digit, method_of, option_of, pan_of, psn_of};
+
+use arrayvec::ArrayVec;
+use hex::FromHex;
+use issuer_base::{MasterOption, Method, Pan};
+
+/// The account number of 8 to 19 digits.
+#[tactic(auto, unfolding(crate::specs::Words::pan_of))]
+pub fn read_pan(text: &str) -> Option<Pan>
+    ensures { result ≡ pan_of text.now }
+{
+    let mut digits = ArrayVec::<u8, 19>::new();
+    for character in text.as_bytes() {
+        digits.try_push(read_digit(*character)?).ok()?;
+    }
+    Pan::new(digits.as_slice())
+}
+
+/// The sequence number of two digits, a nibble each.
+#[tactic(auto, unfolding(crate::specs::Words::psn_of))]
+pub fn read_psn(text: &str) -> Option<u8>
+    ensures { result ≡ psn_of text.now }
+{
+    let [tens, units] = text.as_bytes() else {
+        return None;
+    };
+    Some(read_digit(*tens)? * 16 + read_digit(*units)?)
+}
+
+fn read_digit(character: u8) -> Option<u8>
+    ensures { result ≡ (if is_digit character then Some (digit character) else None) }
+{
+    match character {
+        b'0'..=b'9' => Some(character - b'0'),
+        _ => None,
+    }
+}
+
+/// The option `A` or `B`.
+#[tactic(auto, unfolding(crate::specs::Words::option_of))]
+pub fn read_option(text: &str) -> Option<MasterOption>
+    ensures { result ≡ option_of text.now }
+{
+    match text {
+        "A" => Some(MasterOption::A),
+        "B" => Some(MasterOption::B),
+        _ => None,
+    }
+}
+
+/// The method 1 or 2.
+#[tactic(auto, unfolding(crate::specs::Words::method_of))]
+pub fn read_method(number: u64) -> Option<Method>
+    ensures { result ≡ method_of number }
+{
+    match number {
+        1 => Some(Method::One),
+        2 => Some(Method::Two),
+        _ => None,
+    }
+}
+
+/// The bytes that hexadecimal digits of either case write, two digits each.
+pub fn read_bytes<const N: usize>(text: &str) -> Option<[u8; N]>
+    ensures { result ≡ bytes_of N text.now }
+{
+    <[u8; N] as FromHex>::from_hex(text).ok()
+}
+
+/// The number, where it isn't above the greatest.
+pub fn up_to(most: u64, number: u64) -> Option<u64>
+    ensures { result ≡ at_most most number }
+{
+    if number <= most { Some(number) } else { None }
+}
