@@ -93,13 +93,12 @@ impl<'a> Slot<'a> {
         }
     }
 
-    fn with_object(self, object: Object<'a>) -> Slot<'a>
-        ensures { found_in result ≡ with_object (object_seen object.entry) (found_in self.entry) }
+    /// Takes one more object, if it is one of the field; else the slot is left as it was, and nothing is written.
+    fn note(&mut self, object: Object<'a>)
+        ensures { found_in self.new ≡ with_object (object_seen object.entry) (found_in self.old) }
     {
         if self.field.tag == object.tag {
-            self.with_value(object.value)
-        } else {
-            self
+            *self = self.with_value(object.value);
         }
     }
 }
@@ -117,7 +116,7 @@ pub fn note<'a>(slots: &mut [Slot<'a>; 15], object: Object<'a>)
     ensures { map found_in slots.new ≡ map (with_object (object_seen object.entry)) (map found_in slots.old) }
 {
     for slot in slots.iter_mut() {
-        *slot = slot.with_object(object);
+        slot.note(object);
     }
 }
 
