@@ -1,21 +1,24 @@
 -- The rows of an issuer's cards after one more record: only the row of the record's card is longer.
-use Rattle.std.proofs.Common.{◌≡◌, ◌≢◌, ℕ, ◌+◌, ◌<◌, false, List, [], ◌∷◌, ◌++◌, length, get_or, set, replicate, refl, ap, sym, ◌∙◌, inl, inr, Some, arith, length-set}
+use Rattle.std.proofs.Common.{◌≡◌, ◌≢◌, ℕ, ◌+◌, ◌%◌, ◌<◌, List, [], length, map, get_or, set, ap, sym, ◌∙◌, subst, inl, inr, Some, arith, length-set}
 use Rattle.std.proofs.lemmas.Bool.{cases_eq, cases_lt}
-use Rattle.std.proofs.lemmas.List.{length-map, length_push, get_or-map, get_or-set_same, get_or-set_other, same_lists}
-use Rattle.std.proofs.lemmas.Option.{slice_get_within, get_or_from_slice_get}
+use Rattle.std.proofs.lemmas.List.{length_push, map-set, get_or-map, get_or-set_same, get_or-set_other}
+use Rattle.std.proofs.lemmas.Option.{same_Some, slice_get_within, slice_get-get_or, get_or_from_slice_get}
+use Rattle.std.specs.List.{slice_get}
 use Rattle.issuer_base.specs.declared.request.Request.{Request}
-use Rattle.issuer_base.specs.declared.answer.Reply.{Reply}
 use Rattle.issuer_base.specs.declared.entry.Entry.{Entry}
 use Rattle.issuer_base.specs.declared.entry.Entry.TheVariants.{Decided}
 use Rattle.card_history.specs.declared.decision.Decision.{Decision}
-use Rattle.card_history.specs.Records.{card_of, is_of, decided}
-use Rattle.card_history.specs.Turns.{decided_for}
-use Rattle.card_history.proofs.CardNames.{is_of-card_of, is_of-other}
-use Rattle.card_history.proofs.OneMoreRecord.{decided-more, decided-other}
+use Rattle.card_history.specs.Records.{card_of, greatest}
+use Rattle.card_history.proofs.CardNames.{is_of-other}
+use Rattle.card_history.proofs.OneMoreRecord.{decided-other}
+use Rattle.card_history.proofs.OtherRecords.{queue-decided, status_of-decided}
 use Rattle.row_core.specs.declared.card.CardInfo.{CardInfo}
 use Rattle.row_core.specs.CardList.{name_of, number_of, AreCards}
+use Rattle.row_core.specs.CardRow.{CardRow, StandsFor as RowStandsFor}
+use Rattle.row_core.specs.Plan.{IsNext, with_record}
 use Rattle.row_core.proofs.CardListLemmas.{number_of-found}
-use Rattle.memory_host.specs.Holding.{Holding, rows_of, StandsFor}
+use Rattle.memory_host.specs.Holding.{Holding, history_for, RowStands, StandsFor}
+use Rattle.memory_host.specs.Deciding.{IsShardOf, IsNextOf, with_record_of, IsRecorded}
 
 -- the number of a request's card is that of one of the cards
 pub number-within : (cards : List CardInfo) (request : Request) (number : ℕ) → number_of (card_of request) cards ≡ Some number → number < length cards
@@ -23,75 +26,141 @@ number-within cards request number known =
     let found = number_of-found (card_of request) cards number known in
     slice_get_within cards number found.0 found.1
 
--- and has the request's name
-number-named : (cards : List CardInfo) (request : Request) (number : ℕ) (d : CardInfo) → number_of (card_of request) cards ≡ Some number → name_of (get_or cards number d) ≡ card_of request
-number-named cards request number d known =
-    let found = number_of-found (card_of request) cards number known in
-    ap name_of (get_or_from_slice_get cards number found.0 d found.1) ∙ found.2
+-- what was written is read again
+there : {X : Type 0} (xs : List X) (place : ℕ) (old new : X) → slice_get xs place ≡ Some old → slice_get (set xs place new) place ≡ Some new
+there xs place old new old_is =
+    let within = slice_get_within xs place old old_is in
+    let long : length (set xs place new) ≡ length xs = length-set xs place new in
+    slice_get-get_or (set xs place new) place new (omega arith) ∙ ap Some (get_or-set_same xs place new new within)
 
--- the row with that number has what was decided for the request's card
-pub row-decided : (cards : List CardInfo) (history : List Entry) (request : Request) (number : ℕ) (d : List Decision) → number_of (card_of request) cards ≡ Some number → get_or (rows_of cards history) number d ≡ decided_for request history
-row-decided cards history request number d known =
-    let found = number_of-found (card_of request) cards number known in
-    get_or-map (λ card. decided (name_of card) history) cards number found.0 d (number-within cards request number known)
-    ∙ ap (λ name. decided name history) (number-named cards request number found.0 known)
+-- and each other place as it was
+elsewhere : {X : Type 0} (xs : List X) (place : ℕ) (new : X) (other : ℕ) (x : X) → other ≢ place → slice_get xs other ≡ Some x → slice_get (set xs place new) other ≡ Some x
+elsewhere xs place new other x not_it is =
+    let within = slice_get_within xs other x is in
+    let long : length (set xs place new) ≡ length xs = length-set xs place new in
+    slice_get-get_or (set xs place new) other x (omega arith)
+    ∙ ap Some (get_or-set_other xs place other new x not_it ∙ get_or_from_slice_get xs other x x is)
 
--- so has the row that was read there
-pub row-read : (cards : List CardInfo) (rows : List (List Decision)) (history : List Entry) (request : Request) (number : ℕ) (row : List Decision) → rows ≡ rows_of cards history → number_of (card_of request) cards ≡ Some number → row ≡ get_or rows number row → row ≡ decided_for request history
-row-read cards rows history request number row rows_are known read =
-    read ∙ ap (λ rows. get_or rows number row) rows_are ∙ row-decided cards history request number row known
+-- cards with different numbers have different names
+other-name : (cards : List CardInfo) (number other : ℕ) (card other_card : CardInfo) → AreCards cards → slice_get cards number ≡ Some card → slice_get cards other ≡ Some other_card → other ≢ number → name_of other_card ≢ name_of card
+other-name cards number other card other_card valid card_is other_is not_it same =
+    let named : name_of (get_or cards number card) ≡ name_of card = ap name_of (get_or_from_slice_get cards number card card card_is) in
+    let other_named : name_of (get_or cards other card) ≡ name_of other_card = ap name_of (get_or_from_slice_get cards other other_card card other_is) in
+    let within = slice_get_within cards number card card_is in
+    let other_within = slice_get_within cards other other_card other_is in
+    elim (cases_lt other number) [
+      | inl lower ↦ valid.distinct other number card lower within (other_named ∙ same ∙ sym named)
+      | inr higher ↦ valid.distinct number other card (omega arith) other_within (named ∙ sym same ∙ sym other_named)
+    ]
 
-module _ (cards : List CardInfo) (history : List Entry) (request : Request) (reply : Reply) (number : ℕ) (known : number_of (card_of request) cards ≡ Some number) (valid : AreCards cards) where
-  -- each other card has another name
-  other-card : (k : ℕ) (d : CardInfo) → k < length cards → k ≢ number → is_of (name_of (get_or cards k d)) request ≡ false
-  other-card k d within other =
-      is_of-other (name_of (get_or cards k d)) request (λ same.
-      let named = number-named cards request number d known in
-      let below = number-within cards request number known in
-      elim (cases_lt k number) [
-        | inl lower ↦ valid.distinct k number d lower below (same ∙ sym named)
-        | inr higher ↦ valid.distinct number k d (omega arith) within (named ∙ sym same)
-      ])
+-- a row stands for one record more of another card
+stands-other : (card : CardInfo) (row : CardRow) (history : List Entry) (step : Decision) → name_of card ≢ card_of step.request → RowStandsFor card row history → RowStandsFor card row (with_record history step)
+stands-other card row history step other stands =
+    let same = decided-other (name_of card) history step.request step.reply (is_of-other (name_of card) step.request other) in
+    record {
+      method_is = stands.method_is;
+      hi_is = stands.hi_is ∙ ap greatest (sym same);
+      status_is = stands.status_is ∙ sym (status_of-decided (name_of card) history step.request step.reply);
+      kept_are = stands.kept_are ∙ sym same;
+      queue_is = stands.queue_is ∙ sym (queue-decided (name_of card) history step.request step.reply);
+    }
 
-  -- the row of the request's card gets the decision, and the others stay
-  row-after : (k : ℕ) (d : List Decision) → k < length cards → get_or (set (rows_of cards history) number (decided_for request history ++ record { request = request; reply = reply; place = length history } ∷ [])) k d ≡ get_or (rows_of cards (history ++ Decided request reply ∷ [])) k d
-  row-after k d within =
-      let longer : List Decision = decided_for request history ++ record { request = request; reply = reply; place = length history } ∷ [] in
-      let long : length (rows_of cards history) ≡ length cards = length-map cards (λ card. decided (name_of card) history) in
-      elim (cases_eq k number) [
+module _ (host : Holding) (histories : List (List Entry)) (stands : StandsFor host histories) where
+  -- the row that was found at a card's number stands for the history of the card's shard
+  pub row-there : (number : ℕ) (card : CardInfo) (row : CardRow) → slice_get host.issuer.cards number ≡ Some card → slice_get host.rows number ≡ Some row → RowStandsFor card row (history_for host.issuer histories number)
+  row-there number card row card_is row_is =
+      let found = stands.rows_stand number card card_is in
+      subst (λ (row : CardRow). RowStandsFor card row (history_for host.issuer histories number)) (same_Some found.row row (sym found.row_is ∙ row_is)) found.stands
+
+  -- the number of records that was found for a card's shard is the place after the last record of its history
+  pub place-at_end : (number shard place : ℕ) → IsShardOf host.issuer number shard → place ≡ get_or host.records shard place → place ≡ length (history_for host.issuer histories number)
+  place-at_end number shard place home place_is =
+      place_is
+      ∙ ap (λ records. get_or records shard place) stands.records_are
+      ∙ get_or-map length histories shard [] place (omega (arith, home.within, stands.shards_are))
+      ∙ ap (λ shard. length (get_or histories shard [])) home.shard_is
+
+-- where another row that stands for what the old one stood for is written there, the host stands for the same histories
+pub kept : (host : Holding) (number : ℕ) (old new : CardRow) → slice_get host.rows number ≡ Some old → ((card : CardInfo) (history : List Entry) → RowStandsFor card old history → RowStandsFor card new history) → (histories : List (List Entry)) → StandsFor host histories → StandsFor (record { issuer = host.issuer; rows = set host.rows number new; records = host.records }) histories
+kept host number old new old_is same histories stands =
+    let after : Holding = record { issuer = host.issuer; rows = set host.rows number new; records = host.records } in
+    record {
+      shards_are = stands.shards_are;
+      records_are = stands.records_are;
+      rows_stand = λ other card card_is.
+          elim (cases_eq other number) [
+            | inl its ↦ subst (λ (other : ℕ). RowStands after histories other card) (sym its) (
+                let here : slice_get host.issuer.cards number ≡ Some card = ap (slice_get host.issuer.cards) (sym its) ∙ card_is in
+                record {
+                  row = new;
+                  row_is = there host.rows number old new old_is;
+                  stands = same card (history_for host.issuer histories number) (row-there host histories stands number card old here old_is);
+                })
+            | inr not_it ↦
+                let found = stands.rows_stand other card card_is in
+                record {
+                  row = found.row;
+                  row_is = elsewhere host.rows number new other found.row not_it found.row_is;
+                  stands = found.stands;
+                }
+          ];
+    }
+
+module _ (host : Holding) (number shard : ℕ) (step : Decision) (home : IsShardOf host.issuer number shard) (histories : List (List Entry)) (stands : StandsFor host histories) (next : IsNextOf host.issuer histories number step) where
+  -- the history of this card's shard has the record
+  history-here : history_for host.issuer (with_record_of host.issuer histories number step) number ≡ with_record (history_for host.issuer histories number) step
+  history-here = get_or-set_same histories (number % host.issuer.shards) (with_record (history_for host.issuer histories number) step) [] (omega (arith, stands.shards_are))
+
+  -- the row of each other card, of the same shard or of another, stands for the histories with the record
+  stands-elsewhere : (other : ℕ) (card : CardInfo) (row : CardRow) → other ≢ number → slice_get host.issuer.cards other ≡ Some card → RowStandsFor card row (history_for host.issuer histories other) → RowStandsFor card row (history_for host.issuer (with_record_of host.issuer histories number step) other)
+  stands-elsewhere other card row not_it card_is before =
+      elim (cases_eq (other % host.issuer.shards) (number % host.issuer.shards)) [
         | inl same ↦
-            let below : number < length (rows_of cards history) = let at = number-within cards request number known in omega arith in
-            ap (λ n. get_or (set (rows_of cards history) number longer) n d) same
-            ∙ get_or-set_same (rows_of cards history) number longer d below
-            ∙ sym (row-decided cards (history ++ Decided request reply ∷ []) request number d known ∙ decided-more (card_of request) history request reply (is_of-card_of request))
-            ∙ ap (λ n. get_or (rows_of cards (history ++ Decided request reply ∷ [])) n d) (sym same)
-        | inr other ↦
-            let card : CardInfo = (number_of-found (card_of request) cards number known).0 in
-            get_or-set_other (rows_of cards history) number k longer d other
-            ∙ get_or-map (λ card. decided (name_of card) history) cards k card d within
-            ∙ sym (get_or-map (λ card. decided (name_of card) (history ++ Decided request reply ∷ [])) cards k card d within
-            ∙ decided-other (name_of (get_or cards k card)) history request reply (other-card k card within other))
+            let its = other-name host.issuer.cards number other next.card card next.valid next.card_is card_is not_it in
+            let named : name_of card ≢ card_of step.request = λ same. its (same ∙ next.next.of_card) in
+            let more = stands-other card row (history_for host.issuer histories number) step named (subst (λ (shard : ℕ). RowStandsFor card row (get_or histories shard [])) same before) in
+            subst (λ (shard : ℕ). RowStandsFor card row (get_or (with_record_of host.issuer histories number step) shard [])) (sym same) (subst (λ (history : List Entry). RowStandsFor card row history) (sym history-here) more)
+        | inr different ↦ subst (λ (history : List Entry). RowStandsFor card row history) (sym (get_or-set_other histories (number % host.issuer.shards) (other % host.issuer.shards) (with_record (history_for host.issuer histories number) step) [] different)) before
       ]
 
-  pub rows-more : (rows rows' : List (List Decision)) → rows ≡ rows_of cards history → rows' ≡ set rows number (get_or rows number [] ++ record { request = request; reply = reply; place = length history } ∷ []) → rows' ≡ rows_of cards (history ++ Decided request reply ∷ [])
-  rows-more rows rows' rows_are set_is =
-      let here : get_or rows number [] ≡ decided_for request history = ap (λ rows. get_or rows number []) rows_are ∙ row-decided cards history request number [] known in
-      let longer : List Decision = decided_for request history ++ record { request = request; reply = reply; place = length history } ∷ [] in
-      let written : rows' ≡ set (rows_of cards history) number longer = set_is ∙ ap (λ row. set rows number (row ++ record { request = request; reply = reply; place = length history } ∷ [])) here ∙ ap (λ rows. set rows number longer) rows_are in
-      let long : length (set (rows_of cards history) number longer) ≡ length cards = length-set (rows_of cards history) number longer ∙ length-map cards (λ card. decided (name_of card) history) in
-      let long_after : length (rows_of cards (history ++ Decided request reply ∷ [])) ≡ length cards = length-map cards (λ card. decided (name_of card) (history ++ Decided request reply ∷ [])) in
-      written ∙ same_lists (set (rows_of cards history) number longer) (rows_of cards (history ++ Decided request reply ∷ [])) (long ∙ sym long_after) (λ k d below. row-after k d (omega arith))
+  -- the numbers of records are the lengths of the histories with the record
+  records-more : (place : ℕ) → place ≡ length (history_for host.issuer histories number) → set host.records shard (place + 1) ≡ map length (with_record_of host.issuer histories number step)
+  records-more place at_end =
+      ap (λ records. set records shard (place + 1)) stands.records_are
+      ∙ ap (λ shard. set (map length histories) shard (place + 1)) home.shard_is
+      ∙ ap (λ count. set (map length histories) (number % host.issuer.shards) count) (ap (λ n. n + 1) at_end ∙ sym (length_push (history_for host.issuer histories number) (Decided step.request step.reply)))
+      ∙ sym (map-set length histories (number % host.issuer.shards) (with_record (history_for host.issuer histories number) step))
 
--- before any record each row is empty
-pub rows-none : (cards : List CardInfo) → replicate (length cards) [] ≡ rows_of cards []
-rows-none [] = refl
-rows-none (card ∷ cards) = ap (λ rows. [] ∷ rows) (rows-none cards)
+  -- the host stands for the histories with the record where that row does
+  stands-more : (old new : CardRow) (place : ℕ) → slice_get host.rows number ≡ Some old → ((card : CardInfo) (history : List Entry) → RowStandsFor card old history → IsNext card history step → RowStandsFor card new (with_record history step)) → place ≡ length (history_for host.issuer histories number) → StandsFor (record { issuer = host.issuer; rows = set host.rows number new; records = set host.records shard (place + 1) }) (with_record_of host.issuer histories number step)
+  stands-more old new place old_is gains at_end =
+      let after : Holding = record { issuer = host.issuer; rows = set host.rows number new; records = set host.records shard (place + 1) } in
+      record {
+        shards_are = length-set histories (number % host.issuer.shards) (with_record (history_for host.issuer histories number) step) ∙ stands.shards_are;
+        records_are = records-more place at_end;
+        rows_stand = λ other card card_is.
+            elim (cases_eq other number) [
+              | inl same ↦ subst (λ (other : ℕ). RowStands after (with_record_of host.issuer histories number step) other card) (sym same) (
+                  let its : next.card ≡ card = same_Some next.card card (sym next.card_is ∙ ap (slice_get host.issuer.cards) (sym same) ∙ card_is) in
+                  let gained = gains next.card (history_for host.issuer histories number) (row-there host histories stands number next.card old next.card_is old_is) next.next in
+                  let here = subst (λ (history : List Entry). RowStandsFor next.card new history) (sym history-here) gained in
+                  record {
+                    row = new;
+                    row_is = there host.rows number old new old_is;
+                    stands = subst (λ (card : CardInfo). RowStandsFor card new (history_for host.issuer (with_record_of host.issuer histories number step) number)) its here;
+                  })
+              | inr not_it ↦
+                  let found = stands.rows_stand other card card_is in
+                  record {
+                    row = found.row;
+                    row_is = elsewhere host.rows number new other found.row not_it found.row_is;
+                    stands = stands-elsewhere other card found.row not_it card_is found.stands;
+                  }
+            ];
+      }
 
--- the rows with one more decision, and one more record, stand for the history with that record
-pub stands-more : (host : Holding) (history : List Entry) (request : Request) (reply : Reply) (number : ℕ) (rows' : List (List Decision)) → AreCards host.issuer.cards → number_of (card_of request) host.issuer.cards ≡ Some number → StandsFor host history → rows' ≡ set host.rows number (get_or host.rows number [] ++ record { request = request; reply = reply; place = host.records } ∷ []) → StandsFor (record { issuer = host.issuer; rows = rows'; records = host.records + 1 }) (history ++ Decided request reply ∷ [])
-stands-more host history request reply number rows' valid known stands set_is =
-    let at_end : rows' ≡ set host.rows number (get_or host.rows number [] ++ record { request = request; reply = reply; place = length history } ∷ []) = set_is ∙ ap (λ place. set host.rows number (get_or host.rows number [] ++ record { request = request; reply = reply; place = place } ∷ [])) stands.records_are in
-    record {
-      rows_are = rows-more host.issuer.cards history request reply number known valid host.rows rows' stands.rows_are at_end;
-      records_are = ap (λ n. n + 1) stands.records_are ∙ sym (length_push history (Decided request reply));
-    }
+-- where its row stands for the record besides, and its shard's number of records rose, the host stands for the histories with the record
+pub recorded : (host : Holding) (number shard : ℕ) (step : Decision) (old new : CardRow) (place : ℕ) → IsShardOf host.issuer number shard → slice_get host.rows number ≡ Some old → place ≡ get_or host.records shard place → ((card : CardInfo) (history : List Entry) → RowStandsFor card old history → IsNext card history step → RowStandsFor card new (with_record history step)) → IsRecorded host number step (record { issuer = host.issuer; rows = set host.rows number new; records = set host.records shard (place + 1) }) place
+recorded host number shard step old new place home old_is place_is gains histories stands next =
+    let at_end = place-at_end host histories stands number shard place home place_is in
+    (at_end ∙ sym next.next.at_end, stands-more host number shard step home histories stands next old new place old_is gains at_end)

@@ -1,23 +1,28 @@
--- What a host in memory holds, and the history that it stands for.
-use Rattle.std.specs.Prelude.{◌≡◌, ℕ, List, length, map}
+-- What a host in memory holds, and the histories that it stands for.
+use Rattle.std.specs.Prelude.{◌≡◌, ℕ, ◌%◌, List, [], length, map, slice_get, slice_index_or, Some}
 use Rattle.issuer_base.specs.declared.entry.Entry.{Entry}
-use Rattle.card_history.specs.declared.decision.Decision.{Decision}
-use Rattle.card_history.specs.Records.{decided}
 use Rattle.row_core.specs.declared.card.CardInfo.{CardInfo}
-use Rattle.row_core.specs.CardList.{name_of}
+use Rattle.row_core.specs.CardRow.{CardRow, StandsFor as RowStandsFor}
 use Rattle.row_core.specs.IssuerSetup.{Setup}
 
--- what the issuer has, a row of decisions for each of its cards, and the number of records
+-- what the issuer has, a row for each of its cards, and the number of records of each shard
 pub record Holding : Type 0 where
   pub issuer : Setup
-  pub rows : List (List Decision)
-  pub records : ℕ
+  pub rows : List CardRow
+  pub records : List ℕ
 
--- the rows of these cards after a history
-abbrev pub rows_of : List CardInfo → List Entry → List (List Decision)
-rows_of cards history = map (λ card. decided (name_of card) history) cards
+-- the history of the shard that the card with this number is of
+abbrev pub history_for : Setup → List (List Entry) → ℕ → List Entry
+history_for issuer histories number = slice_index_or histories (number % issuer.shards) []
 
--- a host stands for a history where its rows are those of the history, and its number of records is the history's length
-pub record StandsFor (host : Holding) (history : List Entry) : Type 0 where
-  pub rows_are : host.rows ≡ rows_of host.issuer.cards history
-  pub records_are : host.records ≡ length history
+-- the row with this number stands for the history of its card's shard
+pub record RowStands (host : Holding) (histories : List (List Entry)) (number : ℕ) (card : CardInfo) : Type 0 where
+  pub row : CardRow
+  pub row_is : slice_get host.rows number ≡ Some row
+  pub stands : RowStandsFor card row (history_for host.issuer histories number)
+
+-- a host stands for one history per shard where the row of each card does, and its numbers of records are the histories' lengths
+pub record StandsFor (host : Holding) (histories : List (List Entry)) : Type 0 where
+  pub shards_are : length histories ≡ host.issuer.shards
+  pub rows_stand : (number : ℕ) (card : CardInfo) → slice_get host.issuer.cards number ≡ Some card → RowStands host histories number card
+  pub records_are : host.records ≡ map length histories

@@ -1,4 +1,5 @@
 pub mod Reading
-pub mod Replying
 pub mod AtHand
 pub mod Holding
+pub mod Deciding
+pub mod Answering

@@ -1,26 +1,21 @@
-ghost use Rattle.std.specs.Prelude.{◌≡◌, ◌+◌, ◌<◌, ◌++◌, List, [], ◌∷◌, length, slice_index_or, slice_set, replicate, IfOk, OnOk, OnErr, MatchOption, Some};
+ghost use Rattle.std.specs.Prelude.{◌≡◌, ◌<◌, List, length, replicate, IfOk, IfErr};
 ghost use Rattle.issuer_base.specs.declared.entry.Entry.{Entry};
-ghost use Rattle.card_history.specs.Turns.{IsUnused, decided_for, Answers, Turn};
-ghost use Rattle.row_core.specs.IssuerSetup.{Setup};
+ghost use Rattle.card_history.specs.Turns.{Turn, AnswersIn, no_records};
 ghost use Rattle.memory_host.specs.Reading.{reading};
-ghost use Rattle.memory_host.specs.Replying.{reply_to};
+ghost use Rattle.memory_host.specs.Answering.{rules_of};
 ghost use Rattle.memory_host.specs.AtHand.{IsAtHand};
 ghost use Rattle.memory_host.specs.Holding.{StandsFor};
+ghost use Rattle.memory_host.specs.Deciding.{AreEmpty, IsShardOf, IsPlanFor, IsRecorded};
 
 use crate::reading::{Checked, read_line};
-use crate::reply::reply_to;
-use card_history::Decision;
-use issuer_base::{Answer, NoMemory, Refusal, Request};
-use row_core::{Issuer, Outcome, Row};
+use issuer_base::{Answer, NoMemory, Refusal};
+use row_core::{Issuer, Outcome, Row, Step};
 use std::alloc::Global;
 use std::marker::Model;
 
-/// The number of the only shard.
-const SHARD: u8 = 0;
-
 /// The host of one caller: it answers line after line, and keeps what it decided in memory.
 ///
-/// A contract sees what the issuer has, a row of decisions for each of its cards, and the number of records.
+/// A contract sees what the issuer has, a row for each of its cards, and the number of records of each shard.
 #[derive(Drop)]
 pub struct MemoryHost {
     issuer: Issuer,
@@ -28,8 +23,8 @@ pub struct MemoryHost {
     /// A row for each card, in the order of their numbers.
     rows: Vec<Row>,
 
-    /// How many requests were decided.
-    records: u64,
+    /// How many records each shard has.
+    records: Vec<u64>,
 }
 
 impl Model for MemoryHost {
@@ -38,32 +33,34 @@ impl Model for MemoryHost {
 
     ghost Value = { Holding };
 
-    ghost view = { λ host. record { issuer = host.issuer; rows = host.rows.items; records = host.records } };
+    ghost view = { λ host. record { issuer = host.issuer; rows = host.rows.items; records = host.records.items } };
 
-    ghost invariant = { λ host. length host.rows.items ≡ length host.issuer.cards };
+    ghost invariant = { λ host. (length host.rows.items ≡ length host.issuer.cards) × (length host.records.items ≡ host.issuer.shards) };
 }
 
 impl MemoryHost {
     /// The host of this issuer, before any line.
     pub fn new(alloc: Global, issuer: Issuer) -> Result<MemoryHost, NoMemory>
         ensures issuer { IfOk result (λ host. host.issuer ≡ issuer) }
-        ensures empty { IfOk result (λ host. StandsFor host []) }
+        ensures empty { IfOk result (λ host. StandsFor host (no_records issuer.shards)) }
     {
-        let rows = empty_rows(alloc, issuer.cards())?;
+        let rows = empty_rows(alloc, &issuer)?;
+        let records = zeros(alloc, issuer.shards())?;
         Ok(MemoryHost {
             issuer,
             rows,
-            records: 0,
+            records,
         })
     }
 
     /// The answer to a line, which is without its newline. What the issuer has stays as it is.
     ///
     /// Where a request would be decided and no memory is left for its record, the answer says so, and
-    /// the host stands for the same history. No other line takes memory.
+    /// the host stands for the same histories. No other line takes memory.
     pub fn answer(&mut self, line: &[u8]) -> Answer
-        ensures turn { (history : List Entry) → StandsFor self.old history
-            → (after : List Entry) × StandsFor self.new after × Turn 0 (reply_to self.old.issuer) history (reading self.old.issuer line.now) result after }
+        ensures turn { (histories : List (List Entry)) → StandsFor self.old histories
+            → (after : List (List Entry)) × StandsFor self.new after
+            × Turn (rules_of self.old.issuer) histories (reading self.old.issuer line.now) result after }
         ensures issuer { self.new.issuer ≡ self.old.issuer }
     {
         match read_line(&self.issuer, line) {
@@ -75,85 +72,90 @@ impl MemoryHost {
     /// The answer to a request that was checked.
     fn decide(&mut self, checked: Checked) -> Answer
         requires { IsAtHand self.old.issuer checked }
-        ensures turn { (history : List Entry) → StandsFor self.old history
-            → (after : List Entry) × StandsFor self.new after × Answers 0 (reply_to self.old.issuer) history checked.request result after }
+        ensures turn { (histories : List (List Entry)) → StandsFor self.old histories
+            → (after : List (List Entry)) × StandsFor self.new after
+            × AnswersIn (rules_of self.old.issuer) histories checked.request result after }
         ensures issuer { self.new.issuer ≡ self.old.issuer }
     {
-        match known_answer(&self.rows[checked.card as usize], &checked.request) {
-            Some(answer) => answer,
-            None => self.record(checked),
+        let card = checked.card;
+        let shard = self.shard_of(card);
+        match self.plan(&checked, shard) {
+            Outcome::Fresh(reply, step) => match self.record(card, shard, step) {
+                Ok(place) => Answer::Fresh {
+                    shard,
+                    place,
+                    reply,
+                },
+                Err(NoMemory) => Answer::Refused(Refusal::NoMemory),
+            },
+            Outcome::Kept(reply, place) => Answer::Kept {
+                shard,
+                place,
+                reply,
+            },
+            Outcome::Below(top) => Answer::Refused(Refusal::Below(top)),
+            Outcome::Taken(place) => Answer::Refused(Refusal::Taken { shard, place }),
         }
     }
 
-    /// Decides a request that was checked and is on an unused counter of its card.
-    fn record(&mut self, checked: Checked) -> Answer
-        requires at_hand { IsAtHand self.old.issuer checked }
-        requires unused { (history : List Entry) → StandsFor self.old history → IsUnused (decided_for checked.request history) checked.request }
-        ensures turn { (history : List Entry) → StandsFor self.old history
-            → (after : List Entry) × StandsFor self.new after × Answers 0 (reply_to self.old.issuer) history checked.request result after }
+    /// The shard of the card with this number.
+    fn shard_of(&self, card: u32) -> u8
+        ensures { IsShardOf self.now.issuer card result }
+    {
+        (card % u32::from(self.issuer.shards())) as u8
+    }
+
+    /// What is to be done with a request that was checked, in the shard of its card.
+    fn plan(&self, checked: &Checked, shard: u8) -> Outcome
+        requires at_hand { IsAtHand self.now.issuer checked.now }
+        requires shard { IsShardOf self.now.issuer checked.now.card shard }
+        ensures { IsPlanFor self.now checked.now shard result }
+    {
+        let place = self.records[usize::from(shard)];
+        let row = &self.rows[checked.card as usize];
+        row.plan(&checked.keys, self.issuer.table(), &checked.request, place)
+    }
+
+    /// Adds the record of a decision to the row of this card and to its shard, and gives the record's place. It
+    /// is refused where no memory is left for it, or no number for the records.
+    fn record(&mut self, card: u32, shard: u8, step: Step) -> Result<u64, NoMemory>
+        requires card { card < length self.old.issuer.cards }
+        requires shard { IsShardOf self.old.issuer card shard }
+        ensures recorded { IfOk result (IsRecorded self.old card step self.new) }
+        ensures refused { IfErr result (λ _. (histories : List (List Entry)) → StandsFor self.old histories → StandsFor self.new histories) }
         ensures issuer { self.new.issuer ≡ self.old.issuer }
     {
-        let place = self.records;
+        let shard = usize::from(shard);
+        let place = self.records[shard];
         if place == u64::MAX {
-            return Answer::Refused(Refusal::NoMemory);
+            return Err(NoMemory);
         }
-        let reply = reply_to(&self.issuer, &checked);
-        let row = checked.card as usize;
-        let decision = Decision {
-            request: checked.request,
-            reply: reply.copy(),
-            place,
-        };
-        match add_to(self.rows.as_mut_slice(), row, decision) {
-            Ok(()) => {
-                self.records = place + 1;
-                Answer::Fresh {
-                    shard: SHARD,
-                    place,
-                    reply,
-                }
-            }
-            Err(NoMemory) => Answer::Refused(Refusal::NoMemory),
-        }
+        let row = &mut self.rows[card as usize];
+        row.reserve()?;
+        row.apply(step);
+        self.records[shard] = place + 1;
+        Ok(place)
     }
 }
 
-/// An empty row for each card.
-fn empty_rows(alloc: Global, cards: u32) -> Result<Vec<Row>, NoMemory>
-    ensures { IfOk result (λ rows. rows.items ≡ replicate cards []) }
+/// A row without records for each card.
+fn empty_rows(alloc: Global, issuer: &Issuer) -> Result<Vec<Row>, NoMemory>
+    ensures { IfOk result (λ rows. AreEmpty issuer.now.cards (length issuer.now.cards) rows.items) }
 {
-    let mut rows = Vec::with_capacity(alloc, cards as usize)?;
-    for _ in 0..cards {
-        rows.push(Row::new(alloc)).map_err(|_| NoMemory)?;
+    let mut rows = Vec::with_capacity(alloc, issuer.cards() as usize)?;
+    for card in 0..issuer.cards() {
+        rows.push(Row::new(alloc, issuer.info(card).method)?)?;
     }
     Ok(rows)
 }
 
-/// The answer that the row's decisions give to a request, or `None` where it is to be decided.
-fn known_answer(row: &Row, request: &Request) -> Option<Answer>
-    ensures { (issuer : Setup) (history : List Entry) → row.now ≡ decided_for request.now history
-        → MatchOption result (IsUnused row.now request.now) (λ answer. Answers 0 (reply_to issuer) history request.now answer history) }
+/// No records for each shard.
+fn zeros(alloc: Global, shards: u8) -> Result<Vec<u64>, NoMemory>
+    ensures { IfOk result (λ records. records.items ≡ replicate shards 0) }
 {
-    match row.plan(request) {
-        Outcome::Fresh => None,
-        Outcome::Kept(decision) => Some(Answer::Kept {
-            shard: SHARD,
-            place: decision.place,
-            reply: decision.reply.copy(),
-        }),
-        Outcome::Below(top) => Some(Answer::Refused(Refusal::Below(top))),
-        Outcome::Taken(place) => Some(Answer::Refused(Refusal::Taken {
-            shard: SHARD,
-            place,
-        })),
+    let mut records = Vec::with_capacity(alloc, usize::from(shards))?;
+    for _ in 0..shards {
+        records.push(0)?;
     }
-}
-
-/// Keeps a decision in the row with this number. Where no memory is left, the rows stay as they were.
-fn add_to(rows: &mut [Row], row: usize, decision: Decision) -> Result<(), NoMemory>
-    requires { row < length rows.old }
-    ensures ok { OnOk result (rows.new ≡ slice_set rows.old row (slice_index_or rows.old row [] ++ decision ∷ [])) }
-    ensures refused { OnErr result (rows.new ≡ rows.old) }
-{
-    rows[row].add(decision)
+    Ok(records)
 }

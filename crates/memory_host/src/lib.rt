@@ -3,7 +3,6 @@
 
 mod host;
 mod reading;
-mod reply;
 
 pub use host::MemoryHost;
 

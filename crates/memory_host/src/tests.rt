@@ -2,8 +2,9 @@
 
 use super::*;
 use arrayvec::ArrayVec;
+use decision_table::{Table, TableRow};
 use des_block::Key16;
-use issuer_base::{Answer, MasterOption, Method, Pan, Refusal};
+use issuer_base::{Answer, MasterOption, Method, Pan, Reply};
 use key_derive::KeySet;
 use row_core::{CardInfo, Issuer};
 use std::alloc::{AllocError, Global};
@@ -54,12 +55,12 @@ const CASES: [Case; 9] = [
     Case {
         name: "method 1",
         asked: FIRST,
-        expected: "fresh 0 8a023030910a02369be26b4161bc3030",
+        expected: "fresh 0 0 yes 8a023030910a02369be26b4161bc3030",
     },
     Case {
         name: "the same again",
         asked: FIRST,
-        expected: "kept 0 8a023030910a02369be26b4161bc3030",
+        expected: "kept 0 0 yes 8a023030910a02369be26b4161bc3030",
     },
     Case {
         name: "a counter that is taken",
@@ -71,13 +72,13 @@ const CASES: [Case; 9] = [
         expected: "refused Taken { shard: 0, place: 0 }",
     },
     Case {
-        name: "method 2",
+        name: "method 2, in the other shard",
         asked: Asked {
             card: 0x10,
             cryptogram: 0x1DE2D48E_1E32FA1B,
             ..FIRST
         },
-        expected: "fresh 1 8a02303091087095934c00800000",
+        expected: "fresh 1 0 yes 8a02303091087095934c00800000",
     },
     Case {
         name: "a card of nobody",
@@ -111,6 +112,36 @@ const CASES: [Case; 9] = [
         expected: "refused BadField(40706)",
     },
 ];
+
+/// The first row of the table takes amounts up to 500,000.
+const AMOUNTS: [Case; 3] = [
+    Case {
+        name: "the greatest amount of the first row",
+        asked: Asked {
+            amount: 0x500000,
+            cryptogram: 0x4768C8FA_75F31625,
+            ..FIRST
+        },
+        expected: "fresh 0 0 yes 8a023030910a8022f687d456485e3030",
+    },
+    Case {
+        name: "an amount above it",
+        asked: ABOVE,
+        expected: "fresh 0 1 no 8a023035910a3ab012c7d40cd2803035",
+    },
+    Case {
+        name: "the same again",
+        asked: ABOVE,
+        expected: "kept 0 1 no 8a023035910a3ab012c7d40cd2803035",
+    },
+];
+
+const ABOVE: Asked = Asked {
+    amount: 0x500001,
+    counter: 8,
+    cryptogram: 0x1386B799_2D51CD70,
+    ..FIRST
+};
 
 fn line(alloc: Global, asked: Asked) -> Result<String, AllocError> {
     let Asked {
@@ -153,6 +184,25 @@ fn card(last: u8, method: Method) -> Result<CardInfo, Fail> {
     })
 }
 
+/// Amounts up to 500,000 are approved with the response code 00, and all others declined with 05.
+fn table() -> Option<Table> {
+    let mut rows = ArrayVec::new();
+    rows.push(TableRow {
+        most: 500_000,
+        arc: [0x30, 0x30],
+        approve: true,
+        csu: [0x00, 0x80, 0x00, 0x00],
+        ..TableRow::default()
+    });
+    rows.push(TableRow {
+        most: 999_999_999_999,
+        arc: [0x30, 0x35],
+        ..TableRow::default()
+    });
+    Table::new(rows)
+}
+
+/// A host of two shards, with one card in each.
 fn host(alloc: Global) -> Result<MemoryHost, Fail> {
     let mut keys = ArrayVec::new();
     keys.push(KeySet {
@@ -164,22 +214,33 @@ fn host(alloc: Global) -> Result<MemoryHost, Fail> {
     let mut cards = Vec::new(alloc);
     cards.push(card(2, Method::One)?)?;
     cards.push(card(10, Method::Two)?)?;
-    let issuer = Issuer::new(alloc, keys, cards).map_err(|_| "an issuer")?;
+    let table = table().ok_or("a table")?;
+    let issuer = Issuer::new(alloc, 2, keys, cards, table).map_err(|_| "an issuer")?;
     Ok(MemoryHost::new(alloc, issuer).map_err(|_| "memory")?)
 }
 
 /// The answer in words.
 fn told(alloc: Global, answer: Answer) -> Result<String, AllocError> {
     match answer {
-        Answer::Fresh { place, reply, .. } => {
-            format!(in alloc; "fresh {place} {}", hex(alloc, reply.bytes.as_slice())?)
-        }
-        Answer::Kept { place, reply, .. } => {
-            format!(in alloc; "kept {place} {}", hex(alloc, reply.bytes.as_slice())?)
-        }
+        Answer::Fresh {
+            shard,
+            place,
+            reply,
+        } => { format!(in alloc; "fresh {shard} {place} {}", told_reply(alloc, &reply)?) }
+        Answer::Kept {
+            shard,
+            place,
+            reply,
+        } => { format!(in alloc; "kept {shard} {place} {}", told_reply(alloc, &reply)?) }
         Answer::Refused(refusal) => format!(in alloc; "refused {refusal:?}"),
         _ => format!(in alloc; "another answer"),
     }
+}
+
+/// Whether the reply approves, and its bytes.
+fn told_reply(alloc: Global, reply: &Reply) -> Result<String, AllocError> {
+    let approves = if reply.approve { "yes" } else { "no" };
+    format!(in alloc; "{approves} {}", hex(alloc, reply.bytes.as_slice())?)
 }
 
 fn hex(alloc: Global, bytes: &[u8]) -> Result<String, AllocError> {
@@ -194,6 +255,18 @@ fn hex(alloc: Global, bytes: &[u8]) -> Result<String, AllocError> {
 fn answers_requests(rt: HostRuntime) -> Result<(), Fail> {
     let mut host = host(rt.alloc())?;
     for case in &CASES {
+        let name = case.name;
+        let line = line(rt.alloc(), case.asked)?;
+        let answer = told(rt.alloc(), host.answer(line.as_bytes()))?;
+        assert_eq!(rt; answer.as_str(), case.expected, "{name}");
+    }
+    Ok(())
+}
+
+#[test]
+fn decides_by_the_table(rt: HostRuntime) -> Result<(), Fail> {
+    let mut host = host(rt.alloc())?;
+    for case in &AMOUNTS {
         let name = case.name;
         let line = line(rt.alloc(), case.asked)?;
         let answer = told(rt.alloc(), host.answer(line.as_bytes()))?;

@@ -1,5 +1,5 @@
-use Rattle.std.proofs.Common.{◌≡◌, [], replicate}
+use Rattle.memory_host.specs.Deciding.{AreEmpty}
 use Rattle.memory_host.proofs.host.empty_rows.Given as goal
 
-abbrev pub invariant-loop : goal.invariant-loop
-invariant-loop l = l.rows.items ≡ replicate l.counter []
+abbrev pub invariant-loop-card : goal.invariant-loop-card
+invariant-loop-card l = AreEmpty l.issuer.cards l.card l.rows.items

@@ -1,24 +1,20 @@
-use Rattle.std.proofs.Common.{List, length, ap, subst, ◌∙◌, arith}
-use Rattle.card_history.specs.declared.decision.Decision.{Decision}
-use Rattle.card_history.specs.Turns.{IsUnused}
-use Rattle.memory_host.specs.Holding.{Holding}
-use Rattle.memory_host.proofs.RowsAfter.{number-within, row-read}
+use Rattle.memory_host.proofs.PlannedTurns.{unchanged, next-planned, fresh-turn, refused-turn}
 use Rattle.memory_host.proofs.host.MemoryHost.decide.Goals as goal
 
-pub index-requires : goal.index-requires
-index-requires c =
-    let cards = ap (λ (host : Holding). length host.issuer.cards) c.self.view_is in
-    let within = number-within c.args.self.now.issuer.cards c.args.checked.request c.args.checked.card c.requires.number_is in
-    omega (arith, c.self.invariant, cards, within)
+pub returns-in-Ok-clause-turn : goal.returns-in-Ok-clause-turn
+returns-in-Ok-clause-turn c = λ histories stands.
+    let next = next-planned c.args.self.now c.args.checked c.requires c.shard_of-shard.result c.shard_of-shard.ensures histories stands c.in-Fresh.reply c.in-Fresh.step c.in-Fresh.ensures in
+    let recorded = c.in-Ok.ensures.recorded histories stands next in
+    (_, recorded.1, fresh-turn c.args.self.now c.args.checked c.requires c.shard_of-shard.result c.shard_of-shard.ensures histories stands c.in-Fresh.reply c.in-Fresh.step c.in-Fresh.ensures _ recorded.0)
 
-pub record-requires-clause-unused : goal.record-requires-clause-unused
-record-requires-clause-unused c = λ history stands.
-    let rows = ap (λ (host : Holding). host.rows) c.self.view_is in
-    let row_is = row-read c.args.self.now.issuer.cards c.self.inside.rows.items history c.args.checked.request c.args.checked.card c.index.result.now (rows ∙ stands.rows_are) c.requires.number_is c.index.ensures in
-    subst (λ (decisions : List Decision). IsUnused decisions c.args.checked.request) row_is (c.in-None.ensures c.args.self.now.issuer history row_is)
+pub returns-in-Err-clause-turn : goal.returns-in-Err-clause-turn
+returns-in-Err-clause-turn c = λ histories stands. (histories, c.in-Err.ensures.refused histories stands, refused-turn c.args.self.now c.args.checked c.requires c.shard_of-shard.result c.shard_of-shard.ensures histories stands c.in-Fresh.reply c.in-Fresh.step c.in-Fresh.ensures)
 
-pub returns-in-Some-clause-turn : goal.returns-in-Some-clause-turn
-returns-in-Some-clause-turn c = λ history stands.
-    let rows = ap (λ (host : Holding). host.rows) c.self.view_is in
-    let row_is = row-read c.args.self.now.issuer.cards c.self.inside.rows.items history c.args.checked.request c.args.checked.card c.index.result.now (rows ∙ stands.rows_are) c.requires.number_is c.index.ensures in
-    (history, stands, c.in-Some.ensures c.args.self.now.issuer history row_is)
+pub returns-in-Kept-clause-turn : goal.returns-in-Kept-clause-turn
+returns-in-Kept-clause-turn c = λ histories stands. (histories, stands, unchanged c.args.self.now c.args.checked c.requires c.shard_of-shard.result c.shard_of-shard.ensures histories stands _ (c.in-Kept.ensures histories stands))
+
+pub returns-in-Below-clause-turn : goal.returns-in-Below-clause-turn
+returns-in-Below-clause-turn c = λ histories stands. (histories, stands, unchanged c.args.self.now c.args.checked c.requires c.shard_of-shard.result c.shard_of-shard.ensures histories stands _ (c.in-Below.ensures histories stands))
+
+pub returns-in-Taken-clause-turn : goal.returns-in-Taken-clause-turn
+returns-in-Taken-clause-turn c = λ histories stands. (histories, stands, unchanged c.args.self.now c.args.checked c.requires c.shard_of-shard.result c.shard_of-shard.ensures histories stands _ (c.in-Taken.ensures histories stands))

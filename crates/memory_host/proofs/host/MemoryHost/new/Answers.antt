@@ -1,9 +1,6 @@
-use Rattle.std.proofs.Common.{[], replicate, ap, refl, ◌∙◌}
-use Rattle.memory_host.proofs.RowsAfter.{rows-none}
+use Rattle.std.proofs.Common.{ap, replicate, ◌∙◌}
+use Rattle.memory_host.proofs.EmptyRows.{stands-empty}
 use Rattle.memory_host.proofs.host.MemoryHost.new.Goals as goal
 
 pub returns-clause-empty : goal.returns-clause-empty
-returns-clause-empty c = record {
-  rows_are = c.in_ok-rows.ensures ∙ ap (λ count. replicate count []) c.cards.ensures.count ∙ rows-none c.args.issuer.cards;
-  records_are = refl;
-}
+returns-clause-empty c = stands-empty c.args.issuer c.in_ok-rows.rows.items c.in_ok-records.records.items c.in_ok-rows.ensures (c.in_ok-records.ensures ∙ ap (λ shards. replicate shards 0) c.shards.ensures.count)

@@ -1,33 +1,33 @@
-use Rattle.std.proofs.Common.{◌≡◌, ◌++◌, ◌∷◌, [], length, length-set, set, get_or, ap, refl, sym, subst, ◌∙◌, arith}
-use Rattle.std.proofs.lemmas.List.{with_items_is}
-use Rattle.issuer_base.specs.declared.entry.Entry.TheVariants.{Decided}
-use Rattle.card_history.specs.declared.decision.Decision.{Decision}
+use Rattle.std.proofs.Common.{◌≡◌, ◌%◌, ◌<◌, ◌+◌, List, length, set, Some, ap, refl, sym, subst, ◌∙◌, arith}
+use Rattle.std.proofs.lemmas.Option.{slice_get_read}
+use Rattle.std.proofs.lemmas.Result.{err_from_is_err_and}
+use Rattle.std.specs.List.{slice_get}
+use Rattle.issuer_base.specs.declared.entry.Entry.{Entry}
+use Rattle.memory_host.specs.Deciding.{IsShardOf, IsRecorded}
 use Rattle.memory_host.specs.Holding.{Holding, StandsFor}
-use Rattle.memory_host.specs.AtHand.{IsAtHand}
-use Rattle.memory_host.specs.Replying.{reply_to}
-use Rattle.memory_host.proofs.RowsAfter.{number-within, stands-more}
+use Rattle.memory_host.proofs.RowsAfter.{kept, recorded}
 use Rattle.memory_host.proofs.host.MemoryHost.record.Goals as goal
 
-pub add_to-requires : goal.add_to-requires
-add_to-requires c =
+pub returns-in_err-reserve-clause-refused : goal.returns-in_err-reserve-clause-refused
+returns-in_err-reserve-clause-refused c =
+    let p = err_from_is_err_and c.from_residual.result c.from_residual.ensures.1 in
+    let host : Holding = record { issuer = c.self.inside.issuer; rows = c.self.inside.rows.items; records = c.self.inside.records.items } in
     let cards = ap (λ (host : Holding). length host.issuer.cards) c.self.view_is in
-    let within = number-within c.args.self.now.issuer.cards c.args.checked.request c.args.checked.card c.requires.at_hand.number_is in
-    omega (arith, c.self.invariant, cards, within, ap length c.as_mut_slice.ensures.value)
+    let within : c.args.card < length host.rows = omega (arith, c.self.invariant, cards, c.requires.card) in
+    let row_is : slice_get host.rows c.args.card ≡ Some c.index_mut-row.result.now = slice_get_read host.rows _ c.args.card c.index_mut-row.result.now refl within c.index_mut-row.ensures.value in
+    let after : Holding = record { issuer = host.issuer; rows = set host.rows c.args.card c.reserve.new.self; records = host.records } in
+    rw p.1 (subst (λ (host : Holding). (histories : List (List Entry)) → StandsFor host histories → StandsFor after histories) c.self.view_is (kept host c.args.card c.index_mut-row.result.now c.reserve.new.self row_is c.reserve.ensures.same))
 
-pub returns-in-Ok-clause-turn : goal.returns-in-Ok-clause-turn
-returns-in-Ok-clause-turn c = λ history stands.
-    let host : Holding = record { issuer = c.self.inside.issuer; rows = c.self.inside.rows.items; records = c.self.inside.records } in
-    let same : c.args.self.now ≡ host = sym c.self.view_is in
-    let stands' : StandsFor host history = subst (λ (host : Holding). StandsFor host history) same stands in
-    let at_hand : IsAtHand host.issuer c.args.checked = subst (λ (host : Holding). IsAtHand host.issuer c.args.checked) same c.requires.at_hand in
-    let decision : Decision = record { request = c.args.checked.request; reply = c.reply_to-reply.result; place = host.records } in
-    let written : c.add_to.new.rows ≡ set host.rows c.args.checked.card (get_or host.rows c.args.checked.card [] ++ decision ∷ []) =
-    c.in-Ok.ensures.ok
-    ∙ ap (λ rows. set rows c.args.checked.card (get_or rows c.args.checked.card [] ++ record { request = c.args.checked.request; reply = c.copy.result; place = c.self.inside.records } ∷ [])) c.as_mut_slice.ensures.value
-    ∙ ap (λ reply. set host.rows c.args.checked.card (get_or host.rows c.args.checked.card [] ++ record { request = c.args.checked.request; reply = reply; place = c.self.inside.records } ∷ [])) c.copy.ensures in
-    let long : length c.add_to.new.rows ≡ c.self.inside.rows.len = ap length written ∙ length-set host.rows c.args.checked.card (get_or host.rows c.args.checked.card [] ++ decision ∷ []) ∙ sym (ap length c.as_mut_slice.ensures.value) ∙ c.as_mut_slice.ensures.len in
-    let kept = with_items_is c.self.inside.rows c.add_to.new.rows long in (
-      history ++ Decided c.args.checked.request c.reply_to-reply.result ∷ [],
-      stands-more host history c.args.checked.request c.reply_to-reply.result c.args.checked.card _ at_hand.valid at_hand.number_is stands' (kept ∙ written),
-      (c.requires.unused history stands, refl, stands'.records_are, c.reply_to-reply.ensures ∙ ap (λ (host : Holding). reply_to host.issuer c.args.checked.request) c.self.view_is, refl),
-    )
+pub returns-clause-recorded : goal.returns-clause-recorded
+returns-clause-recorded c =
+    let host : Holding = record { issuer = c.self.inside.issuer; rows = c.self.inside.rows.items; records = c.self.inside.records.items } in
+    let cards = ap (λ (host : Holding). length host.issuer.cards) c.self.view_is in
+    let shards = ap (λ (host : Holding). host.issuer.shards) c.self.view_is in
+    let shard_is : IsShardOf host.issuer c.args.card c.from-shard.result = record {
+      shard_is = c.from-shard.ensures ∙ c.requires.shard.shard_is ∙ ap (λ shards. c.args.card % shards) (sym shards);
+      within = omega (arith, shards, c.from-shard.ensures, c.requires.shard.within);
+    } in
+    let within : c.args.card < length host.rows = omega (arith, c.self.invariant, cards, c.requires.card) in
+    let row_is : slice_get host.rows c.args.card ≡ Some c.index_mut-row.result.now = slice_get_read host.rows _ c.args.card c.index_mut-row.result.now refl within c.index_mut-row.ensures.value in
+    let after : Holding = record { issuer = host.issuer; rows = set host.rows c.args.card c.apply.new.self; records = set host.records c.from-shard.result (c.index-place.result.now + 1) } in
+    subst (λ (host : Holding). IsRecorded host c.args.card c.args.step after c.index-place.result.now) c.self.view_is (recorded host c.args.card c.from-shard.result c.args.step c.index_mut-row.result.now c.apply.new.self c.index-place.result.now shard_is row_is c.index-place.ensures (λ card history stands next. c.apply.ensures card history (c.reserve.ensures.same card history stands) next))
