@@ -16,7 +16,7 @@ use Rattle.row_core.specs.IssuerSetup.{Setup}
 use Rattle.issuer_top.specs.declared.ending.Ending.{Ending}
 use Rattle.issuer_top.specs.declared.ending.Ending.TheVariants.{Served, SinkFailed}
 use Rattle.issuer_top.specs.Content.{Told, HasLeft}
-use Rattle.issuer_top.specs.Configuration.{Lists, GivesNoIssuer, is_read_stop}
+use Rattle.issuer_top.specs.Configuration.{Says, GivesNoIssuer, is_read_stop}
 use Rattle.issuer_top.specs.Opening.{stop_of}
 use Rattle.issuer_top.specs.Command.{IsServe, IsNoCommand}
 use Rattle.issuer_top.specs.Serving.{ServesAll, ServesWhole, ServesFront, ServesToLimit}
@@ -220,11 +220,12 @@ ends_no_issuer T first words desk config requests counts left held_before held_a
     (record {
       config = config;
       requests = requests;
-      content = none.0.content;
+      content = none.content;
+      fault = none.fault;
       serve = serve;
-      held = Holds-from_left (desk config) left none.0.content given none.0.held;
-      broken = none.0.broken;
-      last = ap (λ (n : ℕ). stop_text (Config n index)) none.1 ∙ ap (λ (n : ℕ). stop_text (Config 0 n)) none.2;
+      held = Holds-from_left (desk config) left none.content given none.held;
+      broken = none.broken;
+      last = ap stop_text none.stop_is;
     }) stops count
 ends_no_issuer T first words desk config requests counts left held_before held_after sink_before sink_after ending faults ReadFault serve given config_count no_requests none fresh count_faults stops count =
     ends_cannot_read words desk counts held_before held_after sink_before sink_after ending
@@ -243,12 +244,12 @@ ends_no_issuer T first words desk config requests counts left held_before held_a
 ends_no_issuer T first words desk config requests counts left held_before held_after sink_before sink_after ending faults (TooLong line) serve given config_count no_requests none fresh count_faults stops count = absurd none
 
 -- the words and the configuration are as they should be
-pub IsSetUp-from_lists : (words : List (List ℕ)) (desk : Told) (config requests : List ℕ) (left : Option (List ℕ)) (issuer : Setup)
-    → IsServe words config requests → GivesHeld (desk config) left → Lists left issuer → IsSetUp words desk requests issuer
-IsSetUp-from_lists words desk config requests left issuer serve given lists = record {
+pub IsSetUp-from_said : (words : List (List ℕ)) (desk : Told) (config requests : List ℕ) (left : Option (List ℕ)) (issuer : Setup)
+    → IsServe words config requests → GivesHeld (desk config) left → Says left issuer → IsSetUp words desk requests issuer
+IsSetUp-from_said words desk config requests left issuer serve given said = record {
   config = config;
-  content = lists.content;
+  content = said.content;
   serve = serve;
-  held = Holds-from_left (desk config) left lists.content given lists.held;
-  listed = lists.listed;
+  held = Holds-from_left (desk config) left said.content given said.held;
+  says = said.says;
 }

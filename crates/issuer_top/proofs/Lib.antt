@@ -1,4 +1,4 @@
-pub mod FiveWords
+pub mod ServeWords
 pub mod ServingSteps
 pub mod ConfigurationReads
 pub mod EndingSteps

@@ -13,14 +13,14 @@ use Rattle.line_reader.specs.Reading.{Reading, HasGivenLines, IsWithinLimits, St
 use Rattle.line_reader.specs.NextLine.{GivesLine, GivesRest, ReachesEnd, StopsAtFault, StopsAtLimit}
 use Rattle.line_reader.proofs.LineLaws.{lines-begins, length-begins, BeginsWithLines-given}
 use Rattle.line_reader.proofs.WholeLines.{HasGivenLines-unread, HasGivenLines-line, IsLinesAndRest-rest, lines-rest_given, IsLinesAndRest-end, lines-end_reached, IsLinesAndRest-fault, PassesLimit-stopped}
-use Rattle.card_history.specs.Turns.{Run, Turn}
+use Rattle.card_history.specs.Turns.{Run, Turn, no_records}
 use Rattle.card_history.proofs.Runs.{run_more}
 use Rattle.card_history.proofs.ConsistentRuns.{run-consistent}
 use Rattle.row_core.specs.IssuerSetup.{Setup}
 use Rattle.answer_text.specs.AnswerText.{printed}
 use Rattle.memory_host.specs.Holding.{Holding, StandsFor}
 use Rattle.memory_host.specs.Reading.{reading}
-use Rattle.memory_host.specs.Replying.{reply_to}
+use Rattle.memory_host.specs.Answering.{rules_of}
 use Rattle.memory_host.proofs.KeptLines.{reading-kept}
 use Rattle.issuer_top.specs.Content.{HasLeft}
 use Rattle.issuer_top.specs.Answered.{AreAnswered}
@@ -48,34 +48,34 @@ texts-more answers answer = sym (flat_map_more printed [] answers answer)
 
 -- what one turn of a host does
 abbrev pub Turns : Holding → Holding → List ℕ → Answer → Type 0
-Turns old new line answer = (before : List Entry) → StandsFor old before → (after : List Entry) × StandsFor new after
-    × Turn 0 (reply_to old.issuer) before (reading old.issuer line) answer after
+Turns old new line answer = (before : List (List Entry)) → StandsFor old before → (after : List (List Entry)) × StandsFor new after
+    × Turn (rules_of old.issuer) before (reading old.issuer line) answer after
 
 -- a turn on a line as far as it is kept is a turn on the line
-turn-kept : (issuer other : Setup) (before : List Entry) (line hand : List ℕ) (answer : Answer) (after : List Entry) → other ≡ issuer → hand ≡ kept line
-    → Turn 0 (reply_to other) before (reading other hand) answer after → Turn 0 (reply_to issuer) before (reading issuer line) answer after
+turn-kept : (issuer other : Setup) (before : List (List Entry)) (line hand : List ℕ) (answer : Answer) (after : List (List Entry)) → other ≡ issuer → hand ≡ kept line
+    → Turn (rules_of other) before (reading other hand) answer after → Turn (rules_of issuer) before (reading issuer line) answer after
 turn-kept issuer other before line hand answer after same cut turn =
-    let at : Turn 0 (reply_to issuer) before (reading issuer hand) answer after = subst (λ (i : Setup). Turn 0 (reply_to i) before (reading i hand) answer after) same turn in
-    subst (λ r. Turn 0 (reply_to issuer) before r answer after) (ap (reading issuer) cut ∙ reading-kept issuer line) at
+    let at : Turn (rules_of issuer) before (reading issuer hand) answer after = subst (λ (i : Setup). Turn (rules_of i) before (reading i hand) answer after) same turn in
+    subst (λ r. Turn (rules_of issuer) before r answer after) (ap (reading issuer) cut ∙ reading-kept issuer line) at
 
 -- the line after those served is answered
-run-line : (issuer : Setup) (host next : Holding) (whole : List (List ℕ)) (answers : List Answer) (history : List Entry) (line hand : List ℕ) (answer : Answer)
-    → host.issuer ≡ issuer → StandsFor host history → Run 0 (reading issuer) (reply_to issuer) [] whole answers history → hand ≡ kept line → Turns host next hand answer
-    → (after : List Entry) × StandsFor next after × Run 0 (reading issuer) (reply_to issuer) [] (whole ++ line ∷ []) (answers ++ answer ∷ []) after
-run-line issuer host next whole answers history line hand answer same stands run cut turns =
-    let t = turns history stands in
-    (t.0, t.1, run_more 0 (reading issuer) (reply_to issuer) [] whole answers history line answer t.0 run (turn-kept issuer host.issuer history line hand answer t.0 same cut t.2))
+run-line : (issuer : Setup) (host next : Holding) (whole : List (List ℕ)) (answers : List Answer) (histories : List (List Entry)) (line hand : List ℕ) (answer : Answer)
+    → host.issuer ≡ issuer → StandsFor host histories → Run (rules_of issuer) (no_records issuer.shards) whole answers histories → hand ≡ kept line → Turns host next hand answer
+    → (after : List (List Entry)) × StandsFor next after × Run (rules_of issuer) (no_records issuer.shards) (whole ++ line ∷ []) (answers ++ answer ∷ []) after
+run-line issuer host next whole answers histories line hand answer same stands run cut turns =
+    let t = turns histories stands in
+    (t.0, t.1, run_more (rules_of issuer) (no_records issuer.shards) whole answers histories line answer t.0 run (turn-kept issuer host.issuer histories line hand answer t.0 same cut t.2))
 
 -- ---- the run
 
 -- nothing is served yet
-pub HasServed-none : (issuer : Setup) (was held : Option (List ℕ)) (host : Holding) (reader : Reading) → host.issuer ≡ issuer → StandsFor host [] → reader ≡ unread
+pub HasServed-none : (issuer : Setup) (was held : Option (List ℕ)) (host : Holding) (reader : Reading) → host.issuer ≡ issuer → StandsFor host (no_records issuer.shards) → reader ≡ unread
     → HasServed issuer was was held held host reader
 HasServed-none issuer was held host reader same stands first = record {
   read = [];
   whole = [];
   answers = [];
-  history = [];
+  histories = no_records issuer.shards;
   consumed = Consumes-nil was;
   given = subst (λ r. HasGivenLines r [] []) (sym first) HasGivenLines-unread;
   issuer_is = same;
@@ -89,12 +89,12 @@ pub HasServed-line : (issuer : Setup) (was mid now first held next : Option (Lis
     → HasServed issuer was mid first held host reader → GivesLine mid now reader new → Turns host after new.line answer → after.issuer ≡ host.issuer
     → Appends held next (printed answer) → HasServed issuer was now first next after new
 HasServed-line issuer was mid now first held next host after reader new answer so_far gives turns same prints =
-    let more = run-line issuer host after so_far.whole so_far.answers so_far.history gives.line new.line answer so_far.issuer_is so_far.stands so_far.run gives.counted.in_hand turns in
+    let more = run-line issuer host after so_far.whole so_far.answers so_far.histories gives.line new.line answer so_far.issuer_is so_far.stands so_far.run gives.counted.in_hand turns in
     record {
       read = so_far.read ++ gives.given;
       whole = so_far.whole ++ gives.line ∷ [];
       answers = so_far.answers ++ answer ∷ [];
-      history = more.0;
+      histories = more.0;
       consumed = Consumes-trans was mid now so_far.read gives.given so_far.consumed gives.consumed;
       given = HasGivenLines-line mid now reader new so_far.read so_far.whole so_far.given gives;
       issuer_is = same ∙ so_far.issuer_is;
@@ -105,15 +105,15 @@ HasServed-line issuer was mid now first held next host after reader new answer s
 
 -- ---- the ends
 
--- a run of turns from the empty history, with what is sure after it
-are_answered : (issuer : Setup) (asked : List (List ℕ)) (answers : List Answer) (history : List Entry) → Run 0 (reading issuer) (reply_to issuer) [] asked answers history
+-- a run of turns from empty histories, with what is sure after it
+are_answered : (issuer : Setup) (asked : List (List ℕ)) (answers : List Answer) (histories : List (List Entry)) → Run (rules_of issuer) (no_records issuer.shards) asked answers histories
     → AreAnswered issuer asked (flat_map printed answers)
-are_answered issuer asked answers history run = record {
+are_answered issuer asked answers histories run = record {
   answers = answers;
-  history = history;
+  histories = histories;
   run = run;
   printed_is = refl;
-  consistent = run-consistent 0 (reading issuer) (reply_to issuer) asked answers history run;
+  consistent = run-consistent (rules_of issuer) issuer.shards asked answers histories run;
 }
 
 -- the end of the input
@@ -128,8 +128,8 @@ ServesAll-end issuer was mid now first held host reader new so_far ends =
       text = flat_map printed so_far.answers;
       content = HasLeft-whole was now file (Consumes-trans was mid now so_far.read ends.given so_far.consumed ends.consumed) ends.at_end;
       answered = record {
-        answered = are_answered issuer (lines file) so_far.answers so_far.history
-            (subst (λ ls. Run 0 (reading issuer) (reply_to issuer) [] ls so_far.answers so_far.history) (sym lines_are) so_far.run);
+        answered = are_answered issuer (lines file) so_far.answers so_far.histories
+            (subst (λ ls. Run (rules_of issuer) (no_records issuer.shards) ls so_far.answers so_far.histories) (sym lines_are) so_far.run);
         within = record {
           lines_within = omega (arith, ap length lines_are, so_far.given.lines_counted, so_far.given.within.lines_within);
           bytes_within = omega (arith, length-begins file so_far.whole [] parted.begins, so_far.given.bytes_counted, so_far.given.within.bytes_within);
@@ -146,14 +146,14 @@ ServesAll-rest issuer was mid now first held next host after reader new answer s
     let file = so_far.read ++ gives.given in
     let lines_are = lines-rest_given mid now reader new so_far.read so_far.whole so_far.given gives in
     let parted = IsLinesAndRest-rest mid now reader new so_far.read so_far.whole so_far.given gives in
-    let more = run-line issuer host after so_far.whole so_far.answers so_far.history gives.line new.line answer so_far.issuer_is so_far.stands so_far.run gives.counted.in_hand turns in
+    let more = run-line issuer host after so_far.whole so_far.answers so_far.histories gives.line new.line answer so_far.issuer_is so_far.stands so_far.run gives.counted.in_hand turns in
     record {
       file = file;
       text = flat_map printed (so_far.answers ++ answer ∷ []);
       content = HasLeft-whole was now file (Consumes-trans was mid now so_far.read gives.given so_far.consumed gives.consumed) gives.at_end;
       answered = record {
         answered = are_answered issuer (lines file) (so_far.answers ++ answer ∷ []) more.0
-            (subst (λ ls. Run 0 (reading issuer) (reply_to issuer) [] ls (so_far.answers ++ answer ∷ []) more.0) (sym lines_are) more.2);
+            (subst (λ ls. Run (rules_of issuer) (no_records issuer.shards) ls (so_far.answers ++ answer ∷ []) more.0) (sym lines_are) more.2);
         within = record {
           lines_within = omega (arith, ap length lines_are, length-append so_far.whole (gives.line ∷ []), so_far.given.lines_counted, gives.counted.one_more, gives.counted.within.lines_within);
           bytes_within = omega (arith, length-begins file so_far.whole gives.line parted.begins, so_far.given.bytes_counted, gives.counted.more_bytes, gives.counted.within.bytes_within);
@@ -171,7 +171,7 @@ ServesFront-line issuer was mid now first held next host after reader new answer
     let left = HasLeft-front was now read (Consumes-trans was mid now so_far.read gives.given so_far.consumed gives.consumed) in
     let front = so_far.whole ++ gives.line ∷ [] in
     let begins = BeginsWithLines-given read front new.ahead left.0 (HasGivenLines-line mid now reader new so_far.read so_far.whole so_far.given gives).begins in
-    let more = run-line issuer host after so_far.whole so_far.answers so_far.history gives.line new.line answer so_far.issuer_is so_far.stands so_far.run gives.counted.in_hand turns in
+    let more = run-line issuer host after so_far.whole so_far.answers so_far.histories gives.line new.line answer so_far.issuer_is so_far.stands so_far.run gives.counted.in_hand turns in
     record {
       file = read ++ left.0;
       text = flat_map printed (so_far.answers ++ answer ∷ []);
@@ -192,7 +192,7 @@ pub ServesFront-rest : (issuer : Setup) (was mid now first held next : Option (L
 ServesFront-rest issuer was mid now first held next host after reader new answer so_far gives turns prints =
     let file = so_far.read ++ gives.given in
     let lines_are = lines-rest_given mid now reader new so_far.read so_far.whole so_far.given gives in
-    let more = run-line issuer host after so_far.whole so_far.answers so_far.history gives.line new.line answer so_far.issuer_is so_far.stands so_far.run gives.counted.in_hand turns in
+    let more = run-line issuer host after so_far.whole so_far.answers so_far.histories gives.line new.line answer so_far.issuer_is so_far.stands so_far.run gives.counted.in_hand turns in
     record {
       file = file;
       text = flat_map printed (so_far.answers ++ answer ∷ []);
@@ -226,7 +226,7 @@ ServesWhole-fault issuer was mid now first held host reader new so_far stops =
         parted = IsLinesAndRest-fault mid now reader new so_far.read so_far.whole so_far.given stops;
         within = subst (λ (n : ℕ). StaysWithinLimits n (length (flat_map ended so_far.whole)) rest) so_far.given.lines_counted
             (subst (λ (n : ℕ). StaysWithinLimits reader.lines n rest) so_far.given.bytes_counted stops.within);
-        answered = are_answered issuer so_far.whole so_far.answers so_far.history so_far.run;
+        answered = are_answered issuer so_far.whole so_far.answers so_far.histories so_far.run;
       };
       written = so_far.written;
     }
@@ -266,7 +266,7 @@ ServesToLimit-stop issuer was mid now first held host reader new number so_far s
             (subst (λ (n : ℕ). IsWithinLimits reader.lines n) so_far.given.bytes_counted so_far.given.within);
         passes = passes-more (length so_far.whole) (length (flat_map ended so_far.whole)) ahead left.0 passes;
         number_is = counted ∙ ap (λ n. n + 1) so_far.given.lines_counted;
-        answered = are_answered issuer so_far.whole so_far.answers so_far.history so_far.run;
+        answered = are_answered issuer so_far.whole so_far.answers so_far.histories so_far.run;
       };
       written = so_far.written;
     }

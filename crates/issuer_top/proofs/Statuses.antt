@@ -1,19 +1,20 @@
 -- What a status says of how a run ended, and that all goes well where all is in order.
-use Rattle.std.proofs.Common.{◌≡◌, ℕ, ◌⊎◌, List, length, Option, None, Some, sym, subst, ap, ◌∙◌, inl, inr, ⊎_elim, arith}
+use Rattle.std.proofs.Common.{◌≡◌, ℕ, ◌⊎◌, List, length, Option, Some, Ok, Err, sym, subst, ap, ◌∙◌, inl, inr, ⊎_elim, arith}
 use Rattle.issuer_base.specs.Desk.{GivesHeld}
 use Rattle.line_reader.specs.Lines.{lines}
 use Rattle.line_reader.specs.Reading.{IsWithinLimits}
 use Rattle.line_reader.proofs.WholeLines.{PassesLimit-over}
 use Rattle.row_core.specs.IssuerSetup.{Setup}
+use Rattle.config_read.specs.declared.fault.ConfigFault.{ConfigFault}
+use Rattle.config_read.specs.Configuration.{configured}
 use Rattle.issuer_top.specs.declared.ending.Ending.{Ending}
 use Rattle.issuer_top.specs.declared.ending.Ending.TheVariants.{Served, NoCommand, BadConfig, InputFailed, SinkFailed, OutOfMemory, PastLimit}
 use Rattle.issuer_top.specs.Command.{IsServe}
 use Rattle.issuer_top.specs.Content.{Told, Holds}
-use Rattle.issuer_top.specs.Configuration.{issuer_from}
 use Rattle.issuer_top.specs.Answered.{PassedAnswered}
 use Rattle.issuer_top.specs.Status.{status_of, IsStatus}
 use Rattle.issuer_top.specs.Endings.{Counts, IsServed, IsUsage, IsBadConfig, CannotRead, IsOutOfMemory, IsTooLong, Writes, IsBrokenOff, EndsBy, IsInOrder}
-use Rattle.issuer_top.proofs.FiveWords.{serve-third, serve-fifth}
+use Rattle.issuer_top.proofs.ServeWords.{serve-five}
 
 -- status 0
 pub at_served : (words : List (List ℕ)) (desk : Told) (counts : Counts) (held_before held_after : Option (List ℕ)) (sink_before sink_after status : ℕ) (ending : Ending)
@@ -101,11 +102,11 @@ IsStatus-of status ending is = (ending, is)
 -- words are a command in one way
 same_config : (words : List (List ℕ)) (config requests other others : List ℕ) → IsServe words config requests → IsServe words other others → other ≡ config
 same_config words config requests other others first second =
-    let e : Some other ≡ Some config = sym (serve-third words other others second) ∙ serve-third words config requests first in cc
+    let e : Some other ≡ Some config = sym (serve-five words other others second).config_given ∙ (serve-five words config requests first).config_given in cc
 
 same_requests : (words : List (List ℕ)) (config requests other others : List ℕ) → IsServe words config requests → IsServe words other others → others ≡ requests
 same_requests words config requests other others first second =
-    let e : Some others ≡ Some requests = sym (serve-fifth words other others second) ∙ serve-fifth words config requests first in cc
+    let e : Some others ≡ Some requests = sym (serve-five words other others second).requests_given ∙ (serve-five words config requests first).requests_given in cc
 
 -- what stands under a name that the desk tells of is what it tells
 same_content : (desk : Told) (name other content told : List ℕ) → other ≡ name → desk name ≡ Some (Some told) → Holds desk other content → content ≡ told
@@ -114,10 +115,10 @@ same_content desk name other content told same tells holds =
     let e : Some content ≡ Some told = subst (λ (t : Option (Option (List ℕ))). GivesHeld t (Some content)) tells at_name in
     cc
 
--- a text doesn't list issuer and list none
-not_both : (content told : List ℕ) (issuer : Setup) → content ≡ told → issuer_from told ≡ Some issuer → issuer_from content ≡ None → ⊥
-not_both content told issuer same lists none =
-    let e : None ≡ Some issuer = sym none ∙ ap issuer_from same ∙ lists in cc
+-- a text doesn't say an issuer and a fault
+not_both : (content told : List ℕ) (issuer : Setup) (fault : ConfigFault) → content ≡ told → configured told ≡ Ok issuer → configured content ≡ Err fault → ⊥
+not_both content told issuer fault same says broken =
+    let e : Err fault ≡ Ok issuer = sym broken ∙ ap configured same ∙ says in cc
 
 -- a file within the limits goes past none
 not_past : (issuer : Setup) (file told answers : List ℕ) (number : ℕ) → file ≡ told → IsWithinLimits (length (lines told)) (length told) → PassedAnswered issuer file answers number → ⊥
@@ -143,7 +144,7 @@ in_order words desk counts held_before held_after sink_before sink_after status 
 in_order words desk counts held_before held_after sink_before sink_after status BadConfig is ends order =
     let same = same_content desk order.config ends.1.config ends.1.content order.content
     (same_config words order.config order.requests ends.1.config ends.1.requests order.serve ends.1.serve) order.config_held ends.1.held in
-    absurd (not_both ends.1.content order.content order.issuer same order.listed ends.1.broken)
+    absurd (not_both ends.1.content order.content order.issuer ends.1.fault same order.says ends.1.broken)
 in_order words desk counts held_before held_after sink_before sink_after status InputFailed is ends order =
     absurd (not_unread words desk counts sink_before sink_after ends.0 order ends.1)
 in_order words desk counts held_before held_after sink_before sink_after status SinkFailed is ends order = absurd (order.sink_stood ends.rose)

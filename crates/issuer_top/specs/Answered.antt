@@ -1,25 +1,24 @@
 -- Which lines of a request file were answered, and the text of their answers.
-use Rattle.std.specs.Prelude.{◌≡◌, ℕ, ◌+◌, List, [], ◌++◌, length}
+use Rattle.std.specs.Prelude.{◌≡◌, ℕ, ◌+◌, List, ◌++◌, length}
 use Rattle.std.specs.List.{flat_map}
 use Rattle.issuer_base.specs.declared.answer.Answer.{Answer}
 use Rattle.issuer_base.specs.declared.entry.Entry.{Entry}
 use Rattle.line_reader.specs.Lines.{lines, ended, BeginsWithLines, IsLinesAndRest}
 use Rattle.line_reader.specs.Reading.{IsWithinLimits, StaysWithinLimits, PassesLimit}
-use Rattle.card_history.specs.Turns.{Run}
+use Rattle.card_history.specs.Turns.{Run, no_records}
 use Rattle.card_history.specs.OneReply.{IsConsistent}
 use Rattle.row_core.specs.IssuerSetup.{Setup}
-use Rattle.memory_host.specs.Reading.{reading}
-use Rattle.memory_host.specs.Replying.{reply_to}
+use Rattle.memory_host.specs.Answering.{rules_of}
 use Rattle.answer_text.specs.AnswerText.{printed}
 
--- the text of the answers to these lines, one turn after another from the empty history: so no counter of a card was decided
--- twice, and each request has one reply
+-- the text of the answers to these lines, one turn after another from one empty history per shard: so no counter of a card was
+-- decided twice, and each request has one reply
 pub record AreAnswered (issuer : Setup) (asked : List (List ℕ)) (text : List ℕ) : Type 0 where
   pub answers : List Answer
-  pub history : List Entry
-  pub run : Run 0 (reading issuer) (reply_to issuer) [] asked answers history
+  pub histories : List (List Entry)
+  pub run : Run (rules_of issuer) (no_records issuer.shards) asked answers histories
   pub printed_is : text ≡ flat_map printed answers
-  pub consistent : IsConsistent (reading issuer) asked answers history
+  pub consistent : IsConsistent (rules_of issuer) asked answers histories
 
 -- all lines of the file were answered, and it is within the limits
 pub record AllAnswered (issuer : Setup) (file text : List ℕ) : Type 0 where

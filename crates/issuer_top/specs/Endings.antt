@@ -1,14 +1,16 @@
 -- How a run may end: a relation for each status, of the words, of what the desk tells, of the counts of faults, and of the
 -- text that was due.
-use Rattle.std.specs.Prelude.{◌≡◌, ℕ, ◌<◌, ◌⊎◌, List, length, ◌++◌, Option, None, Some, IsSomeAnd}
+use Rattle.std.specs.Prelude.{◌≡◌, ℕ, ◌<◌, ◌⊎◌, List, length, ◌++◌, Option, None, Some, IsSomeAnd, Ok, Err}
 use Rattle.issuer_base.specs.OutsideFaults.{Rose}
 use Rattle.row_core.specs.IssuerSetup.{Setup}
 use Rattle.answer_text.specs.StopText.{stop_text}
-use Rattle.answer_text.specs.declared.stop_line.Stop.TheVariants.{Usage, Config, ReadFault, NoMemory, TooLong}
+use Rattle.answer_text.specs.declared.stop_line.Stop.TheVariants.{Usage, ReadFault, NoMemory, TooLong}
 use Rattle.issuer_top.specs.Command.{IsServe, IsNoCommand}
 use Rattle.issuer_top.specs.Content.{Told, Holds}
 use Rattle.issuer_top.specs.Answered.{AllAnswered, WholeAnswered, PassedAnswered, FrontAnswered}
-use Rattle.issuer_top.specs.Configuration.{issuer_from}
+use Rattle.config_read.specs.declared.fault.ConfigFault.{ConfigFault}
+use Rattle.config_read.specs.Configuration.{configured}
+use Rattle.issuer_top.specs.Configuration.{config_stop}
 use Rattle.issuer_top.specs.declared.ending.Ending.{Ending}
 use Rattle.issuer_top.specs.declared.ending.Ending.TheVariants.{Served, NoCommand, BadConfig, InputFailed, SinkFailed, OutOfMemory, PastLimit}
 use Rattle.line_reader.specs.Lines.{lines}
@@ -29,13 +31,13 @@ abbrev pub counts_of : ℕ → ℕ → Option (List ℕ) → Option ℕ → Opti
 counts_of desk_before desk_after last_fault config requests =
     record { desk_before = desk_before; desk_after = desk_after; last_fault = last_fault; config = config; requests = requests }
 
--- the words are the command, and the configuration lists an issuer
+-- the words are the command, and the configuration says an issuer
 pub record IsSetUp (words : List (List ℕ)) (desk : Told) (requests : List ℕ) (issuer : Setup) : Type 0 where
   pub config : List ℕ
   pub content : List ℕ
   pub serve : IsServe words config requests
   pub held : Holds desk config content
-  pub listed : issuer_from content ≡ Some issuer
+  pub says : configured content ≡ Ok issuer
 
 -- status 0: all lines of the request file were answered
 pub record IsServed (words : List (List ℕ)) (desk : Told) (text : List ℕ) : Type 0 where
@@ -51,15 +53,16 @@ pub record IsUsage (words : List (List ℕ)) (text : List ℕ) : Type 0 where
   pub no_command : IsNoCommand words
   pub last : text ≡ stop_text Usage
 
--- status 2: the configuration lists no issuer
+-- status 2: the configuration is broken, and its place is told
 pub record IsBadConfig (words : List (List ℕ)) (desk : Told) (text : List ℕ) : Type 0 where
   pub config : List ℕ
   pub requests : List ℕ
   pub content : List ℕ
+  pub fault : ConfigFault
   pub serve : IsServe words config requests
   pub held : Holds desk config content
-  pub broken : issuer_from content ≡ None
-  pub last : text ≡ stop_text (Config 0 0)
+  pub broken : configured content ≡ Err fault
+  pub last : text ≡ stop_text (config_stop fault)
 
 -- status 3: the desk failed at the configuration's name
 pub record CannotOpenConfig (words : List (List ℕ)) (counts : Counts) (text : List ℕ) : Type 0 where
@@ -178,7 +181,7 @@ pub record IsInOrder (words : List (List ℕ)) (desk : Told) (counts : Counts) (
   pub file : List ℕ
   pub serve : IsServe words config requests
   pub config_held : desk config ≡ Some (Some content)
-  pub listed : issuer_from content ≡ Some issuer
+  pub says : configured content ≡ Ok issuer
   pub requests_held : desk requests ≡ Some (Some file)
   pub within : IsWithinLimits (length (lines file)) (length file)
   pub desk_stood : Rose counts.desk_before counts.desk_after → ⊥

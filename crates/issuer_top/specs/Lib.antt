@@ -7,3 +7,4 @@ pub mod Status
 pub mod Endings
 pub mod Stopping
 pub mod Opening
+pub mod FiveWords

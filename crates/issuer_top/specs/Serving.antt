@@ -1,5 +1,5 @@
 -- What serving a file of request lines does, from its first line on.
-use Rattle.std.specs.Prelude.{◌≡◌, ℕ, Bool, true, false, List, [], Option, Result}
+use Rattle.std.specs.Prelude.{◌≡◌, ℕ, Bool, true, false, List, Option, Result}
 use Rattle.std.specs.List.{flat_map}
 use Rattle.std.specs.Io.KnownBytes.{Appends, Consumes}
 use Rattle.issuer_base.specs.declared.answer.Answer.{Answer}
@@ -7,12 +7,12 @@ use Rattle.issuer_base.specs.declared.entry.Entry.{Entry}
 use Rattle.issuer_base.specs.declared.faults.WriteFault.{WriteFault}
 use Rattle.issuer_base.specs.Sink.{AppendsFront, WritesAll}
 use Rattle.line_reader.specs.Reading.{Reading, HasGivenLines, unread}
-use Rattle.card_history.specs.Turns.{Run, Turn}
+use Rattle.card_history.specs.Turns.{Run, Turn, no_records}
 use Rattle.row_core.specs.IssuerSetup.{Setup}
 use Rattle.answer_text.specs.AnswerText.{printed}
 use Rattle.memory_host.specs.Holding.{Holding, StandsFor}
 use Rattle.memory_host.specs.Reading.{reading}
-use Rattle.memory_host.specs.Replying.{reply_to}
+use Rattle.memory_host.specs.Answering.{rules_of}
 use Rattle.issuer_top.specs.declared.serve.Server.{Server}
 use Rattle.issuer_top.specs.declared.serve.Served.{Served}
 use Rattle.issuer_top.specs.declared.serve.Served.TheVariants.{All, ReadFault, WriteFault as SinkFault, TooLong}
@@ -22,14 +22,14 @@ use Rattle.issuer_top.specs.Answered.{AllAnswered, WholeAnswered, PassedAnswered
 -- a server of this issuer that has read and answered nothing
 pub record IsNew (server : Server) (issuer : Setup) : Type 0 where
   pub issuer_is : server.host.issuer ≡ issuer
-  pub stands : StandsFor server.host []
+  pub stands : StandsFor server.host (no_records issuer.shards)
   pub reads_first : server.reader ≡ unread
 
 -- the line in hand was answered, and its answer was written, all of it or a front
 pub record AnswersLine (old new : Server) (held_before held_after : Option (List ℕ)) (written : Result (Unit {0}) WriteFault) : Type 0 where
   pub answer : Answer
-  pub turn : (before : List Entry) → StandsFor old.host before → (after : List Entry) × StandsFor new.host after
-      × Turn 0 (reply_to old.host.issuer) before (reading old.host.issuer old.reader.line) answer after
+  pub turn : (before : List (List Entry)) → StandsFor old.host before → (after : List (List Entry)) × StandsFor new.host after
+      × Turn (rules_of old.host.issuer) before (reading old.host.issuer old.reader.line) answer after
   pub prints : WritesAll held_before held_after written (printed answer)
   pub same_issuer : new.host.issuer ≡ old.host.issuer
   pub same_reader : new.reader ≡ old.reader
@@ -39,12 +39,12 @@ pub record HasServed (issuer : Setup) (was now held_before held_after : Option (
   pub read : List ℕ
   pub whole : List (List ℕ)
   pub answers : List Answer
-  pub history : List Entry
+  pub histories : List (List Entry)
   pub consumed : Consumes was now read
   pub given : HasGivenLines reader read whole
   pub issuer_is : host.issuer ≡ issuer
-  pub stands : StandsFor host history
-  pub run : Run 0 (reading issuer) (reply_to issuer) [] whole answers history
+  pub stands : StandsFor host histories
+  pub run : Run (rules_of issuer) (no_records issuer.shards) whole answers histories
   pub written : Appends held_before held_after (flat_map printed answers)
 
 -- all lines were answered

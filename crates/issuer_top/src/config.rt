@@ -1,12 +1,12 @@
 //! The configuration: read to its end, and taken as an issuer's keys and cards.
-ghost use Rattle.std.specs.Prelude.{◌≡◌, ℕ, List, IfOk, IfErr, Some};
+ghost use Rattle.std.specs.Prelude.{◌≡◌, false, IfOk, IfErr};
 ghost use Rattle.issuer_base.specs.OutsideFaults.{CountsFaults};
-ghost use Rattle.issuer_top.specs.Configuration.{IsRead, is_read_fault, Lists, GivesNoIssuer, IsNoList, is_read_stop, issuer_from};
+ghost use Rattle.issuer_top.specs.Configuration.{IsRead, is_read_fault, Says, GivesNoIssuer, is_read_cause, is_read_stop, config_stop};
 
 use answer_text::Stop;
-use card_list::{ListFault, read_list};
+use config_read::{ConfigFault, read_config};
 use issuer_base::{ReadFault, Source};
-use row_core::{Issuer, IssuerFault};
+use row_core::Issuer;
 use std::alloc::Global;
 
 /// How many bytes a configuration may have.
@@ -43,9 +43,9 @@ pub(crate) fn read_text<S: Source>(alloc: Global, source: &mut S) -> Result<Vec<
     Ok(text)
 }
 
-/// The issuer that a configuration lists, or why it lists none.
+/// The issuer that a configuration says, or why it says none.
 pub(crate) fn read_issuer<S: Source>(alloc: Global, source: &mut S) -> Result<Issuer, Stop>
-    ensures lists { IfOk result (λ issuer. Lists (S.left source.old) issuer) }
+    ensures says { IfOk result (λ issuer. Says (S.left source.old) issuer) }
     ensures none { IfErr result (GivesNoIssuer (S.left source.old)) }
     ensures count { CountsFaults (S.faults source.old) (S.faults source.new) (is_read_stop result) }
 {
@@ -54,22 +54,20 @@ pub(crate) fn read_issuer<S: Source>(alloc: Global, source: &mut S) -> Result<Is
         Err(TextFault::Read) => return Err(Stop::ReadFault),
         Err(TextFault::NoMemory) => return Err(Stop::NoMemory),
     };
-    issuer_of(alloc, &text)
+    match read_config(alloc, &text) {
+        Ok(issuer) => Ok(issuer),
+        Err(fault) => Err(config_stop(fault)),
+    }
 }
 
-/// The issuer that a text lists, or why it lists none.
-fn issuer_of(alloc: Global, text: &[u8]) -> Result<Issuer, Stop>
-    ensures lists { IfOk result (λ issuer. issuer_from text.now ≡ Some issuer) }
-    ensures none { IfErr result (IsNoList text.now) }
+/// How a run stops where its configuration says no issuer.
+fn config_stop(fault: ConfigFault) -> Stop
+    ensures stop { result ≡ config_stop fault }
+    ensures cause { is_read_cause result ≡ false }
 {
-    let listed = match read_list(alloc, text) {
-        Ok(listed) => listed,
-        Err(ListFault::Broken) => return Err(Stop::Config { part: 0, index: 0 }),
-        Err(ListFault::NoMemory) => return Err(Stop::NoMemory),
-    };
-    match Issuer::new(alloc, listed.keys, listed.cards) {
-        Ok(issuer) => Ok(issuer),
-        Err(IssuerFault::Key(_) | IssuerFault::Card(_)) => Err(Stop::Config { part: 0, index: 0 }),
-        Err(IssuerFault::NoMemory) => Err(Stop::NoMemory),
+    match fault {
+        ConfigFault::NotJson => Stop::Config { part: 1, index: 0 },
+        ConfigFault::At { part, index } => Stop::Config { part, index },
+        ConfigFault::NoMemory => Stop::NoMemory,
     }
 }

@@ -10,8 +10,15 @@ use std::alloc::{AllocError, Global};
 use std::process::Abort;
 use std::test::Fail;
 
-const LIST: &str =
-    "key 01 A 000102030405060708090A0B0C0D0E0F 101112131415161718191A1B1C1D1E1F\ncard 4000000000000002 00 1\ncard 4000000000000010 00 2\n";
+/// One shard, one key set, two cards, and a table that approves up to an amount of 500000.
+const CONFIG: &str = r#"{"shards":1,
+ "keys":[{"dki":1,"option":"A","ac":"000102030405060708090A0B0C0D0E0F","smi":"101112131415161718191A1B1C1D1E1F"}],
+ "cards":[{"pan":"4000000000000002","psn":"00","method":1},
+          {"pan":"4000000000000010","psn":"00","method":2}],
+ "table":[
+  {"tvr_mask":"0000000000","tvr_value":"0000000000","cvr_mask":"0000000000","cvr_value":"0000000000","least":0,"most":999999999999,"status":1,"arc":"3036","approve":false,"csu":"00000000"},
+  {"tvr_mask":"0000000000","tvr_value":"0000000000","cvr_mask":"0000000000","cvr_value":"0000000000","least":0,"most":500000,"status":null,"arc":"3030","approve":true,"csu":"00800000"},
+  {"tvr_mask":"0000000000","tvr_value":"0000000000","cvr_mask":"0000000000","cvr_value":"0000000000","least":0,"most":999999999999,"status":null,"arc":"3035","approve":false,"csu":"00000000"}]}"#;
 
 const COMMAND: [&str; 5] = ["serve", "--config", "config", "--requests", "requests"];
 
@@ -80,9 +87,9 @@ fn run<R: AllocGlobal>(
     Ok((status, text))
 }
 
-/// Checks that a run over the list answers all lines, and just so.
+/// Checks that a run over the configuration answers all lines, and just so.
 fn check<R: AllocGlobal + Abort>(rt: &R, requests: &str, expected: &str) -> Result<(), Fail> {
-    let (status, text) = run(rt, &COMMAND, LIST, requests)?;
+    let (status, text) = run(rt, &COMMAND, CONFIG, requests)?;
     assert_eq!(rt; text.as_str(), expected, "for {requests}");
     assert_eq!(rt; status, 0);
     Ok(())
@@ -204,38 +211,110 @@ fn drops_what_is_past_the_longest_line(rt: HostRuntime) -> Result<(), Fail> {
 }
 
 #[test]
-fn stops_where_words_or_lists_are_none(rt: HostRuntime) -> Result<(), Fail> {
-    let stops = [
-        ["serve", "--requests", "requests", "--config", "config"],
-        ["serve", "--config", "", "--requests", "requests"],
-        ["serve", "--config", "-c", "--requests", "requests"],
-        ["Serve", "--config", "config", "--requests", "requests"],
-    ];
-    for words in &stops {
-        let (status, text) = run(&rt, words, LIST, "X\n")?;
-        assert_eq!(rt; status, 1);
-        assert_eq!(rt; text.as_str(), "stop 1\n");
-    }
-    let broken = [
-        "",
-        "card 4000000000000002 00 1\n",
-        "key 01 A 000102030405060708090A0B0C0D0E0F 101112131415161718191A1B1C1D1E1F\n",
-        "key 01 C 000102030405060708090A0B0C0D0E0F 101112131415161718191A1B1C1D1E1F\ncard 4000000000000002 00 1\n",
-        "key 01 A 000102030405060708090A0B0C0D0E0F 101112131415161718191A1B1C1D1E1F\ncard 4000000000000002 00 1\ncard 4000000000000002 00 2\n",
-        "key 01 A 000102030405060708090A0B0C0D0E0F 101112131415161718191A1B1C1D1E1F\ncard 4000000000000002 00 1",
-    ];
-    for config in broken {
-        let (status, text) = run(&rt, &COMMAND, config, "X\n")?;
-        assert_eq!(rt; status, 2);
-        assert_eq!(rt; text.as_str(), "stop 2 0 0\n");
-    }
-    for words in [
-        ["serve", "--config", "none", "--requests", "requests"],
-        ["serve", "--config", "config", "--requests", "none"],
+fn decides_by_amount(rt: HostRuntime) -> Result<(), Fail> {
+    let alloc = rt.alloc();
+    let greatest = line(alloc, 7, "4768C8FA75F31625")?
+        .as_str()
+        .replace(alloc, "9F0206000000012345", "9F0206000000500000")?;
+    let above = line(alloc, 8, "1386B7992D51CD70")?
+        .as_str()
+        .replace(alloc, "9F0206000000012345", "9F0206000000500001")?;
+    let both = format!(in alloc; "{greatest}{above}")?;
+    check(
+        &rt,
+        both.as_str(),
+        "fresh 0 0 yes 3030 8a023030910a8022f687d456485e3030\nfresh 0 1 no 3035 8a023035910a3ab012c7d40cd2803035\n",
+    )
+}
+
+#[test]
+fn counts_places_by_shard(rt: HostRuntime) -> Result<(), Fail> {
+    let alloc = rt.alloc();
+    let first = line(alloc, 7, AC)?;
+    let second = request(alloc, "4000000000000010", 7, "1A2B3C4D", "1DE2D48E1E32FA1B")?;
+    let third = line(alloc, 65, "93EED1B2ED608C61")?;
+    let lines = format!(in alloc; "{first}{second}{third}{second}")?;
+    let config = CONFIG.replace(alloc, r#""shards":1"#, r#""shards":2"#)?;
+    let (status, text) = run(&rt, &COMMAND, config.as_str(), lines.as_str())?;
+    assert_eq!(rt;
+        text.as_str(),
+        "fresh 0 0 yes 3030 8a023030910a02369be26b4161bc3030\nfresh 1 0 yes 3030 8a02303091087095934c00800000\nfresh 0 1 yes 3030 8a023030910a2460f3fa6de401fa3030\nkept 1 0 yes 3030 8a02303091087095934c00800000\n"
+    );
+    assert_eq!(rt; status, 0);
+    Ok(())
+}
+
+#[test]
+fn takes_words_in_any_order_each_once(rt: HostRuntime) -> Result<(), Fail> {
+    for (words, expected, last) in [
+        (
+            "serve --config config --requests requests",
+            0,
+            "refused 1 0\n",
+        ),
+        (
+            "serve --requests requests --config config",
+            0,
+            "refused 1 0\n",
+        ),
+        ("serve --config config --config config", 1, "stop 1\n"),
+        (
+            "serve --config config --config config --requests requests",
+            1,
+            "stop 1\n",
+        ),
+        ("serve --config=config --requests requests", 1, "stop 1\n"),
+        ("serve --config -c --requests requests", 1, "stop 1\n"),
+        ("serve --config  --requests requests", 1, "stop 1\n"),
+        ("Serve --config config --requests requests", 1, "stop 1\n"),
+        ("serve --config config --journal requests", 1, "stop 1\n"),
+        ("serve --config config --requests", 1, "stop 1\n"),
+        ("serve", 1, "stop 1\n"),
+        ("", 1, "stop 1\n"),
+        ("serve --config none --requests requests", 3, "stop 3\n"),
+        ("serve --config config --requests none", 3, "stop 3\n"),
     ] {
-        let (status, text) = run(&rt, &words, LIST, "X\n")?;
-        assert_eq!(rt; status, 3);
-        assert_eq!(rt; text.as_str(), "stop 3\n");
+        let (status, text) = run_words(&rt, words)?;
+        assert_eq!(rt; status, expected, "{words}");
+        assert_eq!(rt; text.as_str(), last, "{words}");
+    }
+    Ok(())
+}
+
+/// The status of a run of these words, parted by spaces, over one line that is no request, and what it writes.
+fn run_words<R: AllocGlobal>(rt: &R, words: &str) -> Result<(u8, String), Fail> {
+    let mut all = Vec::new(rt.alloc());
+    for word in words.split(' ') {
+        all.push(word)?;
+    }
+    run(rt, all.as_slice(), CONFIG, "X\n")
+}
+
+#[test]
+fn names_the_broken_place_of_a_configuration(rt: HostRuntime) -> Result<(), Fail> {
+    let alloc = rt.alloc();
+    for (name, old, new, place) in [
+        ("no JSON", r#"{"shards""#, r#""shards""#, "1 0"),
+        ("no shards", r#""shards""#, r#""shard""#, "2 0"),
+        ("an index of two bytes", r#""dki":1"#, r#""dki":256"#, "3 1"),
+        (
+            "a card twice",
+            "4000000000000010",
+            "4000000000000002",
+            "4 2",
+        ),
+        (
+            "a last row that doesn't take all",
+            r#"999999999999,"status":null"#,
+            r#"1,"status":null"#,
+            "5 3",
+        ),
+    ] {
+        let config = CONFIG.replace(alloc, old, new)?;
+        let (status, text) = run(&rt, &COMMAND, config.as_str(), "X\n")?;
+        let expected = format!(in alloc; "stop 2 {place}\n")?;
+        assert_eq!(rt; text, expected, "{name}");
+        assert_eq!(rt; status, 2, "{name}");
     }
     Ok(())
 }
@@ -257,7 +336,7 @@ impl Desk for SippingDesk {
 
     fn read(&mut self, name: &str) -> Result<MemorySource, DeskFault> {
         let text = if name == "config" {
-            LIST
+            CONFIG
         } else {
             self.requests
         };
@@ -332,7 +411,7 @@ impl Sink for SippingSink {
 #[test]
 fn stops_where_the_sink_fails(rt: HostRuntime) -> Result<(), Fail> {
     for fails_at in 0..12 {
-        let desk = desk_of(rt.alloc(), LIST, "X")?;
+        let desk = desk_of(rt.alloc(), CONFIG, "X")?;
         let mut out = SippingSink {
             calls: 0,
             fails_at,
@@ -341,7 +420,7 @@ fn stops_where_the_sink_fails(rt: HostRuntime) -> Result<(), Fail> {
         let status = status_of(issue(&rt, &words_of(rt.alloc(), &COMMAND)?, desk, &mut out));
         assert_eq!(rt; status, 4, "at {fails_at}");
     }
-    let desk = desk_of(rt.alloc(), LIST, "X")?;
+    let desk = desk_of(rt.alloc(), CONFIG, "X")?;
     let mut out = SippingSink {
         calls: 0,
         fails_at: 12,
@@ -373,7 +452,7 @@ impl Source for Repeated {
     }
 }
 
-/// A desk over a list and so many lines.
+/// A desk over a configuration and so many lines.
 #[derive(Drop)]
 struct LongDesk {
     lines: u32,
@@ -389,7 +468,7 @@ impl Desk for LongDesk {
     fn read(&mut self, name: &str) -> Result<Repeated, DeskFault> {
         if name == "config" {
             Ok(Repeated {
-                text: LIST.as_bytes(),
+                text: CONFIG.as_bytes(),
                 times: 1,
             })
         } else {

@@ -3,7 +3,7 @@ ghost use Rattle.std.specs.Prelude.{◌≡◌, ◌⊎◌, ℕ, List, Some, IfOk,
 ghost use Rattle.std.specs.Option.{option_map};
 ghost use Rattle.issuer_base.specs.OutsideFaults.{CountsFaults};
 ghost use Rattle.issuer_base.specs.Desk.{GivesHeld};
-ghost use Rattle.issuer_top.specs.Configuration.{Lists, GivesNoIssuer, is_read_stop};
+ghost use Rattle.issuer_top.specs.Configuration.{Says, GivesNoIssuer, is_read_stop};
 ghost use Rattle.issuer_top.specs.Content.{Told};
 ghost use Rattle.issuer_top.specs.Opening.{stop_of};
 ghost use Rattle.issuer_top.specs.Serving.{IsNew};
@@ -154,10 +154,10 @@ fn stop_at(fault: DeskFault) -> Stop
     }
 }
 
-/// A server of the issuer that the configuration lists, with all the memory that it needs, but for records.
+/// A server of the issuer that the configuration says, with all the memory that it needs, but for records.
 fn set_up<S: Source>(alloc: Global, config: &mut S) -> Result<Server, Stop>
     ensures new { IfOk result (λ server. IsNew server server.host.issuer) }
-    ensures lists { IfOk result (λ server. Lists (S.left config.old) server.host.issuer) }
+    ensures says { IfOk result (λ server. Says (S.left config.old) server.host.issuer) }
     ensures none { IfErr result (GivesNoIssuer (S.left config.old)) }
     ensures count { CountsFaults (S.faults config.old) (S.faults config.new) (is_read_stop result) }
 {

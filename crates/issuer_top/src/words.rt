@@ -1,8 +1,13 @@
 //! The words of a run.
-ghost use Rattle.std.specs.Prelude.{◌≡◌, ◌↔◌, ℕ, List, length, IsTrue, IfNone, IfSome};
-ghost use Rattle.issuer_top.specs.Command.{IsName, IsServe, IsNoCommand, HasOptions};
+ghost use Rattle.std.specs.Prelude.{◌≡◌, length, IfNone, IfSome};
+ghost use Rattle.std.specs.Option.{option_map};
+ghost use Rattle.issuer_top.specs.Command.{IsServe, IsNoCommand};
+ghost use Rattle.issuer_top.specs.FiveWords.{is_value, value_behind};
 
 use issuer_base::Words;
+
+/// How many words the command to serve has: itself, and two pairs of an option and its value.
+const SERVE_WORDS: usize = 5;
 
 /// The names in the command to serve.
 #[derive(Clone, Copy)]
@@ -18,28 +23,31 @@ pub(crate) fn read_words(words: &Words) -> Option<ServeNames<'_>>
     ensures serve { IfSome result (λ names. IsServe words.now names.config.now names.requests.now) }
     ensures other { IfNone result (IsNoCommand words.now) }
 {
-    if words.count() != 5 || !has_options(words) {
+    if words.count() != SERVE_WORDS || words.word(0) != "serve" {
         return None;
     }
-    let config = words.word(2);
-    let requests = words.word(4);
-    if is_name(config) && is_name(requests) {
-        Some(ServeNames { config, requests })
-    } else {
-        None
-    }
+    let config = value_behind(words, "--config")?;
+    let requests = value_behind(words, "--requests")?;
+    Some(ServeNames { config, requests })
 }
 
-/// Whether the words that aren't names are those of the command.
-fn has_options(words: &Words) -> bool
+/// The value of the first of the two pairs that gives this option; `None` where none does, or its word is no value.
+fn value_behind<'a>(words: &'a Words, option: &str) -> Option<&'a str>
     requires { length words.now ≡ 5 }
-    ensures { IsTrue result ↔ HasOptions words.now }
+    ensures { option_map (λ value. value.now) result ≡ value_behind option.now words.now }
 {
-    words.word(0) == "serve" && words.word(1) == "--config" && words.word(3) == "--requests"
+    let value = if words.word(1) == option {
+        words.word(2)
+    } else if words.word(3) == option {
+        words.word(4)
+    } else {
+        return None;
+    };
+    if is_value(value) { Some(value) } else { None }
 }
 
-fn is_name(word: &str) -> bool
-    ensures { IsTrue result ↔ IsName word.now }
+fn is_value(word: &str) -> bool
+    ensures { result ≡ is_value word.now }
 {
     !word.is_empty() && !word.starts_with('-')
 }

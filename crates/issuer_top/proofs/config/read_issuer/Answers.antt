@@ -1,8 +1,8 @@
-use Rattle.issuer_top.proofs.ConfigurationReads.{lists_or_none, none_or_lists}
+use Rattle.issuer_top.proofs.ConfigurationReads.{Says-from_read, GivesNoIssuer-from_read}
 use Rattle.issuer_top.proofs.config.read_issuer.Goals as goal
 
-pub returns-clause-lists : goal.returns-clause-lists
-returns-clause-lists g c = lists_or_none _ _ c.in-Ok.text.items c.issuer_of.result c.in-Ok.ensures.text (rw c.deref.ensures.value at c.issuer_of.ensures.lists)
+pub returns-in-Ok-read_config-clause-says : goal.returns-in-Ok-read_config-clause-says
+returns-in-Ok-read_config-clause-says g c = Says-from_read _ _ c.in-Ok.text.items _ c.in-Ok.ensures.text (rw c.deref.ensures.value at c.in-Ok-read_config.ensures.issuer)
 
 pub returns-clause-none : goal.returns-clause-none
-returns-clause-none g c = none_or_lists _ _ c.in-Ok.text.items c.issuer_of.result c.in-Ok.ensures.text (rw c.deref.ensures.value at c.issuer_of.ensures.none)
+returns-clause-none g c = rw c.config_stop.ensures.stop (GivesNoIssuer-from_read _ _ c.in-Ok.text.items _ c.in-Ok.ensures.text (rw c.deref.ensures.value at c.in-Err.ensures.refused))

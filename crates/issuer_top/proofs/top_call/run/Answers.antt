@@ -1,6 +1,6 @@
 use Rattle.std.proofs.Common.{refl, subst}
 use Rattle.issuer_base.specs.Desk.{GivesHeld}
-use Rattle.issuer_top.proofs.EndingSteps.{ends_no_config, ends_no_issuer, ends_no_requests, IsSetUp-from_lists}
+use Rattle.issuer_top.proofs.EndingSteps.{ends_no_config, ends_no_issuer, ends_no_requests, IsSetUp-from_said}
 use Rattle.issuer_top.proofs.top_call.run.Goals as goal
 
 pub returns-in-Err : goal.returns-in-Err
@@ -16,13 +16,13 @@ returns-in-Err-set_up g c =
 pub returns-in-Err-read : goal.returns-in-Err-read
 returns-in-Err-read g c =
     ends_no_requests (Unit {0}) _ _ _ _ _ _ _ _ _ _ _ _ _ c.in-Err-read.fault c.in-Some.ensures.serve
-    (IsSetUp-from_lists _ _ _ _ _ _ c.in-Some.ensures.serve c.in-Ok.ensures.input c.in-Ok-set_up.ensures.lists)
+    (IsSetUp-from_said _ _ _ _ _ _ c.in-Some.ensures.serve c.in-Ok.ensures.input c.in-Ok-set_up.ensures.says)
     refl c.in-Ok.ensures.count.never_falls c.in-Err-read.ensures.count c.in-Err-read.ensures.last
     (rw c.stop_at-in-Err-read.ensures at c.stop-in-Err-read.ensures.ended) c.stop-in-Err-read.ensures.count
 
 pub returns : goal.returns
 returns g c =
     c.answer_requests-ending.ensures _ _ _ _
-    (IsSetUp-from_lists _ _ _ _ _ _ c.in-Some.ensures.serve c.in-Ok.ensures.input c.in-Ok-set_up.ensures.lists)
+    (IsSetUp-from_said _ _ _ _ _ _ c.in-Some.ensures.serve c.in-Ok.ensures.input c.in-Ok-set_up.ensures.says)
     (subst (λ told. GivesHeld (told c.in-Some.names.requests.now) (g.D.Input.Source.left c.in-Ok-read.input)) c.in-Ok.ensures.kept c.in-Ok-read.ensures.input)
     refl

@@ -1,17 +1,28 @@
 use Rattle.std.proofs.Common.{rules, arith}
-use Rattle.issuer_top.proofs.FiveWords.{serve_from_five, serve-five, serve-options}
+use Rattle.issuer_top.proofs.ServeWords.{serve-from_five, serve-five}
 use Rattle.issuer_top.proofs.words.read_words.Goals as goal
-use Rattle.issuer_top.proofs.words.read_words.Goals.{then-count-ne5-via-then-count-ne5, then-count-ne5-via-else-count-ne5+then-not-has_options}
+use Rattle.issuer_top.proofs.words.read_words.Goals.{then-count-ne-SERVE_WORDS-via-then-count-ne-SERVE_WORDS, then-count-ne-SERVE_WORDS-via-else-count-ne-SERVE_WORDS+then-ne}
 
-pub returns-then-count-ne5-clause-other : goal.returns-then-count-ne5-clause-other
-returns-then-count-ne5-clause-other c = λ config requests serve.
+pub returns-then-count-ne-SERVE_WORDS-clause-other : goal.returns-then-count-ne-SERVE_WORDS-clause-other
+returns-then-count-ne-SERVE_WORDS-clause-other c = λ config requests serve.
     let five = serve-five c.args.words.now config requests serve in
-    let options = serve-options c.args.words.now config requests serve in
-    elim c.then-count-ne5.branch [
-      | then-count-ne5-via-then-count-ne5 w ↦ absurd (omega (arith, five))
-      | then-count-ne5-via-else-count-ne5+then-not-has_options w ↦ search (rules, options)
+    elim c.then-count-ne-SERVE_WORDS.branch [
+      | then-count-ne-SERVE_WORDS-via-then-count-ne-SERVE_WORDS w ↦ absurd (omega (arith, five.long))
+      | then-count-ne-SERVE_WORDS-via-else-count-ne-SERVE_WORDS+then-ne w ↦ search (rules, five.command)
     ]
 
-pub returns-then-is_name-2-clause-serve : goal.returns-then-is_name-2-clause-serve
-returns-then-is_name-2-clause-serve c =
-    serve_from_five _ _ _ (search rules) (search rules) c.word-config.ensures c.word-requests.ensures (search rules) (search rules)
+pub returns-in_err-config-clause-other : goal.returns-in_err-config-clause-other
+returns-in_err-config-clause-other c =
+    rw c.from_residual.ensures (λ config requests serve.
+    let five = serve-five c.args.words.now config requests serve in
+    search (rules, five.config_given))
+
+pub returns-in_err-requests-clause-other : goal.returns-in_err-requests-clause-other
+returns-in_err-requests-clause-other c =
+    rw c.from_residual-in_err-requests.ensures (λ config requests serve.
+    let five = serve-five c.args.words.now config requests serve in
+    search (rules, five.requests_given))
+
+pub returns-clause-serve : goal.returns-clause-serve
+returns-clause-serve c =
+    serve-from_five c.args.words.now _ _ (search rules) (search rules) (search rules) (search rules)
