@@ -12,7 +12,7 @@ use Rattle.issuer_base.specs.declared.entry.Entry.{Entry}
 use Rattle.issuer_base.specs.declared.entry.Entry.TheVariants.{Decided}
 use Rattle.card_history.specs.Records.{card_of}
 use Rattle.card_history.specs.Turns.{Rules, AnswersIn, Turn, Run, no_records}
-use Rattle.card_history.specs.OneReply.{record_at, IsOncePerCounter, IsAtHome, IsOfItsRecord, IsAnswered, IsConsistent, reply_in}
+use Rattle.card_history.specs.OneReply.{record_at, IsOncePerCounter, AreLegal, IsOfItsRecord, IsAnswered, IsConsistent, reply_in}
 use Rattle.card_history.proofs.ShardTurns.{IsSound, Stays, answers-keep}
 
 -- what holds of each shard's history, and of a new one, holds of each once the new one is written
@@ -60,12 +60,12 @@ module _ (rules : Rules) where
   AreSound : List (List Entry) → Type 0
   AreSound histories = (shard : ℕ) → IsSound rules shard (slice_index_or histories shard [])
 
-  -- a decision of a card stands in the card's shard
-  sound-at_home : (histories : List (List Entry)) → AreSound histories → IsAtHome rules histories
+  -- each decision is legal after the records before it
+  sound-legal : (histories : List (List Entry)) → AreSound histories → AreLegal rules histories
   unfolding AreSound
-  sound-at_home histories sound shard place request reply is = (sound shard).home place request reply is
+  sound-legal histories sound shard place request reply is = (sound shard).legal place request reply is
 
-  -- so two of one card stand in one shard, and so at one place if they are on one counter
+  -- two of one card stand in its shard, and so at one place if they are on one counter
   sound-once : (histories : List (List Entry)) → AreSound histories → IsOncePerCounter histories
   unfolding AreSound
   sound-once histories sound shard other_shard place other_place request other reply other_reply is other_is card counter =
@@ -79,24 +79,24 @@ module _ (rules : Rules) where
     stays : (shard : ℕ) → Stays (slice_index_or before shard []) (slice_index_or after shard [])
     recorded : (request : Request) → reading ≡ Ok request → IsOfItsRecord after request answer
 
-  answers_in-keep : (before : List (List Entry)) (request : Request) (answer : Answer) (after : List (List Entry)) → AreSound before → AnswersIn rules before request answer after → TurnKeeps before (Ok request) answer after
+  answers_in-keep : (before : List (List Entry)) (request : Request) (answer : Answer) (after : List (List Entry)) → (line : List ℕ) × (rules.read line ≡ Ok request) → AreSound before → AnswersIn rules before request answer after → TurnKeeps before (Ok request) answer after
   unfolding AreSound
-  answers_in-keep before request answer after sound turn =
+  answers_in-keep before request answer after asked sound turn =
       let home = rules.shard_of (card_of request) in
       let within : home < length before = slice_get_within before home turn.old turn.old_is in
       let old : slice_index_or before home [] ≡ turn.old = get_or_from_slice_get before home turn.old [] turn.old_is in
       let new : slice_index_or (slice_set before home turn.new) home [] ≡ turn.new = get_or-set_same before home turn.new [] within in
-      let kept = answers-keep rules turn.old request answer turn.new (subst (IsSound rules home) old (sound home)) turn.answers in
+      let kept = answers-keep rules turn.old request answer turn.new asked (subst (IsSound rules home) old (sound home)) turn.answers in
       let stay : Stays (slice_index_or before home []) turn.new = subst (λ (history : List Entry). Stays history turn.new) (sym old) kept.stays in
       subst (λ (after : List (List Entry)). TurnKeeps before (Ok request) answer after) (sym turn.after_is) (record {
         sound = each-shard (IsSound rules) before home turn.new within kept.sound sound;
         stays = each-shard (λ shard history. Stays (slice_index_or before shard []) history) before home turn.new within stay (λ shard place entry is. is);
-        recorded = λ asked is. subst (λ (r : Request). IsOfItsRecord (slice_set before home turn.new) r answer) (let e : request ≡ asked = cc in e) (kept.recorded (slice_set before home turn.new) new);
+        recorded = λ other is. subst (λ (r : Request). IsOfItsRecord (slice_set before home turn.new) r answer) (let e : request ≡ other = cc in e) (kept.recorded (slice_set before home turn.new) new);
       })
 
-  turn-keeps : (before : List (List Entry)) (reading : Result Request Refusal) (answer : Answer) (after : List (List Entry)) → AreSound before → Turn rules before reading answer after → TurnKeeps before reading answer after
-  turn-keeps before (Ok request) answer after sound turn = answers_in-keep before request answer after sound turn
-  turn-keeps before (Err refusal) answer after sound (answer_is, after_is) =
+  turn-keeps : (before : List (List Entry)) (line : List ℕ) (reading : Result Request Refusal) (answer : Answer) (after : List (List Entry)) → rules.read line ≡ reading → AreSound before → Turn rules before reading answer after → TurnKeeps before reading answer after
+  turn-keeps before line (Ok request) answer after read sound turn = answers_in-keep before request answer after (line, read) sound turn
+  turn-keeps before line (Err refusal) answer after read sound (answer_is, after_is) =
       subst (λ (after : List (List Entry)). TurnKeeps before (Err refusal) answer after) (sym after_is) (record { sound = sound; stays = λ shard place entry is. is; recorded = λ request is. absurd (cc) })
 
   -- what a run keeps
@@ -111,7 +111,7 @@ module _ (rules : Rules) where
   run-keeps before [] (answer ∷ answers) after sound run = absurd run
   run-keeps before (line ∷ lines) [] after sound run = absurd run
   run-keeps before (line ∷ lines) (answer ∷ answers) after sound (between, turn, rest) =
-      let first = turn-keeps before (rules.read line) answer between sound turn in
+      let first = turn-keeps before line (rules.read line) answer between refl sound turn in
       let others = run-keeps between lines answers after first.sound rest in
       record {
         sound = others.sound;
@@ -134,6 +134,7 @@ module _ (rules : Rules) where
       subst (IsSound rules shard) (sym (no_records-none shards shard)) (record {
         once = λ first second request other reply other_reply first_is second_is card counter. absurd (cc);
         home = λ place request reply is. absurd (cc);
+        legal = λ place request reply is. absurd (cc);
       })
 
   -- the law, over every run from empty histories
@@ -143,7 +144,7 @@ module _ (rules : Rules) where
       let once = sound-once histories kept.sound in
       record {
         once = once;
-        at_home = sound-at_home histories kept.sound;
+        legal = sound-legal histories kept.sound;
         recorded = kept.recorded;
         one_reply = λ first second request answer other reply other_reply first_answered second_answered reply_is other_is.
             same-replies histories request answer other reply other_reply once (kept.recorded first request answer first_answered) (kept.recorded second request other second_answered) reply_is other_is;

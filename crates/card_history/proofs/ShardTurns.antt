@@ -1,6 +1,8 @@
 -- What an answer keeps of its shard's history: one decision a counter, decisions of its own cards only, each record at its place.
-use Rattle.std.proofs.Common.{◌≡◌, ℕ, zero, suc, List, [], ◌∷◌, ◌++◌, length, Some, refl, ap, sym, ◌∙◌, subst, inl, inr, ◌⊎◌}
+use Rattle.std.proofs.Common.{◌≡◌, ℕ, ◌≤◌, zero, suc, List, [], ◌∷◌, ◌++◌, length, take, Some, Ok, refl, arith, ap, sym, ◌∙◌, subst, inl, inr, ◌⊎◌}
+use Rattle.std.proofs.lemmas.List.{take-append-le, take_all}
 use Rattle.std.proofs.lemmas.List.Elements.{All-contains}
+use Rattle.std.proofs.lemmas.Option.{slice_get_within}
 use Rattle.std.specs.List.{slice_get, slice_index_or}
 use Rattle.issuer_base.specs.declared.request.Request.{Request}
 use Rattle.issuer_base.specs.declared.answer.Reply.{Reply}
@@ -12,7 +14,7 @@ use Rattle.issuer_base.specs.declared.entry.Entry.TheVariants.{Decided}
 use Rattle.card_history.specs.declared.decision.Decision.{Decision}
 use Rattle.card_history.specs.Records.{card_of}
 use Rattle.card_history.specs.Turns.{IsUnused, decided_for, Answers, Rules}
-use Rattle.card_history.specs.OneReply.{record_at, IsOfItsRecord}
+use Rattle.card_history.specs.OneReply.{record_at, IsLegalNext, IsOfItsRecord}
 use Rattle.card_history.proofs.CardNames.{is_of-same}
 use Rattle.card_history.proofs.RecordPlaces.{decided-recorded, recorded-decided}
 
@@ -29,10 +31,17 @@ IsHomeOf rules shard history =
     (place : ℕ) (request : Request) (reply : Reply)
     → slice_get history place ≡ Some (Decided request reply) → shard ≡ rules.shard_of (card_of request)
 
+-- each decided record of this shard's history is a legal next one after the records before it
+abbrev pub IsLegalIn : Rules → ℕ → List Entry → Type 0
+IsLegalIn rules shard history =
+    (place : ℕ) (request : Request) (reply : Reply)
+    → slice_get history place ≡ Some (Decided request reply) → IsLegalNext rules shard (take place history) request reply
+
 -- what is sure of a shard's history
 pub record IsSound (rules : Rules) (shard : ℕ) (history : List Entry) : Type 0 where
   pub once : IsOnceIn history
   pub home : IsHomeOf rules shard history
+  pub legal : IsLegalIn rules shard history
 
 -- each record stays at its place
 abbrev pub Stays : List Entry → List Entry → Type 0
@@ -97,6 +106,26 @@ module _ (rules : Rules) where
             ap (λ (r : Request). rules.shard_of (card_of r)) same
       ]
 
+  -- a legal next record keeps each record legal
+  legal-more : (shard : ℕ) (history : List Entry) (request : Request) (reply : Reply) → IsLegalNext rules shard history request reply → IsLegalIn rules shard history → IsLegalIn rules shard (history ++ Decided request reply ∷ [])
+  legal-more shard history request reply next legal place other given is =
+      elim (slice_get-push_cases history (Decided request reply) place (Decided other given) is) [
+        | inl before ↦
+            let within : place ≤ length history = let below = slice_get_within history place (Decided other given) before in omega (arith, below) in
+            subst (λ (records : List Entry). IsLegalNext rules shard records other given) (sym (take-append-le place history (Decided request reply ∷ []) within)) (legal place other given before)
+        | inr last ↦
+            let same : Decided request reply ≡ Decided other given = last.1 in
+            let asked : request ≡ other = cc in
+            let gave : reply ≡ given = cc in
+            let whole : take place (history ++ Decided request reply ∷ []) ≡ history =
+            ap (λ (n : ℕ). take n (history ++ Decided request reply ∷ [])) last.0
+            ∙ take-append-le (length history) history (Decided request reply ∷ []) (omega arith)
+            ∙ take_all (length history) history (omega arith)
+            in
+            let here : IsLegalNext rules shard history other given = subst (λ (r : Reply). IsLegalNext rules shard history other r) gave (subst (λ (q : Request). IsLegalNext rules shard history q reply) asked next) in
+            subst (λ (records : List Entry). IsLegalNext rules shard records other given) (sym whole) here
+      ]
+
   -- what an answer keeps: a sound history, each record, and the answer is of its record wherever the shard has this history
   pub record Keeps (before : List Entry) (request : Request) (answer : Answer) (after : List Entry) : Type 0 where
     pub sound : IsSound rules (rules.shard_of (card_of request)) after
@@ -112,18 +141,19 @@ module _ (rules : Rules) where
   placed histories home history shard place entry here shard_is is =
       ap (λ (shard : ℕ). record_at histories shard place) shard_is ∙ ap (λ (history : List Entry). slice_get history place) here ∙ is
 
-  pub answers-keep : (before : List Entry) (request : Request) (answer : Answer) (after : List Entry) → IsSound rules (rules.shard_of (card_of request)) before → Answers (rules.shard_of (card_of request)) rules.reply_to before request answer after → Keeps before request answer after
-  answers-keep before request (Fresh at place reply) after sound (unused, at_is, place_is, reply_is, after_is) =
+  pub answers-keep : (before : List Entry) (request : Request) (answer : Answer) (after : List Entry) → (line : List ℕ) × (rules.read line ≡ Ok request) → IsSound rules (rules.shard_of (card_of request)) before → Answers (rules.shard_of (card_of request)) rules.reply_to before request answer after → Keeps before request answer after
+  answers-keep before request (Fresh at place reply) after asked sound (unused, at_is, place_is, reply_is, after_is) =
       let last : slice_get (before ++ Decided request reply ∷ []) place ≡ Some (Decided request reply) = ap (slice_get (before ++ Decided request reply ∷ [])) place_is ∙ slice_get-push before (Decided request reply) in
+      let next : IsLegalNext rules (rules.shard_of (card_of request)) before request reply = record { line = asked.0; read = asked.1; at_home = refl; unused = unused; by_rules = reply_is } in
       subst (λ (after : List Entry). Keeps before request (Fresh at place reply) after) (sym after_is) (record {
-        sound = record { once = once-more before request reply unused sound.once; home = home-more before request reply sound.home };
+        sound = record { once = once-more before request reply unused sound.once; home = home-more before request reply sound.home; legal = legal-more (rules.shard_of (card_of request)) before request reply next sound.legal };
         stays = stays-push before (Decided request reply);
         recorded = λ histories here. placed histories (rules.shard_of (card_of request)) _ at place _ here at_is last;
       })
-  answers-keep before request (Kept at place reply) after sound (used, at_is, after_is) =
+  answers-keep before request (Kept at place reply) after asked sound (used, at_is, after_is) =
       let kept = decided-recorded (card_of request) before (record { request = request; reply = reply; place = place }) used.recorded in
       same-keeps before request (Kept at place reply) after sound after_is (λ histories here. placed histories (rules.shard_of (card_of request)) before at place (Decided request reply) here at_is kept.0)
-  answers-keep before request (Refused (Below top)) after sound (too_old, after_is) = same-keeps before request (Refused (Below top)) after sound after_is (λ histories here. tt)
-  answers-keep before request (Refused (Taken at place)) after sound (taken, at_is, after_is) = same-keeps before request (Refused (Taken at place)) after sound after_is (λ histories here. tt)
-  answers-keep before request (Refused NoMemory) after sound (unused, after_is) = same-keeps before request (Refused NoMemory) after sound after_is (λ histories here. tt)
-  answers-keep before request _ after sound turn = absurd turn
+  answers-keep before request (Refused (Below top)) after asked sound (too_old, after_is) = same-keeps before request (Refused (Below top)) after sound after_is (λ histories here. tt)
+  answers-keep before request (Refused (Taken at place)) after asked sound (taken, at_is, after_is) = same-keeps before request (Refused (Taken at place)) after sound after_is (λ histories here. tt)
+  answers-keep before request (Refused NoMemory) after asked sound (unused, after_is) = same-keeps before request (Refused NoMemory) after sound after_is (λ histories here. tt)
+  answers-keep before request _ after asked sound turn = absurd turn

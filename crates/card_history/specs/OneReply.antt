@@ -1,5 +1,5 @@
 -- The law of a host with one caller: each counter of a card is decided once, and each request has one reply.
-use Rattle.std.specs.Prelude.{◌≡◌, ℕ, List, [], slice_get, slice_index_or, Option, Some, None, Ok}
+use Rattle.std.specs.Prelude.{◌≡◌, ℕ, List, [], take, slice_get, slice_index_or, Option, Some, None, Ok}
 use Rattle.issuer_base.specs.declared.request.Request.{Request}
 use Rattle.issuer_base.specs.declared.answer.Reply.{Reply}
 use Rattle.issuer_base.specs.declared.answer.Answer.{Answer}
@@ -7,7 +7,7 @@ use Rattle.issuer_base.specs.declared.answer.Answer.TheVariants.{Fresh, Kept}
 use Rattle.issuer_base.specs.declared.entry.Entry.{Entry}
 use Rattle.issuer_base.specs.declared.entry.Entry.TheVariants.{Decided}
 use Rattle.card_history.specs.Records.{card_of}
-use Rattle.card_history.specs.Turns.{Rules}
+use Rattle.card_history.specs.Turns.{Rules, IsUnused, decided_for}
 
 -- the record at this place of this shard, if there is one
 abbrev pub record_at : List (List Entry) → ℕ → ℕ → Option Entry
@@ -21,11 +21,21 @@ IsOncePerCounter histories =
     → record_at histories other_shard other_place ≡ Some (Decided other other_reply)
     → card_of request ≡ card_of other → request.atc ≡ other.atc → (shard ≡ other_shard) × (place ≡ other_place)
 
--- each decided record stands in the shard of its card
-abbrev pub IsAtHome : Rules → List (List Entry) → Type 0
-IsAtHome rules histories =
+-- a decided record may come next after these records of this shard: its request was read from a line, its card is one of the
+-- shard's, its counter is in the window and unused, and its reply is the one that the host makes after these records
+pub record IsLegalNext (rules : Rules) (shard : ℕ) (before : List Entry) (request : Request) (reply : Reply) : Type 0 where
+  pub line : List ℕ
+  pub read : rules.read line ≡ Ok request
+  pub at_home : shard ≡ rules.shard_of (card_of request)
+  pub unused : IsUnused (decided_for request before) request
+  pub by_rules : reply ≡ rules.reply_to before request
+
+-- each decided record is a legal next one after the records before it
+abbrev pub AreLegal : Rules → List (List Entry) → Type 0
+AreLegal rules histories =
     (shard place : ℕ) (request : Request) (reply : Reply)
-    → record_at histories shard place ≡ Some (Decided request reply) → shard ≡ rules.shard_of (card_of request)
+    → record_at histories shard place ≡ Some (Decided request reply)
+    → IsLegalNext rules shard (take place (slice_index_or histories shard [])) request reply
 
 -- the reply that an answer gives, or none
 abbrev pub reply_in : Answer → Option Reply
@@ -50,8 +60,8 @@ pub record IsAnswered (rules : Rules) (lines : List (List ℕ)) (answers : List 
 pub record IsConsistent (rules : Rules) (lines : List (List ℕ)) (answers : List Answer) (histories : List (List Entry)) : Type 0 where
   -- no counter of a card was decided twice
   pub once : IsOncePerCounter histories
-  -- each decision is recorded in the shard of its card
-  pub at_home : IsAtHome rules histories
+  -- each decision is a legal next one after the records before it
+  pub legal : AreLegal rules histories
   -- each reply that was given is that of its record
   pub recorded : (index : ℕ) (request : Request) (answer : Answer) → IsAnswered rules lines answers index request answer → IsOfItsRecord histories request answer
   -- two replies to the same request are the same reply

@@ -11,8 +11,8 @@ use Rattle.row_core.specs.IssuerSetup.{Setup}
 use Rattle.memory_host.specs.Answering.{rules_of}
 use Rattle.answer_text.specs.AnswerText.{printed}
 
--- the text of the answers to these lines, one turn after another from one empty history per shard: so no counter of a card was
--- decided twice, and each request has one reply
+-- the text of the answers to these lines, one turn after another from one empty history per shard: so each shard's history is a
+-- legal one, no counter of a card was decided twice, and each request has one reply
 pub record AreAnswered (issuer : Setup) (asked : List (List ℕ)) (text : List ℕ) : Type 0 where
   pub answers : List Answer
   pub histories : List (List Entry)
