@@ -1,12 +1,13 @@
 -- Laws of many calls in a row: of counts of faults, of a piece that is written by and by, and of an input that is read by and by.
-use Rattle.std.proofs.Common.{◌≡◌, ℕ, ◌+◌, ◌<◌, ◌≤◌, Bool, true, false, ◌||◌, List, [], ◌++◌, length, Option, None, Some, IfSome, Result, Ok, Err, take, drop, refl, subst, sym, ap, ◌∙◌, arith}
+use Rattle.std.proofs.Common.{◌≡◌, ℕ, ◌+◌, ◌<◌, ◌≤◌, Bool, true, false, ◌||◌, List, [], ◌++◌, length}
+use Rattle.std.proofs.Common.{Option, None, Some, Result, Ok, Err, take, drop, refl, subst, sym, ap, ◌∙◌, arith}
 use Rattle.std.proofs.Math.Seq.{take-add, take-append-add}
-use Rattle.std.proofs.lemmas.List.{take-append-le, length-append}
+use Rattle.std.proofs.lemmas.List.{append-nil, take-append-le, length-append}
 use Rattle.std.specs.Io.KnownBytes.{Appends, Consumes, IsAtEnd}
-use Rattle.std.proofs.KnownBytes.{Appends-trans, Consumes-whole}
+use Rattle.std.proofs.KnownBytes.{Appends-trans}
 use Rattle.issuer_base.specs.OutsideFaults.{Rose, CountsFaults}
 use Rattle.issuer_base.specs.Sink.{AppendsFront, WritesAll}
-use Rattle.issuer_base.specs.Desk.{GivesHeld}
+use Rattle.issuer_base.specs.Tells.{Tells}
 
 -- ---- counts of faults
 
@@ -57,26 +58,29 @@ AppendsFront-more a b xs ys (n, short, front) =
     (n, simp length-append (omega arith), subst (Appends a b) (sym (take-append-le n xs ys within)) front)
 
 -- one piece was written whole, and then the next one was written, all of it or a front
-pub WritesAll-after : {T E : Type 0} (a b c : Option (List ℕ)) (answer : Result T E) (xs ys : List ℕ) → Appends a b xs → WritesAll b c answer ys → WritesAll a c answer (xs ++ ys)
+pub WritesAll-after : {T E : Type 0} (a b c : Option (List ℕ)) (answer : Result T E) (xs ys : List ℕ)
+    → Appends a b xs → WritesAll b c answer ys → WritesAll a c answer (xs ++ ys)
 WritesAll-after a b c (Ok x) xs ys first second = Appends-trans a b c xs ys first second
 WritesAll-after a b c (Err e) xs ys first second = AppendsFront-after a b c xs ys first second
 
 -- ---- what an input gave
 
--- an input that was read to its end gave just the bytes that its name holds
-pub GivesHeld-whole : (held : Option (Option (List ℕ))) (first last : Option (List ℕ)) (bytes : List ℕ) → GivesHeld held first → Consumes first last bytes → IsAtEnd last
-    → GivesHeld held (Some bytes)
-GivesHeld-whole None first last bytes given read end = tt
-GivesHeld-whole (Some None) first last bytes given read end = given
-GivesHeld-whole (Some (Some file)) first last bytes given read end =
-    let IsBytes : List ℕ → Type 0 = λ xs. Some bytes ≡ Some xs in
-    subst (λ left. IfSome left IsBytes) given (Consumes-whole first last bytes IsBytes read end refl)
+-- what was read so far is a front of what the input had left
+pub Tells-front : (was now : Option (List ℕ)) (bytes : List ℕ) → Consumes was now bytes → (rest : List ℕ) × Tells was (bytes ++ rest)
+Tells-front None now bytes read = ([], tt)
+Tells-front (Some file) None bytes read = absurd read
+Tells-front (Some file) (Some rest) bytes read = (rest, read)
 
--- what an input gave so far is a front of the bytes that its name holds
-pub GivesHeld-front : (held : Option (Option (List ℕ))) (first last : Option (List ℕ)) (bytes : List ℕ) → GivesHeld held first → Consumes first last bytes
-    → (rest : List ℕ) × GivesHeld held (Some (bytes ++ rest))
-GivesHeld-front None first last bytes given read = ([], tt)
-GivesHeld-front (Some None) first last bytes given read = ([], given)
-GivesHeld-front (Some (Some file)) first None bytes given read = absurd (subst (λ left. Consumes left None bytes) given read)
-GivesHeld-front (Some (Some file)) first (Some rest) bytes given read =
-    (rest, ap Some (sym (subst (λ left. Consumes left (Some rest) bytes) given read)))
+-- what was read to the end is all that the input had left
+pub Tells-whole : (was now : Option (List ℕ)) (bytes : List ℕ) → Consumes was now bytes → IsAtEnd now → Tells was bytes
+Tells-whole None now bytes read end = tt
+Tells-whole (Some file) None bytes read end = absurd read
+Tells-whole (Some file) (Some rest) bytes read end = read ∙ ap (λ xs. bytes ++ xs) end ∙ append-nil bytes
+
+-- what an input that a desk gave has left is what the desk tells of its name
+pub Tells-from_left : (told : Option (Option (List ℕ))) (left : Option (List ℕ)) (content : List ℕ) → (told ≡ Some None → ⊥)
+    → Tells told left → Tells left content → Tells told (Some content)
+Tells-from_left None left content stands given left_is = tt
+Tells-from_left (Some None) left content stands given left_is = absurd (stands refl)
+Tells-from_left (Some (Some bytes)) None content stands given left_is = cc
+Tells-from_left (Some (Some bytes)) (Some other) content stands given left_is = given ∙ ap Some left_is

@@ -1,11 +1,12 @@
 -- What the primary account number of a card is: EMV 4.3 Book 3 Annex A, tag 5A, as its list of decimal digits.
 use Rattle.std.specs.Prelude.{ℕ, Bool, ◌&&◌, nat_le, if◌then◌else◌, List, length, Option, Some, None}
 use Rattle.std.specs.List.{list_all}
+use Rattle.issuer_base.specs.declared.limits.TheConstants.{MIN_PAN_DIGITS, MAX_PAN_DIGITS}
 
 -- a primary account number has 8 to 19 decimal digits; that there are at least 8 is this project's profile
 unfoldable pub is_pan : List ℕ → Bool
 is_pan digits =
-    nat_le 8 (length digits) && nat_le (length digits) 19 && list_all (λ digit. nat_le digit 9) digits
+    nat_le MIN_PAN_DIGITS (length digits) && nat_le (length digits) MAX_PAN_DIGITS && list_all (λ digit. nat_le digit 9) digits
 
 -- the account number that these digits are, or none
 unfoldable pub pan_from : List ℕ → Option (List ℕ)

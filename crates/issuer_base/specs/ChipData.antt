@@ -1,5 +1,6 @@
 -- What the fields of a request say: EMV 4.3 Book 3 Annex A, with this project's profile of the issuer application data.
-use Rattle.std.specs.Prelude.{ℕ, ◌+◌, ◌*◌, ◌/◌, ◌%◌, Bool, ◌&&◌, ◌==◌, nat_le, if◌then◌else◌, List, [], ◌∷◌, take, drop, slice_index, fold, bit_and, Option, Some, None}
+use Rattle.std.specs.Prelude.{ℕ, ◌+◌, ◌*◌, ◌/◌, ◌%◌, Bool, ◌&&◌, ◌==◌, nat_le, if◌then◌else◌}
+use Rattle.std.specs.Prelude.{List, [], ◌∷◌, take, drop, slice_index, fold, bit_and, Option, Some, None}
 use Rattle.std.specs.List.{list_all, flat_map}
 use Rattle.issuer_base.specs.declared.request.Parts.{Parts}
 

@@ -1,6 +1,8 @@
+-- The definitions that the contracts of this crate cite.
 pub mod CardNumber
 pub mod ChipData
 pub mod ScriptCommand
+pub mod Tells
 pub mod OutsideFaults
 pub mod Sink
 pub mod Desk

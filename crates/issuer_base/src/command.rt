@@ -1,5 +1,7 @@
+//! A script command, before it is sealed.
 ghost use Rattle.std.specs.Prelude.{◌≡◌, ◌↔◌, IsTrue};
 
+use crate::limits::MAX_BODY_BYTES;
 use arrayvec::ArrayVec;
 
 /// A script command for a card, before it is sealed: EMV 4.3 Book 3, section 6.3.2.
@@ -18,7 +20,7 @@ pub struct Command {
     pub p2: u8,
 
     /// The data, without their length and their MAC.
-    pub body: ArrayVec<u8, 64>,
+    pub body: ArrayVec<u8, MAX_BODY_BYTES>,
 }
 
 impl Command {

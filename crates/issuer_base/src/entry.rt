@@ -1,3 +1,4 @@
+//! The records of a shard's journal.
 ghost use Rattle.std.specs.Prelude.{◌≡◌, ◌↔◌, IsTrue};
 
 use crate::answer::Reply;

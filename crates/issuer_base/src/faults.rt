@@ -1,3 +1,4 @@
+//! The faults of one value each.
 use std::alloc::{AllocError, AllocFailed};
 
 /// No memory was left.

@@ -21,6 +21,15 @@ pub const WINDOW: u16 = 64;
 /// How many undone commands are kept for a card at most.
 pub const MAX_UNDONE: u8 = 64;
 
+/// How many digits an account number has at least.
+pub const MIN_PAN_DIGITS: usize = 8;
+
+/// How many digits an account number has at most.
+pub const MAX_PAN_DIGITS: usize = 19;
+
+/// How many bytes of a reply go to the card at most.
+pub const MAX_REPLY_BYTES: usize = 160;
+
 /// How many bytes the data of a script command have at most.
 pub const MAX_BODY_BYTES: usize = 64;
 

@@ -1,10 +1,11 @@
-// The traits of what lies outside the host: inputs, the output, and the desk that opens inputs by name.
-ghost use Rattle.std.specs.Prelude.{◌≡◌, ℕ, ◌<◌, List, length, Option, None, Some, is_err, IfOk, if◌then◌else◌};
+//! The traits of what lies outside the host: inputs, the output, and the desk that opens inputs by name.
+ghost use Rattle.std.specs.Prelude.{◌≡◌, ℕ, ◌<◌, List, length, Option, None, Some, is_err, IfOk, IsErr, if◌then◌else◌};
 ghost use Rattle.std.specs.Io.{ReadsAtMost, WritesAtMost};
 ghost use Rattle.std.specs.Io.KnownBytes.{ReadConsumes, WriteAppends};
 ghost use Rattle.issuer_base.specs.OutsideFaults.{CountsFaults};
 ghost use Rattle.issuer_base.specs.Sink.{WritesAll};
-ghost use Rattle.issuer_base.specs.Desk.{GivesHeld, is_fault};
+ghost use Rattle.issuer_base.specs.Tells.{Tells};
+ghost use Rattle.issuer_base.specs.Desk.{is_fault};
 ghost use Rattle.issuer_base.specs.declared.outside.DeskFault.TheVariants.{NoMemory};
 
 mod failing_calls;
@@ -96,7 +97,8 @@ pub trait Desk {
     ///
     /// A name with no input is a fault. What the names hold stays as it was.
     fn read(&mut self, name: &str) -> Result<Self::Input, DeskFault>
-        ensures input { IfOk result (λ input. GivesHeld (holds self.old name.now) (Self.Input.left input)) }
+        ensures input { IfOk result (λ input. Tells (holds self.old name.now) (Self.Input.left input)) }
+        ensures absent { holds self.old name.now ≡ Some None → IsErr result }
         ensures new { IfOk result (λ input. Self.Input.faults input ≡ 0) }
         ensures kept { holds self.new ≡ holds self.old }
         ensures count { CountsFaults (faults self.old) (faults self.new) (is_fault result) }

@@ -1,7 +1,9 @@
+//! The primary account number of a card.
 ghost use Rattle.std.specs.Prelude.{◌≡◌, ◌≤◌, ◌↔◌, length, IsTrue, nat_le};
 ghost use Rattle.std.specs.List.{list_all};
 ghost use Rattle.issuer_base.specs.CardNumber.{is_pan, pan_from};
 
+use crate::limits::{MAX_PAN_DIGITS, MIN_PAN_DIGITS};
 use arrayvec::ArrayVec;
 use std::marker::Model;
 
@@ -10,7 +12,7 @@ use std::marker::Model;
 /// A contract sees the list of its digits.
 #[derive(Clone, PartialEq, Eq, PartialOrd, Ord, Hash, Debug, Drop)]
 pub struct Pan {
-    kept: ArrayVec<u8, 19>,
+    kept: ArrayVec<u8, MAX_PAN_DIGITS>,
 }
 
 impl Model for Pan {
@@ -66,9 +68,9 @@ impl Pan {
 #[tactic(auto, unfolding(crate::specs::CardNumber::is_pan))]
 fn is_account_number(digits: &[u8]) -> bool
     ensures exact { result ≡ is_pan digits.now }
-    ensures fits { IsTrue result → length digits.now ≤ 19 }
+    ensures fits { IsTrue result → length digits.now ≤ MAX_PAN_DIGITS }
 {
-    (8..=19).contains(&digits.len()) && are_decimal(digits)
+    (MIN_PAN_DIGITS..=MAX_PAN_DIGITS).contains(&digits.len()) && are_decimal(digits)
 }
 
 fn are_decimal(digits: &[u8]) -> bool

@@ -1,7 +1,9 @@
+//! The fields of a request, and a request whose fields have their forms.
 ghost use Rattle.std.specs.Prelude.{◌≡◌, ◌<◌, ◌↔◌, IsTrue, true};
 ghost use Rattle.std.specs.List.{list_all, flat_map};
-ghost use Rattle.issuer_base.specs.ChipData.{is_request, request_from, is_arqc, cvr, dki, script_count, last_online, amount_value, is_bcd, has_profile, decimal, digits_of};
+ghost use Rattle.issuer_base.specs.ChipData.{is_request, request_from, is_arqc, cvr, dki, script_count, last_online, amount_value, is_bcd, decimal, digits_of};
 
+use crate::chip_data::{has_profile, is_decimal};
 use crate::pan::Pan;
 use std::marker::Model;
 
@@ -190,24 +192,10 @@ fn has_form(parts: &Parts) -> bool
     is_decimal(parts.psn) && are_decimal(&parts.amount) && has_profile(&parts.iad)
 }
 
-#[tactic(auto, unfolding(crate::specs::ChipData::is_bcd))]
-fn is_decimal(byte: u8) -> bool
-    ensures { result ≡ is_bcd byte }
-{
-    byte / 16 <= 9 && byte % 16 <= 9
-}
-
 fn are_decimal(bytes: &[u8]) -> bool
     ensures { result ≡ list_all is_bcd bytes.now }
 {
     bytes.iter().all(|byte| is_decimal(*byte))
-}
-
-#[tactic(auto, unfolding(crate::specs::ChipData::has_profile))]
-fn has_profile(iad: &[u8; 32]) -> bool
-    ensures { result ≡ has_profile iad.now }
-{
-    iad[0] == 0x0F && iad[1] == 0xA5 && iad[16] == 0x0F
 }
 
 /// The number that the decimal digits of these bytes write.

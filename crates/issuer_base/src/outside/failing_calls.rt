@@ -1,3 +1,4 @@
+//! Which calls of an object in memory fail.
 ghost use Rattle.std.specs.Prelude.{◌≡◌, true};
 ghost use Rattle.issuer_base.specs.OutsideFaults.{CountsFaults};
 ghost use Rattle.issuer_base.specs.OutsideMemory.{is_next_listed, no_calls, one_more};
@@ -8,7 +9,7 @@ use std::marker::Model;
 ///
 /// Both counts stop at 2^64 - 1.
 #[derive(Drop)]
-pub struct FailingCalls {
+pub(crate) struct FailingCalls {
     listed: Vec<u64>,
     made: u64,
     faults: u64,
@@ -23,7 +24,7 @@ impl Model for FailingCalls {
 }
 
 impl FailingCalls {
-    pub fn new(listed: Vec<u64>) -> FailingCalls
+    pub(crate) fn new(listed: Vec<u64>) -> FailingCalls
         ensures { result ≡ no_calls listed.items }
     {
         FailingCalls {
@@ -33,26 +34,27 @@ impl FailingCalls {
         }
     }
 
+    /// Whether the call that comes next is one of those that fail.
+    pub(crate) fn is_next_listed(&self) -> bool
+        ensures { result ≡ is_next_listed self.now }
+    {
+        self.listed.contains(&self.made)
+    }
+
     /// Counts a call, and says whether it is one of those that fail.
-    pub fn count_call(&mut self) -> bool
+    pub(crate) fn count_call(&mut self) -> bool
         ensures listed { result ≡ is_next_listed self.old }
         ensures counted { self.new ≡ record self.old { made = one_more self.old.made } }
     {
-        let call = self.made;
-        self.made = call.saturating_add(1);
-        self.listed.contains(&call)
+        let listed = self.is_next_listed();
+        self.made = self.made.saturating_add(1);
+        listed
     }
 
-    pub fn count_fault(&mut self)
+    pub(crate) fn count_fault(&mut self)
         ensures counted { self.new ≡ record self.old { faults = one_more self.old.faults } }
         ensures count { CountsFaults self.old.faults self.new.faults true }
     {
         self.faults = self.faults.saturating_add(1);
-    }
-
-    pub fn faults(&self) -> u64
-        ensures { result ≡ self.now.faults }
-    {
-        self.faults
     }
 }

@@ -1,8 +1,10 @@
-ghost use Rattle.std.specs.Prelude.{◌≡◌, ◌⊎◌, [], ◌∷◌, ◌++◌, false, true, None, Some, is_ok, IfOk, OnOk, OnErr, IsNone, IsErrOf, string_bytes, if◌then◌else◌};
+//! A desk over inputs in memory.
+ghost use Rattle.std.specs.Prelude.{◌≡◌, ◌⊎◌, [], ◌∷◌, ◌++◌, false, true, None, Some, is_ok, IfOk, OnOk, OnErr, IsNone, IsErr, IsErrOf, string_bytes, if◌then◌else◌};
 ghost use Rattle.std.specs.Option.{option_copied, option_map};
-ghost use Rattle.issuer_base.specs.Desk.{GivesHeld, is_fault};
+ghost use Rattle.issuer_base.specs.Desk.{is_fault};
 ghost use Rattle.issuer_base.specs.OutsideFaults.{CountsFaults};
 ghost use Rattle.issuer_base.specs.OutsideMemory.{after_call, bytes_under, input_under, is_next_listed, no_calls, source_over};
+ghost use Rattle.issuer_base.specs.Tells.{Tells};
 
 use super::failing_calls::FailingCalls;
 use super::{Desk, DeskFault, MemorySource};
@@ -85,13 +87,6 @@ impl MemoryDesk {
         self.inputs.push(held).map_err(AllocError::from)?;
         Ok(())
     }
-
-    /// How many calls of `read` answered `Fault`, counted up to 2^64 - 1.
-    pub fn faults(&self) -> u64
-        ensures { result ≡ self.now.calls.faults }
-    {
-        self.calls.faults()
-    }
 }
 
 impl Desk for MemoryDesk {
@@ -104,8 +99,11 @@ impl Desk for MemoryDesk {
     ghost last_fault = { λ d. d.last_fault };
 
     /// Answers `Fault` exactly at a listed call and where there is no input under the name, unless memory is wanting.
+    ///
+    /// A call that wants memory is not counted, and leaves the desk as it was.
     fn read(&mut self, name: &str) -> Result<MemorySource, DeskFault>
-        ensures input { IfOk result (λ input. GivesHeld (bytes_under self.old.inputs name.now) (Some input.left)) }
+        ensures input { IfOk result (λ input. Tells (bytes_under self.old.inputs name.now) (Some input.left)) }
+        ensures absent { bytes_under self.old.inputs name.now ≡ Some None → IsErr result }
         ensures new { IfOk result (λ input. input.calls.faults ≡ 0) }
         ensures kept { bytes_under self.new.inputs ≡ bytes_under self.old.inputs }
         ensures count { CountsFaults self.old.calls.faults self.new.calls.faults (is_fault result) }
@@ -114,13 +112,19 @@ impl Desk for MemoryDesk {
         ensures given { IfOk result (λ input. option_map source_over (input_under self.old.inputs name.now) ≡ Some input) }
         ensures fault { IsErrOf result DeskFault.Fault → (is_next_listed self.old.calls ≡ true) ⊎ IsNone (input_under self.old.inputs name.now) }
         ensures inputs { self.new.inputs ≡ self.old.inputs }
-        ensures calls { self.new.calls ≡ after_call self.old.calls (is_fault result) }
+        ensures counted { OnOk result (self.new.calls ≡ after_call self.old.calls false) }
+        ensures counted_fault { IsErrOf result DeskFault.Fault → self.new.calls ≡ after_call self.old.calls true }
+        ensures unchanged { IsErrOf result DeskFault.NoMemory → self.new ≡ self.old }
     {
-        let listed = self.calls.count_call();
         let asked = String::from_str(self.alloc, name)?;
-        if !listed && let Some(input) = last_named(&self.inputs, name) {
-            return Ok(input.open()?);
+        if !self.calls.is_next_listed()
+            && let Some(input) = last_named(&self.inputs, name)
+        {
+            let opened = input.open()?;
+            self.calls.count_call();
+            return Ok(opened);
         }
+        self.calls.count_call();
         self.calls.count_fault();
         self.last_fault = Some(asked);
         Err(DeskFault::Fault)

@@ -1,3 +1,4 @@
+//! A sink in memory.
 ghost use Rattle.std.specs.Prelude.{◌≡◌, ◌+◌, ◌<◌, [], ◌||◌, nat_lt, length, Some, is_err, IfOk};
 ghost use Rattle.std.specs.Io.{WritesAtMost};
 ghost use Rattle.std.specs.Io.KnownBytes.{WriteAppends};
@@ -49,13 +50,6 @@ impl MemorySink {
         ensures { result.now ≡ self.now.held }
     {
         &self.bytes
-    }
-
-    /// How many writes failed, counted up to 2^64 - 1.
-    pub fn faults(&self) -> u64
-        ensures { result ≡ self.now.calls.faults }
-    {
-        self.calls.faults()
     }
 }
 

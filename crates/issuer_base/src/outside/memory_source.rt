@@ -1,3 +1,4 @@
+//! A source in memory.
 ghost use Rattle.std.specs.Prelude.{◌≡◌, ◌<◌, length, min, take, Some, is_err, IfOk};
 ghost use Rattle.std.specs.Io.{ReadsAtMost};
 ghost use Rattle.std.specs.Io.KnownBytes.{ReadConsumes};
@@ -48,13 +49,6 @@ impl MemorySource {
             step,
             calls: FailingCalls::new(fails),
         }
-    }
-
-    /// How many reads failed, counted up to 2^64 - 1.
-    pub fn faults(&self) -> u64
-        ensures { result ≡ self.now.calls.faults }
-    {
-        self.calls.faults()
     }
 }
 

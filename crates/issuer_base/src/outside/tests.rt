@@ -49,7 +49,6 @@ fn source_fails_where_it_is_told_to(rt: HostRuntime) -> Result<(), Fail> {
     for (call, answer) in answers.iter().enumerate() {
         assert_eq!(rt; next_byte(&mut source), *answer, "call {call}");
     }
-    assert_eq!(rt; source.faults(), 2);
 
     let bytes = vec![in rt.alloc(); b'a', b'b', b'c']?;
     let mut source = MemorySource::new(bytes, vec![in rt.alloc()]?);
@@ -73,7 +72,6 @@ fn sink_fails_where_it_is_told_to_and_past_its_room(rt: HostRuntime) -> Result<(
         assert_eq!(rt; write_all(&mut sink, piece), answer, "{piece:?}");
     }
     assert_eq!(rt; sink.bytes(), b"abcd".as_slice());
-    assert_eq!(rt; sink.faults(), 2);
     Ok(())
 }
 
@@ -83,7 +81,6 @@ fn a_fault_leaves_a_front_of_the_piece(rt: HostRuntime) -> Result<(), Fail> {
     assert_eq!(rt; write_all(&mut sink, b"abc"), Ok(()));
     assert_eq!(rt; write_all(&mut sink, b"defg"), Err(WriteFault));
     assert_eq!(rt; sink.0.bytes(), b"abcde".as_slice());
-    assert_eq!(rt; sink.0.faults(), 1);
     Ok(())
 }
 
@@ -105,6 +102,5 @@ fn desk_gives_what_its_names_hold(rt: HostRuntime) -> Result<(), Fail> {
     for (name, answer) in calls {
         assert_eq!(rt; first_byte(&mut desk, name), answer, "{name}");
     }
-    assert_eq!(rt; desk.faults(), 2);
     Ok(())
 }

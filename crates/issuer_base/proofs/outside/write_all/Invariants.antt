@@ -1,3 +1,4 @@
+-- How much of a piece was written so far.
 use Rattle.std.proofs.Common.{◌≡◌, ◌-◌, ◌≤◌, length, take}
 use Rattle.std.specs.Io.KnownBytes.{Appends}
 use Rattle.issuer_base.proofs.outside.write_all.Given as goal

@@ -1,3 +1,4 @@
+-- The number of an amount's bytes, byte by byte, stays below ten to the twelfth.
 use Rattle.std.proofs.Common.{◌<◌, length, arith}
 use Rattle.issuer_base.proofs.Decimal.{decimal-more, decimal-below_six}
 use Rattle.issuer_base.proofs.request.decimal_value.Goals as goal

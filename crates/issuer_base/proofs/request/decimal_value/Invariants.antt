@@ -1,3 +1,4 @@
+-- What the number of an amount's first bytes is.
 use Rattle.std.proofs.Common.{◌≡◌, take}
 use Rattle.std.specs.List.{flat_map}
 use Rattle.issuer_base.specs.ChipData.{decimal, digits_of}

@@ -1,3 +1,4 @@
+-- The amount of a request is decimal.
 use Rattle.issuer_base.proofs.ChipDataLemmas.{amount-request}
 use Rattle.issuer_base.proofs.request.Request.amount_value.Goals as goal
 

@@ -1,0 +1,20 @@
+//! The forms of the bytes that a request's fields are made of: EMV 4.3 Book 3, Annex A.
+ghost use Rattle.std.specs.Prelude.{◌≡◌};
+ghost use Rattle.issuer_base.specs.ChipData.{is_bcd, has_profile};
+
+/// Whether both nibbles of the byte are decimal digits: EMV 4.3 Book 3, section 4.3, format n.
+#[tactic(auto, unfolding(crate::specs::ChipData::is_bcd))]
+pub fn is_decimal(byte: u8) -> bool
+    ensures { result ≡ is_bcd byte }
+{
+    byte / 16 <= 9 && byte % 16 <= 9
+}
+
+/// Whether issuer application data have the profile's form: 0F first, then the common core identifier A5, and 0F
+/// before the issuer's discretionary data, at index 16. Data that end before have it not.
+#[tactic(auto, unfolding(crate::specs::ChipData::has_profile))]
+pub fn has_profile(iad: &[u8]) -> bool
+    ensures { result ≡ has_profile iad.now }
+{
+    iad.len() > 16 && iad[0] == 0x0F && iad[1] == 0xA5 && iad[16] == 0x0F
+}
