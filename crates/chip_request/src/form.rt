@@ -1,11 +1,11 @@
 //! The forms of the fields' values.
 ghost use Rattle.std.specs.Prelude.{◌≡◌, ◌==◌, ◌≤◌, length, nat_le, take_while};
 ghost use Rattle.std.specs.List.{list_all, flat_map};
-ghost use Rattle.issuer_base.specs.ChipData.{is_bcd, has_profile, digits_of};
+ghost use Rattle.issuer_base.specs.ChipData.{is_bcd, digits_of};
 ghost use Rattle.chip_request.specs.Forms.{fits, account_number_in};
 
 use arrayvec::ArrayVec;
-use issuer_base::Pan;
+use issuer_base::{Pan, has_profile, is_decimal};
 
 /// What the value of a field has to be.
 #[derive(Clone, Copy, Debug, PartialEq, Eq)]
@@ -38,21 +38,6 @@ fn are_decimal(value: &[u8]) -> bool
     ensures { result ≡ list_all is_bcd value.now }
 {
     value.iter().all(|byte| is_decimal(*byte))
-}
-
-#[tactic(auto, unfolding(issuer_base::specs::ChipData::is_bcd))]
-fn is_decimal(byte: u8) -> bool
-    ensures { result ≡ is_bcd byte }
-{
-    byte / 16 <= 9 && byte % 16 <= 9
-}
-
-#[tactic(auto, unfolding(issuer_base::specs::ChipData::has_profile))]
-fn has_profile(value: &[u8]) -> bool
-    requires { length value.now ≡ 32 }
-    ensures { result ≡ has_profile value.now }
-{
-    value[0] == 0x0F && value[1] == 0xA5 && value[16] == 0x0F
 }
 
 /// The account number in a value of that form.
