@@ -1,0 +1,2 @@
+pub mod CommandQueue
+pub mod ScriptTemplate

@@ -1,0 +1,134 @@
+//! The queue of a card: its undone commands in a ring of fixed size, and the count of all.
+ghost use Rattle.std.specs.Prelude.{◌≡◌, ◌+◌, ◌<◌, ◌≤◌, ◌↔◌, [], ◌∷◌, ◌++◌, length, take, drop, slice_get, Some, IfOk, IsOk, OnErr};
+ghost use Rattle.script_queue.specs.CommandQueue.{no_commands, TakesOneMore};
+ghost use Rattle.script_queue.specs.ScriptTemplate.{fitting_front};
+
+use circular_buffer::HeapCircularBuffer;
+use issuer_base::{Command, MAX_TEMPLATE_BYTES, MAX_UNDONE, NoMemory, QueueFull};
+use std::alloc::Global;
+use std::marker::Model;
+
+/// How many commands may ever be queued for a card: their numbers have four bytes, and end before the last such number.
+pub const MAX_QUEUED: u32 = 4_294_967_295;
+
+/// What a command takes in a template beside its data, in bytes: tag 86 and its length, a head of four bytes, Lc, and a MAC of
+/// eight bytes.
+const COMMAND_BYTES: usize = 2 + 4 + 1 + 8;
+
+/// What a template takes beside its commands, in bytes: tag 72 and its length, tag 9F18 and its length, and a number of four
+/// bytes.
+const HEAD_BYTES: usize = 2 + 3 + 4;
+
+/// The script commands of a card: those that aren't done yet, the oldest first, and how many were ever queued.
+#[derive(Drop)]
+pub struct Queue {
+    commands: HeapCircularBuffer<Command>,
+
+    queued: u32,
+}
+
+impl Model for Queue {
+    ghost use Rattle.std.specs.Prelude.{◌≡◌, ◌≤◌, length};
+    ghost use Rattle.issuer_base.specs.declared.limits.TheConstants.{MAX_UNDONE};
+    ghost use Rattle.script_queue.specs.CommandQueue.{CommandQueue};
+
+    ghost Value = { CommandQueue };
+
+    ghost view = { λ queue. record { queued = queue.queued; undone = queue.commands.items } };
+
+    ghost invariant = { λ queue. let undone = length queue.commands.items in
+        (queue.commands.capacity ≡ MAX_UNDONE) × (undone ≤ MAX_UNDONE) × (undone ≤ queue.queued) };
+}
+
+impl Queue {
+    /// A queue of no commands, with room for [`MAX_UNDONE`] of them. No other call takes memory.
+    pub fn new(alloc: Global) -> Result<Queue, NoMemory>
+        ensures { IfOk result (λ queue. queue ≡ no_commands) }
+    {
+        let commands = HeapCircularBuffer::with_capacity(alloc, usize::from(MAX_UNDONE))?;
+        Ok(Queue {
+            commands,
+            queued: 0,
+        })
+    }
+
+    /// How many commands aren't done yet, at most [`MAX_UNDONE`].
+    pub fn undone(&self) -> u8
+        ensures count { result ≡ length self.now.undone }
+        ensures within { result ≤ MAX_UNDONE }
+    {
+        self.commands.len() as u8
+    }
+
+    /// How many commands were ever queued, the done ones counted in.
+    pub fn queued(&self) -> u32
+        ensures count { result ≡ self.now.queued }
+        ensures undone { length self.now.undone ≤ result }
+    {
+        self.queued
+    }
+
+    /// Queues a command behind the others, and gives its number: the first command that was ever queued has the number 0.
+    pub fn push(&mut self, command: Command) -> Result<u32, QueueFull>
+        ensures taken { IsOk result ↔ TakesOneMore self.old }
+        ensures number { IfOk result (λ number. number ≡ self.old.queued) }
+        ensures queued { IfOk result (λ number. self.new ≡ record { queued = number + 1; undone = self.old.undone ++ command ∷ [] }) }
+        ensures unchanged { OnErr result (self.new ≡ self.old) }
+    {
+        if self.queued == MAX_QUEUED {
+            return Err(QueueFull);
+        }
+        self.commands.try_push_back(command).map_err(|_| QueueFull)?;
+        let number = self.queued;
+        self.queued += 1;
+        Ok(number)
+    }
+
+    /// The undone command at this index, the oldest at 0.
+    pub fn at(&self, index: u8) -> &Command
+        requires { index < length self.now.undone }
+        ensures { slice_get self.now.undone index ≡ Some result.now }
+    {
+        self.commands.get(usize::from(index)).unwrap()
+    }
+
+    /// The first `count` undone commands, in two parts, as they lie in memory.
+    pub fn front(&self, count: u8) -> (&[Command], &[Command])
+        requires { count ≤ length self.now.undone }
+        ensures { result.0.now ++ result.1.now ≡ take count self.now.undone }
+    {
+        let count = usize::from(count);
+        let (first, second) = self.commands.as_slices();
+        if count <= first.len() {
+            return (&first[..count], &second[..0]);
+        }
+        (first, &second[..count - first.len()])
+    }
+
+    /// Takes away the first `count` undone commands, which are done now.
+    pub fn advance(&mut self, count: u8)
+        requires { count ≤ length self.old.undone }
+        ensures { self.new ≡ record { queued = self.old.queued; undone = drop count self.old.undone } }
+    {
+        let left = self.commands.len() - usize::from(count);
+        self.commands.truncate_front(left);
+    }
+
+    /// How many of the first undone commands fit into one template of at most [`MAX_TEMPLATE_BYTES`] bytes.
+    pub fn fitting(&self) -> u8
+        ensures within { result ≤ length self.now.undone }
+        ensures front { take result self.now.undone ≡ fitting_front self.now.undone }
+    {
+        let mut room = MAX_TEMPLATE_BYTES - HEAD_BYTES;
+        let mut count = 0;
+        for command in self.commands.iter() {
+            let size = COMMAND_BYTES + command.body.len();
+            if size > room {
+                break;
+            }
+            room -= size;
+            count += 1;
+        }
+        count
+    }
+}

@@ -1,0 +1,75 @@
+//! Each call once, a full queue, and templates whose bytes were added up by hand.
+
+use super::*;
+use arrayvec::ArrayVec;
+use issuer_base::{Command, MAX_UNDONE, QueueFull};
+use std::alloc::Global;
+use std::test::Fail;
+
+/// An update of a record: its parameter tells commands apart, and its data have so many bytes.
+fn command(p1: u8, bytes: usize) -> Result<Command, Fail> {
+    let data = [0xA5; 64];
+    let data = data.get(..bytes).ok_or("too long")?;
+    Ok(Command {
+        cla: 0x04,
+        ins: 0xDC,
+        p1,
+        p2: 0x0C,
+        body: ArrayVec::try_from(data)?,
+    })
+}
+
+fn empty_queue(alloc: Global) -> Result<Queue, Fail> {
+    Ok(Queue::new(alloc).map_err(|_| "memory")?)
+}
+
+#[test]
+fn takes_sixty_four_and_goes_on_where_some_are_done(rt: HostRuntime) -> Result<(), Fail> {
+    let mut queue = empty_queue(rt.alloc())?;
+    for number in 0..MAX_UNDONE {
+        let given = queue.push(command(number, 0)?);
+        assert!(rt; given == Ok(u32::from(number)), "{number}");
+    }
+    assert!(rt; queue.push(command(64, 0)?) == Err(QueueFull));
+    assert_eq!(rt; queue.undone(), 64);
+    queue.advance(62);
+    assert!(rt; queue.push(command(64, 0)?) == Ok(64));
+    assert_eq!(rt; queue.queued(), 65);
+    assert_eq!(rt; queue.undone(), 3);
+    assert!(rt; queue.at(2).is_same(&command(64, 0)?));
+    let (first, second) = queue.front(2);
+    assert!(rt;
+        first
+            .iter()
+            .chain(second)
+            .map(|command| command.p1)
+            .eq([62, 63])
+    );
+    Ok(())
+}
+
+#[test]
+fn counts_the_commands_of_a_template(rt: HostRuntime) -> Result<(), Fail> {
+    let cases: [(&str, &[usize], u8); 7] = [
+        ("none", &[], 0),
+        ("one of the longest", &[64], 1),
+        ("128 bytes", &[64, 25], 2),
+        ("129 bytes", &[64, 26], 1),
+        ("a short one behind one that doesn't fit", &[64, 64, 0], 1),
+        ("seven in 128 bytes", &[2, 2, 2, 2, 2, 2, 2, 0], 7),
+        (
+            "six, and 129 bytes with the next",
+            &[2, 2, 2, 2, 2, 2, 3],
+            6,
+        ),
+    ];
+    for (name, sizes, expected) in cases {
+        let mut queue = empty_queue(rt.alloc())?;
+        for bytes in sizes {
+            let given = queue.push(command(0, *bytes)?);
+            assert!(rt; given.is_ok(), "{name}");
+        }
+        assert_eq!(rt; queue.fitting(), expected, "{name}");
+    }
+    Ok(())
+}
