@@ -1,5 +1,6 @@
 -- The elements of a part one at a time, up to the first that says nothing.
-use Rattle.std.proofs.Common.{◌≡◌, ℕ, ◌+◌, ◌<◌, ◌≤◌, nat_lt, if◌then◌else◌, List, [], ◌∷◌, ◌++◌, length, get_or, drop, map, cond, Option, Some, None, is_none, refl, sym, ap, ◌∙◌, append-nil, append_assoc, length-append, arith}
+use Rattle.std.proofs.Common.{◌≡◌, ℕ, ◌+◌, ◌<◌, ◌≤◌, nat_lt, if◌then◌else◌, List, [], ◌∷◌, ◌++◌, length, get_or, drop, map, cond, Option, Some, None}
+use Rattle.std.proofs.Common.{is_none, refl, sym, ap, ◌∙◌, append-nil, append_assoc, length-append, arith}
 use Rattle.std.proofs.lemmas.List.{at_drop_more, at_drop_all}
 use Rattle.std.proofs.lemmas.List.Recursion.{is_position_or_len}
 use Rattle.std.specs.List.{position_or_len}
@@ -17,26 +18,35 @@ pub HasFront-none : {A : Type 0} (said : Data → Option A) (elements : List Val
 HasFront-none said elements = record { so_far = refl; each = refl }
 
 -- the next element
-front-next : {A : Type 0} (said : Data → Option A) (elements : List Value) (i : ℕ) (element : Value) → i < length elements → element ≡ get_or elements i element → front said (map view (drop i elements)) ≡ in_front (said (view element)) (front said (map view (drop (i + 1) elements)))
+front-next : {A : Type 0} (said : Data → Option A) (elements : List Value) (i : ℕ) (element : Value) → i < length elements
+    → element ≡ get_or elements i element
+    → front said (map view (drop i elements)) ≡ in_front (said (view element)) (front said (map view (drop (i + 1) elements)))
 front-next said elements i element below is =
     at_drop_more (λ rest. front said (map view rest)) elements i element below
     ∙ ap (λ first. in_front (said (view first)) (front said (map view (drop (i + 1) elements)))) (sym is)
 
-pub HasFront-more : {A : Type 0} (said : Data → Option A) (elements : List Value) (i : ℕ) (found : List A) (element : Value) (thing : A) → HasFront said elements i found → i < length elements → element ≡ get_or elements i element → Some thing ≡ said (view element) → HasFront said elements (i + 1) (found ++ thing ∷ [])
+pub HasFront-more : {A : Type 0} (said : Data → Option A) (elements : List Value) (i : ℕ) (found : List A) (element : Value) (thing : A)
+    → HasFront said elements i found → i < length elements → element ≡ get_or elements i element → Some thing ≡ said (view element)
+    → HasFront said elements (i + 1) (found ++ thing ∷ [])
 HasFront-more said elements i found element thing has below is says =
     let rest = front said (map view (drop (i + 1) elements)) in record {
-      so_far = has.so_far ∙ ap (λ more. found ++ more) (front-next said elements i element below is ∙ ap (λ first. in_front first rest) (sym says)) ∙ sym (append_assoc found (thing ∷ []) rest);
+      so_far = has.so_far ∙ ap (λ more. found ++ more) (front-next said elements i element below is ∙ ap (λ first. in_front first rest) (sym says))
+          ∙ sym (append_assoc found (thing ∷ []) rest);
       each = length-append found (thing ∷ []) ∙ ap (λ n. n + 1) has.each;
     }
 
 -- the first element that says nothing
-pub HasFront-silent : {A : Type 0} (said : Data → Option A) (elements : List Value) (i : ℕ) (found : List A) (element : Value) → HasFront said elements i found → i < length elements → element ≡ get_or elements i element → None ≡ said (view element) → found ≡ front said (map view elements)
+pub HasFront-silent : {A : Type 0} (said : Data → Option A) (elements : List Value) (i : ℕ) (found : List A) (element : Value)
+    → HasFront said elements i found → i < length elements → element ≡ get_or elements i element → None ≡ said (view element)
+    → found ≡ front said (map view elements)
 HasFront-silent said elements i found element has below is silent =
     let rest = front said (map view (drop (i + 1) elements)) in
-    sym (has.so_far ∙ ap (λ more. found ++ more) (front-next said elements i element below is ∙ ap (λ first. in_front first rest) (sym silent)) ∙ append-nil found)
+    sym (has.so_far ∙ ap (λ more. found ++ more) (front-next said elements i element below is ∙ ap (λ first. in_front first rest) (sym silent))
+    ∙ append-nil found)
 
 -- no element that says nothing
-pub HasFront-all : {A : Type 0} (said : Data → Option A) (elements : List Value) (i : ℕ) (found : List A) → HasFront said elements i found → length elements ≤ i → found ≡ front said (map view elements)
+pub HasFront-all : {A : Type 0} (said : Data → Option A) (elements : List Value) (i : ℕ) (found : List A) → HasFront said elements i found
+    → length elements ≤ i → found ≡ front said (map view elements)
 HasFront-all said elements i found has all =
     sym (has.so_far ∙ ap (λ more. found ++ more) (at_drop_all (λ rest. front said (map view rest)) elements i all) ∙ append-nil found)
 
@@ -47,12 +57,15 @@ length-in_front None found = refl
 length-in_front (Some thing) found = omega arith
 
 -- the elements in front are those before the first that says nothing
-length-front : {A : Type 0} (said : Data → Option A) (elements : List Data) → length (front said elements) ≡ position_or_len (λ element. is_none (said element)) elements
+length-front : {A : Type 0} (said : Data → Option A) (elements : List Data)
+    → length (front said elements) ≡ position_or_len (λ element. is_none (said element)) elements
 length-front said elements =
-    is_position_or_len (λ more. length (front said more)) (λ element. is_none (said element)) refl (λ element more. length-in_front (said element) (front said more)) elements
+    is_position_or_len (λ more. length (front said more)) (λ element. is_none (said element)) refl
+    (λ element more. length-in_front (said element) (front said more)) elements
 
 -- the first element that says nothing stands behind those in front, where there are more
-pub silent_at-front : {A : Type 0} (said : Data → Option A) (elements : List Data) → silent_at said elements ≡ (if nat_lt (length (front said elements)) (length elements) then Some (length (front said elements)) else None)
+pub silent_at-front : {A : Type 0} (said : Data → Option A) (elements : List Data)
+    → silent_at said elements ≡ (if nat_lt (length (front said elements)) (length elements) then Some (length (front said elements)) else None)
 silent_at-front said elements = rw length-front refl
 
 -- there are no more of them

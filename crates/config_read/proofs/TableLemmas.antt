@@ -1,25 +1,26 @@
 -- The rows of the decision table: each says what it decides, so only the last one can make them no table.
-use Rattle.std.proofs.Common.{◌≡◌, ℕ, ◌≤◌, nat_lt, if◌then◌else◌, true, false, List, [], ◌∷◌, length, map, Option, Some, None, Ok, Err, codes, refl, ap, ◌∙◌, inl, inr, arith}
-use Rattle.std.proofs.lemmas.Bool.{cond-true, cases_Bool, ltb-false}
+use Rattle.std.proofs.Common.{◌≡◌, ◌+◌, ◌<◌, ◌≤◌, if◌then◌else◌, true, false, List, [], ◌∷◌, length, map, Option, Some, None, Ok, Err, codes, refl}
+use Rattle.std.proofs.Common.{ap, ◌∙◌, arith}
 use Rattle.std.proofs.lemmas.List.{length-map}
 use Rattle.std.specs.List.{list_all}
 use Rattle.std.specs.Option.{IfSome}
 use Rattle.serde_json.specs.Data.{Data}
 use Rattle.serde_json.specs.View.{view}
 use Rattle.serde_json.specs.declared.value.Value.{Value}
+use Rattle.issuer_base.specs.declared.limits.TheConstants.{MAX_TABLE_ROWS}
 use Rattle.decision_table.specs.declared.row.TableRow.{TableRow}
 use Rattle.decision_table.specs.Tables.{tells_approval, ends_in_all, is_table, table_from}
-use Rattle.config_read.specs.declared.fault.ConfigFault.{ConfigFault}
 use Rattle.config_read.specs.declared.fault.ConfigFault.TheVariants.{At}
 use Rattle.config_read.specs.Elements.{row_in}
 use Rattle.config_read.specs.Parts.{◌>>=◌, front, in_front, no_conflict, part_elements, said_by, table_in, where_last_takes_all}
 use Rattle.config_read.proofs.FrontLemmas.{length-front-le}
-use Rattle.config_read.proofs.PartsLemmas.{broken_place, fault_at, said_by-broken, said_by-whole}
+use Rattle.config_read.proofs.PartsLemmas.{said_by-broken, said_by-whole, silent-place, whole-place}
 use Rattle.config_read.proofs.RowPartsLemmas.{row_in-tells}
 
 -- ---- which rows are a table
 
-in_front-told : (first : Option TableRow) (rows : List TableRow) → IfSome first (λ row. tells_approval row ≡ true) → list_all tells_approval rows ≡ true → list_all tells_approval (in_front first rows) ≡ true
+in_front-told : (first : Option TableRow) (rows : List TableRow) → IfSome first (λ row. tells_approval row ≡ true)
+    → list_all tells_approval rows ≡ true → list_all tells_approval (in_front first rows) ≡ true
 in_front-told None rows told all = refl
 in_front-told (Some row) rows told all = rw (told, all) refl
 
@@ -32,55 +33,53 @@ table_from-told : (rows : List TableRow) → list_all tells_approval rows ≡ tr
 unfolding table_from is_table
 table_from-told rows told = rw told refl
 
-table_from-front : (elements : List Data) (rows : List TableRow) → rows ≡ front row_in elements → table_from rows ≡ (if ends_in_all rows then Some rows else None)
+table_from-front : (elements : List Data) (rows : List TableRow) → rows ≡ front row_in elements
+    → table_from rows ≡ (if ends_in_all rows then Some rows else None)
 table_from-front elements rows found = table_from-told rows (ap (list_all tells_approval) found ∙ front-told elements)
 
 -- ---- the part
 
-table_in-elements : (value : Data) (elements : List Data) → part_elements 5 (codes "table") 64 value ≡ Ok elements → table_in value ≡ (said_by 5 row_in no_conflict elements >>= where_last_takes_all)
-table_in-elements value elements is = ap (λ found. found >>= said_by 5 row_in no_conflict >>= where_last_takes_all) is
+module _ (value : Data) (elements : List Value) (rows : List TableRow)
+    (is : part_elements 5 (codes "table") MAX_TABLE_ROWS value ≡ Ok (map view elements)) (found : rows ≡ front row_in (map view elements)) where
+  table_in-elements : table_in value ≡ (said_by 5 row_in no_conflict (map view elements) >>= where_last_takes_all)
+  table_in-elements = ap (λ these. these >>= said_by 5 row_in no_conflict >>= where_last_takes_all) is
 
-pub table_in-broken : (value : Data) (elements : List Value) (rows : List TableRow) (fault : ConfigFault) → part_elements 5 (codes "table") 64 value ≡ Ok (map view elements) → rows ≡ front row_in (map view elements) → Some fault ≡ fault_at 5 (broken_place None (length rows) (length elements)) → table_in value ≡ Err fault
-table_in-broken value elements rows fault is found broken =
-    table_in-elements value (map view elements) is ∙ ap (λ said. said >>= where_last_takes_all) (said_by-broken 5 row_in no_conflict elements rows fault found broken)
+  -- an element that says nothing
+  pub table_in-silent : length rows < length elements → table_in value ≡ Err (At 5 (length rows + 1))
+  table_in-silent fewer =
+      table_in-elements
+      ∙ ap (λ said. said >>= where_last_takes_all)
+      (said_by-broken 5 row_in no_conflict elements rows (length rows) found (silent-place None (length rows) (length elements) refl fewer))
 
-table_in-rows : (value : Data) (elements : List Value) (rows : List TableRow) → part_elements 5 (codes "table") 64 value ≡ Ok (map view elements) → rows ≡ front row_in (map view elements) → None ≡ fault_at 5 (broken_place None (length rows) (length elements)) → table_in value ≡ where_last_takes_all rows
-table_in-rows value elements rows is found whole =
-    table_in-elements value (map view elements) is ∙ ap (λ said. said >>= where_last_takes_all) (said_by-whole 5 row_in no_conflict elements rows found whole)
+  table_in-rows : length elements ≤ length rows → table_in value ≡ where_last_takes_all rows
+  table_in-rows all =
+      table_in-elements
+      ∙ ap (λ said. said >>= where_last_takes_all)
+      (said_by-whole 5 row_in no_conflict elements rows found (whole-place None (length rows) (length elements) refl all))
 
--- rows that are a table
-pub table_in-whole : (value : Data) (elements : List Value) (rows table : List TableRow) → part_elements 5 (codes "table") 64 value ≡ Ok (map view elements) → rows ≡ front row_in (map view elements) → None ≡ fault_at 5 (broken_place None (length rows) (length elements)) → Some table ≡ table_from rows → table_in value ≡ Ok table
-table_in-whole value elements rows table is found whole taken =
-    let it : Some table ≡ (if ends_in_all rows then Some rows else None) = taken ∙ table_from-front (map view elements) rows found in
-    table_in-rows value elements rows is found whole
-    ∙ elim (ends_in_all rows) as (λ all. Some table ≡ (if all then Some rows else None) → (if all then Ok rows else Err (At 5 (length rows))) ≡ Ok table) [
-      | true ↦ λ same. grind (arith, same)
-      | false ↦ λ none. cc none
-    ] it
+  -- rows that are a table
+  pub table_in-whole : (table : List TableRow) → length elements ≤ length rows → Some table ≡ table_from rows → table_in value ≡ Ok table
+  table_in-whole table all taken =
+      let it : Some table ≡ (if ends_in_all rows then Some rows else None) = taken ∙ table_from-front (map view elements) rows found in
+      table_in-rows all
+      ∙ elim (ends_in_all rows) as (λ last. Some table ≡ (if last then Some rows else None) → (if last then Ok rows else Err (At 5 (length rows))) ≡ Ok table) [
+        | true ↦ λ same. grind (arith, same)
+        | false ↦ λ none. cc none
+      ] it
 
--- where no element is silent, there are as many rows as elements
-whole-count : (found elements : ℕ) → None ≡ fault_at 5 (broken_place None found elements) → elements ≤ found
-whole-count found elements whole =
-    elim (cases_Bool (nat_lt found elements)) [
-      | inl fewer ↦
-          let some : None ≡ fault_at 5 (Some found) = whole ∙ ap (fault_at 5) (cond-true (nat_lt found elements) (Some found) None fewer) in
-          cc some
-      | inr all ↦ ltb-false found elements all
-    ]
+  rows-count : length elements ≤ length rows → length rows ≡ length elements
+  rows-count all =
+      let most : length (front row_in (map view elements)) ≤ length (map view elements) = length-front-le row_in (map view elements) in
+      let few : length rows ≤ length elements = rw (found, ← length-map elements view) most in
+      omega (arith, few, all)
 
-rows-count : (elements : List Value) (rows : List TableRow) → rows ≡ front row_in (map view elements) → None ≡ fault_at 5 (broken_place None (length rows) (length elements)) → length rows ≡ length elements
-rows-count elements rows found whole =
-    let most : length (front row_in (map view elements)) ≤ length (map view elements) = length-front-le row_in (map view elements) in
-    let few : length rows ≤ length elements = rw (found, ← length-map elements view) most in
-    let least = whole-count (length rows) (length elements) whole in
-    omega (arith, few, least)
-
--- rows whose last doesn't take all
-pub table_in-last : (value : Data) (elements : List Value) (rows : List TableRow) → part_elements 5 (codes "table") 64 value ≡ Ok (map view elements) → rows ≡ front row_in (map view elements) → None ≡ fault_at 5 (broken_place None (length rows) (length elements)) → None ≡ table_from rows → table_in value ≡ Err (At 5 (length elements))
-table_in-last value elements rows is found whole refused =
-    let it : None ≡ (if ends_in_all rows then Some rows else None) = refused ∙ table_from-front (map view elements) rows found in
-    table_in-rows value elements rows is found whole
-    ∙ elim (ends_in_all rows) as (λ all. None ≡ (if all then Some rows else None) → (if all then Ok rows else Err (At 5 (length rows))) ≡ Err (At 5 (length elements))) [
-      | true ↦ λ some. cc some
-      | false ↦ λ none. ap (λ count. Err (At 5 count)) (rows-count elements rows found whole)
-    ] it
+  -- rows whose last doesn't take all
+  pub table_in-last : length elements ≤ length rows → None ≡ table_from rows → table_in value ≡ Err (At 5 (length elements))
+  table_in-last all refused =
+      let it : None ≡ (if ends_in_all rows then Some rows else None) = refused ∙ table_from-front (map view elements) rows found in
+      table_in-rows all
+      ∙ elim (ends_in_all rows) as
+      (λ last. None ≡ (if last then Some rows else None) → (if last then Ok rows else Err (At 5 (length rows))) ≡ Err (At 5 (length elements))) [
+        | true ↦ λ some. cc some
+        | false ↦ λ none. ap (λ count. Err (At 5 count)) (rows-count all)
+      ] it

@@ -2,7 +2,8 @@
 use Rattle.std.specs.Prelude.{ℕ, nat_le, if◌then◌else◌, List, length, Option, Some, None, is_some, Result, Ok, Err}
 use Rattle.serde_json.specs.Data.{Data}
 use Rattle.serde_json.specs.Find.{as_object}
-use Rattle.row_core.specs.IssuerSetup.{Setup}
+use Rattle.issuer_setup.specs.IssuerSetup.{Setup}
+use Rattle.config_read.specs.declared.config.TheConstants.{MAX_CONFIG_BYTES}
 use Rattle.config_read.specs.declared.fault.ConfigFault.{ConfigFault}
 use Rattle.config_read.specs.declared.fault.ConfigFault.TheVariants.{NotJson, At}
 use Rattle.config_read.specs.Json.{json_of}
@@ -29,4 +30,4 @@ where_json (Some value) = setup_in value
 
 -- what a configuration of these bytes says; that it has more than 4,194,304 is looked for first
 unfoldable pub configured : List ℕ → Result Setup ConfigFault
-configured bytes = if nat_le (length bytes) 4194304 then where_json (json_of bytes) else Err (At 1 0)
+configured bytes = if nat_le (length bytes) MAX_CONFIG_BYTES then where_json (json_of bytes) else Err (At 1 0)

@@ -5,8 +5,9 @@ use Rattle.serde_json.specs.Data.{Data, null, boolean, number, string, array, ob
 use Rattle.serde_json.specs.Find.{get, as_bool, as_u64}
 use Rattle.key_derive.specs.declared.card.KeySet.{KeySet}
 use Rattle.decision_table.specs.declared.row.TableRow.{TableRow}
+use Rattle.decision_table.specs.declared.row.TheConstants.{MAX_AMOUNT}
 use Rattle.decision_table.specs.Tables.{tells_approval}
-use Rattle.row_core.specs.declared.card.CardInfo.{CardInfo}
+use Rattle.issuer_setup.specs.declared.card.CardInfo.{CardInfo}
 use Rattle.config_read.specs.Json.{text_member, number_member}
 use Rattle.config_read.specs.Words.{bytes_of, pan_of, psn_of, option_of, method_of, at_most}
 
@@ -61,8 +62,8 @@ row_in element = do
   tvr_value ← bytes_member (codes "tvr_value") 5 element
   cvr_mask ← bytes_member (codes "cvr_mask") 5 element
   cvr_value ← bytes_member (codes "cvr_value") 5 element
-  least ← number_up_to (codes "least") 999999999999 element
-  most ← number_up_to (codes "most") 999999999999 element
+  least ← number_up_to (codes "least") MAX_AMOUNT element
+  most ← number_up_to (codes "most") MAX_AMOUNT element
   status ← option_and_then status_from (get (codes "status") element)
   arc ← bytes_member (codes "arc") 2 element
   approve ← option_and_then as_bool (get (codes "approve") element)

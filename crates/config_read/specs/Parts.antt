@@ -2,13 +2,14 @@
 use Rattle.std.specs.Prelude.{ℕ, ◌+◌, ◌&&◌, nat_le, if◌then◌else◌, List, [], ◌∷◌, length, codes, position, Option, Some, None, is_none, Result, Ok, Err}
 use Rattle.std.specs.Option.{option_and_then, option_or, ok_or}
 use Rattle.serde_json.specs.Data.{Data}
+use Rattle.issuer_base.specs.declared.limits.TheConstants.{MAX_KEY_SETS, MAX_CARDS, MAX_TABLE_ROWS}
 use Rattle.key_derive.specs.declared.card.KeySet.{KeySet}
 use Rattle.decision_table.specs.declared.row.TableRow.{TableRow}
 use Rattle.decision_table.specs.Tables.{ends_in_all}
-use Rattle.row_core.specs.declared.card.CardInfo.{CardInfo}
-use Rattle.row_core.specs.IssuerSetup.{are_shards}
-use Rattle.row_core.specs.KeyList.{first_repeat}
-use Rattle.row_core.specs.CardList.{first_bad}
+use Rattle.issuer_setup.specs.declared.card.CardInfo.{CardInfo}
+use Rattle.issuer_setup.specs.Shards.{shards_from}
+use Rattle.issuer_setup.specs.KeyList.{first_repeat}
+use Rattle.issuer_setup.specs.CardList.{first_bad}
 use Rattle.config_read.specs.declared.fault.ConfigFault.{ConfigFault}
 use Rattle.config_read.specs.declared.fault.ConfigFault.TheVariants.{At}
 use Rattle.config_read.specs.Json.{number_member, list_member}
@@ -54,19 +55,16 @@ said_by part said conflict elements =
     unless_broken part (option_or (conflict (front said elements)) (silent_at said elements)) (front said elements)
 
 -- part 2: the number of shards, 1 to 16
-abbrev pub whole_shards : ℕ → Option ℕ
-whole_shards shards = if are_shards shards then Some shards else None
-
 abbrev pub shards_in : Data → Result ℕ ConfigFault
-shards_in value = ok_or (option_and_then whole_shards (number_member (codes "shards") value)) (At 2 0)
+shards_in value = ok_or (option_and_then shards_from (number_member (codes "shards") value)) (At 2 0)
 
 -- part 3: 1 to 16 key sets, no two of one index
 abbrev pub keys_in : Data → Result (List KeySet) ConfigFault
-keys_in value = part_elements 3 (codes "keys") 16 value >>= said_by 3 key_set_in (first_repeat [])
+keys_in value = part_elements 3 (codes "keys") MAX_KEY_SETS value >>= said_by 3 key_set_in (first_repeat [])
 
 -- part 4: 1 to 4,096 cards, no two of one account and sequence number
 abbrev pub cards_in : Data → Result (List CardInfo) ConfigFault
-cards_in value = part_elements 4 (codes "cards") 4096 value >>= said_by 4 card_in (first_bad [])
+cards_in value = part_elements 4 (codes "cards") MAX_CARDS value >>= said_by 4 card_in (first_bad [])
 
 -- no row is in conflict with an earlier one
 abbrev pub no_conflict : List TableRow → Option ℕ
@@ -78,4 +76,4 @@ where_last_takes_all rows = if ends_in_all rows then Ok rows else Err (At 5 (len
 
 -- part 5: 1 to 64 rows, of which the last takes all
 abbrev pub table_in : Data → Result (List TableRow) ConfigFault
-table_in value = part_elements 5 (codes "table") 64 value >>= said_by 5 row_in no_conflict >>= where_last_takes_all
+table_in value = part_elements 5 (codes "table") MAX_TABLE_ROWS value >>= said_by 5 row_in no_conflict >>= where_last_takes_all

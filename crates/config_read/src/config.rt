@@ -6,12 +6,12 @@ ghost use Rattle.config_read.specs.Configuration.{configured, setup_in};
 use crate::fault::{ConfigFault, WHOLE};
 use crate::json_value::read_json;
 use crate::parts::{read_cards, read_keys, read_shards, read_table};
-use row_core::Issuer;
+use issuer_setup::Issuer;
 use serde_json::Value;
 use std::alloc::Global;
 
-/// The most bytes of a configuration.
-const MOST_BYTES: usize = 4_194_304;
+/// How many bytes a configuration has at most.
+pub const MAX_CONFIG_BYTES: usize = 4_194_304;
 
 /// The issuer that a configuration of these bytes says, or why it says none: its first broken place, where it is a
 /// JSON value of at most 4,194,304 bytes.
@@ -20,7 +20,7 @@ pub fn read_config(alloc: Global, bytes: &[u8]) -> Result<Issuer, ConfigFault>
     ensures issuer { IfOk result (λ issuer. configured bytes.now ≡ Ok issuer) }
     ensures refused { IfErr result (λ fault. fault ≢ ConfigFault.NoMemory → configured bytes.now ≡ Err fault) }
 {
-    if bytes.len() > MOST_BYTES {
+    if bytes.len() > MAX_CONFIG_BYTES {
         return Err(ConfigFault::of_part(WHOLE));
     }
     let value = read_json(alloc, bytes)?;
@@ -39,5 +39,5 @@ fn read_issuer(alloc: Global, value: &Value) -> Result<Issuer, ConfigFault>
     let keys = read_keys(value)?;
     let cards = read_cards(alloc, value)?;
     let table = read_table(value)?;
-    Ok(Issuer::new(alloc, shards, keys, cards, table)?)
+    Ok(Issuer::of(alloc, shards, keys, cards, table)?)
 }

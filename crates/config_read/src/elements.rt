@@ -8,14 +8,11 @@ ghost use Rattle.config_read.specs.RowParts.{decision_in};
 
 use crate::json_value::{number_member, text_member};
 use crate::words::{read_bytes, read_method, read_option, read_pan, read_psn, up_to};
-use decision_table::{TableRow, tells_approval};
+use decision_table::{MAX_AMOUNT, TableRow, tells_approval};
 use des_block::Key16;
+use issuer_setup::CardInfo;
 use key_derive::KeySet;
-use row_core::CardInfo;
 use serde_json::Value;
-
-/// The greatest amount: twelve digits, in the currency's smallest unit.
-const GREATEST_AMOUNT: u64 = 999_999_999_999;
 
 /// The key set that an element says.
 #[tactic(auto, unfolding(crate::specs::Elements::key_set_in))]
@@ -78,8 +75,8 @@ fn read_bits(element: &Value, mask: &str, value: &str) -> Option<([u8; 5], [u8; 
 /// The least and the greatest amount of a row.
 fn read_amounts(element: &Value) -> Option<(u64, u64)>
     ensures { result ≡ option_zip
-        (number_up_to (codes "least") 999999999999 (view element.now))
-        (number_up_to (codes "most") 999999999999 (view element.now)) }
+        (number_up_to (codes "least") MAX_AMOUNT (view element.now))
+        (number_up_to (codes "most") MAX_AMOUNT (view element.now)) }
 {
     Some((
         read_amount(element, "least")?,
@@ -88,9 +85,9 @@ fn read_amounts(element: &Value) -> Option<(u64, u64)>
 }
 
 fn read_amount(element: &Value, name: &str) -> Option<u64>
-    ensures { result ≡ number_up_to name.now 999999999999 (view element.now) }
+    ensures { result ≡ number_up_to name.now MAX_AMOUNT (view element.now) }
 {
-    up_to(GREATEST_AMOUNT, number_member(element, name)?)
+    up_to(MAX_AMOUNT, number_member(element, name)?)
 }
 
 /// The status of a row, 0 to 9, or `None` within, for any.

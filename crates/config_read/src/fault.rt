@@ -1,8 +1,7 @@
 //! The faults of a configuration, and its parts by their numbers.
 ghost use Rattle.std.specs.Prelude.{◌≡◌, ◌+◌, ◌<◌};
 
-use issuer_base::NoMemory;
-use row_core::IssuerFault;
+use issuer_base::{MAX_CARDS, NoMemory};
 
 /// The number by which a fault names the whole configuration.
 pub const WHOLE: u8 = 1;
@@ -43,7 +42,7 @@ impl ConfigFault {
 
     /// The fault of the element of a part with this place, from 0.
     pub(crate) fn of_element(part: u8, place: u32) -> ConfigFault
-        requires { place < 4096 }
+        requires { place < MAX_CARDS }
         ensures { result ≡ ConfigFault.At part (place + 1) }
     {
         ConfigFault::At {
@@ -61,29 +60,5 @@ impl From<NoMemory> for ConfigFault {
 
     fn from(_fault: NoMemory) -> ConfigFault {
         ConfigFault::NoMemory
-    }
-}
-
-/// The place that the parts would be refused for. Once they are read, only the want of memory is left.
-impl From<IssuerFault> for ConfigFault {
-    ghost use Rattle.std.specs.Prelude.{◌≡◌};
-    ghost use Rattle.row_core.specs.declared.issuer.IssuerFault.TheVariants as issuer_fault;
-    ghost use Rattle.config_read.specs.declared.fault.ConfigFault.TheVariants.{NoMemory};
-
-    ghost from_gives = { λ refused fault. refused ≡ issuer_fault.NoMemory → fault ≡ NoMemory };
-
-    fn from(refused: IssuerFault) -> ConfigFault {
-        match refused {
-            IssuerFault::Shards => ConfigFault::of_part(SHARDS),
-            IssuerFault::Key(place) => ConfigFault::At {
-                part: KEYS,
-                index: place.saturating_add(1),
-            },
-            IssuerFault::Card(place) => ConfigFault::At {
-                part: CARDS,
-                index: place.saturating_add(1),
-            },
-            IssuerFault::NoMemory => ConfigFault::NoMemory,
-        }
     }
 }

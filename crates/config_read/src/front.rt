@@ -7,15 +7,15 @@ ghost use Rattle.config_read.specs.Parts.{front};
 use crate::elements::{read_card, read_key_set, read_row};
 use arrayvec::ArrayVec;
 use decision_table::TableRow;
-use issuer_base::NoMemory;
+use issuer_base::{MAX_KEY_SETS, MAX_TABLE_ROWS, NoMemory};
+use issuer_setup::CardInfo;
 use key_derive::KeySet;
-use row_core::CardInfo;
 use serde_json::Value;
 use std::alloc::Global;
 
 /// The key sets that the elements say, up to the first that says none.
-pub fn front_keys(elements: &[Value]) -> ArrayVec<KeySet, 16>
-    requires { length elements.now ≤ 16 }
+pub fn front_keys(elements: &[Value]) -> ArrayVec<KeySet, MAX_KEY_SETS>
+    requires { length elements.now ≤ MAX_KEY_SETS }
     ensures { result.items ≡ front key_set_in (map view elements.now) }
 {
     let mut keys = ArrayVec::new();
@@ -44,8 +44,8 @@ pub fn front_cards(alloc: Global, elements: &[Value]) -> Result<Vec<CardInfo>, N
 }
 
 /// The rows that the elements say, up to the first that says none.
-pub fn front_rows(elements: &[Value]) -> ArrayVec<TableRow, 64>
-    requires { length elements.now ≤ 64 }
+pub fn front_rows(elements: &[Value]) -> ArrayVec<TableRow, MAX_TABLE_ROWS>
+    requires { length elements.now ≤ MAX_TABLE_ROWS }
     ensures { result.items ≡ front row_in (map view elements.now) }
 {
     let mut rows = ArrayVec::new();

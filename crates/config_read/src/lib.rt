@@ -11,5 +11,5 @@ mod parts;
 mod tests;
 mod words;
 
-pub use config::read_config;
+pub use config::{MAX_CONFIG_BYTES, read_config};
 pub use fault::ConfigFault;

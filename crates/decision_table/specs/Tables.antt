@@ -2,6 +2,7 @@
 use Rattle.std.specs.Prelude.{ℕ, suc, Bool, false, ◌&&◌, ◌||◌, not, ◌==◌, if◌then◌else◌, bit_and, List, [], ◌∷◌, length, slice_index, Option, None, Some, is_none}
 use Rattle.std.specs.List.{list_all}
 use Rattle.decision_table.specs.declared.row.TableRow.{TableRow}
+use Rattle.decision_table.specs.declared.row.TheConstants.{MAX_AMOUNT}
 
 -- bit 8 of byte 2 of the row's card status update, "issuer approves online transaction", is its approval: EMV 4.3 Book 3, Annex C
 unfoldable pub tells_approval : TableRow → Bool
@@ -16,7 +17,7 @@ takes_all row =
     && list_all (λ byte. byte == 0) row.cvr_mask
     && list_all (λ byte. byte == 0) row.cvr_value
     && row.least == 0
-    && row.most == 999999999999
+    && row.most == MAX_AMOUNT
     && is_none row.status
 
 -- there is a last row, and it takes all

@@ -4,7 +4,7 @@
 mod row;
 mod table;
 
-pub use row::{TableRow, tells_approval};
+pub use row::{MAX_AMOUNT, TableRow, tells_approval};
 pub use table::{Table, decide, first_bad_row};
 
 #[cfg(test)]

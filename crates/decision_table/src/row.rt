@@ -6,8 +6,8 @@ ghost use Rattle.decision_table.specs.Tables.{tells_approval, takes_all};
 
 use issuer_base::Request;
 
-/// The greatest amount of a request: twelve decimal digits.
-const GREATEST_AMOUNT: u64 = 999_999_999_999;
+/// The greatest amount of a request, in the currency's smallest unit: twelve decimal digits.
+pub const MAX_AMOUNT: u64 = 999_999_999_999;
 
 /// One row of a decision table: which requests it fits, and what it decides.
 #[derive(Clone, Copy, PartialEq, Eq, Default, Debug)]
@@ -97,7 +97,7 @@ pub(crate) fn takes_all(row: &TableRow) -> bool
         && are_zeros(&row.cvr_mask)
         && are_zeros(&row.cvr_value)
         && row.least == 0
-        && row.most == GREATEST_AMOUNT
+        && row.most == MAX_AMOUNT
         && row.status.is_none()
 }
 

@@ -7,7 +7,7 @@ ghost use Rattle.decision_table.specs.Tables.{may_stand, first_bad_row, is_table
 
 use crate::row::{TableRow, fits, takes_all, tells_approval};
 use arrayvec::ArrayVec;
-use issuer_base::Request;
+use issuer_base::{MAX_TABLE_ROWS, Request};
 use std::marker::Model;
 
 /// The rows by which an issuer decides: the first one that fits a request decides it, and the last one
@@ -16,7 +16,7 @@ use std::marker::Model;
 /// A contract sees the list of its rows.
 #[derive(Drop)]
 pub struct Table {
-    kept: ArrayVec<TableRow, 64>,
+    kept: ArrayVec<TableRow, MAX_TABLE_ROWS>,
 }
 
 impl Model for Table {
@@ -38,7 +38,7 @@ impl Table {
     /// update isn't its approval, or the last row isn't one with zero masks and values, amounts from 0 to
     /// 999,999,999,999 and no status.
     #[tactic(auto, unfolding(crate::specs::Tables::table_from))]
-    pub fn new(rows: ArrayVec<TableRow, 64>) -> Option<Table>
+    pub fn new(rows: ArrayVec<TableRow, MAX_TABLE_ROWS>) -> Option<Table>
         ensures { result ≡ table_from rows.items }
     {
         if is_table(rows.as_slice()) {

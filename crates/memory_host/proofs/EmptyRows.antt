@@ -6,9 +6,9 @@ use Rattle.std.proofs.lemmas.Option.{same_Some, slice_get_within, slice_get-get_
 use Rattle.std.specs.List.{slice_get}
 use Rattle.issuer_base.specs.declared.entry.Entry.{Entry}
 use Rattle.card_history.specs.Turns.{no_records}
-use Rattle.row_core.specs.declared.card.CardInfo.{CardInfo}
+use Rattle.issuer_setup.specs.declared.card.CardInfo.{CardInfo}
 use Rattle.row_core.specs.CardRow.{CardRow, StandsFor as RowStandsFor}
-use Rattle.row_core.specs.IssuerSetup.{Setup}
+use Rattle.issuer_setup.specs.IssuerSetup.{Setup}
 use Rattle.memory_host.specs.Holding.{StandsFor}
 use Rattle.memory_host.specs.Deciding.{AreEmpty}
 

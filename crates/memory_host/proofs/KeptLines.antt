@@ -5,7 +5,7 @@ use Rattle.std.proofs.lemmas.Bool.{cases_lt}
 use Rattle.std.proofs.lemmas.List.{take_all, length-take-le}
 use Rattle.chip_request.specs.Ask.{pairs, within_line, ask_digits, data_bytes, ask_bytes}
 use Rattle.chip_request.proofs.Digits.{length-pairs, outside_line}
-use Rattle.row_core.specs.IssuerSetup.{Setup}
+use Rattle.issuer_setup.specs.IssuerSetup.{Setup}
 use Rattle.memory_host.specs.Reading.{said_by, where_asked, reading}
 
 -- nothing follows from no bytes

@@ -14,16 +14,16 @@ use Rattle.card_history.specs.declared.decision.Decision.{Decision}
 use Rattle.card_history.specs.Records.{CardName, card_of, status_of}
 use Rattle.card_history.specs.Turns.{Answers, AnswersIn}
 use Rattle.key_derive.specs.declared.card.CardKeys.{CardKeys}
-use Rattle.row_core.specs.declared.card.CardInfo.{CardInfo}
+use Rattle.issuer_setup.specs.declared.card.CardInfo.{CardInfo}
 use Rattle.row_core.specs.declared.row.Outcome.{Outcome}
 use Rattle.row_core.specs.declared.row.Outcome.TheVariants.{Fresh}
-use Rattle.row_core.specs.CardList.{name_of}
+use Rattle.issuer_setup.specs.CardList.{name_of}
 use Rattle.row_core.specs.CardRow.{CardRow}
-use Rattle.row_core.specs.IssuerSetup.{Setup, keys_of, shard_of}
+use Rattle.issuer_setup.specs.IssuerSetup.{Setup, keys_of, shard_of}
 use Rattle.row_core.specs.Plan.{answer_of, with_record, history_after, IsPlan}
 use Rattle.row_core.specs.Replying.{decided_reply, reply_by, reply_of_card, reply_to}
-use Rattle.row_core.proofs.CardListLemmas.{number_of-found}
-use Rattle.row_core.proofs.Shards.{shard_of-known}
+use Rattle.issuer_setup.proofs.CardListLemmas.{number_of-found}
+use Rattle.issuer_setup.proofs.Shards.{shard_of-known}
 use Rattle.memory_host.specs.declared.reading.Checked.{Checked}
 use Rattle.memory_host.specs.Answering.{rules_of}
 use Rattle.memory_host.specs.AtHand.{IsAtHand}

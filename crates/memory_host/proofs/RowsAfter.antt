@@ -12,11 +12,11 @@ use Rattle.card_history.specs.Records.{card_of, greatest}
 use Rattle.card_history.proofs.CardNames.{is_of-other}
 use Rattle.card_history.proofs.OneMoreRecord.{decided-other}
 use Rattle.card_history.proofs.OtherRecords.{queue-decided, status_of-decided}
-use Rattle.row_core.specs.declared.card.CardInfo.{CardInfo}
-use Rattle.row_core.specs.CardList.{name_of, number_of, AreCards}
+use Rattle.issuer_setup.specs.declared.card.CardInfo.{CardInfo}
+use Rattle.issuer_setup.specs.CardList.{name_of, number_of, AreCards}
 use Rattle.row_core.specs.CardRow.{CardRow, StandsFor as RowStandsFor}
 use Rattle.row_core.specs.Plan.{IsNext, with_record}
-use Rattle.row_core.proofs.CardListLemmas.{number_of-found}
+use Rattle.issuer_setup.proofs.CardListLemmas.{number_of-found}
 use Rattle.memory_host.specs.Holding.{Holding, history_for, RowStands, StandsFor}
 use Rattle.memory_host.specs.Deciding.{IsShardOf, IsNextOf, with_record_of, IsRecorded}
 

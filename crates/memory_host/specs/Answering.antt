@@ -1,6 +1,6 @@
 -- How an issuer's host answers: by what a line says to the issuer, by the shard of the card, and by the issuer's reply.
 use Rattle.card_history.specs.Turns.{Rules}
-use Rattle.row_core.specs.IssuerSetup.{Setup, shard_of}
+use Rattle.issuer_setup.specs.IssuerSetup.{Setup, shard_of}
 use Rattle.row_core.specs.Replying.{reply_to}
 use Rattle.memory_host.specs.Reading.{reading}
 

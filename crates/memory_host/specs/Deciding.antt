@@ -3,10 +3,10 @@ use Rattle.std.specs.Prelude.{◌≡◌, ℕ, ◌%◌, ◌<◌, List, [], length
 use Rattle.issuer_base.specs.declared.entry.Entry.{Entry}
 use Rattle.card_history.specs.declared.decision.Decision.{Decision}
 use Rattle.card_history.specs.Turns.{Answers}
-use Rattle.row_core.specs.declared.card.CardInfo.{CardInfo}
-use Rattle.row_core.specs.CardList.{AreCards}
+use Rattle.issuer_setup.specs.declared.card.CardInfo.{CardInfo}
+use Rattle.issuer_setup.specs.CardList.{AreCards}
 use Rattle.row_core.specs.CardRow.{CardRow, StandsFor as RowStandsFor}
-use Rattle.row_core.specs.IssuerSetup.{Setup}
+use Rattle.issuer_setup.specs.IssuerSetup.{Setup}
 use Rattle.row_core.specs.Plan.{answer_of, history_after, with_record, IsNext}
 use Rattle.row_core.specs.Replying.{reply_to}
 use Rattle.row_core.specs.declared.row.Outcome.{Outcome}

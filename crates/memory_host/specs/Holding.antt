@@ -1,9 +1,9 @@
 -- What a host in memory holds, and the histories that it stands for.
 use Rattle.std.specs.Prelude.{◌≡◌, ℕ, ◌%◌, List, [], length, map, slice_get, slice_index_or, Some}
 use Rattle.issuer_base.specs.declared.entry.Entry.{Entry}
-use Rattle.row_core.specs.declared.card.CardInfo.{CardInfo}
+use Rattle.issuer_setup.specs.declared.card.CardInfo.{CardInfo}
 use Rattle.row_core.specs.CardRow.{CardRow, StandsFor as RowStandsFor}
-use Rattle.row_core.specs.IssuerSetup.{Setup}
+use Rattle.issuer_setup.specs.IssuerSetup.{Setup}
 
 -- what the issuer has, a row for each of its cards, and the number of records of each shard
 pub record Holding : Type 0 where

@@ -13,8 +13,8 @@ use Rattle.chip_request.specs.Ask.{ask_bytes}
 use Rattle.chip_request.specs.Reading.{request_of}
 use Rattle.key_derive.specs.declared.card.CardKeys.{CardKeys}
 use Rattle.cryptogram_in.specs.Cryptogram.{application_cryptogram}
-use Rattle.row_core.specs.CardList.{number_of}
-use Rattle.row_core.specs.IssuerSetup.{Setup, keys_of}
+use Rattle.issuer_setup.specs.CardList.{number_of}
+use Rattle.issuer_setup.specs.IssuerSetup.{Setup, keys_of}
 
 -- what is wrong with chip data, as the refusal of their line
 abbrev pub refusal_of : RequestFault → Refusal

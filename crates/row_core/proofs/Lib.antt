@@ -1,9 +1,3 @@
-pub mod Names
-pub mod KeyListLemmas
-pub mod CardListLemmas
-pub mod CardOrderLemmas
-pub mod KeptKeysLemmas
-pub mod Shards
 pub mod UnusedCounters
 pub mod RowLemmas
 pub mod PlanLemmas

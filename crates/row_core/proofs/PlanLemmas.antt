@@ -10,10 +10,10 @@ use Rattle.card_history.specs.Records.{card_of, decided}
 use Rattle.card_history.specs.Turns.{IsUnused, IsUsed, IsTooOld, decided_for}
 use Rattle.key_derive.specs.declared.card.CardKeys.{CardKeys}
 use Rattle.decision_table.specs.declared.row.TableRow.{TableRow}
-use Rattle.row_core.specs.declared.card.CardInfo.{CardInfo}
+use Rattle.issuer_setup.specs.declared.card.CardInfo.{CardInfo}
 use Rattle.row_core.specs.declared.row.Outcome.{Outcome}
 use Rattle.row_core.specs.declared.row.Outcome.TheVariants.{Fresh, Kept, Below, Taken}
-use Rattle.row_core.specs.CardList.{name_of}
+use Rattle.issuer_setup.specs.CardList.{name_of}
 use Rattle.row_core.specs.CardRow.{CardRow, StandsFor}
 use Rattle.row_core.specs.Known.{IsKnown}
 use Rattle.row_core.specs.Plan.{IsPlan, IsNext}

@@ -5,8 +5,8 @@ use Rattle.card_history.specs.declared.decision.Decision.{Decision}
 use Rattle.card_history.specs.Records.{CardName, is_of, decided, greatest}
 use Rattle.card_history.proofs.CardNames.{is_of-card_of}
 use Rattle.card_history.proofs.OneMoreRecord.{decided-more}
-use Rattle.row_core.specs.declared.card.CardInfo.{CardInfo}
-use Rattle.row_core.specs.CardList.{name_of}
+use Rattle.issuer_setup.specs.declared.card.CardInfo.{CardInfo}
+use Rattle.issuer_setup.specs.CardList.{name_of}
 use Rattle.row_core.specs.CardRow.{CardRow, StandsFor}
 use Rattle.row_core.specs.Plan.{IsNext, with_record}
 use Rattle.card_history.proofs.OtherRecords.{queue-decided, status_of-decided}

@@ -5,8 +5,8 @@ use Rattle.issuer_base.specs.declared.command.Command.{Command}
 use Rattle.issuer_base.specs.declared.entry.Entry.{Entry}
 use Rattle.card_history.specs.declared.decision.Decision.{Decision}
 use Rattle.card_history.specs.Records.{decided, greatest, queue, status_of}
-use Rattle.row_core.specs.declared.card.CardInfo.{CardInfo}
-use Rattle.row_core.specs.CardList.{name_of}
+use Rattle.issuer_setup.specs.declared.card.CardInfo.{CardInfo}
+use Rattle.issuer_setup.specs.CardList.{name_of}
 
 -- what a row keeps: how the card's cryptogram is made, the greatest decided counter, the card's status, its decisions with
 -- their replies, the commands queued for it, and for how many of either there is room in all

@@ -11,8 +11,8 @@ use Rattle.card_history.specs.Records.{card_of, status_of}
 use Rattle.card_history.specs.Turns.{Answers}
 use Rattle.key_derive.specs.declared.card.CardKeys.{CardKeys}
 use Rattle.decision_table.specs.declared.row.TableRow.{TableRow}
-use Rattle.row_core.specs.declared.card.CardInfo.{CardInfo}
-use Rattle.row_core.specs.CardList.{name_of}
+use Rattle.issuer_setup.specs.declared.card.CardInfo.{CardInfo}
+use Rattle.issuer_setup.specs.CardList.{name_of}
 use Rattle.row_core.specs.CardRow.{CardRow, StandsFor}
 use Rattle.row_core.specs.Replying.{decided_reply}
 use Rattle.row_core.specs.declared.row.Outcome.{Outcome}

@@ -12,9 +12,9 @@ use Rattle.key_derive.specs.SessionKey.{session_ac}
 use Rattle.arpc_methods.specs.Arpc.{value91}
 use Rattle.decision_table.specs.declared.row.TableRow.{TableRow}
 use Rattle.decision_table.specs.Fitting.{decision}
-use Rattle.row_core.specs.declared.card.CardInfo.{CardInfo}
-use Rattle.row_core.specs.CardList.{number_of}
-use Rattle.row_core.specs.IssuerSetup.{Setup, keys_of}
+use Rattle.issuer_setup.specs.declared.card.CardInfo.{CardInfo}
+use Rattle.issuer_setup.specs.CardList.{number_of}
+use Rattle.issuer_setup.specs.IssuerSetup.{Setup, keys_of}
 
 -- the reply by a row of the table, under the session key for cryptograms: the row's response code and approval; tag 8A has
 -- the response code, and tag 91 the issuer's cryptogram of the response code or of the status update

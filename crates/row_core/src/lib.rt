@@ -1,14 +1,10 @@
-//! The issuer's cards, and the row that the host keeps for each of them.
+//! The row that the host keeps for each of an issuer's cards.
 #![tactic(auto)]
 
-mod card;
-mod issuer;
-mod kept_keys;
 mod reply;
 mod row;
 
-pub use card::CardInfo;
-pub use issuer::{Issuer, IssuerFault, first_bad_card, first_repeated_key};
+pub use issuer_setup::{CardInfo, Cards, CardsFault, Issuer, IssuerFault, KeySets, ShardCount};
 pub use row::{Outcome, Row, Step};
 
 #[cfg(test)]

@@ -3,7 +3,7 @@ ghost use Rattle.std.specs.Option.{option_map_or};
 ghost use Rattle.issuer_base.specs.declared.entry.Entry.{Entry};
 ghost use Rattle.card_history.specs.Records.{greatest, IsBelow};
 ghost use Rattle.card_history.specs.Turns.{IsUnused};
-ghost use Rattle.row_core.specs.declared.card.CardInfo.{CardInfo};
+ghost use Rattle.issuer_setup.specs.declared.card.CardInfo.{CardInfo};
 ghost use Rattle.row_core.specs.CardRow.{StandsFor, HasRoom};
 ghost use Rattle.row_core.specs.Known.{IsKnown};
 ghost use Rattle.row_core.specs.Plan.{IsPlan, IsNext, with_record};

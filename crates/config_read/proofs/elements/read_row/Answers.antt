@@ -24,5 +24,6 @@ returns c =
       approve = c.in_ok-arc.approve;
       csu = c.in_ok-arc.csu;
     } in
-    let parts = row_in-parts (view c.args.element.now) row c.in_ok-tvr_mask.ensures c.in_ok-cvr_mask.ensures c.in_ok-least.ensures c.in_ok-status.ensures c.in_ok-arc.ensures in
+    let parts = row_in-parts (view c.args.element.now) row c.in_ok-tvr_mask.ensures c.in_ok-cvr_mask.ensures c.in_ok-least.ensures
+    c.in_ok-status.ensures c.in_ok-arc.ensures in
     c.told.ensures ∙ sym parts

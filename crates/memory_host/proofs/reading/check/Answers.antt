@@ -1,6 +1,6 @@
 use Rattle.std.proofs.Common.{ap, sym, ◌∙◌}
 use Rattle.card_history.specs.Records.{card_of}
-use Rattle.row_core.specs.CardList.{number_of}
+use Rattle.issuer_setup.specs.CardList.{number_of}
 use Rattle.issuer_base.specs.declared.request.Parts.{Parts}
 use Rattle.memory_host.proofs.RowsAfter.{number-within}
 use Rattle.memory_host.proofs.reading.check.Goals as goal

@@ -1,0 +1,6 @@
+pub mod Names
+pub mod KeyListLemmas
+pub mod CardListLemmas
+pub mod CardOrderLemmas
+pub mod KeptKeysLemmas
+pub mod Shards

@@ -1,0 +1,6 @@
+pub mod Shards
+pub mod KeyList
+pub mod CardList
+pub mod CardOrder
+pub mod KeptKeys
+pub mod IssuerSetup

@@ -1,0 +1,16 @@
+//! A card of an issuer.
+
+use issuer_base::{Method, Pan};
+
+/// A card of the issuer, as the configuration names it.
+#[derive(Clone, PartialEq, Eq, Debug, Drop)]
+pub struct CardInfo {
+    /// The primary account number, tag 5A.
+    pub pan: Pan,
+
+    /// The card's sequence number, two decimal digits, tag 5F34.
+    pub psn: u8,
+
+    /// How the issuer's cryptogram is made for it.
+    pub method: Method,
+}

@@ -1,0 +1,208 @@
+//! An issuer: its shards, its key sets, its cards with their master keys, and its decision table.
+ghost use Rattle.std.specs.Prelude.{◌≡◌, ◌%◌, ◌<◌, true, None, Some, length, slice_get, IfOk, IfErr};
+ghost use Rattle.std.specs.Option.{option_map};
+ghost use Rattle.card_history.specs.Records.{CardName};
+ghost use Rattle.issuer_setup.specs.Shards.{are_shards};
+ghost use Rattle.issuer_setup.specs.KeyList.{key_of, bad_key, AreKeys};
+ghost use Rattle.issuer_setup.specs.CardList.{number_of, bad_card, AreCards};
+ghost use Rattle.issuer_setup.specs.IssuerSetup.{IsFaultOf, keys_of, shard_of};
+
+use crate::card::CardInfo;
+use crate::cards::{Cards, CardsFault};
+use crate::kept_keys::KeptKeys;
+use crate::key_sets::KeySets;
+use crate::shard_count::ShardCount;
+use arrayvec::ArrayVec;
+use decision_table::Table;
+use issuer_base::{MAX_KEY_SETS, NoMemory, Pan, Request};
+use key_derive::{CardKeys, KeySet};
+use std::alloc::Global;
+use std::marker::Model;
+
+/// Why shards, key sets and cards make no issuer.
+#[derive(Clone, Copy, PartialEq, Eq, Debug)]
+pub enum IssuerFault {
+    /// The number of shards isn't 1 to 16.
+    Shards,
+
+    /// The key set of this index has the derivation key index of an earlier one; or, at 0, there is no key set.
+    Key(u32),
+
+    /// The card of this index has a sequence number that isn't decimal, or the account and sequence
+    /// number of an earlier card; or, at 0, there is no card or there are more than 4,096.
+    Card(u32),
+
+    /// No memory was left for the order of the cards or for their master keys.
+    NoMemory,
+}
+
+impl From<CardsFault> for IssuerFault {
+    ghost use Rattle.std.specs.Prelude.{◌≡◌};
+    ghost use Rattle.issuer_setup.specs.IssuerSetup.{fault_of_cards};
+
+    ghost from_gives = { λ refused fault. fault ≡ fault_of_cards refused };
+
+    fn from(refused: CardsFault) -> IssuerFault {
+        match refused {
+            CardsFault::Card(index) => IssuerFault::Card(index),
+            CardsFault::NoMemory => IssuerFault::NoMemory,
+        }
+    }
+}
+
+impl From<NoMemory> for IssuerFault {
+    ghost use Rattle.std.specs.Prelude.{◌≡◌};
+    ghost use Rattle.issuer_setup.specs.declared.issuer.IssuerFault.TheVariants.{NoMemory};
+
+    ghost from_gives = { λ _ fault. fault ≡ NoMemory };
+
+    fn from(_fault: NoMemory) -> IssuerFault {
+        IssuerFault::NoMemory
+    }
+}
+
+/// An issuer: the number of its shards, its key sets, its cards, each with a number from 0, its place in the
+/// configuration, and its decision table.
+///
+/// A contract sees the number of shards, the lists of the key sets and of the cards, and the table's rows.
+#[derive(Drop)]
+pub struct Issuer {
+    shards: ShardCount,
+    keys: KeySets,
+    cards: Cards,
+
+    /// The master keys of each card from each key set.
+    kept: KeptKeys,
+    table: Table,
+}
+
+impl Model for Issuer {
+    ghost use Rattle.std.specs.Prelude.{◌≡◌};
+    ghost use Rattle.issuer_setup.specs.IssuerSetup.{Setup};
+    ghost use Rattle.issuer_setup.specs.KeptKeys.{kept_keys};
+
+    ghost Value = { Setup };
+
+    ghost view = { λ issuer. record {
+      shards = issuer.shards;
+      keys = issuer.keys;
+      cards = issuer.cards;
+      table = issuer.table;
+    } };
+
+    ghost invariant = { λ issuer. issuer.kept ≡ kept_keys issuer.keys issuer.cards };
+}
+
+impl Issuer {
+    /// The issuer of just these parts. It derives the master keys of each card from each key set, and takes
+    /// memory for them.
+    pub fn of(
+        alloc: Global,
+        shards: ShardCount,
+        keys: KeySets,
+        cards: Cards,
+        table: Table,
+    ) -> Result<Issuer, NoMemory>
+        ensures { IfOk result (λ issuer. issuer ≡ record { shards = shards; keys = keys; cards = cards; table = table }) }
+    {
+        let kept = KeptKeys::derive(alloc, keys.as_slice(), cards.as_slice())?;
+        Ok(Issuer {
+            shards,
+            keys,
+            cards,
+            kept,
+            table,
+        })
+    }
+
+    /// The issuer of just these parts, or the first of them that is bad: the number of shards, then the key
+    /// sets, then the cards. It derives the master keys of each card from each key set.
+    pub fn new(
+        alloc: Global,
+        shards: u8,
+        keys: ArrayVec<KeySet, MAX_KEY_SETS>,
+        cards: Vec<CardInfo>,
+        table: Table,
+    ) -> Result<Issuer, IssuerFault>
+        ensures ok { IfOk result (λ issuer. (are_shards shards ≡ true) × (bad_key keys.items ≡ None) × (bad_card cards.items ≡ None)) }
+        ensures parts { IfOk result (λ issuer. issuer ≡ record { shards = shards; keys = keys.items; cards = cards.items; table = table }) }
+        ensures refused { IfErr result (IsFaultOf shards keys.items cards.items) }
+    {
+        let shards = ShardCount::new(shards).ok_or(IssuerFault::Shards)?;
+        let keys = KeySets::new(keys).map_err(IssuerFault::Key)?;
+        let cards = Cards::new(alloc, cards)?;
+        Ok(Issuer::of(alloc, shards, keys, cards, table)?)
+    }
+
+    /// How many shards there are, 1 to 16.
+    pub fn shards(&self) -> u8
+        ensures count { result ≡ self.now.shards }
+        ensures valid { are_shards self.now.shards ≡ true }
+    {
+        self.shards.get()
+    }
+
+    /// The shard of the card with this number.
+    pub fn shard_of(&self, card: u32) -> u8
+        ensures number { result ≡ card % self.now.shards }
+        ensures shard { (name : CardName) → number_of name self.now.cards ≡ Some card → result ≡ shard_of self.now name }
+    {
+        (card % u32::from(self.shards())) as u8
+    }
+
+    /// The decision table.
+    pub fn table(&self) -> &Table
+        ensures { result.now ≡ self.now.table }
+    {
+        &self.table
+    }
+
+    /// The key set with this derivation key index; `None` where no key set has it.
+    pub fn key(&self, dki: u8) -> Option<&KeySet>
+        ensures key { option_map (λ set. set.now) result ≡ key_of dki self.now.keys }
+        ensures valid { AreKeys self.now.keys }
+    {
+        self.keys.find(dki)
+    }
+
+    /// The first key set of the configuration.
+    pub fn first_key(&self) -> &KeySet
+        ensures { slice_get self.now.keys 0 ≡ Some result.now }
+    {
+        self.keys.first()
+    }
+
+    /// The master keys of this card from the key set that the request's derivation key index names; `None`
+    /// where no key set has that index. They were derived with the issuer, and are kept.
+    pub fn keys_of(&self, card: u32, request: &Request) -> Option<CardKeys>
+        requires { card < length self.now.cards }
+        ensures { result ≡ keys_of self.now card request.now }
+    {
+        let place = self.keys.place_of(request.dki())?;
+        Some(self.kept.keys_of(card, place))
+    }
+
+    /// The number of the card with this account and sequence number; `None` where no card has them.
+    pub fn card(&self, pan: &Pan, psn: u8) -> Option<u32>
+        ensures number { result ≡ number_of (record { pan = pan.now; psn = psn }) self.now.cards }
+        ensures valid { AreCards self.now.cards }
+    {
+        self.cards.find(pan, psn)
+    }
+
+    /// The card with this number.
+    pub fn info(&self, card: u32) -> &CardInfo
+        requires { card < length self.now.cards }
+        ensures { slice_get self.now.cards card ≡ Some result.now }
+    {
+        &self.cards.as_slice()[card as usize]
+    }
+
+    /// How many cards there are.
+    pub fn cards(&self) -> u32
+        ensures count { result ≡ length self.now.cards }
+        ensures valid { AreCards self.now.cards }
+    {
+        self.cards.as_slice().len() as u32
+    }
+}
