@@ -1,5 +1,6 @@
 pub mod Command
 pub mod Content
+pub mod Seen
 pub mod Configuration
 pub mod Answered
 pub mod Serving
