@@ -31,7 +31,8 @@ Says-from_read was now text issuer read says = record {
 }
 
 -- what was read is broken, and so is the configuration, at the same place
-IsBroken-from_read : (was now : Option (List ℕ)) (text : List ℕ) (fault : ConfigFault) → IsRead was now text → configured text ≡ Err fault → IsBroken was (config_stop fault)
+IsBroken-from_read : (was now : Option (List ℕ)) (text : List ℕ) (fault : ConfigFault) → IsRead was now text → configured text ≡ Err fault
+    → IsBroken was (config_stop fault)
 IsBroken-from_read was now text fault read broken =
     ⊎_elim
     (λ long.
@@ -44,14 +45,21 @@ IsBroken-from_read was now text fault read broken =
       broken = configured-long (text ++ parts.rest) longer ∙ sym (configured-long text long) ∙ broken;
       stop_is = refl;
     })
-    (λ within. record { content = text; fault = fault; held = whole-read was now text read.consumed (read.to_the_end within); broken = broken; stop_is = refl })
+    (λ within. record {
+      content = text;
+      fault = fault;
+      held = whole-read was now text read.consumed (read.to_the_end within);
+      broken = broken;
+      stop_is = refl;
+    })
     (cases_lt 4194304 (length text))
 
 -- why a text that was read gives no issuer
 abbrev pub GivesNone : List ℕ → ConfigFault → Type 0
 GivesNone text fault = (fault ≡ NoMemory → ⊥) → configured text ≡ Err fault
 
-pub GivesNoIssuer-from_read : (was now : Option (List ℕ)) (text : List ℕ) (fault : ConfigFault) → IsRead was now text → GivesNone text fault → GivesNoIssuer was (config_stop fault)
+pub GivesNoIssuer-from_read : (was now : Option (List ℕ)) (text : List ℕ) (fault : ConfigFault) → IsRead was now text → GivesNone text fault
+    → GivesNoIssuer was (config_stop fault)
 GivesNoIssuer-from_read was now text NotJson read none = IsBroken-from_read was now text NotJson read (none (λ same. cc))
 GivesNoIssuer-from_read was now text (At part index) read none = IsBroken-from_read was now text (At part index) read (none (λ same. cc))
 GivesNoIssuer-from_read was now text NoMemory read none = tt

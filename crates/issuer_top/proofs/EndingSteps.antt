@@ -14,8 +14,8 @@ use Rattle.answer_text.specs.declared.stop_line.Stop.{Stop}
 use Rattle.answer_text.specs.declared.stop_line.Stop.TheVariants.{Usage, Config, ReadFault, NoMemory, TooLong}
 use Rattle.row_core.specs.IssuerSetup.{Setup}
 use Rattle.issuer_top.specs.declared.ending.Ending.{Ending}
-use Rattle.issuer_top.specs.declared.ending.Ending.TheVariants.{Served, Stopped, WriteFault}
-use Rattle.issuer_top.specs.Content.{Tells, Holds}
+use Rattle.issuer_top.specs.declared.ending.Ending.TheVariants.{Served, WriteFault}
+use Rattle.issuer_top.specs.Content.{Tells}
 use Rattle.issuer_top.specs.Seen.{Seen, SeenInput}
 use Rattle.issuer_top.specs.Answered.{AllAnswered, WholeAnswered, FrontAnswered, PassedAnswered}
 use Rattle.issuer_top.specs.Configuration.{Says, GivesNoIssuer, is_read_stop}
@@ -23,7 +23,7 @@ use Rattle.issuer_top.specs.Opening.{stop_of}
 use Rattle.issuer_top.specs.Command.{IsServe, IsNoCommand}
 use Rattle.issuer_top.specs.Serving.{ServesLines}
 use Rattle.issuer_top.specs.Stopping.{StopsBy, is_broken}
-use Rattle.issuer_top.specs.Endings.{HasOpened, FailsToOpen, IsSetUp, AnswersLines, Stops, EndsBy}
+use Rattle.issuer_top.specs.Endings.{HasOpened, IsSetUp, AnswersLines, Stops, EndsBy}
 
 -- what the desk tells of a name is what the input under it had
 pub Holds-from_left : (told : Option (Option (List ℕ))) (left : Option (List ℕ)) (content : List ℕ)

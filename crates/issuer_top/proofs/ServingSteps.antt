@@ -1,5 +1,5 @@
 -- Serving, one line more and to each of its ends.
-use Rattle.std.proofs.Common.{◌≡◌, ℕ, ◌+◌, List, [], ◌∷◌, ◌++◌, length, Option, None, Some, refl, sym, ap, subst, ◌∙◌, ◌-◌, ◌≤◌, arith, append-nil, append_assoc}
+use Rattle.std.proofs.Common.{◌≡◌, ℕ, ◌+◌, List, [], ◌∷◌, ◌++◌, length, Option, None, Some, refl, sym, ap, subst, ◌∙◌, arith, append-nil}
 use Rattle.std.proofs.lemmas.List.{length-append, flat_map_more}
 use Rattle.std.specs.List.{flat_map}
 use Rattle.std.specs.Io.KnownBytes.{Appends, Consumes, IsAtEnd}
@@ -12,7 +12,8 @@ use Rattle.line_reader.specs.Lines.{lines, ended, BeginsWithLines}
 use Rattle.line_reader.specs.Reading.{Reading, HasGivenLines, IsWithinLimits, StaysWithinLimits, unread, kept}
 use Rattle.line_reader.specs.NextLine.{GivesLine, GivesRest, ReachesEnd, StopsAtFault, StopsAtLimit}
 use Rattle.line_reader.proofs.LineLaws.{lines-begins, length-begins, BeginsWithLines-given}
-use Rattle.line_reader.proofs.WholeLines.{HasGivenLines-unread, HasGivenLines-line, IsLinesAndRest-rest, lines-rest_given, IsLinesAndRest-end, lines-end_reached, IsLinesAndRest-fault, PassesLimit-stopped}
+use Rattle.line_reader.proofs.WholeLines.{HasGivenLines-unread, HasGivenLines-line, IsLinesAndRest-rest, IsLinesAndRest-end, IsLinesAndRest-fault}
+use Rattle.line_reader.proofs.WholeLines.{lines-rest_given, lines-end_reached, PassesLimit-stopped}
 use Rattle.card_history.specs.Turns.{Run, Turn, no_records}
 use Rattle.card_history.proofs.Runs.{run_more}
 use Rattle.card_history.proofs.ConsistentRuns.{run-consistent}
@@ -66,24 +67,29 @@ Turns old new line answer = (before : List (List Entry)) → StandsFor old befor
     × Turn (rules_of old.issuer) before (reading old.issuer line) answer after
 
 -- a turn on a line as far as it is kept is a turn on the line
-turn-kept : (issuer other : Setup) (before : List (List Entry)) (line hand : List ℕ) (answer : Answer) (after : List (List Entry)) → other ≡ issuer → hand ≡ kept line
+turn-kept : (issuer other : Setup) (before : List (List Entry)) (line hand : List ℕ) (answer : Answer) (after : List (List Entry))
+    → other ≡ issuer → hand ≡ kept line
     → Turn (rules_of other) before (reading other hand) answer after → Turn (rules_of issuer) before (reading issuer line) answer after
 turn-kept issuer other before line hand answer after same cut turn =
-    let at : Turn (rules_of issuer) before (reading issuer hand) answer after = subst (λ (i : Setup). Turn (rules_of i) before (reading i hand) answer after) same turn in
+    let at : Turn (rules_of issuer) before (reading issuer hand) answer after =
+    subst (λ (i : Setup). Turn (rules_of i) before (reading i hand) answer after) same turn in
     subst (λ r. Turn (rules_of issuer) before r answer after) (ap (reading issuer) cut ∙ reading-kept issuer line) at
 
 -- the line after those served is answered
-run-line : (issuer : Setup) (host next : Holding) (whole : List (List ℕ)) (answers : List Answer) (histories : List (List Entry)) (line hand : List ℕ) (answer : Answer)
-    → host.issuer ≡ issuer → StandsFor host histories → Run (rules_of issuer) (no_records issuer.shards) whole answers histories → hand ≡ kept line → Turns host next hand answer
+run-line : (issuer : Setup) (host next : Holding) (whole : List (List ℕ)) (answers : List Answer) (histories : List (List Entry))
+    (line hand : List ℕ) (answer : Answer) → host.issuer ≡ issuer → StandsFor host histories
+    → Run (rules_of issuer) (no_records issuer.shards) whole answers histories → hand ≡ kept line → Turns host next hand answer
     → (after : List (List Entry)) × StandsFor next after × Run (rules_of issuer) (no_records issuer.shards) (whole ++ line ∷ []) (answers ++ answer ∷ []) after
 run-line issuer host next whole answers histories line hand answer same stands run cut turns =
     let t = turns histories stands in
-    (t.0, t.1, run_more (rules_of issuer) (no_records issuer.shards) whole answers histories line answer t.0 run (turn-kept issuer host.issuer histories line hand answer t.0 same cut t.2))
+    let turn = turn-kept issuer host.issuer histories line hand answer t.0 same cut t.2 in
+    (t.0, t.1, run_more (rules_of issuer) (no_records issuer.shards) whole answers histories line answer t.0 run turn)
 
 -- ---- the run
 
 -- nothing is served yet
-pub HasServed-none : (issuer : Setup) (was held : Option (List ℕ)) (host : Holding) (reader : Reading) → host.issuer ≡ issuer → StandsFor host (no_records issuer.shards) → reader ≡ unread
+pub HasServed-none : (issuer : Setup) (was held : Option (List ℕ)) (host : Holding) (reader : Reading)
+    → host.issuer ≡ issuer → StandsFor host (no_records issuer.shards) → reader ≡ unread
     → HasServed issuer was was held held host reader
 HasServed-none issuer was held host reader same stands first = record {
   read = [];

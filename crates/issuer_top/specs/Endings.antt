@@ -1,5 +1,5 @@
 -- How a run may end: for each ending a relation of what the run saw and of the text that was due at the sink.
-use Rattle.std.specs.Prelude.{◌≡◌, ℕ, ◌<◌, ◌⊎◌, Bool, true, false, List, length, ◌++◌, Option, None, Some, is_some, IsSomeAnd, Ok, Err}
+use Rattle.std.specs.Prelude.{◌≡◌, ℕ, ◌<◌, ◌⊎◌, Bool, true, false, List, length, ◌++◌, Some, is_some, IsSomeAnd, Ok, Err}
 use Rattle.std.specs.Io.KnownBytes.{Appends}
 use Rattle.issuer_base.specs.OutsideFaults.{Rose}
 use Rattle.issuer_base.specs.Sink.{AppendsFront}

@@ -1,3 +1,4 @@
+-- What a run of the program does, from its words to its last line.
 pub mod Command
 pub mod Content
 pub mod Seen

@@ -1,6 +1,10 @@
 -- What a run sees of the outside: its words, the desk, the inputs that it opened, and the sink.
 use Rattle.std.specs.Prelude.{ℕ, List, Option}
 use Rattle.std.specs.Option.{option_map}
+use Rattle.issuer_base.specs.declared.outside.Desk.{Ghosts as Desk}
+use Rattle.issuer_base.specs.declared.outside.Source.{Ghosts as Source}
+use Rattle.issuer_base.specs.declared.outside.Sink.{Ghosts as Sink}
+use Rattle.issuer_top.specs.declared.top_call.Ended.{Ended}
 use Rattle.issuer_top.specs.Content.{Told}
 
 -- the desk: what it tells of its names, its count of faults before and after the run, and the name in its last fault
@@ -30,29 +34,35 @@ pub record Seen : Type 0 where
   pub requests : Option SeenInput
   pub sink : SeenSink
 
--- the desk before and after, by what it tells, its count and its last fault
-abbrev pub desk_seen : {D : Type 0} → (D → Told) → (D → ℕ) → (D → Option (List ℕ)) → D → D → SeenDesk
-desk_seen tells faults last_fault before after =
-    record { tells = tells before; faults_before = faults before; faults_after = faults after; last_fault = last_fault after }
+-- the desk before and after
+abbrev pub desk_seen : {D I : Type 0} → Desk D I → D → D → SeenDesk
+desk_seen desk before after = record {
+  tells = desk.holds before;
+  faults_before = desk.faults before;
+  faults_after = desk.faults after;
+  last_fault = desk.last_fault after;
+}
 
--- an input, by its count and what it has left
-abbrev pub input_seen : {I : Type 0} → (I → ℕ) → (I → Option (List ℕ)) → I → SeenInput
-input_seen faults left input = record { faults = faults input; left = left input }
+-- an input after the run
+abbrev pub input_seen : {I : Type 0} → Source I → I → SeenInput
+input_seen source input = record { faults = source.faults input; left = source.left input }
 
--- the sink before and after, by what it holds and its count
-abbrev pub sink_seen : {W : Type 0} → (W → Option (List ℕ)) → (W → ℕ) → W → W → SeenSink
-sink_seen held faults before after =
-    record { held_before = held before; held_after = held after; faults_before = faults before; faults_after = faults after }
+-- the sink before and after
+abbrev pub sink_seen : {W : Type 0} → Sink W → W → W → SeenSink
+sink_seen sink before after = record {
+  held_before = sink.held before;
+  held_after = sink.held after;
+  faults_before = sink.faults before;
+  faults_after = sink.faults after;
+}
 
 -- all that was seen, in the order of the fields
 abbrev pub seen_of : List (List ℕ) → SeenDesk → Option SeenInput → Option SeenInput → SeenSink → Seen
 seen_of words desk config requests sink =
     record { words = words; desk = desk; config = config; requests = requests; sink = sink }
 
--- all that was seen, by what the desk, its inputs and the sink tell and count: of the words, of the desk before and after, of the
--- inputs, and of the sink before and after
-abbrev pub seen_by : {D I W : Type 0} → (D → Told) → (D → ℕ) → (D → Option (List ℕ)) → (I → ℕ) → (I → Option (List ℕ))
-    → (W → Option (List ℕ)) → (W → ℕ) → List (List ℕ) → D → D → Option I → Option I → W → W → Seen
-seen_by tells faults last_fault input_faults left held sink_faults words desk ended config requests out written =
-    seen_of words (desk_seen tells faults last_fault desk ended) (option_map (input_seen input_faults left) config)
-    (option_map (input_seen input_faults left) requests) (sink_seen held sink_faults out written)
+-- all that was seen of the words, of the desk that was given and of what was given back, and of the sink before and after
+abbrev pub seen_by : {D I W : Type 0} → Desk D I → Source I → Sink W → List (List ℕ) → D → Ended D I → W → W → Seen
+seen_by desk source sink words given ended before after =
+    seen_of words (desk_seen desk given ended.desk) (option_map (input_seen source) ended.config)
+    (option_map (input_seen source) ended.requests) (sink_seen sink before after)

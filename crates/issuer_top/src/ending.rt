@@ -5,7 +5,7 @@ ghost use Rattle.issuer_top.specs.Status.{status_of, status_of_stop};
 use answer_text::Stop;
 
 /// How a run ends.
-#[derive(Clone, Copy, PartialEq, Eq, Debug)]
+#[derive(Clone, Copy)]
 pub(crate) enum Ending {
     /// All lines were answered.
     Served,

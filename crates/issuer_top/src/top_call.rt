@@ -43,24 +43,16 @@ pub fn issue<R: AllocGlobal, D: Desk, W: Sink>(
     ensures statuses { IsStatus result.status }
 
     // What each status says of the words, the desk, the inputs that were opened, and what was written.
-    ensures served { result.status ≡ 0 → Writes IsServed (seen_by D.holds D.faults D.last_fault D.Input.faults D.Input.left W.held W.faults
-        words.now desk result.desk result.config result.requests out.old out.new) }
-    ensures usage { result.status ≡ 1 → Writes IsUsage (seen_by D.holds D.faults D.last_fault D.Input.faults D.Input.left W.held W.faults
-        words.now desk result.desk result.config result.requests out.old out.new) }
-    ensures config { result.status ≡ 2 → Writes IsConfig (seen_by D.holds D.faults D.last_fault D.Input.faults D.Input.left W.held W.faults
-        words.now desk result.desk result.config result.requests out.old out.new) }
-    ensures read_fault { result.status ≡ 3 → Writes IsReadFault (seen_by D.holds D.faults D.last_fault D.Input.faults D.Input.left W.held W.faults
-        words.now desk result.desk result.config result.requests out.old out.new) }
-    ensures write_fault { result.status ≡ 4 → IsWriteFault (seen_by D.holds D.faults D.last_fault D.Input.faults D.Input.left W.held W.faults
-        words.now desk result.desk result.config result.requests out.old out.new) }
-    ensures no_memory { result.status ≡ 7 → Writes IsNoMemory (seen_by D.holds D.faults D.last_fault D.Input.faults D.Input.left W.held W.faults
-        words.now desk result.desk result.config result.requests out.old out.new) }
-    ensures too_long { result.status ≡ 8 → Writes IsTooLong (seen_by D.holds D.faults D.last_fault D.Input.faults D.Input.left W.held W.faults
-        words.now desk result.desk result.config result.requests out.old out.new) }
+    ensures served { result.status ≡ 0 → Writes IsServed (seen_by D.Desk D.Input.Source W.Sink words.now desk result out.old out.new) }
+    ensures usage { result.status ≡ 1 → Writes IsUsage (seen_by D.Desk D.Input.Source W.Sink words.now desk result out.old out.new) }
+    ensures config { result.status ≡ 2 → Writes IsConfig (seen_by D.Desk D.Input.Source W.Sink words.now desk result out.old out.new) }
+    ensures read_fault { result.status ≡ 3 → Writes IsReadFault (seen_by D.Desk D.Input.Source W.Sink words.now desk result out.old out.new) }
+    ensures write_fault { result.status ≡ 4 → IsWriteFault (seen_by D.Desk D.Input.Source W.Sink words.now desk result out.old out.new) }
+    ensures no_memory { result.status ≡ 7 → Writes IsNoMemory (seen_by D.Desk D.Input.Source W.Sink words.now desk result out.old out.new) }
+    ensures too_long { result.status ≡ 8 → Writes IsTooLong (seen_by D.Desk D.Input.Source W.Sink words.now desk result out.old out.new) }
 
     // Where words, configuration and request file are in order and no count rose, all lines are answered, or memory was wanting.
-    ensures in_order { IsInOrder (seen_by D.holds D.faults D.last_fault D.Input.faults D.Input.left W.held W.faults
-        words.now desk result.desk result.config result.requests out.old out.new)
+    ensures in_order { IsInOrder (seen_by D.Desk D.Input.Source W.Sink words.now desk result out.old out.new)
         → (result.status ≡ 0) ⊎ (result.status ≡ 7) }
 {
     let Outcome {
@@ -90,8 +82,9 @@ fn run<D: Desk, W: Sink>(
     desk: &mut D,
     out: &mut W,
 ) -> Outcome<D::Input>
-    ensures { EndsBy (seen_by D.holds D.faults D.last_fault D.Input.faults D.Input.left W.held W.faults
-        words.now desk.old desk.new result.config result.requests out.old out.new) result.ending }
+    ensures { EndsBy (seen_of words.now (desk_seen D.Desk desk.old desk.new)
+        (option_map (input_seen D.Input.Source) result.config) (option_map (input_seen D.Input.Source) result.requests)
+        (sink_seen W.Sink out.old out.new)) result.ending }
 {
     let Some(names) = read_words(words) else {
         return Outcome {
@@ -170,7 +163,7 @@ fn answer_requests<S: Source, W: Sink>(server: &mut Server, requests: &mut S, ou
     requires new { IsNew server.old server.old.host.issuer }
     requires fresh { S.faults requests.old ≡ 0 }
     ensures { (words : List (List ℕ)) (desk : SeenDesk) (config : SeenInput) (name : List ℕ)
-        → let seen = seen_of words desk (Some config) (Some (input_seen S.faults S.left requests.new)) (sink_seen W.held W.faults out.old out.new) in
+        → let seen = seen_of words desk (Some config) (Some (input_seen S.Source requests.new)) (sink_seen W.Sink out.old out.new) in
         IsSetUp seen name server.old.host.issuer → GivesHeld (desk.tells name) (S.left requests.old)
         → desk.faults_after ≡ desk.faults_before → EndsBy seen result }
 {

@@ -1,3 +1,4 @@
+-- How a run ends that came to its request lines.
 use Rattle.std.proofs.Common.{refl}
 use Rattle.issuer_top.proofs.EndingSteps.{ends_served, ends_broken, ends_at_fault, ends_too_long}
 use Rattle.issuer_top.proofs.top_call.answer_requests.Goals as goal

@@ -1,3 +1,4 @@
+-- Each status says how the run ended.
 use Rattle.issuer_top.proofs.Statuses.{IsStatus-of, said, in_order}
 use Rattle.issuer_top.proofs.top_call.issue.Goals as goal
 

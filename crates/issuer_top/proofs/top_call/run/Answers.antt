@@ -1,4 +1,5 @@
-use Rattle.std.proofs.Common.{refl, sym, subst, ◌∙◌}
+-- How a run ends, stage by stage.
+use Rattle.std.proofs.Common.{refl, subst, ◌∙◌}
 use Rattle.issuer_base.specs.Desk.{GivesHeld}
 use Rattle.issuer_top.proofs.EndingSteps.{ends_no_config, ends_no_issuer, ends_no_requests, IsSetUp-from_said}
 use Rattle.issuer_top.proofs.top_call.run.Goals as goal

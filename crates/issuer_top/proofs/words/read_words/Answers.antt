@@ -1,3 +1,4 @@
+-- Words that aren't taken are no command, and those that are taken are the command.
 use Rattle.std.proofs.Common.{rules, arith}
 use Rattle.issuer_top.proofs.ServeWords.{serve-from_five, serve-five}
 use Rattle.issuer_top.proofs.words.read_words.Goals as goal

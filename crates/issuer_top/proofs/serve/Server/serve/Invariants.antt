@@ -1,3 +1,4 @@
+-- Serving, a line at a time.
 use Rattle.std.proofs.Common.{◌≡◌, ◌-◌}
 use Rattle.line_reader.specs.declared.limits.TheConstants.{MAX_LINES}
 use Rattle.issuer_top.specs.Serving.{HasServed}
