@@ -1,5 +1,6 @@
 -- What a status says of how a run ended, and that all goes well where all is in order.
-use Rattle.std.proofs.Common.{◌≡◌, ℕ, ◌-◌, ◌≤◌, ◌⊎◌, zero, suc, List, [], ◌∷◌, length, refl, Option, Some, Ok, Err, sym, subst, ap, ◌∙◌, ◌++◌, inl, inr, ⊎_elim, arith}
+use Rattle.std.proofs.Common.{◌≡◌, ℕ, ◌-◌, ◌≤◌, ◌⊎◌, zero, suc, List, [], ◌∷◌, ◌++◌, length, Option, Some, Ok, Err, inl, inr, ⊎_elim}
+use Rattle.std.proofs.Common.{refl, sym, subst, ap, ◌∙◌, arith}
 use Rattle.std.proofs.lemmas.List.{length-append, take-append-le}
 use Rattle.std.specs.List.{flat_map}
 use Rattle.std.specs.Prelude.{⊤, IsSomeAnd, ◌<◌}

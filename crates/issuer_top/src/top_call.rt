@@ -43,13 +43,20 @@ pub fn issue<R: AllocGlobal, D: Desk, W: Sink>(
     ensures statuses { IsStatus result.status }
 
     // What each status says of the words, the desk, the inputs that were opened, and what was written.
-    ensures served { result.status ≡ 0 → Writes IsServed (seen_by D.Desk D.Input.Source W.Sink words.now desk result out.old out.new) }
-    ensures usage { result.status ≡ 1 → Writes IsUsage (seen_by D.Desk D.Input.Source W.Sink words.now desk result out.old out.new) }
-    ensures config { result.status ≡ 2 → Writes IsConfig (seen_by D.Desk D.Input.Source W.Sink words.now desk result out.old out.new) }
-    ensures read_fault { result.status ≡ 3 → Writes IsReadFault (seen_by D.Desk D.Input.Source W.Sink words.now desk result out.old out.new) }
-    ensures write_fault { result.status ≡ 4 → IsWriteFault (seen_by D.Desk D.Input.Source W.Sink words.now desk result out.old out.new) }
-    ensures no_memory { result.status ≡ 7 → Writes IsNoMemory (seen_by D.Desk D.Input.Source W.Sink words.now desk result out.old out.new) }
-    ensures too_long { result.status ≡ 8 → Writes IsTooLong (seen_by D.Desk D.Input.Source W.Sink words.now desk result out.old out.new) }
+    ensures served { result.status ≡ 0
+        → Writes IsServed (seen_by D.Desk D.Input.Source W.Sink words.now desk result out.old out.new) }
+    ensures usage { result.status ≡ 1
+        → Writes IsUsage (seen_by D.Desk D.Input.Source W.Sink words.now desk result out.old out.new) }
+    ensures config { result.status ≡ 2
+        → Writes IsConfig (seen_by D.Desk D.Input.Source W.Sink words.now desk result out.old out.new) }
+    ensures read_fault { result.status ≡ 3
+        → Writes IsReadFault (seen_by D.Desk D.Input.Source W.Sink words.now desk result out.old out.new) }
+    ensures write_fault { result.status ≡ 4
+        → IsWriteFault (seen_by D.Desk D.Input.Source W.Sink words.now desk result out.old out.new) }
+    ensures no_memory { result.status ≡ 7
+        → Writes IsNoMemory (seen_by D.Desk D.Input.Source W.Sink words.now desk result out.old out.new) }
+    ensures too_long { result.status ≡ 8
+        → Writes IsTooLong (seen_by D.Desk D.Input.Source W.Sink words.now desk result out.old out.new) }
 
     // Where words, configuration and request file are in order and no count rose, all lines are answered, or memory was wanting.
     ensures in_order { IsInOrder (seen_by D.Desk D.Input.Source W.Sink words.now desk result out.old out.new)
