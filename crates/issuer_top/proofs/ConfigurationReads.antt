@@ -7,7 +7,7 @@ use Rattle.config_read.specs.declared.fault.ConfigFault.{ConfigFault}
 use Rattle.config_read.specs.declared.fault.ConfigFault.TheVariants.{NotJson, At, NoMemory}
 use Rattle.config_read.specs.Configuration.{configured}
 use Rattle.issuer_top.specs.Configuration.{IsRead, Says, IsBroken, GivesNoIssuer, config_stop}
-use Rattle.issuer_top.proofs.ServingSteps.{HasLeft-front, HasLeft-whole}
+use Rattle.issuer_top.proofs.ServingSteps.{front-read, whole-read}
 
 -- a text past the limit is broken as a whole
 configured-long : (text : List ℕ) → 4194304 < length text → configured text ≡ Err (At 1 0)
@@ -26,32 +26,40 @@ within_limit text issuer says =
 pub Says-from_read : (was now : Option (List ℕ)) (text : List ℕ) (issuer : Setup) → IsRead was now text → configured text ≡ Ok issuer → Says was issuer
 Says-from_read was now text issuer read says = record {
   content = text;
-  held = HasLeft-whole was now text read.consumed (read.to_the_end (within_limit text issuer says));
+  held = whole-read was now text read.consumed (read.to_the_end (within_limit text issuer says));
   says = says;
 }
 
 -- what was read is broken, and so is the configuration, at the same place
-IsBroken-from_read : (was now : Option (List ℕ)) (text : List ℕ) (fault : ConfigFault) → IsRead was now text → configured text ≡ Err fault → IsBroken was (config_stop fault)
+IsBroken-from_read : (was now : Option (List ℕ)) (text : List ℕ) (fault : ConfigFault) → IsRead was now text → configured text ≡ Err fault
+    → IsBroken was (config_stop fault)
 IsBroken-from_read was now text fault read broken =
     ⊎_elim
     (λ long.
-    let left = HasLeft-front was now text read.consumed in
-    let longer : 4194304 < length (text ++ left.0) = omega (arith, long, length-append text left.0) in
+    let parts = front-read was now text read.consumed in
+    let longer : 4194304 < length (text ++ parts.rest) = omega (arith, long, length-append text parts.rest) in
     record {
-      content = text ++ left.0;
+      content = text ++ parts.rest;
       fault = fault;
-      held = left.1;
-      broken = configured-long (text ++ left.0) longer ∙ sym (configured-long text long) ∙ broken;
+      held = parts.content;
+      broken = configured-long (text ++ parts.rest) longer ∙ sym (configured-long text long) ∙ broken;
       stop_is = refl;
     })
-    (λ within. record { content = text; fault = fault; held = HasLeft-whole was now text read.consumed (read.to_the_end within); broken = broken; stop_is = refl })
+    (λ within. record {
+      content = text;
+      fault = fault;
+      held = whole-read was now text read.consumed (read.to_the_end within);
+      broken = broken;
+      stop_is = refl;
+    })
     (cases_lt 4194304 (length text))
 
 -- why a text that was read gives no issuer
 abbrev pub GivesNone : List ℕ → ConfigFault → Type 0
 GivesNone text fault = (fault ≡ NoMemory → ⊥) → configured text ≡ Err fault
 
-pub GivesNoIssuer-from_read : (was now : Option (List ℕ)) (text : List ℕ) (fault : ConfigFault) → IsRead was now text → GivesNone text fault → GivesNoIssuer was (config_stop fault)
+pub GivesNoIssuer-from_read : (was now : Option (List ℕ)) (text : List ℕ) (fault : ConfigFault) → IsRead was now text → GivesNone text fault
+    → GivesNoIssuer was (config_stop fault)
 GivesNoIssuer-from_read was now text NotJson read none = IsBroken-from_read was now text NotJson read (none (λ same. cc))
 GivesNoIssuer-from_read was now text (At part index) read none = IsBroken-from_read was now text (At part index) read (none (λ same. cc))
 GivesNoIssuer-from_read was now text NoMemory read none = tt

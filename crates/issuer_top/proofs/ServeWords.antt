@@ -45,7 +45,8 @@ abbrev behind : Bool → Bool → List ℕ → List ℕ → Option (List ℕ)
 behind first second value next = if first then where_value value else if second then where_value next else None
 
 -- an option that is given once is that of one pair alone, so its value stands behind it
-behind-once : (first second : Bool) (value next found : List ℕ) → IsValue value → IsValue next → values first second value next ≡ found ∷ [] → behind first second value next ≡ Some found
+behind-once : (first second : Bool) (value next found : List ℕ)
+    → IsValue value → IsValue next → values first second value next ≡ found ∷ [] → behind first second value next ≡ Some found
 behind-once true true value next found named next_named once = absurd (cc)
 behind-once true false value next found named next_named once = value-where value named ∙ ap Some (let same : value ≡ found = cc in same)
 behind-once false true value next found named next_named once = value-where next next_named ∙ ap Some (let same : next ≡ found = cc in same)
@@ -102,10 +103,15 @@ pub serve-from_five : (words : List (List ℕ)) (config requests : List ℕ) →
     → value_behind (codes "--config") words ≡ Some config → value_behind (codes "--requests") words ≡ Some requests → IsServe words config requests
 serve-from_five words config requests long command config_given requests_given =
     let w = five words long in
-    let command_is : w.command ≡ codes "serve" = let first : slice_get words 0 ≡ Some w.command = ap (λ ws. slice_get ws 0) w.words_are in let both : Some w.command ≡ Some (codes "serve") = sym first ∙ command in cc in
+    let first : slice_get words 0 ≡ Some w.command = ap (λ ws. slice_get ws 0) w.words_are in
+    let commands : Some w.command ≡ Some (codes "serve") = sym first ∙ command in
+    let command_is : w.command ≡ codes "serve" = cc in
     let c = sym (ap (value_behind (codes "--config")) w.words_are) ∙ config_given in
     let r = sym (ap (value_behind (codes "--requests")) w.words_are) ∙ requests_given in
-    let both = both-found (bytes_eq w.first (codes "--config")) (bytes_eq w.second (codes "--config")) (bytes_eq w.first (codes "--requests")) (bytes_eq w.second (codes "--requests")) w.value w.next config requests (one_option w.first) (one_option w.second) c r in
+    let both =
+    both-found (bytes_eq w.first (codes "--config")) (bytes_eq w.second (codes "--config"))
+    (bytes_eq w.first (codes "--requests")) (bytes_eq w.second (codes "--requests"))
+    w.value w.next config requests (one_option w.first) (one_option w.second) c r in
     let pairs : List Pair = record { option = w.first; value = w.value } ∷ record { option = w.second; value = w.next } ∷ [] in
     let known : AllByRecursion (λ (pair : Pair). IsTrue (is_serve_option pair.option)) pairs = (both.first_known, (both.second_known, tt)) in
     let named : AllByRecursion (λ (pair : Pair). IsValue pair.value) pairs = (both.named, (both.next_named, tt)) in
@@ -120,7 +126,8 @@ serve-from_five words config requests long command config_given requests_given =
 
 -- ---- the command
 
-counted : (config requests : Bool) (config_values requests_values : List (List ℕ)) (value : List ℕ) (n : ℕ) → (config || requests) ≡ true → n ≤ length config_values + length requests_values
+counted : (config requests : Bool) (config_values requests_values : List (List ℕ)) (value : List ℕ) (n : ℕ)
+    → (config || requests) ≡ true → n ≤ length config_values + length requests_values
     → suc n ≤ length (if config then value ∷ config_values else config_values) + length (if requests then value ∷ requests_values else requests_values)
 counted true true config_values requests_values value n known rest = omega (arith, rest)
 counted true false config_values requests_values value n known rest = omega (arith, rest)
@@ -133,7 +140,8 @@ count_pairs : (pairs : List Pair) → AllByRecursion (λ (pair : Pair). is_serve
 count_pairs [] known = omega arith
 count_pairs (pair ∷ pairs) known =
     let rest = count_pairs pairs known.1 in
-    counted (bytes_eq pair.option (codes "--config")) (bytes_eq pair.option (codes "--requests")) (values_of (codes "--config") pairs) (values_of (codes "--requests") pairs) pair.value (length pairs) known.0 rest
+    counted (bytes_eq pair.option (codes "--config")) (bytes_eq pair.option (codes "--requests"))
+    (values_of (codes "--config") pairs) (values_of (codes "--requests") pairs) pair.value (length pairs) known.0 rest
 
 -- what the words of the command are
 pub record AreServe (words : List (List ℕ)) (config requests : List ℕ) : Type 0 where
@@ -153,12 +161,17 @@ two-pairs : (pairs : List Pair) (config requests : List ℕ) → length pairs �
     → values_of (codes "--config") pairs ≡ config ∷ [] → values_of (codes "--requests") pairs ≡ requests ∷ []
     → AllByRecursion (λ (pair : Pair). IsValue pair.value) pairs → AreServe (codes "serve" ∷ words_of pairs) config requests
 two-pairs [] config requests few config_is requests_is named = absurd (cc)
-two-pairs (pair ∷ []) config requests few config_is requests_is named = absurd (alone (bytes_eq pair.option (codes "--config")) (bytes_eq pair.option (codes "--requests")) pair.value config requests (one_option pair.option) config_is requests_is)
+two-pairs (pair ∷ []) config requests few config_is requests_is named =
+    absurd
+    (alone (bytes_eq pair.option (codes "--config")) (bytes_eq pair.option (codes "--requests")) pair.value config requests
+    (one_option pair.option) config_is requests_is)
 two-pairs (pair ∷ other ∷ []) config requests few config_is requests_is named = record {
   long = refl;
   command = refl;
-  config_given = behind-once (bytes_eq pair.option (codes "--config")) (bytes_eq other.option (codes "--config")) pair.value other.value config named.0 named.1.0 config_is;
-  requests_given = behind-once (bytes_eq pair.option (codes "--requests")) (bytes_eq other.option (codes "--requests")) pair.value other.value requests named.0 named.1.0 requests_is;
+  config_given = behind-once (bytes_eq pair.option (codes "--config")) (bytes_eq other.option (codes "--config"))
+      pair.value other.value config named.0 named.1.0 config_is;
+  requests_given = behind-once (bytes_eq pair.option (codes "--requests")) (bytes_eq other.option (codes "--requests"))
+      pair.value other.value requests named.0 named.1.0 requests_is;
 }
 two-pairs (pair ∷ other ∷ third ∷ pairs) config requests few config_is requests_is named = absurd (omega (arith, few))
 
@@ -169,4 +182,5 @@ serve-five words config requests serve =
     let config_count = ap length serve.config_is in
     let requests_count = ap length serve.requests_is in
     subst (λ (ws : List (List ℕ)). AreServe ws config requests) (sym serve.words_are)
-    (two-pairs serve.pairs config requests (omega (arith, counted, config_count, requests_count)) serve.config_is serve.requests_is (recursion_from_All (λ (pair : Pair). IsValue pair.value) serve.pairs serve.named))
+    (two-pairs serve.pairs config requests (omega (arith, counted, config_count, requests_count)) serve.config_is serve.requests_is
+    (recursion_from_All (λ (pair : Pair). IsValue pair.value) serve.pairs serve.named))

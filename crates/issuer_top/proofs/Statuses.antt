@@ -1,101 +1,56 @@
 -- What a status says of how a run ended, and that all goes well where all is in order.
-use Rattle.std.proofs.Common.{◌≡◌, ℕ, ◌⊎◌, List, length, Option, Some, Ok, Err, sym, subst, ap, ◌∙◌, inl, inr, ⊎_elim, arith}
-use Rattle.issuer_base.specs.Desk.{GivesHeld}
-use Rattle.line_reader.specs.Lines.{lines}
-use Rattle.line_reader.specs.Reading.{IsWithinLimits}
+use Rattle.std.proofs.Common.{◌≡◌, ℕ, ◌-◌, ◌≤◌, ◌⊎◌, zero, suc, List, [], ◌∷◌, ◌++◌, length, Option, Some, Ok, Err, inl, inr, ⊎_elim}
+use Rattle.std.proofs.Common.{refl, sym, subst, ap, ◌∙◌, arith}
+use Rattle.std.proofs.lemmas.List.{length-append, take-append-le}
+use Rattle.std.specs.List.{flat_map}
+use Rattle.std.specs.Prelude.{⊤, IsSomeAnd, ◌<◌}
+use Rattle.line_reader.specs.Lines.{lines, ended, IsUnbroken}
+use Rattle.line_reader.specs.Reading.{IsWithinLimits, PassesLimit}
+use Rattle.line_reader.proofs.LineLaws.{BeginsWithLines-given}
 use Rattle.line_reader.proofs.WholeLines.{PassesLimit-over}
 use Rattle.row_core.specs.IssuerSetup.{Setup}
 use Rattle.config_read.specs.declared.fault.ConfigFault.{ConfigFault}
 use Rattle.config_read.specs.Configuration.{configured}
+use Rattle.answer_text.specs.declared.stop_line.Stop.TheVariants.{Usage, Config, ReadFault, NoMemory, TooLong}
 use Rattle.issuer_top.specs.declared.ending.Ending.{Ending}
-use Rattle.issuer_top.specs.declared.ending.Ending.TheVariants.{Served, NoCommand, BadConfig, InputFailed, SinkFailed, OutOfMemory, PastLimit}
+use Rattle.issuer_top.specs.declared.ending.Ending.TheVariants.{Served, Stopped, WriteFault}
 use Rattle.issuer_top.specs.Command.{IsServe}
-use Rattle.issuer_top.specs.Content.{Told, Holds}
-use Rattle.issuer_top.specs.Answered.{PassedAnswered}
+use Rattle.issuer_top.specs.Content.{Told, Tells, Holds}
+use Rattle.issuer_top.specs.Seen.{Seen, SeenInput}
+use Rattle.issuer_top.specs.Answered.{PassedAnswered, WasRead}
 use Rattle.issuer_top.specs.Status.{status_of, IsStatus}
-use Rattle.issuer_top.specs.Endings.{Counts, IsServed, IsUsage, IsBadConfig, CannotRead, IsOutOfMemory, IsTooLong, Writes, IsBrokenOff, EndsBy, IsInOrder}
+use Rattle.issuer_top.specs.Endings.{IsServed, IsUsage, IsConfig, IsReadFault, IsNoMemory, IsTooLong, Writes, IsWriteFault, EndsBy, IsInOrder}
 use Rattle.issuer_top.proofs.ServeWords.{serve-five}
-
--- status 0
-pub at_served : (words : List (List ℕ)) (desk : Told) (counts : Counts) (held_before held_after : Option (List ℕ)) (sink_before sink_after status : ℕ) (ending : Ending)
-    → status ≡ status_of ending → EndsBy words desk counts held_before held_after sink_before sink_after ending → status ≡ 0 → Writes held_before held_after (IsServed words desk)
-at_served words desk counts held_before held_after sink_before sink_after status Served is ends at = ends
-at_served words desk counts held_before held_after sink_before sink_after status NoCommand is ends at = absurd (omega (arith, is, at))
-at_served words desk counts held_before held_after sink_before sink_after status BadConfig is ends at = absurd (omega (arith, is, at))
-at_served words desk counts held_before held_after sink_before sink_after status InputFailed is ends at = absurd (omega (arith, is, at))
-at_served words desk counts held_before held_after sink_before sink_after status SinkFailed is ends at = absurd (omega (arith, is, at))
-at_served words desk counts held_before held_after sink_before sink_after status OutOfMemory is ends at = absurd (omega (arith, is, at))
-at_served words desk counts held_before held_after sink_before sink_after status PastLimit is ends at = absurd (omega (arith, is, at))
-
--- status 1
-pub at_no_command : (words : List (List ℕ)) (desk : Told) (counts : Counts) (held_before held_after : Option (List ℕ)) (sink_before sink_after status : ℕ) (ending : Ending)
-    → status ≡ status_of ending → EndsBy words desk counts held_before held_after sink_before sink_after ending → status ≡ 1 → Writes held_before held_after (IsUsage words)
-at_no_command words desk counts held_before held_after sink_before sink_after status Served is ends at = absurd (omega (arith, is, at))
-at_no_command words desk counts held_before held_after sink_before sink_after status NoCommand is ends at = ends
-at_no_command words desk counts held_before held_after sink_before sink_after status BadConfig is ends at = absurd (omega (arith, is, at))
-at_no_command words desk counts held_before held_after sink_before sink_after status InputFailed is ends at = absurd (omega (arith, is, at))
-at_no_command words desk counts held_before held_after sink_before sink_after status SinkFailed is ends at = absurd (omega (arith, is, at))
-at_no_command words desk counts held_before held_after sink_before sink_after status OutOfMemory is ends at = absurd (omega (arith, is, at))
-at_no_command words desk counts held_before held_after sink_before sink_after status PastLimit is ends at = absurd (omega (arith, is, at))
-
--- status 2
-pub at_bad_config : (words : List (List ℕ)) (desk : Told) (counts : Counts) (held_before held_after : Option (List ℕ)) (sink_before sink_after status : ℕ) (ending : Ending)
-    → status ≡ status_of ending → EndsBy words desk counts held_before held_after sink_before sink_after ending → status ≡ 2 → Writes held_before held_after (IsBadConfig words desk)
-at_bad_config words desk counts held_before held_after sink_before sink_after status Served is ends at = absurd (omega (arith, is, at))
-at_bad_config words desk counts held_before held_after sink_before sink_after status NoCommand is ends at = absurd (omega (arith, is, at))
-at_bad_config words desk counts held_before held_after sink_before sink_after status BadConfig is ends at = ends
-at_bad_config words desk counts held_before held_after sink_before sink_after status InputFailed is ends at = absurd (omega (arith, is, at))
-at_bad_config words desk counts held_before held_after sink_before sink_after status SinkFailed is ends at = absurd (omega (arith, is, at))
-at_bad_config words desk counts held_before held_after sink_before sink_after status OutOfMemory is ends at = absurd (omega (arith, is, at))
-at_bad_config words desk counts held_before held_after sink_before sink_after status PastLimit is ends at = absurd (omega (arith, is, at))
-
--- status 3
-pub at_input_failed : (words : List (List ℕ)) (desk : Told) (counts : Counts) (held_before held_after : Option (List ℕ)) (sink_before sink_after status : ℕ) (ending : Ending)
-    → status ≡ status_of ending → EndsBy words desk counts held_before held_after sink_before sink_after ending → status ≡ 3 → Writes held_before held_after (CannotRead words desk counts)
-at_input_failed words desk counts held_before held_after sink_before sink_after status Served is ends at = absurd (omega (arith, is, at))
-at_input_failed words desk counts held_before held_after sink_before sink_after status NoCommand is ends at = absurd (omega (arith, is, at))
-at_input_failed words desk counts held_before held_after sink_before sink_after status BadConfig is ends at = absurd (omega (arith, is, at))
-at_input_failed words desk counts held_before held_after sink_before sink_after status InputFailed is ends at = ends
-at_input_failed words desk counts held_before held_after sink_before sink_after status SinkFailed is ends at = absurd (omega (arith, is, at))
-at_input_failed words desk counts held_before held_after sink_before sink_after status OutOfMemory is ends at = absurd (omega (arith, is, at))
-at_input_failed words desk counts held_before held_after sink_before sink_after status PastLimit is ends at = absurd (omega (arith, is, at))
-
--- status 4
-pub at_sink_failed : (words : List (List ℕ)) (desk : Told) (counts : Counts) (held_before held_after : Option (List ℕ)) (sink_before sink_after status : ℕ) (ending : Ending)
-    → status ≡ status_of ending → EndsBy words desk counts held_before held_after sink_before sink_after ending → status ≡ 4 → IsBrokenOff words desk counts held_before held_after sink_before sink_after
-at_sink_failed words desk counts held_before held_after sink_before sink_after status Served is ends at = absurd (omega (arith, is, at))
-at_sink_failed words desk counts held_before held_after sink_before sink_after status NoCommand is ends at = absurd (omega (arith, is, at))
-at_sink_failed words desk counts held_before held_after sink_before sink_after status BadConfig is ends at = absurd (omega (arith, is, at))
-at_sink_failed words desk counts held_before held_after sink_before sink_after status InputFailed is ends at = absurd (omega (arith, is, at))
-at_sink_failed words desk counts held_before held_after sink_before sink_after status SinkFailed is ends at = ends
-at_sink_failed words desk counts held_before held_after sink_before sink_after status OutOfMemory is ends at = absurd (omega (arith, is, at))
-at_sink_failed words desk counts held_before held_after sink_before sink_after status PastLimit is ends at = absurd (omega (arith, is, at))
-
--- status 7
-pub at_out_of_memory : (words : List (List ℕ)) (desk : Told) (counts : Counts) (held_before held_after : Option (List ℕ)) (sink_before sink_after status : ℕ) (ending : Ending)
-    → status ≡ status_of ending → EndsBy words desk counts held_before held_after sink_before sink_after ending → status ≡ 7 → Writes held_before held_after (IsOutOfMemory words counts)
-at_out_of_memory words desk counts held_before held_after sink_before sink_after status Served is ends at = absurd (omega (arith, is, at))
-at_out_of_memory words desk counts held_before held_after sink_before sink_after status NoCommand is ends at = absurd (omega (arith, is, at))
-at_out_of_memory words desk counts held_before held_after sink_before sink_after status BadConfig is ends at = absurd (omega (arith, is, at))
-at_out_of_memory words desk counts held_before held_after sink_before sink_after status InputFailed is ends at = absurd (omega (arith, is, at))
-at_out_of_memory words desk counts held_before held_after sink_before sink_after status SinkFailed is ends at = absurd (omega (arith, is, at))
-at_out_of_memory words desk counts held_before held_after sink_before sink_after status OutOfMemory is ends at = ends
-at_out_of_memory words desk counts held_before held_after sink_before sink_after status PastLimit is ends at = absurd (omega (arith, is, at))
-
--- status 8
-pub at_past_limit : (words : List (List ℕ)) (desk : Told) (counts : Counts) (held_before held_after : Option (List ℕ)) (sink_before sink_after status : ℕ) (ending : Ending)
-    → status ≡ status_of ending → EndsBy words desk counts held_before held_after sink_before sink_after ending → status ≡ 8 → Writes held_before held_after (IsTooLong words desk)
-at_past_limit words desk counts held_before held_after sink_before sink_after status Served is ends at = absurd (omega (arith, is, at))
-at_past_limit words desk counts held_before held_after sink_before sink_after status NoCommand is ends at = absurd (omega (arith, is, at))
-at_past_limit words desk counts held_before held_after sink_before sink_after status BadConfig is ends at = absurd (omega (arith, is, at))
-at_past_limit words desk counts held_before held_after sink_before sink_after status InputFailed is ends at = absurd (omega (arith, is, at))
-at_past_limit words desk counts held_before held_after sink_before sink_after status SinkFailed is ends at = absurd (omega (arith, is, at))
-at_past_limit words desk counts held_before held_after sink_before sink_after status OutOfMemory is ends at = absurd (omega (arith, is, at))
-at_past_limit words desk counts held_before held_after sink_before sink_after status PastLimit is ends at = ends
 
 -- each status is that of an ending
 pub IsStatus-of : (status : ℕ) (ending : Ending) → status ≡ status_of ending → IsStatus status
 IsStatus-of status ending is = (ending, is)
+
+-- what a number says as a status
+abbrev pub SaidBy : Seen → ℕ → Type 0
+SaidBy seen zero = Writes IsServed seen
+SaidBy seen (suc zero) = Writes IsUsage seen
+SaidBy seen (suc (suc zero)) = Writes IsConfig seen
+SaidBy seen (suc (suc (suc zero))) = Writes IsReadFault seen
+SaidBy seen (suc (suc (suc (suc zero)))) = IsWriteFault seen
+SaidBy seen (suc (suc (suc (suc (suc zero))))) = ⊤
+SaidBy seen (suc (suc (suc (suc (suc (suc zero)))))) = ⊤
+SaidBy seen (suc (suc (suc (suc (suc (suc (suc zero))))))) = Writes IsNoMemory seen
+SaidBy seen (suc (suc (suc (suc (suc (suc (suc (suc zero)))))))) = Writes IsTooLong seen
+SaidBy seen _ = ⊤
+
+said-by_ending : (seen : Seen) (ending : Ending) → EndsBy seen ending → SaidBy seen (status_of ending)
+said-by_ending seen Served ends = ends
+said-by_ending seen (Stopped Usage) ends = ends
+said-by_ending seen (Stopped (Config part index)) ends = ends
+said-by_ending seen (Stopped ReadFault) ends = ends
+said-by_ending seen (Stopped NoMemory) ends = ends
+said-by_ending seen (Stopped (TooLong line)) ends = ends
+said-by_ending seen WriteFault ends = ends
+
+-- a status says how the run ended
+pub said : (seen : Seen) (status number : ℕ) (ending : Ending) → status ≡ status_of ending → EndsBy seen ending → status ≡ number → SaidBy seen number
+said seen status number ending is ends at = subst (SaidBy seen) (sym is ∙ at) (said-by_ending seen ending ends)
 
 -- ---- all in order
 
@@ -106,13 +61,15 @@ same_config words config requests other others first second =
 
 same_requests : (words : List (List ℕ)) (config requests other others : List ℕ) → IsServe words config requests → IsServe words other others → others ≡ requests
 same_requests words config requests other others first second =
-    let e : Some others ≡ Some requests = sym (serve-five words other others second).requests_given ∙ (serve-five words config requests first).requests_given in cc
+    let e : Some others ≡ Some requests =
+    sym (serve-five words other others second).requests_given ∙ (serve-five words config requests first).requests_given in
+    cc
 
 -- what stands under a name that the desk tells of is what it tells
 same_content : (desk : Told) (name other content told : List ℕ) → other ≡ name → desk name ≡ Some (Some told) → Holds desk other content → content ≡ told
 same_content desk name other content told same tells holds =
-    let at_name : GivesHeld (desk name) (Some content) = subst (λ (n : List ℕ). GivesHeld (desk n) (Some content)) same holds in
-    let e : Some content ≡ Some told = subst (λ (t : Option (Option (List ℕ))). GivesHeld t (Some content)) tells at_name in
+    let at_name : Tells (desk name) (Some content) = subst (λ (n : List ℕ). Tells (desk n) (Some content)) same holds in
+    let e : Some told ≡ Some content = subst (λ (t : Option (Option (List ℕ))). Tells t (Some content)) tells at_name in
     cc
 
 -- a text doesn't say an issuer and a fault
@@ -120,36 +77,58 @@ not_both : (content told : List ℕ) (issuer : Setup) (fault : ConfigFault) → 
 not_both content told issuer fault same says broken =
     let e : Err fault ≡ Ok issuer = sym broken ∙ ap configured same ∙ says in cc
 
--- a file within the limits goes past none
-not_past : (issuer : Setup) (file told answers : List ℕ) (number : ℕ) → file ≡ told → IsWithinLimits (length (lines told)) (length told) → PassedAnswered issuer file answers number → ⊥
-not_past issuer file told answers number same within passed =
+-- only an empty list is a front of the empty list
+front-nil : (xs ys : List ℕ) → xs ++ ys ≡ [] → xs ≡ []
+front-nil [] ys e = refl
+front-nil (x ∷ xs) ys e = cc
+
+-- what goes past a limit goes past it with more behind it
+passes-more : (lines_before bytes : ℕ) (ahead rest : List ℕ) → PassesLimit lines_before bytes ahead → PassesLimit lines_before bytes (ahead ++ rest)
+passes-more lines_before bytes ahead rest passes =
     ⊎_elim
-    (λ lines_over. omega (arith, lines_over, within.lines_within, ap (λ t. length (lines t)) same))
-    (λ bytes_over. omega (arith, bytes_over, within.bytes_within, ap length same))
-    (PassesLimit-over file passed.whole passed.ahead passed.parted passed.passes)
+    (λ begun. inl (begun.0, λ none. begun.1 (front-nil ahead rest none)))
+    (λ long.
+    let within : 2147483648 - bytes ≤ length ahead = omega (arith, long.1) in
+    inr (subst IsUnbroken (sym (take-append-le (2147483648 - bytes) ahead rest within)) long.0, omega (arith, long.1, length-append ahead rest)))
+    passes
+
+-- a file within the limits goes past none
+not_past : (issuer : Setup) (file told read answers : List ℕ) (number : ℕ) (left : Option (List ℕ)) → file ≡ told
+    → IsWithinLimits (length (lines told)) (length told) → WasRead file read left → PassedAnswered number issuer file read answers → ⊥
+not_past issuer file told read answers number left same within was_read passed =
+    let parted = BeginsWithLines-given read passed.whole passed.ahead was_read.unread passed.parted in
+    let over = passes-more (length passed.whole) (length (flat_map ended passed.whole)) passed.ahead was_read.unread passed.passes in
+    ⊎_elim
+    (λ lines_over. omega (arith, lines_over, within.lines_within, ap (λ t. length (lines t)) (sym was_read.split ∙ same)))
+    (λ bytes_over. omega (arith, bytes_over, within.bytes_within, ap length (sym was_read.split ∙ same)))
+    (PassesLimit-over (read ++ was_read.unread) passed.whole (passed.ahead ++ was_read.unread) parted over)
+
+-- an input that counts a fault is one that was opened
+counted : (input : Option SeenInput) (seen : SeenInput) → input ≡ Some seen → 0 < seen.faults → IsSomeAnd input (λ i. 0 < i.faults)
+counted input seen is failed = subst (λ o. IsSomeAnd o (λ (i : SeenInput). 0 < i.faults)) (sym is) failed
 
 -- nothing could not be read
-not_unread : (words : List (List ℕ)) (desk : Told) (counts : Counts) (sink_before sink_after : ℕ) (text : List ℕ) → IsInOrder words desk counts sink_before sink_after → CannotRead words desk counts text → ⊥
-not_unread words desk counts sink_before sink_after text order cannot =
-    ⊎_elim (λ a. order.desk_stood a.rose)
+not_unread : (seen : Seen) (text : List ℕ) → IsInOrder seen → IsReadFault seen text → ⊥
+not_unread seen text order cannot =
+    ⊎_elim (λ a. order.desk_stood a.fails.rose)
     (λ more. ⊎_elim (λ b. order.config_stood b.failed)
-    (λ more. ⊎_elim (λ c. order.desk_stood c.rose) (λ d. order.requests_stood d.failed) more) more)
+    (λ more. ⊎_elim (λ c. order.desk_stood c.fails.rose)
+    (λ d. order.requests_stood (counted seen.requests d.lines.input d.lines.input_is d.failed)) more) more)
     cannot
 
-pub in_order : (words : List (List ℕ)) (desk : Told) (counts : Counts) (held_before held_after : Option (List ℕ)) (sink_before sink_after status : ℕ) (ending : Ending)
-    → status ≡ status_of ending → EndsBy words desk counts held_before held_after sink_before sink_after ending → IsInOrder words desk counts sink_before sink_after
+pub in_order : (seen : Seen) (status : ℕ) (ending : Ending) → status ≡ status_of ending → EndsBy seen ending → IsInOrder seen
     → (status ≡ 0) ⊎ (status ≡ 7)
-in_order words desk counts held_before held_after sink_before sink_after status Served is ends order = inl is
-in_order words desk counts held_before held_after sink_before sink_after status NoCommand is ends order = absurd (ends.1.no_command order.config order.requests order.serve)
-in_order words desk counts held_before held_after sink_before sink_after status BadConfig is ends order =
-    let same = same_content desk order.config ends.1.config ends.1.content order.content
-    (same_config words order.config order.requests ends.1.config ends.1.requests order.serve ends.1.serve) order.config_held ends.1.held in
+in_order seen status Served is ends order = inl is
+in_order seen status (Stopped Usage) is ends order = absurd (ends.1.no_command order.config order.requests order.serve)
+in_order seen status (Stopped (Config part index)) is ends order =
+    let name = same_config seen.words order.config order.requests ends.1.config ends.1.requests order.serve ends.1.serve in
+    let same = same_content seen.desk.tells order.config ends.1.config ends.1.content order.content name order.config_held ends.1.held in
     absurd (not_both ends.1.content order.content order.issuer ends.1.fault same order.says ends.1.broken)
-in_order words desk counts held_before held_after sink_before sink_after status InputFailed is ends order =
-    absurd (not_unread words desk counts sink_before sink_after ends.0 order ends.1)
-in_order words desk counts held_before held_after sink_before sink_after status SinkFailed is ends order = absurd (order.sink_stood ends.rose)
-in_order words desk counts held_before held_after sink_before sink_after status OutOfMemory is ends order = inr is
-in_order words desk counts held_before held_after sink_before sink_after status PastLimit is ends order =
-    let same = same_content desk order.requests ends.1.requests ends.1.file order.file
-    (same_requests words order.config order.requests ends.1.set_up.config ends.1.requests order.serve ends.1.set_up.serve) order.requests_held ends.1.held in
-    absurd (not_past ends.1.issuer ends.1.file order.file ends.1.answers ends.1.number same order.within ends.1.answered)
+in_order seen status (Stopped ReadFault) is ends order = absurd (not_unread seen ends.0 order ends.1)
+in_order seen status (Stopped NoMemory) is ends order = inr is
+in_order seen status (Stopped (TooLong line)) is ends order =
+    let l = ends.1.lines in
+    let name = same_requests seen.words order.config order.requests l.set_up.config l.requests order.serve l.set_up.serve in
+    let same = same_content seen.desk.tells order.requests l.requests l.file order.file name order.requests_held l.held in
+    absurd (not_past l.issuer l.file order.file l.read ends.1.answers ends.1.number l.input.left same order.within l.was_read l.answered)
+in_order seen status WriteFault is ends order = absurd (order.sink_stood ends.rose)

@@ -7,7 +7,7 @@ use Rattle.row_core.specs.IssuerSetup.{Setup}
 use Rattle.config_read.specs.declared.fault.ConfigFault.{ConfigFault}
 use Rattle.config_read.specs.declared.fault.ConfigFault.TheVariants.{NotJson, At, NoMemory as NoRoom}
 use Rattle.config_read.specs.Configuration.{configured}
-use Rattle.issuer_top.specs.Content.{HasLeft}
+use Rattle.issuer_top.specs.Content.{Tells}
 use Rattle.issuer_top.specs.declared.config.TheConstants.{MAX_CONFIG_BYTES}
 use Rattle.issuer_top.specs.declared.config.TextFault.{TextFault}
 use Rattle.issuer_top.specs.declared.config.TextFault.TheVariants.{Read, NoMemory}
@@ -33,14 +33,14 @@ config_stop NoRoom = Memory
 -- the configuration says this issuer
 pub record Says (left : Option (List ℕ)) (issuer : Setup) : Type 0 where
   pub content : List ℕ
-  pub held : HasLeft left content
+  pub held : Tells left content
   pub says : configured content ≡ Ok issuer
 
 -- the configuration is broken, at this place
 pub record IsBroken (left : Option (List ℕ)) (stop : Stop) : Type 0 where
   pub content : List ℕ
   pub fault : ConfigFault
-  pub held : HasLeft left content
+  pub held : Tells left content
   pub broken : configured content ≡ Err fault
   pub stop_is : stop ≡ config_stop fault
 

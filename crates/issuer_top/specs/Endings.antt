@@ -1,190 +1,182 @@
--- How a run may end: a relation for each status, of the words, of what the desk tells, of the counts of faults, and of the
--- text that was due.
-use Rattle.std.specs.Prelude.{◌≡◌, ℕ, ◌<◌, ◌⊎◌, List, length, ◌++◌, Option, None, Some, IsSomeAnd, Ok, Err}
+-- How a run may end: for each ending a relation of what the run saw and of the text that was due at the sink.
+use Rattle.std.specs.Prelude.{◌≡◌, ℕ, ◌<◌, ◌⊎◌, Bool, true, false, List, length, ◌++◌, Some, is_some, IsSomeAnd, Ok, Err}
+use Rattle.std.specs.Io.KnownBytes.{Appends}
 use Rattle.issuer_base.specs.OutsideFaults.{Rose}
-use Rattle.row_core.specs.IssuerSetup.{Setup}
-use Rattle.answer_text.specs.StopText.{stop_text}
-use Rattle.answer_text.specs.declared.stop_line.Stop.TheVariants.{Usage, ReadFault, NoMemory, TooLong}
-use Rattle.issuer_top.specs.Command.{IsServe, IsNoCommand}
-use Rattle.issuer_top.specs.Content.{Told, Holds}
-use Rattle.issuer_top.specs.Answered.{AllAnswered, WholeAnswered, PassedAnswered, FrontAnswered}
-use Rattle.config_read.specs.declared.fault.ConfigFault.{ConfigFault}
-use Rattle.config_read.specs.Configuration.{configured}
-use Rattle.issuer_top.specs.Configuration.{config_stop}
-use Rattle.issuer_top.specs.declared.ending.Ending.{Ending}
-use Rattle.issuer_top.specs.declared.ending.Ending.TheVariants.{Served, NoCommand, BadConfig, InputFailed, SinkFailed, OutOfMemory, PastLimit}
+use Rattle.issuer_base.specs.Sink.{AppendsFront}
 use Rattle.line_reader.specs.Lines.{lines}
 use Rattle.line_reader.specs.Reading.{IsWithinLimits}
-use Rattle.std.specs.Io.KnownBytes.{Appends}
-use Rattle.issuer_base.specs.Sink.{AppendsFront}
+use Rattle.row_core.specs.IssuerSetup.{Setup}
+use Rattle.config_read.specs.declared.fault.ConfigFault.{ConfigFault}
+use Rattle.config_read.specs.Configuration.{configured}
+use Rattle.answer_text.specs.StopText.{stop_text}
+use Rattle.answer_text.specs.declared.stop_line.Stop.{Stop}
+use Rattle.answer_text.specs.declared.stop_line.Stop.TheVariants.{Usage, Config, ReadFault, NoMemory, TooLong}
+use Rattle.issuer_top.specs.Command.{IsServe, IsNoCommand}
+use Rattle.issuer_top.specs.Content.{Holds}
+use Rattle.issuer_top.specs.Seen.{Seen, SeenInput}
+use Rattle.issuer_top.specs.Configuration.{config_stop}
+use Rattle.issuer_top.specs.Answered.{WasRead, AllAnswered, WholeAnswered, PassedAnswered, FrontAnswered}
+use Rattle.issuer_top.specs.declared.ending.Ending.{Ending}
+use Rattle.issuer_top.specs.declared.ending.Ending.TheVariants.{Served, Stopped, WriteFault}
 
--- what the desk and the inputs counted: the desk's faults before and after, the name in its last fault, and each input's faults, if it was opened
-pub record Counts : Type 0 where
-  pub desk_before : ℕ
-  pub desk_after : ℕ
-  pub last_fault : Option (List ℕ)
-  pub config : Option ℕ
-  pub requests : Option ℕ
+-- ---- what endings have in common
 
--- these counts, in the order of the fields
-abbrev pub counts_of : ℕ → ℕ → Option (List ℕ) → Option ℕ → Option ℕ → Counts
-counts_of desk_before desk_after last_fault config requests =
-    record { desk_before = desk_before; desk_after = desk_after; last_fault = last_fault; config = config; requests = requests }
+-- just these inputs were opened, and the desk failed at no name
+pub record HasOpened (seen : Seen) (config requests : Bool) : Type 0 where
+  pub config_is : is_some seen.config ≡ config
+  pub requests_is : is_some seen.requests ≡ requests
+  pub desk_stood : seen.desk.faults_after ≡ seen.desk.faults_before
 
--- the words are the command, and the configuration says an issuer
-pub record IsSetUp (words : List (List ℕ)) (desk : Told) (requests : List ℕ) (issuer : Setup) : Type 0 where
+-- the desk failed at this name, and the request file was not opened; the configuration was, or was not
+pub record FailsToOpen (seen : Seen) (name : List ℕ) (config : Bool) : Type 0 where
+  pub config_is : is_some seen.config ≡ config
+  pub requests_is : is_some seen.requests ≡ false
+  pub rose : Rose seen.desk.faults_before seen.desk.faults_after
+  pub name_is : seen.desk.last_fault ≡ Some name
+
+-- the words are the command, with this name of a request file, and the configuration says this issuer
+pub record IsSetUp (seen : Seen) (requests : List ℕ) (issuer : Setup) : Type 0 where
   pub config : List ℕ
   pub content : List ℕ
-  pub serve : IsServe words config requests
-  pub held : Holds desk config content
+  pub serve : IsServe seen.words config requests
+  pub held : Holds seen.desk.tells config content
   pub says : configured content ≡ Ok issuer
 
--- status 0: all lines of the request file were answered
-pub record IsServed (words : List (List ℕ)) (desk : Told) (text : List ℕ) : Type 0 where
+-- lines of the request file were read and answered, and this is the text of their answers; `Answered` says which lines
+pub record AnswersLines (Answered : Setup → List ℕ → List ℕ → List ℕ → Type 0) (seen : Seen) (text : List ℕ) : Type 0 where
   pub requests : List ℕ
   pub issuer : Setup
+  pub input : SeenInput
   pub file : List ℕ
-  pub set_up : IsSetUp words desk requests issuer
-  pub held : Holds desk requests file
-  pub answered : AllAnswered issuer file text
+  pub read : List ℕ
+  pub opened : HasOpened seen true true
+  pub input_is : seen.requests ≡ Some input
+  pub set_up : IsSetUp seen requests issuer
+  pub held : Holds seen.desk.tells requests file
+  pub was_read : WasRead file read input.left
+  pub answered : Answered issuer file read text
 
--- status 1: the words are no command
-pub record IsUsage (words : List (List ℕ)) (text : List ℕ) : Type 0 where
-  pub no_command : IsNoCommand words
+-- ---- the endings
+
+-- status 0: all lines of the request file were answered
+abbrev pub IsServed : Seen → List ℕ → Type 0
+IsServed seen text = AnswersLines AllAnswered seen text
+
+-- status 1: the words are no command, and nothing was opened
+pub record IsUsage (seen : Seen) (text : List ℕ) : Type 0 where
+  pub no_command : IsNoCommand seen.words
+  pub opened : HasOpened seen false false
   pub last : text ≡ stop_text Usage
 
--- status 2: the configuration is broken, and its place is told
-pub record IsBadConfig (words : List (List ℕ)) (desk : Told) (text : List ℕ) : Type 0 where
+-- status 2: the configuration is broken, and its place is told; the request file was not opened
+pub record IsConfig (seen : Seen) (text : List ℕ) : Type 0 where
   pub config : List ℕ
   pub requests : List ℕ
   pub content : List ℕ
   pub fault : ConfigFault
-  pub serve : IsServe words config requests
-  pub held : Holds desk config content
+  pub serve : IsServe seen.words config requests
+  pub opened : HasOpened seen true false
+  pub held : Holds seen.desk.tells config content
   pub broken : configured content ≡ Err fault
   pub last : text ≡ stop_text (config_stop fault)
 
 -- status 3: the desk failed at the configuration's name
-pub record CannotOpenConfig (words : List (List ℕ)) (counts : Counts) (text : List ℕ) : Type 0 where
+pub record CannotOpenConfig (seen : Seen) (text : List ℕ) : Type 0 where
   pub config : List ℕ
   pub requests : List ℕ
-  pub serve : IsServe words config requests
-  pub rose : Rose counts.desk_before counts.desk_after
-  pub name : counts.last_fault ≡ Some config
-  pub no_config : counts.config ≡ None
-  pub no_requests : counts.requests ≡ None
+  pub serve : IsServe seen.words config requests
+  pub fails : FailsToOpen seen config false
   pub last : text ≡ stop_text ReadFault
 
 -- status 3: the configuration failed while it was read
-pub record CannotReadConfig (words : List (List ℕ)) (counts : Counts) (text : List ℕ) : Type 0 where
+pub record CannotReadConfig (seen : Seen) (text : List ℕ) : Type 0 where
   pub config : List ℕ
   pub requests : List ℕ
-  pub serve : IsServe words config requests
-  pub failed : IsSomeAnd counts.config (λ count. 0 < count)
-  pub no_requests : counts.requests ≡ None
+  pub serve : IsServe seen.words config requests
+  pub opened : HasOpened seen true false
+  pub failed : IsSomeAnd seen.config (λ input. 0 < input.faults)
   pub last : text ≡ stop_text ReadFault
 
 -- status 3: the desk failed at the request file's name
-pub record CannotOpenRequests (words : List (List ℕ)) (desk : Told) (counts : Counts) (text : List ℕ) : Type 0 where
+pub record CannotOpenRequests (seen : Seen) (text : List ℕ) : Type 0 where
   pub requests : List ℕ
   pub issuer : Setup
-  pub set_up : IsSetUp words desk requests issuer
-  pub rose : Rose counts.desk_before counts.desk_after
-  pub name : counts.last_fault ≡ Some requests
-  pub no_requests : counts.requests ≡ None
+  pub set_up : IsSetUp seen requests issuer
+  pub fails : FailsToOpen seen requests true
   pub last : text ≡ stop_text ReadFault
 
--- status 3: the request file failed while it was read, and the lines read whole were answered
-pub record CannotReadRequests (words : List (List ℕ)) (desk : Told) (counts : Counts) (text : List ℕ) : Type 0 where
-  pub requests : List ℕ
-  pub issuer : Setup
-  pub file : List ℕ
+-- status 3: the request file failed while it was read, and the lines that stand whole in what was read were answered
+pub record CannotReadRequests (seen : Seen) (text : List ℕ) : Type 0 where
   pub answers : List ℕ
-  pub set_up : IsSetUp words desk requests issuer
-  pub held : Holds desk requests file
-  pub failed : IsSomeAnd counts.requests (λ count. 0 < count)
-  pub answered : WholeAnswered issuer file answers
+  pub lines : AnswersLines WholeAnswered seen answers
+  pub failed : 0 < lines.input.faults
   pub last : text ≡ answers ++ stop_text ReadFault
 
 -- status 3: an input failed, or the desk at the name of one
-abbrev pub CannotRead : List (List ℕ) → Told → Counts → List ℕ → Type 0
-CannotRead words desk counts text =
-    CannotOpenConfig words counts text ⊎ (CannotReadConfig words counts text
-    ⊎ (CannotOpenRequests words desk counts text ⊎ CannotReadRequests words desk counts text))
+abbrev pub IsReadFault : Seen → List ℕ → Type 0
+IsReadFault seen text =
+    CannotOpenConfig seen text ⊎ (CannotReadConfig seen text ⊎ (CannotOpenRequests seen text ⊎ CannotReadRequests seen text))
 
 -- status 7: no memory was left, before the request file was opened
-pub record IsOutOfMemory (words : List (List ℕ)) (counts : Counts) (text : List ℕ) : Type 0 where
+pub record IsNoMemory (seen : Seen) (text : List ℕ) : Type 0 where
   pub config : List ℕ
   pub requests : List ℕ
-  pub serve : IsServe words config requests
-  pub no_requests : counts.requests ≡ None
+  pub config_opened : Bool
+  pub serve : IsServe seen.words config requests
+  pub opened : HasOpened seen config_opened false
   pub last : text ≡ stop_text NoMemory
 
--- status 8: the request file goes past a limit, and the lines before were answered
-pub record IsTooLong (words : List (List ℕ)) (desk : Told) (text : List ℕ) : Type 0 where
-  pub requests : List ℕ
-  pub issuer : Setup
-  pub file : List ℕ
-  pub answers : List ℕ
+-- status 8: a byte of the request file past a limit was read, and the lines before were answered
+pub record IsTooLong (seen : Seen) (text : List ℕ) : Type 0 where
   pub number : ℕ
-  pub set_up : IsSetUp words desk requests issuer
-  pub held : Holds desk requests file
-  pub answered : PassedAnswered issuer file answers number
+  pub answers : List ℕ
+  pub lines : AnswersLines (PassedAnswered number) seen answers
   pub last : text ≡ answers ++ stop_text (TooLong number)
 
--- the answers to the first lines of the request file
-pub record IsAnswering (words : List (List ℕ)) (desk : Told) (text : List ℕ) : Type 0 where
-  pub requests : List ℕ
-  pub issuer : Setup
-  pub file : List ℕ
-  pub set_up : IsSetUp words desk requests issuer
-  pub held : Holds desk requests file
-  pub answered : FrontAnswered issuer file text
-
--- status 4: the texts of which the sink may have taken a front alone
-pub data IsDue (words : List (List ℕ)) (desk : Told) (counts : Counts) (text : List ℕ) : Type 0 where
-  Stopped1 : IsUsage words text → IsDue words desk counts text
-  Stopped2 : IsBadConfig words desk text → IsDue words desk counts text
-  Stopped3 : CannotRead words desk counts text → IsDue words desk counts text
-  Stopped7 : IsOutOfMemory words counts text → IsDue words desk counts text
-  Stopped8 : IsTooLong words desk text → IsDue words desk counts text
-  Answering : IsAnswering words desk text → IsDue words desk counts text
+-- a run that stops so has this cause, and this text was due
+abbrev pub Stops : Stop → Seen → List ℕ → Type 0
+Stops Usage seen text = IsUsage seen text
+Stops (Config part index) seen text = IsConfig seen text
+Stops ReadFault seen text = IsReadFault seen text
+Stops NoMemory seen text = IsNoMemory seen text
+Stops (TooLong line) seen text = IsTooLong seen text
 
 -- the sink took all of a text of this kind, and nothing else
-abbrev pub Writes : Option (List ℕ) → Option (List ℕ) → (List ℕ → Type 0) → Type 0
-Writes held_before held_after IsText = (text : List ℕ) × IsText text × Appends held_before held_after text
+abbrev pub Writes : (Seen → List ℕ → Type 0) → Seen → Type 0
+Writes IsText seen = (text : List ℕ) × IsText seen text × Appends seen.sink.held_before seen.sink.held_after text
 
--- the sink failed, and took a front of a text that was due, but not all of it
-pub record IsBrokenOff (words : List (List ℕ)) (desk : Told) (counts : Counts) (held_before held_after : Option (List ℕ)) (sink_before sink_after : ℕ) : Type 0 where
-  pub rose : Rose sink_before sink_after
+-- status 4: the texts of which the sink may have taken a front alone: that of a run that stops, or the answers so far
+abbrev pub IsDue : Seen → List ℕ → Type 0
+IsDue seen text = ((stop : Stop) × Stops stop seen text) ⊎ AnswersLines FrontAnswered seen text
+
+-- status 4: the sink failed, and took a front of a text that was due, but not all of it
+pub record IsWriteFault (seen : Seen) : Type 0 where
+  pub rose : Rose seen.sink.faults_before seen.sink.faults_after
   pub text : List ℕ
-  pub due : IsDue words desk counts text
-  pub front : AppendsFront held_before held_after text
+  pub due : IsDue seen text
+  pub front : AppendsFront seen.sink.held_before seen.sink.held_after text
 
 -- how a run ended
-abbrev pub EndsBy : List (List ℕ) → Told → Counts → Option (List ℕ) → Option (List ℕ) → ℕ → ℕ → Ending → Type 0
-EndsBy words desk counts held_before held_after sink_before sink_after Served = Writes held_before held_after (IsServed words desk)
-EndsBy words desk counts held_before held_after sink_before sink_after NoCommand = Writes held_before held_after (IsUsage words)
-EndsBy words desk counts held_before held_after sink_before sink_after BadConfig = Writes held_before held_after (IsBadConfig words desk)
-EndsBy words desk counts held_before held_after sink_before sink_after InputFailed = Writes held_before held_after (CannotRead words desk counts)
-EndsBy words desk counts held_before held_after sink_before sink_after SinkFailed =
-    IsBrokenOff words desk counts held_before held_after sink_before sink_after
-EndsBy words desk counts held_before held_after sink_before sink_after OutOfMemory = Writes held_before held_after (IsOutOfMemory words counts)
-EndsBy words desk counts held_before held_after sink_before sink_after PastLimit = Writes held_before held_after (IsTooLong words desk)
+abbrev pub EndsBy : Seen → Ending → Type 0
+EndsBy seen Served = Writes IsServed seen
+EndsBy seen (Stopped stop) = Writes (Stops stop) seen
+EndsBy seen WriteFault = IsWriteFault seen
+
+-- ---- all in order
 
 -- the words are the command, the desk tells of an issuer and of a request file within the limits, and no count rose
-pub record IsInOrder (words : List (List ℕ)) (desk : Told) (counts : Counts) (sink_before sink_after : ℕ) : Type 0 where
+pub record IsInOrder (seen : Seen) : Type 0 where
   pub config : List ℕ
   pub requests : List ℕ
   pub content : List ℕ
   pub issuer : Setup
   pub file : List ℕ
-  pub serve : IsServe words config requests
-  pub config_held : desk config ≡ Some (Some content)
+  pub serve : IsServe seen.words config requests
+  pub config_held : seen.desk.tells config ≡ Some (Some content)
   pub says : configured content ≡ Ok issuer
-  pub requests_held : desk requests ≡ Some (Some file)
+  pub requests_held : seen.desk.tells requests ≡ Some (Some file)
   pub within : IsWithinLimits (length (lines file)) (length file)
-  pub desk_stood : Rose counts.desk_before counts.desk_after → ⊥
-  pub config_stood : IsSomeAnd counts.config (λ count. 0 < count) → ⊥
-  pub requests_stood : IsSomeAnd counts.requests (λ count. 0 < count) → ⊥
-  pub sink_stood : Rose sink_before sink_after → ⊥
+  pub desk_stood : Rose seen.desk.faults_before seen.desk.faults_after → ⊥
+  pub config_stood : IsSomeAnd seen.config (λ input. 0 < input.faults) → ⊥
+  pub requests_stood : IsSomeAnd seen.requests (λ input. 0 < input.faults) → ⊥
+  pub sink_stood : Rose seen.sink.faults_before seen.sink.faults_after → ⊥

@@ -16,8 +16,8 @@ use Rattle.memory_host.specs.Answering.{rules_of}
 use Rattle.issuer_top.specs.declared.serve.Server.{Server}
 use Rattle.issuer_top.specs.declared.serve.Served.{Served}
 use Rattle.issuer_top.specs.declared.serve.Served.TheVariants.{All, ReadFault, WriteFault as SinkFault, TooLong}
-use Rattle.issuer_top.specs.Content.{HasLeft}
-use Rattle.issuer_top.specs.Answered.{AllAnswered, WholeAnswered, PassedAnswered, FrontAnswered}
+use Rattle.issuer_top.specs.Content.{Tells}
+use Rattle.issuer_top.specs.Answered.{WasRead, AllAnswered, WholeAnswered, PassedAnswered, FrontAnswered}
 
 -- a server of this issuer that has read and answered nothing
 pub record IsNew (server : Server) (issuer : Setup) : Type 0 where
@@ -47,44 +47,23 @@ pub record HasServed (issuer : Setup) (was now held_before held_after : Option (
   pub run : Run (rules_of issuer) (no_records issuer.shards) whole answers histories
   pub written : Appends held_before held_after (flat_map printed answers)
 
--- all lines were answered
-pub record ServesAll (issuer : Setup) (was held_before held_after : Option (List ℕ)) : Type 0 where
+-- lines were answered, and their answers written: `Answered` says which lines, of the file and of what was read of it, and
+-- `Written` what the sink took
+pub record ServesLines (Answered : List ℕ → List ℕ → List ℕ → Type 0) (Written : List ℕ → Type 0) (was now : Option (List ℕ)) : Type 0 where
   pub file : List ℕ
+  pub read : List ℕ
   pub text : List ℕ
-  pub content : HasLeft was file
-  pub answered : AllAnswered issuer file text
-  pub written : Appends held_before held_after text
+  pub content : Tells was file
+  pub was_read : WasRead file read now
+  pub answered : Answered file read text
+  pub written : Written text
 
--- the lines read whole were answered
-pub record ServesWhole (issuer : Setup) (was held_before held_after : Option (List ℕ)) : Type 0 where
-  pub file : List ℕ
-  pub text : List ℕ
-  pub content : HasLeft was file
-  pub answered : WholeAnswered issuer file text
-  pub written : Appends held_before held_after text
-
--- the lines before the one that goes past a limit were answered
-pub record ServesToLimit (issuer : Setup) (was held_before held_after : Option (List ℕ)) (number : ℕ) : Type 0 where
-  pub file : List ℕ
-  pub text : List ℕ
-  pub content : HasLeft was file
-  pub answered : PassedAnswered issuer file text number
-  pub written : Appends held_before held_after text
-
--- the first lines were answered, and the sink took a front of their answers
-pub record ServesFront (issuer : Setup) (was held_before held_after : Option (List ℕ)) : Type 0 where
-  pub file : List ℕ
-  pub text : List ℕ
-  pub content : HasLeft was file
-  pub answered : FrontAnswered issuer file text
-  pub written : AppendsFront held_before held_after text
-
--- what serving did, by how it ended
-abbrev pub Serves : Setup → Option (List ℕ) → Option (List ℕ) → Option (List ℕ) → Served → Type 0
-Serves issuer was held_before held_after All = ServesAll issuer was held_before held_after
-Serves issuer was held_before held_after ReadFault = ServesWhole issuer was held_before held_after
-Serves issuer was held_before held_after SinkFault = ServesFront issuer was held_before held_after
-Serves issuer was held_before held_after (TooLong number) = ServesToLimit issuer was held_before held_after number
+-- what serving did, by how it ended: of the input before and after, and of the sink before and after
+abbrev pub Serves : Setup → Option (List ℕ) → Option (List ℕ) → Option (List ℕ) → Option (List ℕ) → Served → Type 0
+Serves issuer was now held_before held_after All = ServesLines (AllAnswered issuer) (Appends held_before held_after) was now
+Serves issuer was now held_before held_after ReadFault = ServesLines (WholeAnswered issuer) (Appends held_before held_after) was now
+Serves issuer was now held_before held_after SinkFault = ServesLines (FrontAnswered issuer) (AppendsFront held_before held_after) was now
+Serves issuer was now held_before held_after (TooLong number) = ServesLines (PassedAnswered number issuer) (Appends held_before held_after) was now
 
 -- whether the input failed
 abbrev pub read_failed : Served → Bool

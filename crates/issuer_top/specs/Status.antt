@@ -1,17 +1,23 @@
 -- The status of each ending.
 use Rattle.std.specs.Prelude.{◌≡◌, ℕ}
+use Rattle.answer_text.specs.declared.stop_line.Stop.{Stop}
+use Rattle.answer_text.specs.declared.stop_line.Stop.TheVariants.{Usage, Config, ReadFault, NoMemory, TooLong}
 use Rattle.issuer_top.specs.declared.ending.Ending.{Ending}
-use Rattle.issuer_top.specs.declared.ending.Ending.TheVariants.{Served, NoCommand, BadConfig, InputFailed, SinkFailed, OutOfMemory, PastLimit}
+use Rattle.issuer_top.specs.declared.ending.Ending.TheVariants.{Served, Stopped, WriteFault}
+
+-- the status of a run that stops so
+abbrev pub status_of_stop : Stop → ℕ
+status_of_stop Usage = 1
+status_of_stop (Config part index) = 2
+status_of_stop ReadFault = 3
+status_of_stop NoMemory = 7
+status_of_stop (TooLong line) = 8
 
 -- the status of a run that ended so
 abbrev pub status_of : Ending → ℕ
 status_of Served = 0
-status_of NoCommand = 1
-status_of BadConfig = 2
-status_of InputFailed = 3
-status_of SinkFailed = 4
-status_of OutOfMemory = 7
-status_of PastLimit = 8
+status_of (Stopped stop) = status_of_stop stop
+status_of WriteFault = 4
 
 -- the number is the status of an ending
 abbrev pub IsStatus : ℕ → Type 0

@@ -10,7 +10,7 @@ use row_core::Issuer;
 use std::alloc::Global;
 
 /// How many bytes a configuration may have.
-pub const MAX_CONFIG_BYTES: usize = 4_194_304;
+pub(crate) const MAX_CONFIG_BYTES: usize = 4_194_304;
 
 const CHUNK_BYTES: usize = 4_096;
 

@@ -1,37 +1,40 @@
 //! How a run ends.
 ghost use Rattle.std.specs.Prelude.{◌≡◌};
-ghost use Rattle.issuer_top.specs.Status.{status_of};
+ghost use Rattle.issuer_top.specs.Status.{status_of, status_of_stop};
+
+use answer_text::Stop;
 
 /// How a run ends.
-#[derive(Clone, Copy, PartialEq, Eq, Debug)]
-pub enum Ending {
+#[derive(Clone, Copy)]
+pub(crate) enum Ending {
     /// All lines were answered.
     Served,
-    /// The words are no command.
-    NoCommand,
-    /// The configuration is none.
-    BadConfig,
-    /// An input failed, or the desk at the name of one.
-    InputFailed,
+    /// The run stopped early, and wrote its last line.
+    Stopped(Stop),
     /// The sink failed.
-    SinkFailed,
-    /// No memory was left, before the request file was opened.
-    OutOfMemory,
-    /// The request file goes past a limit.
-    PastLimit,
+    WriteFault,
 }
 
 /// The status of a run that ended so.
-pub(crate) fn status_of_ending(ending: Ending) -> u8
+pub(crate) fn status_of(ending: Ending) -> u8
     ensures { result ≡ status_of ending }
 {
     match ending {
         Ending::Served => 0,
-        Ending::NoCommand => 1,
-        Ending::BadConfig => 2,
-        Ending::InputFailed => 3,
-        Ending::SinkFailed => 4,
-        Ending::OutOfMemory => 7,
-        Ending::PastLimit => 8,
+        Ending::Stopped(stop) => status_of_stop(stop),
+        Ending::WriteFault => 4,
+    }
+}
+
+/// The status of a run that stopped so.
+fn status_of_stop(stop: Stop) -> u8
+    ensures { result ≡ status_of_stop stop }
+{
+    match stop {
+        Stop::Usage => 1,
+        Stop::Config { .. } => 2,
+        Stop::ReadFault => 3,
+        Stop::NoMemory => 7,
+        Stop::TooLong { .. } => 8,
     }
 }

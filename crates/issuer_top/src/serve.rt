@@ -50,7 +50,7 @@ impl Server {
     /// Answers the lines of an input, each before the next is read.
     pub(crate) fn serve<S: Source, W: Sink>(&mut self, source: &mut S, out: &mut W) -> Served
         requires { IsNew self.old self.old.host.issuer }
-        ensures served { Serves self.old.host.issuer (S.left source.old)
+        ensures served { Serves self.old.host.issuer (S.left source.old) (S.left source.new)
             (W.held out.old) (W.held out.new) result }
         ensures source_count { CountsFaults (S.faults source.old) (S.faults source.new) (read_failed result) }
         ensures sink_count { CountsFaults (W.faults out.old) (W.faults out.new) (write_failed result) }

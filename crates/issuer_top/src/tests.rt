@@ -128,6 +128,20 @@ fn answers_repeats_and_old_counters(rt: HostRuntime) -> Result<(), Fail> {
 }
 
 #[test]
+fn keeps_a_request_however_it_is_spelled(rt: HostRuntime) -> Result<(), Fail> {
+    let alloc = rt.alloc();
+    let forged = line(alloc, 7, "6317DE17856BF19B")?;
+    let seven = line(alloc, 7, AC)?;
+    let longer = seven.as_str().replace(alloc, "9F36020007", "9F3681020007")?;
+    let lines = format!(in alloc; "{forged}{seven}{longer}")?;
+    check(
+        &rt,
+        lines.as_str(),
+        "refused 9\nfresh 0 0 yes 3030 8a023030910a02369be26b4161bc3030\nkept 0 0 yes 3030 8a023030910a02369be26b4161bc3030\n",
+    )
+}
+
+#[test]
 fn answers_the_least_and_the_greatest_counter(rt: HostRuntime) -> Result<(), Fail> {
     let alloc = rt.alloc();
     let least = line(alloc, 0, "3E3303B6A6EF1E00")?;
@@ -269,6 +283,7 @@ fn takes_words_in_any_order_each_once(rt: HostRuntime) -> Result<(), Fail> {
         ("Serve --config config --requests requests", 1, "stop 1\n"),
         ("serve --config config --journal requests", 1, "stop 1\n"),
         ("serve --config config --requests", 1, "stop 1\n"),
+        ("serve --config", 1, "stop 1\n"),
         ("serve", 1, "stop 1\n"),
         ("", 1, "stop 1\n"),
         ("serve --config none --requests requests", 3, "stop 3\n"),
@@ -294,6 +309,8 @@ fn run_words<R: AllocGlobal>(rt: &R, words: &str) -> Result<(u8, String), Fail> 
 fn names_the_broken_place_of_a_configuration(rt: HostRuntime) -> Result<(), Fail> {
     let alloc = rt.alloc();
     for (name, old, new, place) in [
+        ("a list", CONFIG, "[]", "1 0"),
+        ("no member", CONFIG, "{}", "2 0"),
         ("no JSON", r#"{"shards""#, r#""shards""#, "1 0"),
         ("no shards", r#""shards""#, r#""shard""#, "2 0"),
         ("an index of two bytes", r#""dki":1"#, r#""dki":256"#, "3 1"),
@@ -387,47 +404,50 @@ fn answers_the_lines_read_whole_before_a_fault(rt: HostRuntime) -> Result<(), Fa
     Ok(())
 }
 
-/// A sink that takes one byte a call, and fails at one call.
+/// A sink that takes one byte a call and keeps it, and fails after so many calls.
 #[derive(Drop)]
 struct SippingSink {
-    calls: u64,
-    fails_at: u64,
+    taken: [u8; 16],
+    calls: usize,
+    fails_after: usize,
     faults: u64,
 }
 
 impl Sink for SippingSink {
     ghost faults = { λ s. s.faults };
 
-    fn write(&mut self, _piece: &[u8]) -> Result<usize, WriteFault> {
-        self.calls = self.calls.saturating_add(1);
-        if self.calls > self.fails_at {
+    fn write(&mut self, piece: &[u8]) -> Result<usize, WriteFault> {
+        if self.calls >= self.fails_after || self.calls >= self.taken.len() {
             self.faults = self.faults.saturating_add(1);
             return Err(WriteFault);
         }
+        self.taken[self.calls] = piece[0];
+        self.calls += 1;
         Ok(1)
     }
 }
 
 #[test]
 fn stops_where_the_sink_fails(rt: HostRuntime) -> Result<(), Fail> {
-    for fails_at in 0..12 {
-        let desk = desk_of(rt.alloc(), CONFIG, "X")?;
-        let mut out = SippingSink {
-            calls: 0,
-            fails_at,
-            faults: 0,
-        };
-        let status = status_of(issue(&rt, &words_of(rt.alloc(), &COMMAND)?, desk, &mut out));
-        assert_eq!(rt; status, 4, "at {fails_at}");
+    for (words, text, status) in [
+        (COMMAND.as_slice(), "refused 1 0\n", 0),
+        (["serve"].as_slice(), "stop 1\n", 1),
+    ] {
+        for fails_after in 0..=text.len() {
+            let desk = desk_of(rt.alloc(), CONFIG, "X")?;
+            let mut out = SippingSink {
+                taken: [0; 16],
+                calls: 0,
+                fails_after,
+                faults: 0,
+            };
+            let ended = status_of(issue(&rt, &words_of(rt.alloc(), words)?, desk, &mut out));
+            let expected = if fails_after < text.len() { 4 } else { status };
+            assert_eq!(rt; ended, expected, "{text} after {fails_after}");
+            let taken = out.taken.get(..out.calls);
+            assert_eq!(rt; taken, text.as_bytes().get(..fails_after), "{text}");
+        }
     }
-    let desk = desk_of(rt.alloc(), CONFIG, "X")?;
-    let mut out = SippingSink {
-        calls: 0,
-        fails_at: 12,
-        faults: 0,
-    };
-    let status = status_of(issue(&rt, &words_of(rt.alloc(), &COMMAND)?, desk, &mut out));
-    assert_eq!(rt; status, 0);
     Ok(())
 }
 

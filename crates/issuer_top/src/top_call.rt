@@ -4,16 +4,16 @@ ghost use Rattle.std.specs.Option.{option_map};
 ghost use Rattle.issuer_base.specs.OutsideFaults.{CountsFaults};
 ghost use Rattle.issuer_base.specs.Desk.{GivesHeld};
 ghost use Rattle.issuer_top.specs.Configuration.{Says, GivesNoIssuer, is_read_stop};
-ghost use Rattle.issuer_top.specs.Content.{Told};
 ghost use Rattle.issuer_top.specs.Opening.{stop_of};
 ghost use Rattle.issuer_top.specs.Serving.{IsNew};
 ghost use Rattle.issuer_top.specs.Status.{IsStatus};
-ghost use Rattle.issuer_top.specs.Endings.{Counts, counts_of, IsSetUp, EndsBy, Writes, IsServed, IsUsage, IsBadConfig, CannotRead, IsBrokenOff, IsOutOfMemory, IsTooLong, IsInOrder};
+ghost use Rattle.issuer_top.specs.Seen.{SeenDesk, SeenInput, seen_of, seen_by, desk_seen, input_seen, sink_seen};
+ghost use Rattle.issuer_top.specs.Endings.{IsSetUp, EndsBy, Writes, IsServed, IsUsage, IsConfig, IsReadFault, IsWriteFault, IsNoMemory, IsTooLong, IsInOrder};
 
 use crate::config::read_issuer;
-use crate::ending::{Ending, status_of_ending};
+use crate::ending::{Ending, status_of};
 use crate::serve::{Served, Server};
-use crate::stopping::stop;
+use crate::stopping::stop_with;
 use crate::words::read_words;
 use answer_text::Stop;
 use issuer_base::{Desk, DeskFault, NoMemory, Sink, Source, Words};
@@ -42,29 +42,24 @@ pub fn issue<R: AllocGlobal, D: Desk, W: Sink>(
 ) -> Ended<D>
     ensures statuses { IsStatus result.status }
 
-    // What each status says of the words, of the inputs, and of what was written.
+    // What each status says of the words, the desk, the inputs that were opened, and what was written.
     ensures served { result.status ≡ 0
-        → Writes (W.held out.old) (W.held out.new) (IsServed words.now (D.holds desk)) }
-    ensures no_command { result.status ≡ 1
-        → Writes (W.held out.old) (W.held out.new) (IsUsage words.now) }
-    ensures bad_config { result.status ≡ 2
-        → Writes (W.held out.old) (W.held out.new) (IsBadConfig words.now (D.holds desk)) }
-    ensures input_failed { result.status ≡ 3
-        → Writes (W.held out.old) (W.held out.new) (CannotRead words.now (D.holds desk) (counts_of (D.faults desk) (D.faults result.desk) (D.last_fault result.desk)
-        (option_map D.Input.faults result.config) (option_map D.Input.faults result.requests))) }
-    ensures sink_failed { result.status ≡ 4
-        → IsBrokenOff words.now (D.holds desk) (counts_of (D.faults desk) (D.faults result.desk) (D.last_fault result.desk)
-        (option_map D.Input.faults result.config) (option_map D.Input.faults result.requests))
-        (W.held out.old) (W.held out.new) (W.faults out.old) (W.faults out.new) }
-    ensures out_of_memory { result.status ≡ 7
-        → Writes (W.held out.old) (W.held out.new) (IsOutOfMemory words.now (counts_of (D.faults desk) (D.faults result.desk) (D.last_fault result.desk)
-        (option_map D.Input.faults result.config) (option_map D.Input.faults result.requests))) }
-    ensures past_limit { result.status ≡ 8
-        → Writes (W.held out.old) (W.held out.new) (IsTooLong words.now (D.holds desk)) }
+        → Writes IsServed (seen_by D.Desk D.Input.Source W.Sink words.now desk result out.old out.new) }
+    ensures usage { result.status ≡ 1
+        → Writes IsUsage (seen_by D.Desk D.Input.Source W.Sink words.now desk result out.old out.new) }
+    ensures config { result.status ≡ 2
+        → Writes IsConfig (seen_by D.Desk D.Input.Source W.Sink words.now desk result out.old out.new) }
+    ensures read_fault { result.status ≡ 3
+        → Writes IsReadFault (seen_by D.Desk D.Input.Source W.Sink words.now desk result out.old out.new) }
+    ensures write_fault { result.status ≡ 4
+        → IsWriteFault (seen_by D.Desk D.Input.Source W.Sink words.now desk result out.old out.new) }
+    ensures no_memory { result.status ≡ 7
+        → Writes IsNoMemory (seen_by D.Desk D.Input.Source W.Sink words.now desk result out.old out.new) }
+    ensures too_long { result.status ≡ 8
+        → Writes IsTooLong (seen_by D.Desk D.Input.Source W.Sink words.now desk result out.old out.new) }
 
     // Where words, configuration and request file are in order and no count rose, all lines are answered, or memory was wanting.
-    ensures in_order { IsInOrder words.now (D.holds desk) (counts_of (D.faults desk) (D.faults result.desk) (D.last_fault result.desk)
-        (option_map D.Input.faults result.config) (option_map D.Input.faults result.requests)) (W.faults out.old) (W.faults out.new)
+    ensures in_order { IsInOrder (seen_by D.Desk D.Input.Source W.Sink words.now desk result out.old out.new)
         → (result.status ≡ 0) ⊎ (result.status ≡ 7) }
 {
     let Outcome {
@@ -73,7 +68,7 @@ pub fn issue<R: AllocGlobal, D: Desk, W: Sink>(
         requests,
     } = run(rt.alloc(), words, &mut desk, out);
     Ended {
-        status: status_of_ending(ending),
+        status: status_of(ending),
         desk,
         config,
         requests,
@@ -94,14 +89,13 @@ fn run<D: Desk, W: Sink>(
     desk: &mut D,
     out: &mut W,
 ) -> Outcome<D::Input>
-    ensures { EndsBy words.now (D.holds desk.old)
-        (counts_of (D.faults desk.old) (D.faults desk.new) (D.last_fault desk.new)
-        (option_map D.Input.faults result.config) (option_map D.Input.faults result.requests))
-        (W.held out.old) (W.held out.new) (W.faults out.old) (W.faults out.new) result.ending }
+    ensures { EndsBy (seen_of words.now (desk_seen D.Desk desk.old desk.new)
+        (option_map (input_seen D.Input.Source) result.config) (option_map (input_seen D.Input.Source) result.requests)
+        (sink_seen W.Sink out.old out.new)) result.ending }
 {
     let Some(names) = read_words(words) else {
         return Outcome {
-            ending: stop(&Stop::Usage, out),
+            ending: stop_with(Stop::Usage, out),
             config: None,
             requests: None,
         };
@@ -110,7 +104,7 @@ fn run<D: Desk, W: Sink>(
         Ok(input) => input,
         Err(fault) => {
             return Outcome {
-                ending: stop(&stop_at(fault), out),
+                ending: stop_with(stop_at(fault), out),
                 config: None,
                 requests: None,
             };
@@ -120,7 +114,7 @@ fn run<D: Desk, W: Sink>(
         Ok(server) => server,
         Err(cause) => {
             return Outcome {
-                ending: stop(&cause, out),
+                ending: stop_with(cause, out),
                 config: Some(config),
                 requests: None,
             };
@@ -130,7 +124,7 @@ fn run<D: Desk, W: Sink>(
         Ok(input) => input,
         Err(fault) => {
             return Outcome {
-                ending: stop(&stop_at(fault), out),
+                ending: stop_with(stop_at(fault), out),
                 config: Some(config),
                 requests: None,
             };
@@ -175,15 +169,15 @@ fn set_up<S: Source>(alloc: Global, config: &mut S) -> Result<Server, Stop>
 fn answer_requests<S: Source, W: Sink>(server: &mut Server, requests: &mut S, out: &mut W) -> Ending
     requires new { IsNew server.old server.old.host.issuer }
     requires fresh { S.faults requests.old ≡ 0 }
-    ensures { (words : List (List ℕ)) (desk : Told) (name : List ℕ) (counts : Counts)
-        → IsSetUp words desk name server.old.host.issuer → GivesHeld (desk name) (S.left requests.old)
-        → counts.requests ≡ Some (S.faults requests.new)
-        → EndsBy words desk counts (W.held out.old) (W.held out.new) (W.faults out.old) (W.faults out.new) result }
+    ensures { (words : List (List ℕ)) (desk : SeenDesk) (config : SeenInput) (name : List ℕ)
+        → let seen = seen_of words desk (Some config) (Some (input_seen S.Source requests.new)) (sink_seen W.Sink out.old out.new) in
+        IsSetUp seen name server.old.host.issuer → GivesHeld (desk.tells name) (S.left requests.old)
+        → desk.faults_after ≡ desk.faults_before → EndsBy seen result }
 {
     match server.serve(requests, out) {
         Served::All => Ending::Served,
-        Served::ReadFault => stop(&Stop::ReadFault, out),
-        Served::WriteFault => Ending::SinkFailed,
-        Served::TooLong { line } => stop(&Stop::TooLong { line }, out),
+        Served::ReadFault => stop_with(Stop::ReadFault, out),
+        Served::WriteFault => Ending::WriteFault,
+        Served::TooLong { line } => stop_with(Stop::TooLong { line }, out),
     }
 }

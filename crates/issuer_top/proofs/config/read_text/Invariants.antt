@@ -1,3 +1,4 @@
+-- Reading a text, a piece at a time.
 use Rattle.std.proofs.Common.{◌≡◌, ◌+◌, ◌-◌, ◌≤◌, length}
 use Rattle.std.specs.Io.KnownBytes.{Consumes}
 use Rattle.issuer_top.specs.declared.config.TheConstants.{MAX_CONFIG_BYTES}

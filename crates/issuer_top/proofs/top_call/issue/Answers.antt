@@ -1,15 +1,16 @@
-use Rattle.issuer_top.proofs.Statuses.{IsStatus-of, at_served, at_no_command, at_bad_config, at_input_failed, at_sink_failed, at_out_of_memory, at_past_limit, in_order}
+-- Each status says how the run ended.
+use Rattle.issuer_top.proofs.Statuses.{IsStatus-of, said, in_order}
 use Rattle.issuer_top.proofs.top_call.issue.Goals as goal
 
 pub returns : goal.returns
 returns g c = record {
-  statuses = IsStatus-of _ _ c.status_of_ending.ensures;
-  served = at_served _ _ _ _ _ _ _ _ _ c.status_of_ending.ensures c.run-ending.ensures;
-  no_command = at_no_command _ _ _ _ _ _ _ _ _ c.status_of_ending.ensures c.run-ending.ensures;
-  bad_config = at_bad_config _ _ _ _ _ _ _ _ _ c.status_of_ending.ensures c.run-ending.ensures;
-  input_failed = at_input_failed _ _ _ _ _ _ _ _ _ c.status_of_ending.ensures c.run-ending.ensures;
-  sink_failed = at_sink_failed _ _ _ _ _ _ _ _ _ c.status_of_ending.ensures c.run-ending.ensures;
-  out_of_memory = at_out_of_memory _ _ _ _ _ _ _ _ _ c.status_of_ending.ensures c.run-ending.ensures;
-  past_limit = at_past_limit _ _ _ _ _ _ _ _ _ c.status_of_ending.ensures c.run-ending.ensures;
-  in_order = in_order _ _ _ _ _ _ _ _ _ c.status_of_ending.ensures c.run-ending.ensures;
+  statuses = IsStatus-of _ _ c.status_of.ensures;
+  served = said _ _ 0 _ c.status_of.ensures c.run-ending.ensures;
+  usage = said _ _ 1 _ c.status_of.ensures c.run-ending.ensures;
+  config = said _ _ 2 _ c.status_of.ensures c.run-ending.ensures;
+  read_fault = said _ _ 3 _ c.status_of.ensures c.run-ending.ensures;
+  write_fault = said _ _ 4 _ c.status_of.ensures c.run-ending.ensures;
+  no_memory = said _ _ 7 _ c.status_of.ensures c.run-ending.ensures;
+  too_long = said _ _ 8 _ c.status_of.ensures c.run-ending.ensures;
+  in_order = in_order _ _ _ c.status_of.ensures c.run-ending.ensures;
 }

@@ -1,7 +1,9 @@
+-- Words that aren't taken are no command, and those that are taken are the command.
 use Rattle.std.proofs.Common.{rules, arith}
 use Rattle.issuer_top.proofs.ServeWords.{serve-from_five, serve-five}
 use Rattle.issuer_top.proofs.words.read_words.Goals as goal
-use Rattle.issuer_top.proofs.words.read_words.Goals.{then-count-ne-SERVE_WORDS-via-then-count-ne-SERVE_WORDS, then-count-ne-SERVE_WORDS-via-else-count-ne-SERVE_WORDS+then-ne}
+use Rattle.issuer_top.proofs.words.read_words.Goals.{then-count-ne-SERVE_WORDS-via-then-count-ne-SERVE_WORDS}
+use Rattle.issuer_top.proofs.words.read_words.Goals.{then-count-ne-SERVE_WORDS-via-else-count-ne-SERVE_WORDS+then-ne}
 
 pub returns-then-count-ne-SERVE_WORDS-clause-other : goal.returns-then-count-ne-SERVE_WORDS-clause-other
 returns-then-count-ne-SERVE_WORDS-clause-other c = λ config requests serve.

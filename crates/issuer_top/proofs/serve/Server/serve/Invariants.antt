@@ -1,3 +1,4 @@
+-- Serving, a line at a time.
 use Rattle.std.proofs.Common.{◌≡◌, ◌-◌}
 use Rattle.line_reader.specs.declared.limits.TheConstants.{MAX_LINES}
 use Rattle.issuer_top.specs.Serving.{HasServed}
@@ -5,7 +6,8 @@ use Rattle.issuer_top.proofs.serve.Server.serve.Given as goal
 
 abbrev pub invariant-loop-self : goal.invariant-loop-self
 invariant-loop-self g l = record {
-  served : HasServed l.initial.self.host.issuer (g.S.Source.left l.initial.source) (g.S.Source.left l.source) (g.W.Sink.held l.initial.out) (g.W.Sink.held l.out) l.self.host l.self.reader;
+  served : HasServed l.initial.self.host.issuer (g.S.Source.left l.initial.source) (g.S.Source.left l.source)
+      (g.W.Sink.held l.initial.out) (g.W.Sink.held l.out) l.self.host l.self.reader;
   source_stood : g.S.Source.faults l.source ≡ g.S.Source.faults l.initial.source;
   sink_stood : g.W.Sink.faults l.out ≡ g.W.Sink.faults l.initial.out;
 }

@@ -1,0 +1,68 @@
+-- What a run sees of the outside: its words, the desk, the inputs that it opened, and the sink.
+use Rattle.std.specs.Prelude.{ℕ, List, Option}
+use Rattle.std.specs.Option.{option_map}
+use Rattle.issuer_base.specs.declared.outside.Desk.{Ghosts as Desk}
+use Rattle.issuer_base.specs.declared.outside.Source.{Ghosts as Source}
+use Rattle.issuer_base.specs.declared.outside.Sink.{Ghosts as Sink}
+use Rattle.issuer_top.specs.declared.top_call.Ended.{Ended}
+use Rattle.issuer_top.specs.Content.{Told}
+
+-- the desk: what it tells of its names, its count of faults before and after the run, and the name in its last fault
+pub record SeenDesk : Type 0 where
+  pub tells : Told
+  pub faults_before : ℕ
+  pub faults_after : ℕ
+  pub last_fault : Option (List ℕ)
+
+-- an input that was opened, after the run: its count of faults, and what it has left, where it tells
+pub record SeenInput : Type 0 where
+  pub faults : ℕ
+  pub left : Option (List ℕ)
+
+-- the sink: what it holds, where it tells, and its count of faults, before and after the run
+pub record SeenSink : Type 0 where
+  pub held_before : Option (List ℕ)
+  pub held_after : Option (List ℕ)
+  pub faults_before : ℕ
+  pub faults_after : ℕ
+
+-- all that a run sees; an input is there where it was opened
+pub record Seen : Type 0 where
+  pub words : List (List ℕ)
+  pub desk : SeenDesk
+  pub config : Option SeenInput
+  pub requests : Option SeenInput
+  pub sink : SeenSink
+
+-- the desk before and after
+abbrev pub desk_seen : {D I : Type 0} → Desk D I → D → D → SeenDesk
+desk_seen desk before after = record {
+  tells = desk.holds before;
+  faults_before = desk.faults before;
+  faults_after = desk.faults after;
+  last_fault = desk.last_fault after;
+}
+
+-- an input after the run
+abbrev pub input_seen : {I : Type 0} → Source I → I → SeenInput
+input_seen source input = record { faults = source.faults input; left = source.left input }
+
+-- the sink before and after
+abbrev pub sink_seen : {W : Type 0} → Sink W → W → W → SeenSink
+sink_seen sink before after = record {
+  held_before = sink.held before;
+  held_after = sink.held after;
+  faults_before = sink.faults before;
+  faults_after = sink.faults after;
+}
+
+-- all that was seen, in the order of the fields
+abbrev pub seen_of : List (List ℕ) → SeenDesk → Option SeenInput → Option SeenInput → SeenSink → Seen
+seen_of words desk config requests sink =
+    record { words = words; desk = desk; config = config; requests = requests; sink = sink }
+
+-- all that was seen of the words, of the desk that was given and of what was given back, and of the sink before and after
+abbrev pub seen_by : {D I W : Type 0} → Desk D I → Source I → Sink W → List (List ℕ) → D → Ended D I → W → W → Seen
+seen_by desk source sink words given ended before after =
+    seen_of words (desk_seen desk given ended.desk) (option_map (input_seen source) ended.config)
+    (option_map (input_seen source) ended.requests) (sink_seen sink before after)
