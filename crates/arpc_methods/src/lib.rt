@@ -4,23 +4,30 @@
 #[cfg(test)]
 mod tests;
 
-ghost use Rattle.std.specs.Prelude.{◌≡◌, ◌+◌, ◌≤◌, ◌++◌, length};
+ghost use Rattle.std.specs.Prelude.{◌≡◌, ℕ, ◌+◌, ◌≤◌, List, ◌++◌, length};
+ghost use Rattle.des_block.specs.Keyed.{HasKeyPair};
 ghost use Rattle.arpc_methods.specs.Arpc.{method1, method2, value91};
 
 use arrayvec::ArrayVec;
 use des_block::{Key16, Tdes};
 use issuer_base::Method;
-use retail_mac::mac;
+use retail_mac::mac_under;
 
 /// The issuer's cryptogram by method 1: triple DES under the session key for cryptograms of the application
 /// cryptogram, the response code joined to its first two bytes by xor. EMV 4.3 Book 2, section 8.2.1.
 pub fn method1(sk: &Key16, ac: &[u8; 8], arc: [u8; 2]) -> [u8; 8]
     ensures { result ≡ method1 sk.now.0 ac.now arc }
 {
+    method1_under(&Tdes::new(sk), ac, arc)
+}
+
+fn method1_under(cipher: &Tdes, ac: &[u8; 8], arc: [u8; 2]) -> [u8; 8]
+    ensures { (key : List ℕ) → HasKeyPair cipher.now key → result ≡ method1 key ac.now arc }
+{
     let mut block = *ac;
     block[0] ^= arc[0];
     block[1] ^= arc[1];
-    Tdes::new(sk).encipher(block)
+    cipher.encipher(block)
 }
 
 /// The issuer's cryptogram by method 2: the first four bytes of the MAC, under the session key for cryptograms, of
@@ -29,7 +36,13 @@ pub fn method1(sk: &Key16, ac: &[u8; 8], arc: [u8; 2]) -> [u8; 8]
 pub fn method2(sk: &Key16, ac: &[u8; 8], csu: [u8; 4]) -> [u8; 4]
     ensures { result ≡ method2 sk.now.0 ac.now csu }
 {
-    let [a, b, c, d, ..] = mac(sk, &text_of(ac, csu));
+    method2_under(&Tdes::new(sk), ac, csu)
+}
+
+fn method2_under(cipher: &Tdes, ac: &[u8; 8], csu: [u8; 4]) -> [u8; 4]
+    ensures { (key : List ℕ) → HasKeyPair cipher.now key → result ≡ method2 key ac.now csu }
+{
+    let [a, b, c, d, ..] = mac_under(cipher, &text_of(ac, csu));
     [a, b, c, d]
 }
 
@@ -53,9 +66,22 @@ pub fn value91(
 ) -> ArrayVec<u8, 16>
     ensures { result.items ≡ value91 method sk.now.0 ac.now arc csu }
 {
+    value91_under(method, &Tdes::new(sk), ac, arc, csu)
+}
+
+/// The issuer authentication data, as `value91` gives it, under a session key for cryptograms that is set up.
+pub fn value91_under(
+    method: Method,
+    cipher: &Tdes,
+    ac: &[u8; 8],
+    arc: [u8; 2],
+    csu: [u8; 4],
+) -> ArrayVec<u8, 16>
+    ensures { (key : List ℕ) → HasKeyPair cipher.now key → result.items ≡ value91 method key ac.now arc csu }
+{
     match method {
-        Method::One => joined(&method1(sk, ac, arc), &arc),
-        Method::Two => joined(&method2(sk, ac, csu), &csu),
+        Method::One => joined(&method1_under(cipher, ac, arc), &arc),
+        Method::Two => joined(&method2_under(cipher, ac, csu), &csu),
     }
 }
 

@@ -1,9 +1,9 @@
-use super::*;
-use des_block::Key16;
-use issuer_base::Method;
+//! Both methods' answers by another program, which was compared with OpenSSL. Keys and blocks are numbers, the first
+//! byte the highest.
 
-// Outputs of another program, which was compared with OpenSSL. Keys and blocks are numbers, the first byte the
-// highest.
+use super::*;
+use des_block::{Key16, Tdes};
+use issuer_base::Method;
 
 fn key(bytes: u128) -> Key16 {
     Key16(bytes.to_be_bytes())
@@ -78,5 +78,8 @@ fn answers_by_method_2(rt: HostRuntime) {
         assert_eq!(rt; u32::from_be_bytes(arpc), want, "for {ac}");
         let value = value91(Method::Two, &key(sk), &ac.to_be_bytes(), [0x30, 0x30], csu);
         assert_eq!(rt; value.as_slice(), want_value.to_be_bytes().as_slice());
+        let cipher = Tdes::new(&key(sk));
+        let under = value91_under(Method::Two, &cipher, &ac.to_be_bytes(), [0x30, 0x30], csu);
+        assert_eq!(rt; under.as_slice(), value.as_slice());
     }
 }

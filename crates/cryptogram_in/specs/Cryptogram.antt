@@ -11,6 +11,10 @@ input request =
     request.amount ++ request.other ++ request.country ++ request.tvr ++ request.currency ++ request.date
     ++ (request.kind ∷ []) ++ request.un ++ request.aip ++ counter_bytes request.atc ++ request.iad
 
--- the cryptogram by a card's master key: the MAC under the session key of the request's transaction counter
+-- the cryptogram under a session key: the MAC of those data, section 8.1.2
+unfoldable pub cryptogram_under : List ℕ → Parts → List ℕ
+cryptogram_under session request = retail_mac session (input request)
+
+-- the cryptogram by a card's master key: the one under the session key of the request's transaction counter
 unfoldable pub application_cryptogram : List ℕ → Parts → List ℕ
-application_cryptogram mk request = retail_mac (session_ac mk request.atc) (input request)
+application_cryptogram mk request = cryptogram_under (session_ac mk request.atc) request

@@ -1,3 +1,5 @@
+//! Bytes that are joined piece by piece.
+
 ghost use Rattle.std.specs.Prelude.{◌≡◌, ◌+◌, ◌≤◌, [], ◌++◌, length};
 
 use std::marker::Model;

@@ -6,14 +6,14 @@ mod joined;
 mod tests;
 
 ghost use Rattle.std.specs.Prelude.{◌≡◌, ◌↔◌, IsTrue};
-ghost use Rattle.key_derive.specs.SessionKey.{counter_bytes};
-ghost use Rattle.cryptogram_in.specs.Cryptogram.{input, application_cryptogram};
+ghost use Rattle.key_derive.specs.SessionKey.{counter_bytes, session_ac};
+ghost use Rattle.cryptogram_in.specs.Cryptogram.{input, cryptogram_under, application_cryptogram};
 
 use des_block::Key16;
 use issuer_base::Request;
 use joined::Joined;
-use key_derive::session_ac;
-use retail_mac::mac;
+use key_derive::SessionKey;
+use retail_mac::mac_under;
 
 /// What the application cryptogram is a MAC of: the ten data that EMV 4.3 Book 2, section 8.1.1 recommends, and
 /// the issuer application data whole, which is this project's profile.
@@ -42,6 +42,21 @@ fn counter_bytes(atc: u16) -> [u8; 2]
     atc.to_be_bytes()
 }
 
+/// The application cryptogram that a card makes over the request under this session key: EMV 4.3 Book 2, section
+/// 8.1.2. It takes eleven block operations of DES, for the MAC of nine blocks, and sets up no key.
+pub fn expected_under(session: &SessionKey, request: &Request) -> [u8; 8]
+    ensures { result ≡ cryptogram_under session.now request.now }
+{
+    mac_under(session.cipher(), &input(request))
+}
+
+/// Whether the request's cryptogram is the expected one under this session key, in all eight bytes.
+pub fn holds_under(session: &SessionKey, request: &Request) -> bool
+    ensures { IsTrue result ↔ (request.now.ac ≡ cryptogram_under session.now request.now) }
+{
+    expected_under(session, request) == request.parts().ac
+}
+
 /// The application cryptogram that a card with this master key makes over the request: EMV 4.3 Book 2, section
 /// 8.1.2.
 ///
@@ -50,13 +65,19 @@ fn counter_bytes(atc: u16) -> [u8; 2]
 pub fn expected(mk: &Key16, request: &Request) -> [u8; 8]
     ensures { result ≡ application_cryptogram mk.now.0 request.now }
 {
-    let session_key = session_ac(mk, request.parts().atc);
-    mac(&session_key, &input(request))
+    expected_under(&session_of(mk, request), request)
 }
 
 /// Whether the request's cryptogram is the expected one, in all eight bytes.
 pub fn holds(mk: &Key16, request: &Request) -> bool
     ensures { IsTrue result ↔ (request.now.ac ≡ application_cryptogram mk.now.0 request.now) }
 {
-    expected(mk, request) == request.parts().ac
+    holds_under(&session_of(mk, request), request)
+}
+
+/// The session key of the request's transaction.
+fn session_of(mk: &Key16, request: &Request) -> SessionKey
+    ensures { result ≡ session_ac mk.now.0 request.now.atc }
+{
+    SessionKey::for_cryptograms(mk, request.parts().atc)
 }

@@ -1,6 +1,9 @@
+//! The data of a request that was laid out by hand, and the cryptograms of two cards.
+
 use super::*;
 use des_block::Key16;
 use issuer_base::{Pan, Parts, Request};
+use key_derive::SessionKey;
 use std::test::Fail;
 
 /// A purchase over 123.45 in the seventh transaction of a card.
@@ -110,6 +113,12 @@ fn knows_the_cryptogram_of_a_card(rt: HostRuntime) -> Result<(), Fail> {
     for (mk, request, want) in &cases {
         assert_eq!(rt; u64::from_be_bytes(expected(mk, request)), *want);
         assert!(rt; holds(mk, request));
+        let session = SessionKey::for_cryptograms(mk, request.parts().atc);
+        assert_eq!(rt;
+            u64::from_be_bytes(expected_under(&session, request)),
+            *want
+        );
+        assert!(rt; holds_under(&session, request));
     }
     let (_, request, _) = &cases[0];
     assert!(rt; !holds(&second, request));

@@ -5,13 +5,16 @@ use Rattle.std.proofs.lemmas.List.Edits.{map_over_more}
 use borrow.Rule.Slice.PartMut.{put_mid}
 
 -- a function of each byte, one byte further
-pub map-over : (f : ℕ → ℕ) (xs ys : List ℕ) (i x : ℕ) → i < length xs → ys ≡ map f (take i xs) ++ drop i xs → x ≡ f (get_or ys i 0) → set ys i x ≡ map f (take (i + 1) xs) ++ drop (i + 1) xs
+pub map-over : (f : ℕ → ℕ) (xs ys : List ℕ) (i x : ℕ) → i < length xs → ys ≡ map f (take i xs) ++ drop i xs → x ≡ f (get_or ys i 0)
+    → set ys i x ≡ map f (take (i + 1) xs) ++ drop (i + 1) xs
 map-over f xs ys i x below so_far step =
-    let long : length ys ≡ length xs = ap length so_far ∙ length-append (map f (take i xs)) (drop i xs) ∙ omega (arith, length-map (take i xs) f, length-take-le i xs (omega arith), length-drop i xs) in
+    let long : length ys ≡ length xs = ap length so_far ∙ length-append (map f (take i xs)) (drop i xs)
+    ∙ omega (arith, length-map (take i xs) f, length-take-le i xs (omega arith), length-drop i xs) in
     ap (set ys i) step ∙ map_over_more f xs ys i (get_or ys i 0) below so_far (get_or_default ys i 0 (get_or ys i 0) (omega arith))
 
 -- the two halves of a key, each copied into its place
-pub halves-joined : (left right first second : List ℕ) → length first ≡ 8 → first ≡ left → second ≡ right → put_mid 8 8 (first ++ replicate 8 0) second ≡ left ++ right
+pub halves-joined : (left right first second : List ℕ) → length first ≡ 8 → first ≡ left → second ≡ right
+    → put_mid 8 8 (first ++ replicate 8 0) second ≡ left ++ right
 halves-joined left right first second long same_first same_second =
     let front : take 8 (first ++ replicate 8 0) ≡ first = take_at first (replicate 8 0) 8 long in
     let rest : drop 8 (drop 8 (first ++ replicate 8 0)) ≡ [] = ap (drop 8) (drop_at first (replicate 8 0) 8 long) in

@@ -1,5 +1,6 @@
 -- Lists of numbers below sixteen, and the nibbles of bytes.
-use Rattle.std.proofs.Common.{◌≡◌, ℕ, zero, suc, ◌+◌, ◌*◌, ◌/◌, ◌%◌, ◌<◌, ◌≤◌, List, [], ◌∷◌, ◌++◌, length, get_or, set, take, replicate, refl, sym, ap, ◌∙◌, arith, lit<, IsTrue, inl, inr}
+use Rattle.std.proofs.Common.{◌≡◌, ℕ, zero, suc, ◌+◌, ◌*◌, ◌/◌, ◌%◌, ◌<◌, ◌≤◌, List, [], ◌∷◌, ◌++◌, length, get_or, set, take, replicate, refl, sym}
+use Rattle.std.proofs.Common.{ap, ◌∙◌, arith, lit<, IsTrue, inl, inr}
 use Rattle.std.proofs.lemmas.Bool.{cases_lt}
 use Rattle.std.proofs.lemmas.List.{take_more_set, take_more, get_or_past, flat_map_more, length-set}
 use Rattle.std.specs.List.{flat_map}
@@ -36,7 +37,8 @@ AreNibbles-digits_of byte small (suc (suc k)) = lit< tt
 
 -- so are the digits of a card, after any zeros
 pub AreNibbles-row : (zeros : ℕ) (pan : List ℕ) (psn : ℕ) → IsTrue (is_pan pan) → psn < 256 → AreNibbles (replicate zeros 0 ++ card_digits pan psn)
-AreNibbles-row zeros pan psn valid small = AreNibbles-append (replicate zeros 0) (card_digits pan psn) (AreNibbles-zeros zeros) (AreNibbles-append pan (digits_of psn) (AreNibbles-pan pan valid) (AreNibbles-digits_of psn small))
+AreNibbles-row zeros pan psn valid small = AreNibbles-append (replicate zeros 0) (card_digits pan psn) (AreNibbles-zeros zeros) (AreNibbles-append pan
+    (digits_of psn) (AreNibbles-pan pan valid) (AreNibbles-digits_of psn small))
 
 pub AreNibbles-set : (xs : List ℕ) (i x : ℕ) → AreNibbles xs → x < 16 → AreNibbles (set xs i x)
 AreNibbles-set [] i x in_xs small k = in_xs k
@@ -46,7 +48,9 @@ AreNibbles-set (y ∷ xs) (suc i) x in_xs small zero = in_xs zero
 AreNibbles-set (y ∷ xs) (suc i) x in_xs small (suc k) = AreNibbles-set xs i x (λ j. in_xs (suc j)) small k
 
 -- the nibbles of one more byte
-pub nibbles-more : (nibbles bytes : List ℕ) (i : ℕ) → i < length bytes → 2 * i + 1 < length nibbles → take (2 * i) nibbles ≡ flat_map digits_of (take i bytes) → take (2 * (i + 1)) (set (set nibbles (2 * i) (get_or bytes i 0 / 16)) (2 * i + 1) (get_or bytes i 0 % 16)) ≡ flat_map digits_of (take (i + 1) bytes)
+pub nibbles-more : (nibbles bytes : List ℕ) (i : ℕ) → i < length bytes → 2 * i + 1 < length nibbles
+    → take (2 * i) nibbles ≡ flat_map digits_of (take i bytes) → take (2 * (i + 1)) (set (set nibbles (2 * i) (get_or bytes i 0 / 16)) (2 * i + 1)
+    (get_or bytes i 0 % 16)) ≡ flat_map digits_of (take (i + 1) bytes)
 nibbles-more nibbles bytes i below room so_far =
     let byte : ℕ = get_or bytes i 0 in
     let first : List ℕ = set nibbles (2 * i) (byte / 16) in

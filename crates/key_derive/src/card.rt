@@ -1,3 +1,5 @@
+//! The keys of a card from those of its issuer.
+
 ghost use Rattle.std.specs.Prelude.{◌≡◌};
 ghost use Rattle.key_derive.specs.CardKey.{card_keys};
 

@@ -1,3 +1,5 @@
+//! Decimal digits as bytes: EMV 4.3 Book 2, Annex A1.4.
+
 ghost use Rattle.std.specs.Prelude.{◌≡◌, ℕ, ◌-◌, ◌*◌, ◌<◌, ◌≤◌, [], ◌∷◌, ◌++◌, length, take, replicate, filter, slice_index};
 ghost use Rattle.std.specs.List.{flat_map};
 ghost use Rattle.issuer_base.specs.ChipData.{digits_of};

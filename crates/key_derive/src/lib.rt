@@ -11,4 +11,4 @@ mod tests;
 pub use card::{CardKeys, KeySet, card_keys};
 pub use digits::decimal16;
 pub use master::{master_key, option_a, option_b};
-pub use session::{session_ac, session_sm};
+pub use session::{SessionKey, session_ac, session_sm};

@@ -1,3 +1,5 @@
+//! A card's master keys: EMV 4.3 Book 2, Annex A1.4.
+
 ghost use Rattle.std.specs.Prelude.{◌≡◌, ◌≤◌, ◌++◌, length, map};
 ghost use Rattle.key_derive.specs.MasterKey.{with_odd_parity, complement, diversified, option_a, option_b, master_key};
 

@@ -1,8 +1,51 @@
+//! The session keys of a transaction: EMV 4.3 Book 2, Annex A1.3.1.
+
 ghost use Rattle.std.specs.Prelude.{◌≡◌, slice_set};
+ghost use Rattle.des_block.specs.Keyed.{HasKeyPair};
 ghost use Rattle.key_derive.specs.SessionKey.{session_key, session_ac, session_sm};
 
 use crate::master::joined;
 use des_block::{Key16, Tdes};
+use std::marker::Model;
+
+/// The session key for the cryptograms of one transaction, set up once for the check and for the reply.
+///
+/// A contract sees the list of its sixteen bytes.
+#[derive(Drop)]
+pub struct SessionKey {
+    key: Key16,
+    cipher: Tdes,
+}
+
+impl Model for SessionKey {
+    ghost use Rattle.std.specs.Prelude.{ℕ, List};
+    ghost use Rattle.des_block.specs.Keyed.{HasKeyPair};
+
+    ghost Value = { List ℕ };
+
+    ghost view = { λ session. session.key.0 };
+
+    ghost invariant = { λ session. HasKeyPair session.cipher session.key.0 };
+}
+
+impl SessionKey {
+    /// The key of the transaction with this counter, from the card's master key for cryptograms, as `session_ac` gives it.
+    /// Sets up the master key and the session key.
+    pub fn for_cryptograms(master: &Key16, atc: u16) -> SessionKey
+        ensures { result ≡ session_ac master.now.0 atc }
+    {
+        let key = session_ac(master, atc);
+        let cipher = Tdes::new(&key);
+        SessionKey { key, cipher }
+    }
+
+    /// Triple DES under this key.
+    pub fn cipher(&self) -> &Tdes
+        ensures { HasKeyPair result.now self.now }
+    {
+        &self.cipher
+    }
+}
 
 /// The session key for a transaction's cryptograms, from the card's master key and its transaction counter:
 /// EMV 4.3 Book 2, Annex A1.3.1. Sets up one key and enciphers two blocks.

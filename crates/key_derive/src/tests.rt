@@ -1,11 +1,11 @@
+//! Inputs and outputs of another program, which was compared with OpenSSL. Keys and blocks are numbers, the first
+//! byte the highest.
+
 use super::*;
-use des_block::Key16;
+use des_block::{Key16, Tdes};
 use issuer_base::{MasterOption, Pan};
 use sha1::Sha1;
 use std::test::Fail;
-
-// Inputs and outputs of another program, which was compared with OpenSSL. Keys and blocks are numbers, the first
-// byte the highest.
 
 fn key(bytes: u128) -> Key16 {
     Key16(bytes.to_be_bytes())
@@ -166,6 +166,9 @@ fn derives_session_keys(rt: HostRuntime) {
     ];
     for (mk, atc, want) in for_cryptograms {
         assert_eq!(rt; session_ac(&key(mk), atc), key(want), "for {atc}");
+        let session = SessionKey::for_cryptograms(&key(mk), atc);
+        let block = Tdes::new(&key(want)).encipher([0; 8]);
+        assert_eq!(rt; session.cipher().encipher([0; 8]), block, "for {atc}");
     }
     let for_messages = [
         (

@@ -1,13 +1,15 @@
 -- The blocks of a padded text, read as words, and both chains over them.
-use Rattle.std.proofs.Common.{⊎_elim, w64, get_or-take, get_or-drop, length-take, ◌≡◌, ℕ, zero, suc, ◌+◌, ◌-◌, ◌*◌, ◌/◌, ◌%◌, ◌^◌, ◌<◌, ◌≤◌, ◌↔◌, List, [], ◌∷◌, ◌++◌, length, take, drop, set, replicate, fold, get_or, slice_index, bit_xor, refl, sym, ap, ap₂, ◌∙◌, arith, append_assoc, append-nil, length-append, length-drop, drop-drop}
+use Rattle.std.proofs.Common.{⊎_elim, w64, get_or-take, get_or-drop, length-take, ◌≡◌, ℕ, zero, suc, ◌+◌, ◌-◌, ◌*◌, ◌/◌, ◌%◌, ◌^◌, ◌<◌, ◌≤◌, ◌↔◌}
+use Rattle.std.proofs.Common.{List, [], ◌∷◌, ◌++◌, length, take, drop, set, replicate, fold, get_or, slice_index, bit_xor, refl, sym, ap, ap₂, ◌∙◌}
+use Rattle.std.proofs.Common.{arith, append_assoc, append-nil, length-append, length-drop, drop-drop}
 use Rattle.std.proofs.lemmas.List.{get_or_past, drop_more, drop-append-le, take-append-le, take_all, drop-replicate, set_at, length-replicate}
 use Rattle.std.proofs.lemmas.Nat.{xor_shr, xor_mod}
 use Rattle.std.proofs.lemmas.Bool.{cases_lt}
 use Rattle.std.specs.Int.{from_be_bytes, to_be_bytes}
 use Rattle.des_block.proofs.Laws.{word_bytes-from_be_bytes}
 use borrow.Rule.Slice.PartMut.{put_mid}
-use Rattle.des_block.specs.Cipher.{word_bytes, des_encipher, des_decipher, tdes_encipher}
-use Rattle.retail_mac.specs.Mac.{padded, blocks, padded_blocks, xor_bytes, zero_block, chained, retail_mac, cbc_from, cbc}
+use Rattle.des_block.specs.Cipher.{word_bytes, tdes_encipher}
+use Rattle.retail_mac.specs.Mac.{padded, blocks, padded_blocks, xor_bytes, zero_block, cbc_from, cbc}
 
 -- eight bytes of a text, one by one
 eight_at : (text : List ℕ) (at : ℕ) → at + 8 ≤ length text
@@ -28,7 +30,8 @@ eight_at text at h =
 
 -- eight pushes append eight bytes
 pub eight_pushed : (before bytes o1 o2 o3 o4 o5 o6 o7 o8 : List ℕ) (word : ℕ) → bytes ≡ to_be_bytes w64 word
-    → o1 ≡ before ++ slice_index bytes 0 ∷ [] → o2 ≡ o1 ++ slice_index bytes 1 ∷ [] → o3 ≡ o2 ++ slice_index bytes 2 ∷ [] → o4 ≡ o3 ++ slice_index bytes 3 ∷ []
+    → o1 ≡ before ++ slice_index bytes 0 ∷ [] → o2 ≡ o1 ++ slice_index bytes 1 ∷ [] → o3 ≡ o2 ++ slice_index bytes 2 ∷ []
+    → o4 ≡ o3 ++ slice_index bytes 3 ∷ []
     → o5 ≡ o4 ++ slice_index bytes 4 ∷ [] → o6 ≡ o5 ++ slice_index bytes 5 ∷ [] → o7 ≡ o6 ++ slice_index bytes 6 ∷ [] → o8 ≡ o7 ++ slice_index bytes 7 ∷ []
     → o8 ≡ before ++ word_bytes word
 unfolding word_bytes
@@ -37,11 +40,15 @@ eight_pushed before bytes o1 o2 o3 o4 o5 o6 o7 o8 word e e1 e2 e3 e4 e5 e6 e7 e8
     let j2 : o2 ≡ before ++ b 0 ∷ b 1 ∷ [] = e2 ∙ ap (λ o. o ++ b 1 ∷ []) e1 ∙ append_assoc before (b 0 ∷ []) (b 1 ∷ []) in
     let j3 : o3 ≡ before ++ b 0 ∷ b 1 ∷ b 2 ∷ [] = e3 ∙ ap (λ o. o ++ b 2 ∷ []) j2 ∙ append_assoc before (b 0 ∷ b 1 ∷ []) (b 2 ∷ []) in
     let j4 : o4 ≡ before ++ b 0 ∷ b 1 ∷ b 2 ∷ b 3 ∷ [] = e4 ∙ ap (λ o. o ++ b 3 ∷ []) j3 ∙ append_assoc before (b 0 ∷ b 1 ∷ b 2 ∷ []) (b 3 ∷ []) in
-    let j5 : o5 ≡ before ++ b 0 ∷ b 1 ∷ b 2 ∷ b 3 ∷ b 4 ∷ [] = e5 ∙ ap (λ o. o ++ b 4 ∷ []) j4 ∙ append_assoc before (b 0 ∷ b 1 ∷ b 2 ∷ b 3 ∷ []) (b 4 ∷ []) in
-    let j6 : o6 ≡ before ++ b 0 ∷ b 1 ∷ b 2 ∷ b 3 ∷ b 4 ∷ b 5 ∷ [] = e6 ∙ ap (λ o. o ++ b 5 ∷ []) j5 ∙ append_assoc before (b 0 ∷ b 1 ∷ b 2 ∷ b 3 ∷ b 4 ∷ []) (b 5 ∷ []) in
-    let j7 : o7 ≡ before ++ b 0 ∷ b 1 ∷ b 2 ∷ b 3 ∷ b 4 ∷ b 5 ∷ b 6 ∷ [] = e7 ∙ ap (λ o. o ++ b 6 ∷ []) j6 ∙ append_assoc before (b 0 ∷ b 1 ∷ b 2 ∷ b 3 ∷ b 4 ∷ b 5 ∷ []) (b 6 ∷ []) in
+    let j5 : o5 ≡ before ++ b 0 ∷ b 1 ∷ b 2 ∷ b 3 ∷ b 4 ∷ [] = e5 ∙ ap (λ o. o ++ b 4 ∷ []) j4
+    ∙ append_assoc before (b 0 ∷ b 1 ∷ b 2 ∷ b 3 ∷ []) (b 4 ∷ []) in
+    let j6 : o6 ≡ before ++ b 0 ∷ b 1 ∷ b 2 ∷ b 3 ∷ b 4 ∷ b 5 ∷ [] = e6 ∙ ap (λ o. o ++ b 5 ∷ []) j5
+    ∙ append_assoc before (b 0 ∷ b 1 ∷ b 2 ∷ b 3 ∷ b 4 ∷ []) (b 5 ∷ []) in
+    let j7 : o7 ≡ before ++ b 0 ∷ b 1 ∷ b 2 ∷ b 3 ∷ b 4 ∷ b 5 ∷ b 6 ∷ [] = e7 ∙ ap (λ o. o ++ b 6 ∷ []) j6
+    ∙ append_assoc before (b 0 ∷ b 1 ∷ b 2 ∷ b 3 ∷ b 4 ∷ b 5 ∷ []) (b 6 ∷ []) in
     e8 ∙ ap (λ o. o ++ b 7 ∷ []) j7 ∙ append_assoc before (b 0 ∷ b 1 ∷ b 2 ∷ b 3 ∷ b 4 ∷ b 5 ∷ b 6 ∷ []) (b 7 ∷ [])
-    ∙ ap (λ (bs : List ℕ). before ++ slice_index bs 0 ∷ slice_index bs 1 ∷ slice_index bs 2 ∷ slice_index bs 3 ∷ slice_index bs 4 ∷ slice_index bs 5 ∷ slice_index bs 6 ∷ slice_index bs 7 ∷ []) e
+    ∙ ap (λ (bs : List ℕ). before ++ slice_index bs 0 ∷ slice_index bs 1 ∷ slice_index bs 2 ∷ slice_index bs 3
+    ∷ slice_index bs 4 ∷ slice_index bs 5 ∷ slice_index bs 6 ∷ slice_index bs 7 ∷ []) e
 
 -- a block of zeros with the rest of a text and the byte 80 written over it
 last_block : (ys : List ℕ) (n j : ℕ) → length ys ≡ n → j ≡ n → n < 8 → set (put_mid 0 j (replicate 8 0) ys) n 128 ≡ ys ++ 128 ∷ replicate (7 - n) 0
@@ -56,7 +63,8 @@ AreBytes bytes = (i : ℕ) → get_or bytes i 0 < 256
 part_small : (text : List ℕ) (at : ℕ) → AreBytes text → AreBytes (take 8 (drop at text))
 part_small text at small i =
     ⊎_elim (λ l. Rattle.std.proofs.Common.subst (λ x. x < 256) (sym (get_or-take 8 (drop at text) i 0 l ∙ get_or-drop at text i 0)) (small (at + i)))
-    (λ l. Rattle.std.proofs.Common.subst (λ x. x < 256) (sym (get_or_past (take 8 (drop at text)) i 0 (omega (arith, length-take 8 (drop at text))))) (omega arith))
+    (λ l. Rattle.std.proofs.Common.subst (λ x. x < 256) (sym (get_or_past (take 8 (drop at text)) i 0 (omega (arith, length-take 8 (drop at text)))))
+    (omega arith))
     (cases_lt i 8)
 
 zeros_small : (m : ℕ) → AreBytes (replicate m 0)
@@ -70,27 +78,25 @@ end_small [] m small (suc i) = zeros_small m i
 end_small (y ∷ ys) m small zero = small 0
 end_small (y ∷ ys) m small (suc i) = end_small ys m (λ k. small (suc k)) i
 
-drop_small : (text : List ℕ) (at : ℕ) → AreBytes text → AreBytes (drop at text)
-drop_small text at small i = Rattle.std.proofs.Common.subst (λ x. x < 256) (sym (get_or-drop at text i 0)) (small (at + i))
-
 pub word_at_is : (text : List ℕ) (at w : ℕ) → at + 8 ≤ length text → AreBytes text
-    → w ≡ from_be_bytes w64 (slice_index text at ∷ slice_index text (at + 1) ∷ slice_index text (at + 2) ∷ slice_index text (at + 3) ∷ slice_index text (at + 4)
+    → w ≡ from_be_bytes w64 (slice_index text at ∷ slice_index text (at + 1) ∷ slice_index text (at + 2)
+    ∷ slice_index text (at + 3) ∷ slice_index text (at + 4)
     ∷ slice_index text (at + 5) ∷ slice_index text (at + 6) ∷ slice_index text (at + 7) ∷ [])
     → word_bytes w ≡ take 8 (drop at text)
 word_at_is text at w h small e =
-    word_bytes-from_be_bytes (take 8 (drop at text)) w (omega (arith, length-take 8 (drop at text), length-drop at text)) (part_small text at small) (e ∙ ap (from_be_bytes w64) (eight_at text at h))
+    word_bytes-from_be_bytes (take 8 (drop at text)) w (omega (arith, length-take 8 (drop at text), length-drop at text)) (part_small text at small)
+    (e ∙ ap (from_be_bytes w64) (eight_at text at h))
 
-pub last_word_is : (text : List ℕ) (at j w : ℕ) (ys : List ℕ) → at ≤ length text → length text < at + 8 → AreBytes text → j ≡ length text - at → ys ≡ drop at text
-    → w ≡ from_be_bytes w64 (set (put_mid 0 j (replicate 8 0) ys) (length text - at) 128)
-    → word_bytes w ≡ drop at text ++ 128 ∷ replicate (7 - (length text - at)) 0
-last_word_is text at j w ys low high small ej ey e =
-    let n : ℕ = length text - at in
-    let rest : List ℕ = drop at text in
-    let len : length rest ≡ n = length-drop at text in
+-- a rest of fewer than eight bytes, padded to a block
+pub last_word_is : (rest copied : List ℕ) (j w : ℕ) → length rest < 8 → AreBytes rest → j ≡ length rest → copied ≡ rest
+    → w ≡ from_be_bytes w64 (set (put_mid 0 j (replicate 8 0) copied) (length rest) 128)
+    → word_bytes w ≡ rest ++ 128 ∷ replicate (7 - length rest) 0
+last_word_is rest copied j w short small ej same e =
+    let n : ℕ = length rest in
     let whole : length (rest ++ 128 ∷ replicate (7 - n) 0) ≡ 8 =
     omega (arith, length-append rest (128 ∷ replicate (7 - n) 0), length-replicate {A = ℕ} (7 - n) 0) in
-    word_bytes-from_be_bytes (rest ++ 128 ∷ replicate (7 - n) 0) w whole (end_small rest (7 - n) (drop_small text at small))
-    (e ∙ ap (from_be_bytes w64) (ap (λ y. set (put_mid 0 j (replicate 8 0) y) n 128) ey ∙ last_block rest n j len ej (omega arith)))
+    word_bytes-from_be_bytes (rest ++ 128 ∷ replicate (7 - n) 0) w whole (end_small rest (7 - n) small)
+    (e ∙ ap (from_be_bytes w64) (ap (λ bytes. set (put_mid 0 j (replicate 8 0) bytes) n 128) same ∙ last_block rest n j refl ej short))
 
 pub length-padded : (text : List ℕ) → length (padded text) ≡ 8 * (length text / 8) + 8
 unfolding padded
@@ -151,36 +157,6 @@ unfolding blocks_left blocks
 blocks_left_end text n e =
     let count : length text / 8 + 1 - n ≡ 1 = omega arith in
     ap (λ k. blocks k (drop (8 * n) (padded text))) count ∙ ap (λ b. b ∷ []) (end_block text n e)
-
--- the MAC's chain so far, and the blocks that are left
-pub record Chains (key text : List ℕ) (i chain : ℕ) : Type 0 where
-  pub joined : fold (chained key) (word_bytes chain) (blocks_left text i) ≡ fold (chained key) zero_block (padded_blocks text)
-
-pub Chains_none : (key text : List ℕ) → Chains key text 0 0
-Chains_none key text = record { joined = ap₂ (λ h bs. fold (chained key) h bs) zero_word (blocks_left_all text) }
-
-pub Chains_more : (key text : List ℕ) (i chain word next : ℕ) → Chains key text i chain → i < length text / 8
-    → word_bytes word ≡ take 8 (drop (8 * i) text) → word_bytes next ≡ des_encipher key (word_bytes (bit_xor chain word)) → Chains key text (i + 1) next
-unfolding chained
-Chains_more key text i chain word next done h ew en =
-    let step : des_encipher key (xor_bytes (word_bytes chain) (take 8 (drop (8 * i) text))) ≡ word_bytes next =
-    sym (en ∙ ap (des_encipher key) (xor-word_bytes chain word ∙ ap (xor_bytes (word_bytes chain)) ew)) in
-    record {
-      joined =
-          ap (λ b. fold (chained key) b (blocks_left text (i + 1))) (sym step)
-          ∙ sym (ap (fold (chained key) (word_bytes chain)) (blocks_left_more text i h)) ∙ done.joined;
-    }
-
-pub Chains_all : (key text : List ℕ) (i n chain word out : ℕ) → Chains (take 8 key) text i chain → i ≡ n → n ≡ length text / 8
-    → word_bytes word ≡ drop (8 * n) text ++ 0x80 ∷ replicate (7 - (length text - 8 * n)) 0
-    → word_bytes out ≡ tdes_encipher key (word_bytes (bit_xor chain word)) → word_bytes out ≡ retail_mac key text
-unfolding chained retail_mac tdes_encipher
-Chains_all key text i n chain word out done ei e ew eo =
-    let mixed : word_bytes (bit_xor chain word) ≡ xor_bytes (word_bytes chain) (drop (8 * n) text ++ 0x80 ∷ replicate (7 - (length text - 8 * n)) 0) =
-    xor-word_bytes chain word ∙ ap (xor_bytes (word_bytes chain)) ew in
-    let last : des_encipher (take 8 key) (word_bytes (bit_xor chain word)) ≡ fold (chained (take 8 key)) zero_block (padded_blocks text) =
-    ap (des_encipher (take 8 key)) mixed ∙ sym (ap (fold (chained (take 8 key)) (word_bytes chain)) (ap (blocks_left text) ei ∙ blocks_left_end text n e)) ∙ done.joined in
-    eo ∙ ap (λ b. des_encipher (take 8 key) (des_decipher (drop 8 key) b)) last
 
 -- what CBC has written, and the blocks that are left
 pub record Enciphers (key text before : List ℕ) (i chain : ℕ) (out : List ℕ) : Type 0 where

@@ -1,1 +1,2 @@
 pub mod Mac
+pub mod Run

@@ -2,67 +2,42 @@
 //!
 //! Both pad the text with a byte 80 and the fewest bytes 00 to whole blocks of eight bytes. A text of n blocks so padded takes two
 //! key schedules; its MAC takes n - 1 blocks of DES and one of triple DES, its encipherment n blocks of triple DES. Neither takes
-//! memory, nor copies the text.
+//! memory, nor copies the text; a MAC over pieces copies a block that two pieces share.
 #![tactic(auto)]
 
-ghost use Rattle.std.specs.Prelude.{◌≡◌, ℕ, ◌+◌, ◌-◌, ◌/◌, ◌*◌, ◌<◌, ◌≤◌, ◌↔◌, ◌∷◌, ◌++◌, length, take, drop, replicate, IsErr, OnOk, OnErr};
+mod chain;
+mod run;
+#[cfg(test)]
+mod tests;
+
+ghost use Rattle.std.specs.Prelude.{◌≡◌, ℕ, ◌+◌, ◌<◌, ◌≤◌, ◌↔◌, List, ◌++◌, length, IsErr, OnOk, OnErr};
 ghost use Rattle.arrayvec.specs.ArrayVec.{array_vec_len};
 ghost use Rattle.des_block.specs.Cipher.{word_bytes};
+ghost use Rattle.des_block.specs.Keyed.{HasKeyPair};
 ghost use Rattle.retail_mac.specs.Mac.{padded, retail_mac, cbc};
 
 use arrayvec::ArrayVec;
+use chain::{chained, ended, last_word, word_at};
 use des_block::{Key16, Tdes};
+pub use run::MacRun;
 
 /// The enciphered text does not fit into what is left of the output.
 #[derive(Clone, Copy, PartialEq, Eq, Debug)]
 pub struct Full;
 
-/// The block of eight bytes at `at`, as a number, its first byte the highest.
-#[inline]
-fn word_at(text: &[u8], at: usize) -> u64
-    requires { at + 8 ≤ length text.now }
-    ensures { word_bytes result ≡ take 8 (drop at text.now) }
-{
-    u64::from_be_bytes([
-        text[at],
-        text[at + 1],
-        text[at + 2],
-        text[at + 3],
-        text[at + 4],
-        text[at + 5],
-        text[at + 6],
-        text[at + 7],
-    ])
-}
-
-/// The last block of the padded text, which begins at `at`.
-#[inline]
-fn last_word(text: &[u8], at: usize) -> u64
-    requires begins { at ≤ length text.now }
-    requires short { length text.now < at + 8 }
-    ensures { word_bytes result ≡ drop at text.now ++ 0x80 ∷ replicate (7 - (length text.now - at)) 0 }
-{
-    let rest = text.len() - at;
-    let mut block = [0; 8];
-    block[..rest].copy_from_slice(&text[at..]);
-    block[rest] = 0x80;
-    u64::from_be_bytes(block)
-}
-
 /// The MAC of a text: ISO/IEC 9797-1, algorithm 3 with padding method 2, over DES.
 pub fn mac(key: &Key16, text: &[u8]) -> [u8; 8]
     ensures { result ≡ retail_mac key.now.0 text.now }
 {
-    let cipher = Tdes::new(key);
+    mac_under(&Tdes::new(key), text)
+}
+
+/// The MAC of a text under a key that is set up: ISO/IEC 9797-1, algorithm 3 with padding method 2, over DES.
+pub fn mac_under(cipher: &Tdes, text: &[u8]) -> [u8; 8]
+    ensures { (key : List ℕ) → HasKeyPair cipher.now key → result ≡ retail_mac key text.now }
+{
     let whole = text.len() / 8;
-    let mut chain = 0;
-    for i in 0..whole {
-        chain = cipher.left().encipher_word(chain ^ word_at(text, 8 * i));
-    }
-    // The last step of the chain and the two ciphers after it are triple DES.
-    cipher
-        .encipher_word(chain ^ last_word(text, 8 * whole))
-        .to_be_bytes()
+    ended(cipher, chained(cipher.left(), 0, text), &text[8 * whole..])
 }
 
 /// Appends the bytes of a word, its highest byte first.
@@ -100,10 +75,7 @@ pub fn cbc_encipher(key: &Key16, text: &[u8], out: &mut ArrayVec<u8, 160>) -> Re
     }
     append(
         out,
-        cipher.encipher_word(previous ^ last_word(text, 8 * whole)),
+        cipher.encipher_word(previous ^ last_word(&text[8 * whole..])),
     );
     Ok(())
 }
-
-#[cfg(test)]
-mod tests;

@@ -212,3 +212,24 @@ fn refuses_what_does_not_fit(rt: HostRuntime) {
     assert_eq!(rt; cbc_encipher(&Key16([1; 16]), &[], &mut out), Err(Full));
     assert_eq!(rt; out.len(), 160);
 }
+
+// Each text cut into pieces of one length, once more in the same run, and with the key set up before.
+#[test]
+fn makes_the_same_macs_of_pieces(rt: HostRuntime) {
+    for (left, right, text, expected) in MACS {
+        let key = key_of(left, right);
+        let mut run = MacRun::new(&key);
+        for len in [1, 5, 8, 13] {
+            for piece in text.chunks(len) {
+                run.update(piece);
+            }
+            assert_eq!(rt; u64::from_be_bytes(run.take()), expected, "by {len}");
+        }
+        run.update(text);
+        assert_eq!(rt; u64::from_be_bytes(run.finish()), expected);
+        assert_eq!(rt;
+            u64::from_be_bytes(mac_under(&Tdes::new(&key), text)),
+            expected
+        );
+    }
+}

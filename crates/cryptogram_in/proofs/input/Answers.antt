@@ -17,5 +17,6 @@ returns c =
     let un = piece-joined _ _ _ p.un kind c.add-8.ensures.joined in
     let aip = piece-joined _ _ _ p.aip un c.add-9.ensures.joined in
     let atc = piece-joined _ _ _ c.counter_bytes.result aip c.add-10.ensures.joined in
-    let iad = piece-joined _ _ _ p.iad (atc ∙ ap (λ counter. p.amount ++ p.other ++ p.country ++ p.tvr ++ p.currency ++ p.date ++ (p.kind ∷ []) ++ p.un ++ p.aip ++ counter) c.counter_bytes.ensures) c.add-11.ensures.joined in
+    let iad = piece-joined _ _ _ p.iad (atc ∙ ap (λ counter. p.amount ++ p.other ++ p.country ++ p.tvr ++ p.currency ++ p.date ++
+    (p.kind ∷ []) ++ p.un ++ p.aip ++ counter) c.counter_bytes.ensures) c.add-11.ensures.joined in
     c.whole.ensures ∙ iad ∙ ap input c.parts-parts.ensures.same

@@ -21,4 +21,5 @@ loop-i-preserved c =
 pub returns-clause-exact : goal.returns-clause-exact
 returns-clause-exact c =
     let before = c.loop-i.invariant in
-    sym (take_all (2 * c.loop-i.i) c.loop-i.nibbles (omega (arith, before.length_kept))) ∙ before.so_far ∙ ap (flat_map digits_of) (take_all c.loop-i.i c.args.bytes.now (omega arith))
+    sym (take_all (2 * c.loop-i.i) c.loop-i.nibbles (omega (arith, before.length_kept))) ∙ before.so_far
+    ∙ ap (flat_map digits_of) (take_all c.loop-i.i c.args.bytes.now (omega arith))

@@ -21,10 +21,12 @@ copy_from_slice-requires c =
 pub returns-clause-exact : goal.returns-clause-exact
 returns-clause-exact c =
     let within = length-pan c.args.pan.now c.digits-digits.ensures.valid in
-    row-written c.args.pan.now c.digits-digits.result.now c.copy_from_slice.new.self c.args.psn (omega (arith, within.1)) c.digits-digits.ensures.same c.copy_from_slice.ensures.after
+    row-written c.args.pan.now c.digits-digits.result.now c.copy_from_slice.new.self c.args.psn (omega
+    (arith, within.1)) c.digits-digits.ensures.same c.copy_from_slice.ensures.after
 
 pub returns-clause-nibbles : goal.returns-clause-nibbles
 returns-clause-nibbles c =
     let within = length-pan c.args.pan.now c.digits-digits.ensures.valid in
-    let row = row-written c.args.pan.now c.digits-digits.result.now c.copy_from_slice.new.self c.args.psn (omega (arith, within.1)) c.digits-digits.ensures.same c.copy_from_slice.ensures.after in
+    let row = row-written c.args.pan.now c.digits-digits.result.now c.copy_from_slice.new.self c.args.psn (omega
+    (arith, within.1)) c.digits-digits.ensures.same c.copy_from_slice.ensures.after in
     subst AreNibbles (sym row) (AreNibbles-row _ c.args.pan.now c.args.psn c.digits-digits.ensures.valid (omega arith))

@@ -26,6 +26,8 @@ returns-clause-exact c =
     let unused : 11 - (length c.digits-len.result.now + 3) / 2 ≡ 11 - (length pan + 3) / 2 = ap (λ ds. 11 - (length ds + 3) / 2) c.digits-len.ensures.same in
     c.diversified.ensures
     ∙ ap (diversified c.args.imk.now.0) (c.decimal16.ensures ∙ ap decimal16 (c.digest-digest.ensures ∙ ap sha1 (
-    take_all (11 - (11 - (length c.digits-len.result.now + 3) / 2)) (drop (11 - (length c.digits-len.result.now + 3) / 2) c.written.result) (omega (arith, length-drop (11 - (length c.digits-len.result.now + 3) / 2) c.written.result))
-    ∙ ap (drop (11 - (length c.digits-len.result.now + 3) / 2)) c.written.ensures.exact ∙ drop-row-used pan c.args.psn _ (omega (arith, c.written.ensures.within)) unused)))
+    take_all (11 - (11 - (length c.digits-len.result.now + 3) / 2)) (drop (11 - (length c.digits-len.result.now + 3) / 2) c.written.result) (omega
+    (arith, length-drop (11 - (length c.digits-len.result.now + 3) / 2) c.written.result))
+    ∙ ap (drop (11 - (length c.digits-len.result.now + 3) / 2)) c.written.ensures.exact
+    ∙ drop-row-used pan c.args.psn _ (omega (arith, c.written.ensures.within)) unused)))
     ∙ sym (option_b-long c.args.imk.now.0 pan c.args.psn long)

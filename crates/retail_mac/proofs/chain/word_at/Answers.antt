@@ -1,6 +1,6 @@
 use Rattle.std.proofs.Common.{arith}
 use Rattle.retail_mac.proofs.Blocks.{word_at_is}
-use Rattle.retail_mac.proofs.word_at.Goals as goal
+use Rattle.retail_mac.proofs.chain.word_at.Goals as goal
 
 pub returns : goal.returns
 returns c =

@@ -2,11 +2,11 @@ use Rattle.std.proofs.Common.{◌≡◌, length, ap, ◌∙◌, rules}
 use Rattle.des_block.specs.Cipher.{tdes_encipher}
 use Rattle.arpc_methods.specs.Arpc.{method1}
 use Rattle.arpc_methods.proofs.Blocks.{first-two-xored}
-use Rattle.arpc_methods.proofs.method1.Goals as goal
+use Rattle.arpc_methods.proofs.method1_under.Goals as goal
 
 pub returns : goal.returns
 unfolding method1
-returns c =
+returns c = λ key keyed.
     let two : length c.args.arc ≡ 2 = search rules in
-    c.encipher.ensures.enciphered c.args.sk.now.0 c.new.ensures
-    ∙ ap (tdes_encipher c.args.sk.now.0) (first-two-xored c.args.ac.now c.args.arc c.told-ac two)
+    c.encipher.ensures.enciphered key keyed
+    ∙ ap (tdes_encipher key) (first-two-xored c.args.ac.now c.args.arc c.told-ac two)

@@ -1,0 +1,15 @@
+use Rattle.std.proofs.Common.{◌++◌, sym, ap, ◌∙◌}
+use Rattle.arpc_methods.specs.Arpc.{value91}
+use Rattle.arpc_methods.proofs.value91_under.Goals as goal
+
+pub returns-in-One : goal.returns-in-One
+unfolding value91
+returns-in-One c = λ key keyed.
+    c.joined.ensures ∙ ap (λ arpc. arpc ++ c.args.arc) (c.method1_under.ensures key keyed)
+    ∙ sym (ap (λ method. value91 method key c.args.ac.now c.args.arc c.args.csu) c.in-One.is)
+
+pub returns-in-Two : goal.returns-in-Two
+unfolding value91
+returns-in-Two c = λ key keyed.
+    c.joined-in-Two.ensures ∙ ap (λ arpc. arpc ++ c.args.csu) (c.method2_under.ensures key keyed)
+    ∙ sym (ap (λ method. value91 method key c.args.ac.now c.args.arc c.args.csu) c.in-Two.is)

@@ -1,0 +1,7 @@
+use Rattle.retail_mac.specs.Mac.{blocks}
+use Rattle.retail_mac.proofs.Blocks.{zero_word}
+use Rattle.retail_mac.proofs.run.MacRun.new.Goals as goal
+
+pub returns : goal.returns
+unfolding blocks
+returns c = record { keyed = c.new.ensures; chain = zero_word; part = c.new-2.ensures }
