@@ -8,31 +8,32 @@ use Rattle.issuer_base.specs.OutsideFaults.{Rose, CountsFaults}
 use Rattle.issuer_base.specs.Sink.{AppendsFront}
 use Rattle.issuer_base.specs.declared.outside.DeskFault.{DeskFault}
 use Rattle.issuer_base.specs.declared.outside.DeskFault.TheVariants.{Fault, NoMemory as NoRoom}
-use Rattle.issuer_base.specs.Desk.{GivesHeld, is_fault}
-use Rattle.issuer_base.proofs.ManyCalls.{AppendsFront-after, Rose-from_none, Rose-since}
+use Rattle.issuer_base.specs.Desk.{is_fault}
+use Rattle.issuer_base.proofs.ManyCalls.{AppendsFront-after, Rose-from_none, Rose-since, Tells-from_left}
 use Rattle.answer_text.specs.StopText.{stop_text}
 use Rattle.answer_text.specs.declared.stop_line.Stop.{Stop}
 use Rattle.answer_text.specs.declared.stop_line.Stop.TheVariants.{Usage, Config, ReadFault, NoMemory, TooLong}
-use Rattle.row_core.specs.IssuerSetup.{Setup}
+use Rattle.issuer_setup.specs.IssuerSetup.{Setup}
 use Rattle.issuer_top.specs.declared.ending.Ending.{Ending}
 use Rattle.issuer_top.specs.declared.ending.Ending.TheVariants.{Served, WriteFault}
-use Rattle.issuer_top.specs.Content.{Tells}
+use Rattle.issuer_base.specs.Tells.{Tells}
 use Rattle.issuer_top.specs.Seen.{Seen, SeenInput}
 use Rattle.issuer_top.specs.Answered.{AllAnswered, WholeAnswered, FrontAnswered, PassedAnswered}
 use Rattle.issuer_top.specs.Configuration.{Says, GivesNoIssuer, is_read_stop}
-use Rattle.issuer_top.specs.Opening.{stop_of}
+use Rattle.issuer_top.specs.Opening.{GivesInput, stop_of}
 use Rattle.issuer_top.specs.Command.{IsServe, IsNoCommand}
 use Rattle.issuer_top.specs.Serving.{ServesLines}
 use Rattle.issuer_top.specs.Stopping.{StopsBy, is_broken}
 use Rattle.issuer_top.specs.Endings.{HasOpened, IsSetUp, AnswersLines, Stops, EndsBy}
 
--- what the desk tells of a name is what the input under it had
-pub Holds-from_left : (told : Option (Option (List ℕ))) (left : Option (List ℕ)) (content : List ℕ)
-    → GivesHeld told left → Tells left content → Tells told (Some content)
-Holds-from_left None left content given left_is = tt
-Holds-from_left (Some None) left content given left_is = absurd given
-Holds-from_left (Some (Some bytes)) None content given left_is = absurd (cc)
-Holds-from_left (Some (Some bytes)) (Some other) content given left_is = sym given ∙ ap Some left_is
+-- an input that a desk gave is one that stands there
+pub gives_input : (told : Option (Option (List ℕ))) (left : Option (List ℕ)) → Tells told left → (told ≡ Some None → false ≡ true) → GivesInput told left
+gives_input told left tells absent = record { tells = tells; stands = λ none. (let both : false ≡ true = absent none in cc) }
+
+-- what an input had is what the desk tells of its name
+told-given : (told : Option (Option (List ℕ))) (left : Option (List ℕ)) (content : List ℕ) → GivesInput told left → Tells left content
+    → Tells told (Some content)
+told-given told left content given had = Tells-from_left told left content given.stands given.tells had
 
 -- ---- the last line
 
@@ -73,7 +74,7 @@ module _ (seen : Seen) where
 
 module _ (seen : Seen) (name : List ℕ) (issuer : Setup) (input : SeenInput) (left : Option (List ℕ))
     (opened : HasOpened seen true true) (input_is : seen.requests ≡ Some input) (set_up : IsSetUp seen name issuer)
-    (given : GivesHeld (seen.desk.tells name) left) where
+    (given : GivesInput (seen.desk.tells name) left) where
   -- what was served are the lines of the file that the desk holds
   answers-served : (Answered : Setup → List ℕ → List ℕ → List ℕ → Type 0) (Written : List ℕ → Type 0)
       → (served : ServesLines (Answered issuer) Written left input.left) → AnswersLines Answered seen served.text
@@ -86,7 +87,7 @@ module _ (seen : Seen) (name : List ℕ) (issuer : Setup) (input : SeenInput) (l
     opened = opened;
     input_is = input_is;
     set_up = set_up;
-    held = Holds-from_left (seen.desk.tells name) left served.file given served.content;
+    held = told-given (seen.desk.tells name) left served.file given served.content;
     was_read = served.was_read;
     answered = served.answered;
   }
@@ -199,7 +200,7 @@ module _ (seen : Seen) (config requests : List ℕ) (ending : Ending) (serve : I
 
   -- the configuration gave no issuer
   pub ends_no_issuer : (T : Type 0) (first : ℕ) (input : SeenInput) (left : Option (List ℕ)) (stop : Stop)
-      → HasOpened seen true false → seen.config ≡ Some input → GivesHeld (seen.desk.tells config) left → GivesNoIssuer left stop
+      → HasOpened seen true false → seen.config ≡ Some input → GivesInput (seen.desk.tells config) left → GivesNoIssuer left stop
       → first ≡ 0 → CountsFaults first input.faults (is_read_stop {T = T} (Err stop))
       → Stopping seen stop ending seen.sink.held_before seen.sink.faults_before → EndsBy seen ending
   ends_no_issuer T first input left (Config part index) opened input_is given none fresh count stopping =
@@ -211,7 +212,7 @@ module _ (seen : Seen) (config requests : List ℕ) (ending : Ending) (serve : I
         fault = none.fault;
         serve = serve;
         opened = opened;
-        held = Holds-from_left (seen.desk.tells config) left none.content given none.held;
+        held = told-given (seen.desk.tells config) left none.content given none.held;
         broken = none.broken;
         last = ap stop_text none.stop_is;
       })
@@ -234,11 +235,11 @@ module _ (seen : Seen) (config requests : List ℕ) (ending : Ending) (serve : I
 
 -- the words and the configuration are as they should be
 pub IsSetUp-from_said : (seen : Seen) (config requests : List ℕ) (left : Option (List ℕ)) (issuer : Setup)
-    → IsServe seen.words config requests → GivesHeld (seen.desk.tells config) left → Says left issuer → IsSetUp seen requests issuer
+    → IsServe seen.words config requests → GivesInput (seen.desk.tells config) left → Says left issuer → IsSetUp seen requests issuer
 IsSetUp-from_said seen config requests left issuer serve given said = record {
   config = config;
   content = said.content;
   serve = serve;
-  held = Holds-from_left (seen.desk.tells config) left said.content given said.held;
+  held = told-given (seen.desk.tells config) left said.content given said.held;
   says = said.says;
 }

@@ -7,7 +7,7 @@ use Rattle.std.proofs.KnownBytes.{Appends-nil, Appends-trans, Consumes-nil, Cons
 use Rattle.issuer_base.specs.declared.answer.Answer.{Answer}
 use Rattle.issuer_base.specs.declared.entry.Entry.{Entry}
 use Rattle.issuer_base.specs.Sink.{AppendsFront}
-use Rattle.issuer_base.proofs.ManyCalls.{AppendsFront-after}
+use Rattle.issuer_base.proofs.ManyCalls.{AppendsFront-after, Tells-whole}
 use Rattle.line_reader.specs.Lines.{lines, ended, BeginsWithLines}
 use Rattle.line_reader.specs.Reading.{Reading, HasGivenLines, IsWithinLimits, StaysWithinLimits, unread, kept}
 use Rattle.line_reader.specs.NextLine.{GivesLine, GivesRest, ReachesEnd, StopsAtFault, StopsAtLimit}
@@ -17,13 +17,13 @@ use Rattle.line_reader.proofs.WholeLines.{lines-rest_given, lines-end_reached, P
 use Rattle.card_history.specs.Turns.{Run, Turn, no_records}
 use Rattle.card_history.proofs.Runs.{run_more}
 use Rattle.card_history.proofs.ConsistentRuns.{run-consistent}
-use Rattle.row_core.specs.IssuerSetup.{Setup}
+use Rattle.issuer_setup.specs.IssuerSetup.{Setup}
 use Rattle.answer_text.specs.AnswerText.{printed}
 use Rattle.memory_host.specs.Holding.{Holding, StandsFor}
 use Rattle.memory_host.specs.Reading.{reading}
 use Rattle.memory_host.specs.Answering.{rules_of}
 use Rattle.memory_host.proofs.KeptLines.{reading-kept}
-use Rattle.issuer_top.specs.Content.{Tells}
+use Rattle.issuer_base.specs.Tells.{Tells}
 use Rattle.issuer_top.specs.Answered.{AreAnswered, WasRead, AllAnswered, WholeAnswered, FrontAnswered, PassedAnswered}
 use Rattle.issuer_top.specs.Serving.{HasServed, ServesLines}
 
@@ -40,12 +40,6 @@ front-read None None read consumed = record { rest = []; content = tt; left = tt
 front-read None (Some rest) read consumed = record { rest = rest; content = tt; left = refl }
 front-read (Some file) None read consumed = absurd consumed
 front-read (Some file) (Some rest) read consumed = record { rest = rest; content = consumed; left = refl }
-
--- what was read of an input to its end is all that it had
-pub whole-read : (was now : Option (List ℕ)) (read : List ℕ) → Consumes was now read → IsAtEnd now → Tells was read
-whole-read None now read consumed end = tt
-whole-read (Some file) None read consumed end = absurd consumed
-whole-read (Some file) (Some rest) read consumed end = consumed ∙ ap (λ xs. read ++ xs) end ∙ append-nil read
 
 -- an input at its end has nothing left
 none-left : (now : Option (List ℕ)) → IsAtEnd now → Tells now []
@@ -139,7 +133,7 @@ module _ (issuer : Setup) (was mid now first held : Option (List ℕ)) (host : H
         file = file;
         read = file;
         text = flat_map printed so_far.answers;
-        content = whole-read was now file (consumed_with ends.given ends.consumed) ends.at_end;
+        content = Tells-whole was now file (consumed_with ends.given ends.consumed) ends.at_end;
         was_read = WasRead-whole now file ends.at_end;
         answered = record {
           to_the_end = refl;
@@ -302,7 +296,7 @@ module _ (issuer : Setup) (was mid now first held next : Option (List ℕ)) (hos
 
     content_whole : Tells was whole_file
     content_whole =
-        whole-read was now whole_file (Consumes-trans was mid now so_far.read gives.given so_far.consumed gives.consumed) gives.at_end
+        Tells-whole was now whole_file (Consumes-trans was mid now so_far.read gives.given so_far.consumed gives.consumed) gives.at_end
 
     within_limits : IsWithinLimits (length (lines whole_file)) (length whole_file)
     within_limits =

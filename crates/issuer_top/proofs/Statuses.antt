@@ -4,19 +4,20 @@ use Rattle.std.proofs.Common.{refl, sym, subst, ap, ◌∙◌, arith}
 use Rattle.std.proofs.lemmas.List.{length-append, take-append-le}
 use Rattle.std.specs.List.{flat_map}
 use Rattle.std.specs.Prelude.{⊤, IsSomeAnd, ◌<◌}
+use Rattle.issuer_base.specs.Tells.{Tells}
+use Rattle.line_reader.specs.declared.limits.TheConstants.{MAX_BYTES}
 use Rattle.line_reader.specs.Lines.{lines, ended, IsUnbroken}
 use Rattle.line_reader.specs.Reading.{IsWithinLimits, PassesLimit}
 use Rattle.line_reader.proofs.LineLaws.{BeginsWithLines-given}
 use Rattle.line_reader.proofs.WholeLines.{PassesLimit-over}
-use Rattle.row_core.specs.IssuerSetup.{Setup}
+use Rattle.issuer_setup.specs.IssuerSetup.{Setup}
 use Rattle.config_read.specs.declared.fault.ConfigFault.{ConfigFault}
 use Rattle.config_read.specs.Configuration.{configured}
 use Rattle.answer_text.specs.declared.stop_line.Stop.TheVariants.{Usage, Config, ReadFault, NoMemory, TooLong}
 use Rattle.issuer_top.specs.declared.ending.Ending.{Ending}
 use Rattle.issuer_top.specs.declared.ending.Ending.TheVariants.{Served, Stopped, WriteFault}
 use Rattle.issuer_top.specs.Command.{IsServe}
-use Rattle.issuer_top.specs.Content.{Told, Tells, Holds}
-use Rattle.issuer_top.specs.Seen.{Seen, SeenInput}
+use Rattle.issuer_top.specs.Seen.{Told, Seen, SeenInput}
 use Rattle.issuer_top.specs.Answered.{PassedAnswered, WasRead}
 use Rattle.issuer_top.specs.Status.{status_of, IsStatus}
 use Rattle.issuer_top.specs.Endings.{IsServed, IsUsage, IsConfig, IsReadFault, IsNoMemory, IsTooLong, Writes, IsWriteFault, EndsBy, IsInOrder}
@@ -66,7 +67,8 @@ same_requests words config requests other others first second =
     cc
 
 -- what stands under a name that the desk tells of is what it tells
-same_content : (desk : Told) (name other content told : List ℕ) → other ≡ name → desk name ≡ Some (Some told) → Holds desk other content → content ≡ told
+same_content : (desk : Told) (name other content told : List ℕ) → other ≡ name → desk name ≡ Some (Some told) → Tells (desk other) (Some content)
+    → content ≡ told
 same_content desk name other content told same tells holds =
     let at_name : Tells (desk name) (Some content) = subst (λ (n : List ℕ). Tells (desk n) (Some content)) same holds in
     let e : Some told ≡ Some content = subst (λ (t : Option (Option (List ℕ))). Tells t (Some content)) tells at_name in
@@ -88,8 +90,8 @@ passes-more lines_before bytes ahead rest passes =
     ⊎_elim
     (λ begun. inl (begun.0, λ none. begun.1 (front-nil ahead rest none)))
     (λ long.
-    let within : 2147483648 - bytes ≤ length ahead = omega (arith, long.1) in
-    inr (subst IsUnbroken (sym (take-append-le (2147483648 - bytes) ahead rest within)) long.0, omega (arith, long.1, length-append ahead rest)))
+    let within : MAX_BYTES - bytes ≤ length ahead = omega (arith, long.1) in
+    inr (subst IsUnbroken (sym (take-append-le (MAX_BYTES - bytes) ahead rest within)) long.0, omega (arith, long.1, length-append ahead rest)))
     passes
 
 -- a file within the limits goes past none

@@ -7,10 +7,10 @@ use Rattle.line_reader.specs.Lines.{lines, ended, BeginsWithLines, IsLinesAndRes
 use Rattle.line_reader.specs.Reading.{IsWithinLimits, StaysWithinLimits, PassesLimit}
 use Rattle.card_history.specs.Turns.{Run, no_records}
 use Rattle.card_history.specs.OneReply.{IsConsistent}
-use Rattle.row_core.specs.IssuerSetup.{Setup}
+use Rattle.issuer_setup.specs.IssuerSetup.{Setup}
 use Rattle.memory_host.specs.Answering.{rules_of}
 use Rattle.answer_text.specs.AnswerText.{printed}
-use Rattle.issuer_top.specs.Content.{Tells}
+use Rattle.issuer_base.specs.Tells.{Tells}
 
 -- the text of the answers to these lines, one turn after another from one empty history per shard: so each shard's history is a
 -- legal one, no counter of a card was decided twice, and each request has one reply

@@ -3,12 +3,12 @@ use Rattle.std.specs.Prelude.{◌≡◌, ℕ, ◌+◌, ◌≤◌, Bool, true, fa
 use Rattle.std.specs.Io.KnownBytes.{Consumes, IsAtEnd}
 use Rattle.answer_text.specs.declared.stop_line.Stop.{Stop}
 use Rattle.answer_text.specs.declared.stop_line.Stop.TheVariants.{Usage, Config, ReadFault, NoMemory as Memory, TooLong}
-use Rattle.row_core.specs.IssuerSetup.{Setup}
+use Rattle.issuer_setup.specs.IssuerSetup.{Setup}
 use Rattle.config_read.specs.declared.fault.ConfigFault.{ConfigFault}
 use Rattle.config_read.specs.declared.fault.ConfigFault.TheVariants.{NotJson, At, NoMemory as NoRoom}
 use Rattle.config_read.specs.Configuration.{configured}
-use Rattle.issuer_top.specs.Content.{Tells}
-use Rattle.issuer_top.specs.declared.config.TheConstants.{MAX_CONFIG_BYTES}
+use Rattle.issuer_base.specs.Tells.{Tells}
+use Rattle.config_read.specs.declared.config.TheConstants.{MAX_CONFIG_BYTES}
 use Rattle.issuer_top.specs.declared.config.TextFault.{TextFault}
 use Rattle.issuer_top.specs.declared.config.TextFault.TheVariants.{Read, NoMemory}
 

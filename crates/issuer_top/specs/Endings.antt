@@ -3,16 +3,16 @@ use Rattle.std.specs.Prelude.{◌≡◌, ℕ, ◌<◌, ◌⊎◌, Bool, true, fa
 use Rattle.std.specs.Io.KnownBytes.{Appends}
 use Rattle.issuer_base.specs.OutsideFaults.{Rose}
 use Rattle.issuer_base.specs.Sink.{AppendsFront}
+use Rattle.issuer_base.specs.Tells.{Tells}
 use Rattle.line_reader.specs.Lines.{lines}
 use Rattle.line_reader.specs.Reading.{IsWithinLimits}
-use Rattle.row_core.specs.IssuerSetup.{Setup}
+use Rattle.issuer_setup.specs.IssuerSetup.{Setup}
 use Rattle.config_read.specs.declared.fault.ConfigFault.{ConfigFault}
 use Rattle.config_read.specs.Configuration.{configured}
 use Rattle.answer_text.specs.StopText.{stop_text}
 use Rattle.answer_text.specs.declared.stop_line.Stop.{Stop}
 use Rattle.answer_text.specs.declared.stop_line.Stop.TheVariants.{Usage, Config, ReadFault, NoMemory, TooLong}
 use Rattle.issuer_top.specs.Command.{IsServe, IsNoCommand}
-use Rattle.issuer_top.specs.Content.{Holds}
 use Rattle.issuer_top.specs.Seen.{Seen, SeenInput}
 use Rattle.issuer_top.specs.Configuration.{config_stop}
 use Rattle.issuer_top.specs.Answered.{WasRead, AllAnswered, WholeAnswered, PassedAnswered, FrontAnswered}
@@ -39,7 +39,7 @@ pub record IsSetUp (seen : Seen) (requests : List ℕ) (issuer : Setup) : Type 0
   pub config : List ℕ
   pub content : List ℕ
   pub serve : IsServe seen.words config requests
-  pub held : Holds seen.desk.tells config content
+  pub held : Tells (seen.desk.tells config) (Some content)
   pub says : configured content ≡ Ok issuer
 
 -- lines of the request file were read and answered, and this is the text of their answers; `Answered` says which lines
@@ -52,7 +52,7 @@ pub record AnswersLines (Answered : Setup → List ℕ → List ℕ → List ℕ
   pub opened : HasOpened seen true true
   pub input_is : seen.requests ≡ Some input
   pub set_up : IsSetUp seen requests issuer
-  pub held : Holds seen.desk.tells requests file
+  pub held : Tells (seen.desk.tells requests) (Some file)
   pub was_read : WasRead file read input.left
   pub answered : Answered issuer file read text
 
@@ -76,7 +76,7 @@ pub record IsConfig (seen : Seen) (text : List ℕ) : Type 0 where
   pub fault : ConfigFault
   pub serve : IsServe seen.words config requests
   pub opened : HasOpened seen true false
-  pub held : Holds seen.desk.tells config content
+  pub held : Tells (seen.desk.tells config) (Some content)
   pub broken : configured content ≡ Err fault
   pub last : text ≡ stop_text (config_stop fault)
 

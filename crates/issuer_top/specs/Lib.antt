@@ -1,6 +1,5 @@
 -- What a run of the program does, from its words to its last line.
 pub mod Command
-pub mod Content
 pub mod Seen
 pub mod Configuration
 pub mod Answered

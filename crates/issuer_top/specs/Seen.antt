@@ -5,7 +5,10 @@ use Rattle.issuer_base.specs.declared.outside.Desk.{Ghosts as Desk}
 use Rattle.issuer_base.specs.declared.outside.Source.{Ghosts as Source}
 use Rattle.issuer_base.specs.declared.outside.Sink.{Ghosts as Sink}
 use Rattle.issuer_top.specs.declared.top_call.Ended.{Ended}
-use Rattle.issuer_top.specs.Content.{Told}
+
+-- what a desk tells of its names: nothing, or the bytes that stand there, if there is an input
+abbrev pub Told : Type 0
+Told = List ℕ → Option (Option (List ℕ))
 
 -- the desk: what it tells of its names, its count of faults before and after the run, and the name in its last fault
 pub record SeenDesk : Type 0 where

@@ -8,7 +8,7 @@ use Rattle.issuer_base.specs.declared.faults.WriteFault.{WriteFault}
 use Rattle.issuer_base.specs.Sink.{AppendsFront, WritesAll}
 use Rattle.line_reader.specs.Reading.{Reading, HasGivenLines, unread}
 use Rattle.card_history.specs.Turns.{Run, Turn, no_records}
-use Rattle.row_core.specs.IssuerSetup.{Setup}
+use Rattle.issuer_setup.specs.IssuerSetup.{Setup}
 use Rattle.answer_text.specs.AnswerText.{printed}
 use Rattle.memory_host.specs.Holding.{Holding, StandsFor}
 use Rattle.memory_host.specs.Reading.{reading}
@@ -16,7 +16,7 @@ use Rattle.memory_host.specs.Answering.{rules_of}
 use Rattle.issuer_top.specs.declared.serve.Server.{Server}
 use Rattle.issuer_top.specs.declared.serve.Served.{Served}
 use Rattle.issuer_top.specs.declared.serve.Served.TheVariants.{All, ReadFault, WriteFault as SinkFault, TooLong}
-use Rattle.issuer_top.specs.Content.{Tells}
+use Rattle.issuer_base.specs.Tells.{Tells}
 use Rattle.issuer_top.specs.Answered.{WasRead, AllAnswered, WholeAnswered, PassedAnswered, FrontAnswered}
 
 -- a server of this issuer that has read and answered nothing

@@ -4,13 +4,10 @@ ghost use Rattle.issuer_base.specs.OutsideFaults.{CountsFaults};
 ghost use Rattle.issuer_top.specs.Configuration.{IsRead, is_read_fault, Says, GivesNoIssuer, is_read_cause, is_read_stop, config_stop};
 
 use answer_text::Stop;
-use config_read::{ConfigFault, read_config};
+use config_read::{ConfigFault, MAX_CONFIG_BYTES, read_config};
 use issuer_base::{ReadFault, Source};
-use row_core::Issuer;
+use issuer_setup::Issuer;
 use std::alloc::Global;
-
-/// How many bytes a configuration may have.
-pub(crate) const MAX_CONFIG_BYTES: usize = 4_194_304;
 
 const CHUNK_BYTES: usize = 4_096;
 

@@ -7,9 +7,9 @@ ghost use Rattle.line_reader.specs.Reading.{unread};
 use answer_text::write_answer;
 use arrayvec::ArrayVec;
 use issuer_base::{NoMemory, Sink, Source, WriteFault, write_all};
+use issuer_setup::Issuer;
 use line_reader::{LineReader, NextLine};
 use memory_host::MemoryHost;
-use row_core::Issuer;
 use std::alloc::Global;
 
 /// A host, and what it takes to read lines for it and to write its answers.

@@ -2,9 +2,8 @@
 ghost use Rattle.std.specs.Prelude.{◌≡◌, ◌⊎◌, ℕ, List, Some, IfOk, IfErr};
 ghost use Rattle.std.specs.Option.{option_map};
 ghost use Rattle.issuer_base.specs.OutsideFaults.{CountsFaults};
-ghost use Rattle.issuer_base.specs.Desk.{GivesHeld};
 ghost use Rattle.issuer_top.specs.Configuration.{Says, GivesNoIssuer, is_read_stop};
-ghost use Rattle.issuer_top.specs.Opening.{stop_of};
+ghost use Rattle.issuer_top.specs.Opening.{GivesInput, stop_of};
 ghost use Rattle.issuer_top.specs.Serving.{IsNew};
 ghost use Rattle.issuer_top.specs.Status.{IsStatus};
 ghost use Rattle.issuer_top.specs.Seen.{SeenDesk, SeenInput, seen_of, seen_by, desk_seen, input_seen, sink_seen};
@@ -171,7 +170,7 @@ fn answer_requests<S: Source, W: Sink>(server: &mut Server, requests: &mut S, ou
     requires fresh { S.faults requests.old ≡ 0 }
     ensures { (words : List (List ℕ)) (desk : SeenDesk) (config : SeenInput) (name : List ℕ)
         → let seen = seen_of words desk (Some config) (Some (input_seen S.Source requests.new)) (sink_seen W.Sink out.old out.new) in
-        IsSetUp seen name server.old.host.issuer → GivesHeld (desk.tells name) (S.left requests.old)
+        IsSetUp seen name server.old.host.issuer → GivesInput (desk.tells name) (S.left requests.old)
         → desk.faults_after ≡ desk.faults_before → EndsBy seen result }
 {
     match server.serve(requests, out) {

@@ -1,7 +1,7 @@
 -- Reading a text, a piece at a time.
 use Rattle.std.proofs.Common.{◌≡◌, ◌+◌, ◌-◌, ◌≤◌, length}
 use Rattle.std.specs.Io.KnownBytes.{Consumes}
-use Rattle.issuer_top.specs.declared.config.TheConstants.{MAX_CONFIG_BYTES}
+use Rattle.config_read.specs.declared.config.TheConstants.{MAX_CONFIG_BYTES}
 use Rattle.issuer_top.proofs.config.read_text.Given as goal
 
 abbrev pub invariant-loop-chunk : goal.invariant-loop-chunk
