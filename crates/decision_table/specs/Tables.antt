@@ -4,7 +4,7 @@ use Rattle.std.specs.List.{list_all}
 use Rattle.decision_table.specs.declared.row.TableRow.{TableRow}
 use Rattle.decision_table.specs.declared.row.TheConstants.{MAX_AMOUNT}
 
--- bit 8 of byte 2 of the row's card status update, "issuer approves online transaction", is its approval: EMV 4.3 Book 3, Annex C
+-- bit 8 of byte 2 of the row's card status update is set exactly where the row approves; that layout is this project's profile
 unfoldable pub tells_approval : TableRow → Bool
 tells_approval row =
     if row.approve then bit_and (slice_index row.csu 1) 0x80 == 0x80 else not (bit_and (slice_index row.csu 1) 0x80 == 0x80)

@@ -39,7 +39,8 @@ pub struct TableRow {
     /// Whether the reply approves.
     pub approve: bool,
 
-    /// The card status update of the reply: EMV 4.3 Book 3, Annex C.
+    /// The card status update of the reply. Its layout is this project's profile: byte 2 bit 8 is set exactly where
+    /// the reply approves.
     pub csu: [u8; 4],
 }
 
