@@ -167,8 +167,7 @@ module _ (issuer : Setup) (was mid now first held : Option (List ℕ)) (host : H
           whole = so_far.whole;
           rest = rest;
           parted = IsLinesAndRest-fault mid now reader new so_far.read so_far.whole so_far.given stops;
-          within = within_so_far;
-          rest_within = subst (λ (n : ℕ). StaysWithinLimits n (length (flat_map ended so_far.whole)) rest) so_far.given.lines_counted
+          within = subst (λ (n : ℕ). StaysWithinLimits n (length (flat_map ended so_far.whole)) rest) so_far.given.lines_counted
               (subst (λ (n : ℕ). StaysWithinLimits reader.lines n rest) so_far.given.bytes_counted stops.within);
           answered = are_answered issuer so_far.whole so_far.whole so_far.answers so_far.histories refl so_far.run;
         };

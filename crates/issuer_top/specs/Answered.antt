@@ -38,8 +38,7 @@ pub record WholeAnswered (issuer : Setup) (file read text : List ℕ) : Type 0 w
   pub whole : List (List ℕ)
   pub rest : List ℕ
   pub parted : IsLinesAndRest read whole rest
-  pub within : IsWithinLimits (length whole) (length (flat_map ended whole))
-  pub rest_within : StaysWithinLimits (length whole) (length (flat_map ended whole)) rest
+  pub within : StaysWithinLimits (length whole) (length (flat_map ended whole)) rest
   pub answered : AreAnswered issuer whole text
 
 -- a byte past a limit was read, in the line of this number, and the lines before it were answered

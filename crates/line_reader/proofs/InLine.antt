@@ -37,10 +37,11 @@ IsRoom-from_limits lines bytes room within is =
 pub StaysWithinLimits-from_room : (lines bytes room : ℕ) (more : List ℕ) → IsRoom lines bytes room → length more ≤ room → StaysWithinLimits lines bytes more
 StaysWithinLimits-from_room lines bytes room more left fits =
     ⊎_elim
-    (λ (less : lines < 1048576). record { line_fits = λ _. less; bytes_fit = omega (arith, left.some less) })
+    (λ (less : lines < 1048576). record { lines_fit = left.within.lines_within; line_fits = λ _. less; bytes_fit = omega (arith, left.some less) })
     (λ (full : 1048576 ≤ lines).
     let none : room ≡ 0 = left.none (omega (arith, left.within.lines_within)) in
     record {
+      lines_fit = left.within.lines_within;
       line_fits = λ some. absurd (some (nil_from_length more (omega arith)));
       bytes_fit = omega (arith, left.within.bytes_within);
     })

@@ -27,8 +27,9 @@ pub record IsWithinLimits (lines bytes : ℕ) : Type 0 where
   pub lines_within : lines ≤ MAX_LINES
   pub bytes_within : bytes ≤ MAX_BYTES
 
--- after so many lines of so many bytes these bytes, in which no newline stands, go past no limit
+-- so many lines of so many bytes are within the limits, and so are they with these bytes, in which no newline stands
 pub record StaysWithinLimits (lines bytes : ℕ) (more : List ℕ) : Type 0 where
+  pub lines_fit : lines ≤ MAX_LINES
   pub line_fits : more ≢ [] → lines < MAX_LINES
   pub bytes_fit : bytes + length more ≤ MAX_BYTES
 
