@@ -103,10 +103,10 @@ printed-IsLine answer = line_of-IsLine (answer_words answer) (answer_words-inner
 
 stop_words-inner : (stop : Stop) → list_all has_no_newline (stop_words stop) ≡ true
 unfolding stop_words
-stop_words-inner Usage = refl
+stop_words-inner Usage = simp decimal-inner
 stop_words-inner (Config part index) = simp decimal-inner
-stop_words-inner ReadFault = refl
-stop_words-inner OutOfMemory = refl
+stop_words-inner ReadFault = simp decimal-inner
+stop_words-inner OutOfMemory = simp decimal-inner
 stop_words-inner (TooLong line) = simp decimal-inner
 
 -- the text of a stop is one line

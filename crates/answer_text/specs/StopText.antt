@@ -5,13 +5,25 @@ use Rattle.answer_text.specs.AnswerText.{line_of}
 use Rattle.answer_text.specs.declared.stop_line.Stop.{Stop}
 use Rattle.answer_text.specs.declared.stop_line.Stop.TheVariants.{Usage, Config, ReadFault, NoMemory, TooLong}
 
+-- the status of a run that stops so
+abbrev pub status_of_stop : Stop → ℕ
+status_of_stop Usage = 1
+status_of_stop (Config part index) = 2
+status_of_stop ReadFault = 3
+status_of_stop NoMemory = 7
+status_of_stop (TooLong line) = 8
+
+-- what a stop tells more: the place in the configuration, or the line
+abbrev pub place_words : Stop → List (List ℕ)
+place_words Usage = []
+place_words (Config part index) = decimal part ∷ decimal index ∷ []
+place_words ReadFault = []
+place_words NoMemory = []
+place_words (TooLong line) = decimal line ∷ []
+
 -- a stop: the status of the run, and what it tells more
 unfoldable pub stop_words : Stop → List (List ℕ)
-stop_words Usage = codes "1" ∷ []
-stop_words (Config part index) = codes "2" ∷ decimal part ∷ decimal index ∷ []
-stop_words ReadFault = codes "3" ∷ []
-stop_words NoMemory = codes "7" ∷ []
-stop_words (TooLong line) = codes "8" ∷ decimal line ∷ []
+stop_words stop = decimal (status_of_stop stop) ∷ place_words stop
 
 -- what is printed of a stop
 unfoldable pub stop_text : Stop → List ℕ

@@ -11,7 +11,7 @@ use issuer_base::{Answer, Refusal, Reply};
 
 /// Writes the line of an answer, in place of what `out` held.
 #[tactic(auto, unfolding(crate::specs::AnswerText::printed, crate::specs::AnswerText::answer_words))]
-pub fn write_answer(answer: &Answer, out: &mut ArrayVec<u8, 512>)
+pub fn write_answer(answer: &Answer, out: &mut ArrayVec<u8, LINE_ROOM>)
     ensures text { out.new.items ≡ printed answer.now }
     ensures line { IsLine out.new.items }
 {
@@ -112,7 +112,7 @@ mod tests {
         }
     }
 
-    fn line_of(answer: Answer) -> ArrayVec<u8, 512> {
+    fn line_of(answer: Answer) -> ArrayVec<u8, LINE_ROOM> {
         let mut out = ArrayVec::new();
         out.push(b'x');
         write_answer(&answer, &mut out);

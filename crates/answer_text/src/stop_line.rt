@@ -1,8 +1,9 @@
+//! The last line of a run that stops early.
 ghost use Rattle.std.specs.Prelude.{◌≡◌};
 ghost use Rattle.answer_text.specs.AnswerText.{IsLine};
-ghost use Rattle.answer_text.specs.StopText.{stop_text};
+ghost use Rattle.answer_text.specs.StopText.{stop_text, status_of_stop};
 
-use crate::words::{put, put_number};
+use crate::words::{LINE_ROOM, put, put_number};
 use arrayvec::ArrayVec;
 
 /// Why a run ends before its input does, or never began.
@@ -25,26 +26,37 @@ pub enum Stop {
     TooLong { line: u64 },
 }
 
+impl Stop {
+    /// The status of a run that stops so.
+    pub fn status(&self) -> u8
+        ensures { result ≡ status_of_stop self.now }
+    {
+        match self {
+            Stop::Usage => 1,
+            Stop::Config { .. } => 2,
+            Stop::ReadFault => 3,
+            Stop::NoMemory => 7,
+            Stop::TooLong { .. } => 8,
+        }
+    }
+}
+
 /// Writes the last line of a run that stops, in place of what `out` held.
 #[tactic(auto, unfolding(crate::specs::StopText::stop_text, crate::specs::StopText::stop_words))]
-pub fn write_stop(stop: &Stop, out: &mut ArrayVec<u8, 512>)
+pub fn write_stop(stop: &Stop, out: &mut ArrayVec<u8, LINE_ROOM>)
     ensures text { out.new.items ≡ stop_text stop.now }
     ensures line { IsLine out.new.items }
 {
     out.clear();
+    put(out, b"stop");
+    put_number(out, u64::from(stop.status()));
     match *stop {
-        Stop::Usage => put(out, b"stop 1"),
+        Stop::Usage | Stop::ReadFault | Stop::NoMemory => {}
         Stop::Config { part, index } => {
-            put(out, b"stop 2");
             put_number(out, u64::from(part));
             put_number(out, u64::from(index));
         }
-        Stop::ReadFault => put(out, b"stop 3"),
-        Stop::NoMemory => put(out, b"stop 7"),
-        Stop::TooLong { line } => {
-            put(out, b"stop 8");
-            put_number(out, line);
-        }
+        Stop::TooLong { line } => put_number(out, line),
     }
     out.push(b'\n');
 }

@@ -1,17 +1,8 @@
 -- The status of each ending.
 use Rattle.std.specs.Prelude.{◌≡◌, ℕ}
-use Rattle.answer_text.specs.declared.stop_line.Stop.{Stop}
-use Rattle.answer_text.specs.declared.stop_line.Stop.TheVariants.{Usage, Config, ReadFault, NoMemory, TooLong}
+use Rattle.answer_text.specs.StopText.{status_of_stop}
 use Rattle.issuer_top.specs.declared.ending.Ending.{Ending}
 use Rattle.issuer_top.specs.declared.ending.Ending.TheVariants.{Served, Stopped, WriteFault}
-
--- the status of a run that stops so
-abbrev pub status_of_stop : Stop → ℕ
-status_of_stop Usage = 1
-status_of_stop (Config part index) = 2
-status_of_stop ReadFault = 3
-status_of_stop NoMemory = 7
-status_of_stop (TooLong line) = 8
 
 -- the status of a run that ended so
 abbrev pub status_of : Ending → ℕ

@@ -1,6 +1,6 @@
 //! How a run ends.
 ghost use Rattle.std.specs.Prelude.{◌≡◌};
-ghost use Rattle.issuer_top.specs.Status.{status_of, status_of_stop};
+ghost use Rattle.issuer_top.specs.Status.{status_of};
 
 use answer_text::Stop;
 
@@ -21,20 +21,7 @@ pub(crate) fn status_of(ending: Ending) -> u8
 {
     match ending {
         Ending::Served => 0,
-        Ending::Stopped(stop) => status_of_stop(stop),
+        Ending::Stopped(stop) => stop.status(),
         Ending::WriteFault => 4,
-    }
-}
-
-/// The status of a run that stopped so.
-fn status_of_stop(stop: Stop) -> u8
-    ensures { result ≡ status_of_stop stop }
-{
-    match stop {
-        Stop::Usage => 1,
-        Stop::Config { .. } => 2,
-        Stop::ReadFault => 3,
-        Stop::NoMemory => 7,
-        Stop::TooLong { .. } => 8,
     }
 }

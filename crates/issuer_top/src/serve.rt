@@ -4,7 +4,7 @@ ghost use Rattle.issuer_base.specs.declared.entry.Entry.{Entry};
 ghost use Rattle.issuer_base.specs.OutsideFaults.{CountsFaults};
 ghost use Rattle.line_reader.specs.Reading.{unread};
 
-use answer_text::write_answer;
+use answer_text::{LINE_ROOM, write_answer};
 use arrayvec::ArrayVec;
 use issuer_base::{NoMemory, Sink, Source, WriteFault, write_all};
 use issuer_setup::Issuer;
@@ -17,7 +17,7 @@ use std::alloc::Global;
 pub(crate) struct Server {
     pub(crate) host: MemoryHost,
     pub(crate) reader: LineReader,
-    pub(crate) text: ArrayVec<u8, 512>,
+    pub(crate) text: ArrayVec<u8, LINE_ROOM>,
 }
 
 /// How serving ended.
