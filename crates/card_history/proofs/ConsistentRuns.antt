@@ -10,8 +10,10 @@ use Rattle.issuer_base.specs.declared.answer.Answer.TheVariants.{Fresh, Kept, Qu
 use Rattle.issuer_base.specs.declared.answer.Refusal.{Refusal}
 use Rattle.issuer_base.specs.declared.entry.Entry.{Entry}
 use Rattle.issuer_base.specs.declared.entry.Entry.TheVariants.{Decided}
+use Rattle.card_history.specs.declared.decision.Asked.{Asked}
+use Rattle.card_history.specs.declared.decision.Asked.TheVariants.{Decide, Queue, Status}
 use Rattle.card_history.specs.Records.{card_of}
-use Rattle.card_history.specs.Turns.{Rules, AnswersIn, Turn, Run, no_records}
+use Rattle.card_history.specs.Turns.{Rules, AnswersIn, IsRefused, Turn, Run, no_records}
 use Rattle.card_history.specs.OneReply.{record_at, IsOncePerCounter, AreLegal, IsOfItsRecord, IsAnswered, IsConsistent, reply_in}
 use Rattle.card_history.proofs.ShardTurns.{IsSound, Stays, answers-keep}
 
@@ -74,12 +76,12 @@ module _ (rules : Rules) where
       (same, (sound shard).once place other_place request other reply other_reply is here card counter)
 
   -- what a turn keeps: sound histories, each record, and the answer is of its record
-  record TurnKeeps (before : List (List Entry)) (reading : Result Request Refusal) (answer : Answer) (after : List (List Entry)) : Type 0 where
+  record TurnKeeps (before : List (List Entry)) (reading : Result Asked Refusal) (answer : Answer) (after : List (List Entry)) : Type 0 where
     sound : AreSound after
     stays : (shard : ℕ) → Stays (slice_index_or before shard []) (slice_index_or after shard [])
-    recorded : (request : Request) → reading ≡ Ok request → IsOfItsRecord after request answer
+    recorded : (request : Request) → reading ≡ Ok (Decide request) → IsOfItsRecord after request answer
 
-  answers_in-keep : (before : List (List Entry)) (request : Request) (answer : Answer) (after : List (List Entry)) → (line : List ℕ) × (rules.read line ≡ Ok request) → AreSound before → AnswersIn rules before request answer after → TurnKeeps before (Ok request) answer after
+  answers_in-keep : (before : List (List Entry)) (request : Request) (answer : Answer) (after : List (List Entry)) → (line : List ℕ) × (rules.read line ≡ Ok (Decide request)) → AreSound before → AnswersIn rules before request answer after → TurnKeeps before (Ok (Decide request)) answer after
   unfolding AreSound
   answers_in-keep before request answer after asked sound turn =
       let home = rules.shard_of (card_of request) in
@@ -88,16 +90,22 @@ module _ (rules : Rules) where
       let new : slice_index_or (slice_set before home turn.new) home [] ≡ turn.new = get_or-set_same before home turn.new [] within in
       let kept = answers-keep rules turn.old request answer turn.new asked (subst (IsSound rules home) old (sound home)) turn.answers in
       let stay : Stays (slice_index_or before home []) turn.new = subst (λ (history : List Entry). Stays history turn.new) (sym old) kept.stays in
-      subst (λ (after : List (List Entry)). TurnKeeps before (Ok request) answer after) (sym turn.after_is) (record {
+      subst (λ (after : List (List Entry)). TurnKeeps before (Ok (Decide request)) answer after) (sym turn.after_is) (record {
         sound = each-shard (IsSound rules) before home turn.new within kept.sound sound;
         stays = each-shard (λ shard history. Stays (slice_index_or before shard []) history) before home turn.new within stay (λ shard place entry is. is);
         recorded = λ other is. subst (λ (r : Request). IsOfItsRecord (slice_set before home turn.new) r answer) (let e : request ≡ other = cc in e) (kept.recorded (slice_set before home turn.new) new);
       })
 
-  turn-keeps : (before : List (List Entry)) (line : List ℕ) (reading : Result Request Refusal) (answer : Answer) (after : List (List Entry)) → rules.read line ≡ reading → AreSound before → Turn rules before reading answer after → TurnKeeps before reading answer after
-  turn-keeps before line (Ok request) answer after read sound turn = answers_in-keep before request answer after (line, read) sound turn
-  turn-keeps before line (Err refusal) answer after read sound (answer_is, after_is) =
-      subst (λ (after : List (List Entry)). TurnKeeps before (Err refusal) answer after) (sym after_is) (record { sound = sound; stays = λ shard place entry is. is; recorded = λ request is. absurd (cc) })
+  -- a line that is refused keeps all, since it asks no request
+  refused-keeps : (before : List (List Entry)) (reading : Result Asked Refusal) (refusal : Refusal) (answer : Answer) (after : List (List Entry)) → ((request : Request) → reading ≡ Ok (Decide request) → ⊥) → AreSound before → IsRefused before refusal answer after → TurnKeeps before reading answer after
+  refused-keeps before reading refusal answer after none sound (answer_is, after_is) =
+      subst (λ (after : List (List Entry)). TurnKeeps before reading answer after) (sym after_is) (record { sound = sound; stays = λ shard place entry is. is; recorded = λ request is. absurd (none request is) })
+
+  turn-keeps : (before : List (List Entry)) (line : List ℕ) (reading : Result Asked Refusal) (answer : Answer) (after : List (List Entry)) → rules.read line ≡ reading → AreSound before → Turn rules before reading answer after → TurnKeeps before reading answer after
+  turn-keeps before line (Ok (Decide request)) answer after read sound turn = answers_in-keep before request answer after (line, read) sound turn
+  turn-keeps before line (Ok (Queue pan psn command)) answer after read sound turn = refused-keeps before (Ok (Queue pan psn command)) _ answer after (λ request is. cc) sound turn
+  turn-keeps before line (Ok (Status pan psn status)) answer after read sound turn = refused-keeps before (Ok (Status pan psn status)) _ answer after (λ request is. cc) sound turn
+  turn-keeps before line (Err refusal) answer after read sound turn = refused-keeps before (Err refusal) refusal answer after (λ request is. cc) sound turn
 
   -- what a run keeps
   record RunKeeps (before : List (List Entry)) (lines : List (List ℕ)) (answers : List Answer) (after : List (List Entry)) : Type 0 where

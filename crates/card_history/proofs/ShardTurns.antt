@@ -11,6 +11,7 @@ use Rattle.issuer_base.specs.declared.answer.Answer.TheVariants.{Fresh, Kept, Re
 use Rattle.issuer_base.specs.declared.answer.Refusal.TheVariants.{Below, Taken, NoMemory}
 use Rattle.issuer_base.specs.declared.entry.Entry.{Entry}
 use Rattle.issuer_base.specs.declared.entry.Entry.TheVariants.{Decided}
+use Rattle.card_history.specs.declared.decision.Asked.TheVariants.{Decide}
 use Rattle.card_history.specs.declared.decision.Decision.{Decision}
 use Rattle.card_history.specs.Records.{card_of}
 use Rattle.card_history.specs.Turns.{IsUnused, decided_for, Answers, Rules}
@@ -141,7 +142,7 @@ module _ (rules : Rules) where
   placed histories home history shard place entry here shard_is is =
       ap (λ (shard : ℕ). record_at histories shard place) shard_is ∙ ap (λ (history : List Entry). slice_get history place) here ∙ is
 
-  pub answers-keep : (before : List Entry) (request : Request) (answer : Answer) (after : List Entry) → (line : List ℕ) × (rules.read line ≡ Ok request) → IsSound rules (rules.shard_of (card_of request)) before → Answers (rules.shard_of (card_of request)) rules.reply_to before request answer after → Keeps before request answer after
+  pub answers-keep : (before : List Entry) (request : Request) (answer : Answer) (after : List Entry) → (line : List ℕ) × (rules.read line ≡ Ok (Decide request)) → IsSound rules (rules.shard_of (card_of request)) before → Answers (rules.shard_of (card_of request)) rules.reply_to before request answer after → Keeps before request answer after
   answers-keep before request (Fresh at place reply) after asked sound (unused, at_is, place_is, reply_is, after_is) =
       let last : slice_get (before ++ Decided request reply ∷ []) place ≡ Some (Decided request reply) = ap (slice_get (before ++ Decided request reply ∷ [])) place_is ∙ slice_get-push before (Decided request reply) in
       let next : IsLegalNext rules (rules.shard_of (card_of request)) before request reply = record { line = asked.0; read = asked.1; at_home = refl; unused = unused; by_rules = reply_is } in

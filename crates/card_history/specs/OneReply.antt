@@ -6,6 +6,7 @@ use Rattle.issuer_base.specs.declared.answer.Answer.{Answer}
 use Rattle.issuer_base.specs.declared.answer.Answer.TheVariants.{Fresh, Kept}
 use Rattle.issuer_base.specs.declared.entry.Entry.{Entry}
 use Rattle.issuer_base.specs.declared.entry.Entry.TheVariants.{Decided}
+use Rattle.card_history.specs.declared.decision.Asked.TheVariants.{Decide}
 use Rattle.card_history.specs.Records.{card_of}
 use Rattle.card_history.specs.Turns.{Rules, IsUnused, decided_for}
 
@@ -25,7 +26,7 @@ IsOncePerCounter histories =
 -- shard's, its counter is in the window and unused, and its reply is the one that the host makes after these records
 pub record IsLegalNext (rules : Rules) (shard : ℕ) (before : List Entry) (request : Request) (reply : Reply) : Type 0 where
   pub line : List ℕ
-  pub read : rules.read line ≡ Ok request
+  pub read : rules.read line ≡ Ok (Decide request)
   pub at_home : shard ≡ rules.shard_of (card_of request)
   pub unused : IsUnused (decided_for request before) request
   pub by_rules : reply ≡ rules.reply_to before request
@@ -53,7 +54,7 @@ IsOfItsRecord histories request _ = Unit {0}
 pub record IsAnswered (rules : Rules) (lines : List (List ℕ)) (answers : List Answer) (index : ℕ) (request : Request) (answer : Answer) : Type 0 where
   pub line : List ℕ
   pub line_is : slice_get lines index ≡ Some line
-  pub request_is : rules.read line ≡ Ok request
+  pub request_is : rules.read line ≡ Ok (Decide request)
   pub answer_is : slice_get answers index ≡ Some answer
 
 -- what is sure after a run

@@ -5,9 +5,11 @@ use Rattle.issuer_base.specs.declared.answer.Reply.{Reply}
 use Rattle.issuer_base.specs.declared.answer.Answer.{Answer}
 use Rattle.issuer_base.specs.declared.answer.Answer.TheVariants.{Fresh, Kept, Refused}
 use Rattle.issuer_base.specs.declared.answer.Refusal.{Refusal}
-use Rattle.issuer_base.specs.declared.answer.Refusal.TheVariants.{Below, Taken, NoMemory}
+use Rattle.issuer_base.specs.declared.answer.Refusal.TheVariants.{BadLine, Below, Taken, NoMemory}
 use Rattle.issuer_base.specs.declared.entry.Entry.{Entry}
 use Rattle.issuer_base.specs.declared.entry.Entry.TheVariants.{Decided}
+use Rattle.card_history.specs.declared.decision.Asked.{Asked}
+use Rattle.card_history.specs.declared.decision.Asked.TheVariants.{Decide, Queue, Status}
 use Rattle.card_history.specs.declared.decision.Decision.{Decision}
 use Rattle.card_history.specs.Records.{CardName, decided, card_of, greatest, IsBelow}
 
@@ -52,10 +54,10 @@ Answers shard reply_to before request (Refused NoMemory) after = IsUnused (decid
 -- no other answer is possible
 Answers shard reply_to before request _ after = ⊥
 
--- how a host answers: what a line says to it, the shard of a card, and its reply to a request that it decides after the
--- history of that shard
+-- how a host answers: what a line asks of it, or why it is refused, the shard of a card, and its reply to a request that it
+-- decides after the history of that shard
 pub record Rules : Type 0 where
-  pub read : List ℕ → Result Request Refusal
+  pub read : List ℕ → Result Asked Refusal
   pub shard_of : CardName → ℕ
   pub reply_to : List Entry → Request → Reply
 
@@ -67,10 +69,21 @@ pub record AnswersIn (rules : Rules) (before : List (List Entry)) (request : Req
   pub answers : Answers (rules.shard_of (card_of request)) rules.reply_to old request answer new
   pub after_is : after ≡ slice_set before (rules.shard_of (card_of request)) new
 
--- one turn, on one history per shard: a line that is refused as it is read leaves them; a request is answered
-abbrev pub Turn : Rules → List (List Entry) → Result Request Refusal → Answer → List (List Entry) → Type 0
-Turn rules before (Err refusal) answer after = (answer ≡ Refused refusal) × (after ≡ before)
-Turn rules before (Ok request) answer after = AnswersIn rules before request answer after
+-- a line is refused for this, and the histories stay
+abbrev pub IsRefused : List (List Entry) → Refusal → Answer → List (List Entry) → Type 0
+IsRefused before refusal answer after = (answer ≡ Refused refusal) × (after ≡ before)
+
+-- why a host doesn't take a command or a status, of any card: no form of line that it answers has their first letter
+abbrev pub not_taken : Refusal
+not_taken = BadLine 1
+
+-- one turn, on one history per shard: a line that is refused as it is read leaves them; a request is answered; a command or a
+-- status isn't taken
+abbrev pub Turn : Rules → List (List Entry) → Result Asked Refusal → Answer → List (List Entry) → Type 0
+Turn rules before (Err refusal) answer after = IsRefused before refusal answer after
+Turn rules before (Ok (Decide request)) answer after = AnswersIn rules before request answer after
+Turn rules before (Ok (Queue pan psn command)) answer after = IsRefused before not_taken answer after
+Turn rules before (Ok (Status pan psn status)) answer after = IsRefused before not_taken answer after
 
 -- a run of turns: these answers to these lines, one after another
 abbrev pub Run : Rules → List (List Entry) → List (List ℕ) → List Answer → List (List Entry) → Type 0

@@ -1,4 +1,19 @@
-use issuer_base::{Reply, Request};
+//! What a line asks of a host, and what the host decided.
+
+use issuer_base::{Command, Pan, Reply, Request};
+
+/// What a line asks of a host.
+#[derive(Clone, PartialEq, Eq, Debug, Drop)]
+pub enum Asked {
+    /// This request is to be decided.
+    Decide(Request),
+
+    /// This command is to wait for the card with this account and sequence number.
+    Queue { pan: Pan, psn: u8, command: Command },
+
+    /// The card with this account and sequence number is to have this status, 0 to 9.
+    Status { pan: Pan, psn: u8, status: u8 },
+}
 
 /// A decided request with its reply, and the place of its record in the shard's history, from 0.
 #[derive(Clone, PartialEq, Eq, Debug, Drop)]

@@ -8,5 +8,5 @@
 mod decision;
 mod law;
 
-pub use decision::Decision;
+pub use decision::{Asked, Decision};
 pub use law::every_run_is_consistent;
