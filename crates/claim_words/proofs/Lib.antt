@@ -1,0 +1,4 @@
+pub mod ClaimBits
+pub mod ClaimCounts
+pub mod KeepsClaims
+pub mod OpeningLemmas

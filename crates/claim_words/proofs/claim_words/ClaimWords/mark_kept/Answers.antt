@@ -1,0 +1,24 @@
+use Rattle.std.proofs.Common.{rules, arith, refl, ap, ◌∙◌, length, ◌<◌}
+use Rattle.claim_words.specs.Layout.{top_word_of}
+use Rattle.claim_words.proofs.KeepsClaims.{marks_allowed, still_named}
+use Rattle.claim_words.proofs.claim_words.ClaimWords.mark_kept.Goals as goal
+
+pub fetch_max-requires : goal.fetch_max-requires
+fetch_max-requires c =
+    let within : top_word_of c.args.card < c.args.self.now.table.shared.table_id.words = omega arith in
+    let first : top_word_of c.args.card < length c.args.self.now.table.shared.key.words.value.items = omega arith in (
+      search rules,
+      omega arith,
+      rw c.top_word.ensures (marks_allowed _ _ _ _ c.args.card c.args.counter (omega arith) first c.args.seat.now.named c.requires.held),
+    )
+
+pub invariant_of-seat : goal.invariant_of-seat
+invariant_of-seat c =
+    let told = c.fetch_max.ensures.2.1 c.args.card c.args.counter c.top_word.ensures refl in
+    record {
+      slotless = ap length c.fetch_max.ensures.2.0 ∙ c.args.seat.now.slotless;
+      named = still_named _ _ (ap (λ v. v.names) told) c.args.seat.now.named;
+    }
+
+pub returns-clause-view : goal.returns-clause-view
+returns-clause-view c = c.fetch_max.ensures.2.1 c.args.card c.args.counter c.top_word.ensures refl

@@ -1,0 +1,25 @@
+use Rattle.std.proofs.Common.{rules, arith, ap, ◌∙◌, length, ◌<◌}
+use Rattle.claim_words.specs.Layout.{word_of}
+use Rattle.claim_words.proofs.KeepsClaims.{releases_allowed, still_named}
+use Rattle.claim_words.proofs.claim_words.ClaimWords.release.Goals as goal
+
+pub fetch_and-requires : goal.fetch_and-requires
+fetch_and-requires c =
+    let within : word_of c.args.card c.args.counter < c.args.self.now.table.shared.table_id.words = omega arith in
+    let first : word_of c.args.card c.args.counter < length c.args.self.now.table.shared.key.words.value.items = omega arith in (
+      search rules,
+      omega arith,
+      rw (c.claim_word-word.ensures, c.other_claims.ensures)
+          (releases_allowed _ _ _ _ c.args.card c.args.counter (omega arith) first c.args.seat.now.named c.requires.held),
+    )
+
+pub invariant_of-seat : goal.invariant_of-seat
+invariant_of-seat c =
+    let told = c.fetch_and.ensures.2.1 c.args.card c.args.counter (omega arith) c.claim_word-word.ensures c.other_claims.ensures in
+    record {
+      slotless = ap length c.fetch_and.ensures.2.0 ∙ c.args.seat.now.slotless;
+      named = still_named _ _ (ap (λ v. v.names) told) c.args.seat.now.named;
+    }
+
+pub returns-clause-view : goal.returns-clause-view
+returns-clause-view c = c.fetch_and.ensures.2.1 c.args.card c.args.counter (omega arith) c.claim_word-word.ensures c.other_claims.ensures

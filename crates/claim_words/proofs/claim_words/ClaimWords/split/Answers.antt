@@ -1,0 +1,6 @@
+use Rattle.std.proofs.Common.{rules, arith}
+use Rattle.claim_words.proofs.KeepsClaims.{splits_allowed}
+use Rattle.claim_words.proofs.claim_words.ClaimWords.split.Goals as goal
+
+pub split_seat-requires : goal.split_seat-requires
+split_seat-requires c = (search rules, omega arith, splits_allowed _ _ _ c.args.seat.now.named)

@@ -1,0 +1,8 @@
+use Rattle.std.proofs.Common.{arith}
+use Rattle.claim_words.proofs.OpeningLemmas.{opening_step}
+use Rattle.claim_words.proofs.opening.opening_words.Goals as goal
+
+pub loop-card-preserved : goal.loop-card-preserved
+loop-card-preserved c = opening_step c.args.cards c.args.recorded.now c.loop-card.words.items c.loop-card.card-index _ _ _ _ _ _ c.loop-card-test.true
+    (c.requires.known c.loop-card.card-index (0, 0) c.loop-card-test.true) (omega arith) c.requires.once c.loop-card.invariant
+    c.claim_word.ensures c.claim_mask.ensures c.index_mut.ensures.value c.top_word-top.ensures c.index.ensures c.max.ensures

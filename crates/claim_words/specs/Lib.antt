@@ -1,0 +1,6 @@
+pub mod ClaimRule
+pub mod ClaimSteps
+pub mod ClaimViews
+pub mod Layout
+pub mod Opening
+pub mod Seats

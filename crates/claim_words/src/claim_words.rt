@@ -1,0 +1,174 @@
+//! The words that callers share, and the seats that they claim with.
+ghost use Rattle.std.specs.Prelude.{◌≡◌, ℕ, ◌+◌, ◌*◌, ◌<◌, ◌≤◌, All, IfOk, length};
+ghost use Rattle.claim_words.specs.ClaimViews.{times, claims_on, is_live, is_kept, is_any, newcomer, after_claim, after_top, settled, HasOpen, IsNew, parent_view, child_view, joined};
+ghost use Rattle.claim_words.specs.declared.layout.TheConstants.{CARD_WORDS};
+ghost use Rattle.seat_names.specs.SeatNames.{first_names, IsWhole};
+
+use crate::layout::{CARD_WORDS, COUNTERS, claim_mask, claim_word, other_claims, told, top_word};
+use crate::opening::opening_words;
+use crate::rule::{ClaimRule, Claims, Marks, Opening, Parts, Releases, Tops};
+use crate::view::{ClaimView, Standing};
+use atomic_table::{Seat, Table};
+use issuer_base::{MAX_CARDS, NoMemory};
+use std::alloc::Global;
+use std::snapshot::Snapshot;
+
+/// What became of a claim.
+#[derive(Clone, Copy, PartialEq, Eq, Debug)]
+pub enum Claim {
+    /// The claim was free, and is now the seat's.
+    Won,
+
+    /// The counter is recorded, or a claim on it stands.
+    Lost,
+}
+
+/// The claims on all counters of some cards, which callers share.
+pub struct ClaimWords {
+    table: Table<(), ClaimView, Opening, ClaimRule, Global>,
+    ghost some_card: { 0 < table.shared.key.cards },
+    ghost sized: { (table.shared.table_id.words ≡ CARD_WORDS * table.shared.key.cards) × (length table.shared.key.words.value.items ≡ CARD_WORDS * table.shared.key.cards) },
+    ghost slotless: { table.shared.table_id.slots ≡ 0 },
+}
+
+/// What one caller claims with, and what it knows. It has no bytes, and ends by `join` or `close`.
+pub struct ClaimSeat {
+    seat: Seat<(), ClaimView>,
+    ghost slotless: { length seat.me.1 ≡ 0 },
+    ghost named: { 0 < length seat.me.0.names },
+}
+
+impl ClaimWords {
+    ghost use Rattle.claim_words.specs.Seats.{cards_of, recorded_in, view_of, IsOf, IsTopFor};
+
+    /// The claims on the counters of so many cards, of which these cards and counters are recorded. `NoMemory` comes only
+    /// where memory is wanting. It takes 8,200 bytes a card, and as much again until it returns.
+    pub fn load(
+        alloc: Global,
+        cards: u32,
+        recorded: &[(u32, u16)],
+    ) -> Result<(ClaimWords, ClaimSeat), NoMemory>
+        requires cards { (0 < cards) × (cards ≤ MAX_CARDS) }
+        requires known { All (λ pair. pair.0 < cards) recorded.now }
+
+        // No pair is there twice.
+        requires once { (card counter : ℕ) → times card counter recorded.now ≤ 1 }
+        ensures cards { IfOk result (λ made. cards_of made.0 ≡ cards) }
+        ensures recorded { IfOk result (λ made. (card counter : ℕ) → counter < COUNTERS → recorded_in made.0 card counter ≡ times card counter recorded.now) }
+        ensures seat { IfOk result (λ made. IsOf made.1 made.0 × (view_of made.1 ≡ newcomer first_names)) }
+    {
+        let words = opening_words(alloc, cards, recorded)?;
+        let opening = Opening {
+            cards,
+            words: Snapshot::of(&words),
+        };
+        let (table, seat) = Table::of_words(alloc, words.as_slice(), &opening)?;
+        Ok((ClaimWords { table }, ClaimSeat { seat }))
+    }
+
+    /// Claims a counter of a card, in one atomic step: `Won` exactly where that step found the claim's bit clear.
+    pub fn claim(&self, seat: &mut ClaimSeat, card: u32, counter: u16) -> Claim
+        requires seat { IsOf seat.old self.now }
+        requires card { card < cards_of self.now }
+        ensures seat { IsOf seat.new self.now }
+        ensures view { view_of seat.new ≡ after_claim result card counter (view_of seat.old) }
+
+        ensures won { result ≡ Claim.Won → IsNew card counter (view_of seat.old) }
+    {
+        let mask = claim_mask(counter);
+        let word = claim_word(card, counter);
+        let found = self
+            .table
+            .shared
+            .fetch_or::<Claims>(&mut seat.seat, word, mask);
+        if found & mask == 0 {
+            Claim::Won
+        } else {
+            Claim::Lost
+        }
+    }
+
+    /// Gives back a claim that the seat holds and that isn't kept, in one atomic step.
+    pub fn release(&self, seat: &mut ClaimSeat, card: u32, counter: u16)
+        requires seat { IsOf seat.old self.now }
+        requires card { card < cards_of self.now }
+        requires held { HasOpen card counter (view_of seat.old) }
+        ensures seat { IsOf seat.new self.now }
+        ensures view { view_of seat.new ≡ settled Standing.GivenBack card counter (view_of seat.old) }
+    {
+        let word = claim_word(card, counter);
+        self.table
+            .shared
+            .fetch_and::<Releases>(&mut seat.seat, word, other_claims(counter));
+    }
+
+    /// Marks a claim that the seat holds as kept, since its counter is recorded, and raises the card's top, in one atomic step.
+    pub fn mark_kept(&self, seat: &mut ClaimSeat, card: u32, counter: u16)
+        requires seat { IsOf seat.old self.now }
+        requires card { card < cards_of self.now }
+        requires held { HasOpen card counter (view_of seat.old) }
+        ensures seat { IsOf seat.new self.now }
+        ensures view { view_of seat.new ≡ settled Standing.Kept card counter (view_of seat.old) }
+    {
+        self.table
+            .shared
+            .fetch_max::<Marks>(&mut seat.seat, top_word(card), counter as u64 + 1);
+    }
+
+    /// The greatest counter of a card that is recorded or kept, by one load of its top.
+    pub fn top(&self, seat: &mut ClaimSeat, card: u32) -> Option<u16>
+        requires seat { IsOf seat.old self.now }
+        requires card { card < cards_of self.now }
+        ensures seat { IsOf seat.new self.now }
+        ensures view { view_of seat.new ≡ after_top card result (view_of seat.old) }
+        ensures top { IsTopFor (view_of seat.old) card result }
+    {
+        told(
+            self.table
+                .shared
+                .load::<Tops>(&mut seat.seat, top_word(card)),
+        )
+    }
+
+    /// A second seat, which has no claims and was told nothing.
+    pub fn split(&self, seat: &mut ClaimSeat) -> ClaimSeat
+        requires { IsOf seat.old self.now }
+        ensures seat { IsOf seat.new self.now × (view_of seat.new ≡ parent_view (view_of seat.old)) }
+        ensures new { IsOf result self.now × (view_of result ≡ child_view (view_of seat.old)) }
+    {
+        ClaimSeat {
+            seat: self.table.shared.split_seat::<Parts>(&mut seat.seat),
+        }
+    }
+
+    /// Ends the other seat, and leaves this one with the claims of both and with what both were told.
+    pub fn join(&self, seat: &mut ClaimSeat, other: ClaimSeat)
+        requires { IsOf seat.old self.now × IsOf other self.now }
+        ensures { IsOf seat.new self.now × (view_of seat.new ≡ joined (view_of seat.old) (view_of other)) }
+    {
+        let ClaimSeat { seat: other } = other;
+        self.table.shared.join_seat::<Parts>(&mut seat.seat, other);
+    }
+
+    /// Ends the claims, with a seat into which all others were joined.
+    pub fn close(self, seat: ClaimSeat)
+        requires seat { IsOf seat self }
+        requires whole { IsWhole (view_of seat).names }
+
+        // What was lost is recorded, or stands in the claims.
+        ensures found { (card counter : ℕ) → 0 < times card counter (view_of seat).found
+            → 0 < recorded_in self card counter + claims_on is_any card counter (view_of seat).claims }
+
+        // What a top told is recorded, or stands in the claims as kept.
+        ensures tops { (card counter : ℕ) → 0 < times card counter (view_of seat).tops
+            → 0 < recorded_in self card counter + claims_on is_kept card counter (view_of seat).claims }
+
+        // Each counter of a card stands at most once: as recorded, or as a claim that isn't given back.
+        ensures once { (card counter : ℕ) → counter < COUNTERS
+            → recorded_in self card counter + claims_on is_live card counter (view_of seat).claims ≤ 1 }
+    {
+        let ClaimSeat { seat } = seat;
+        let ClaimWords { table } = self;
+        table.close_with(seat).free();
+    }
+}

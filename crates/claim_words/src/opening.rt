@@ -1,0 +1,28 @@
+//! The words that the table begins with.
+ghost use Rattle.std.specs.Prelude.{◌≡◌, ℕ, ◌+◌, ◌*◌, ◌<◌, ◌≤◌, All, IfOk, length};
+ghost use Rattle.claim_words.specs.ClaimViews.{times};
+ghost use Rattle.claim_words.specs.Opening.{AreOpening};
+
+use crate::layout::{CARD_WORDS, COUNTERS, claim_mask, claim_word, top_word};
+use issuer_base::{MAX_CARDS, NoMemory};
+use std::alloc::Global;
+
+/// The words that have the recorded counters of so many cards.
+pub(crate) fn opening_words(
+    alloc: Global,
+    cards: u32,
+    recorded: &[(u32, u16)],
+) -> Result<Vec<u64>, NoMemory>
+    requires cards { cards ≤ MAX_CARDS }
+    requires known { All (λ pair. pair.0 < cards) recorded.now }
+    requires once { (card counter : ℕ) → times card counter recorded.now ≤ 1 }
+    ensures { IfOk result (λ words. AreOpening cards recorded.now words.items) }
+{
+    let mut words = vec![in alloc; 0; CARD_WORDS as usize * cards as usize]?;
+    for &(card, counter) in recorded {
+        words[claim_word(card, counter)] |= claim_mask(counter);
+        let top = top_word(card);
+        words[top] = words[top].max(counter as u64 + 1);
+    }
+    Ok(words)
+}

@@ -1,0 +1,42 @@
+//! What a seat knows. It exists in proofs alone: no value of these types is made.
+use seat_names::SeatName;
+use std::collections::LinkedList;
+
+/// What has become of a claim that was won.
+pub enum Standing {
+    /// It is held, and neither kept nor given back.
+    Open,
+
+    /// Its counter was recorded. It stays so.
+    Kept,
+
+    /// It was released.
+    GivenBack,
+}
+
+/// A claim that was won.
+pub struct Claimed {
+    /// The number of the card.
+    pub card: u32,
+
+    /// The transaction counter.
+    pub counter: u16,
+
+    /// What has become of it.
+    pub standing: Standing,
+}
+
+/// What a seat knows, newest first in each list.
+pub struct ClaimView {
+    /// The claims that it won.
+    pub claims: LinkedList<Claimed>,
+
+    /// The cards and counters that it lost.
+    pub found: LinkedList<(u32, u16)>,
+
+    /// The cards and counters that top words told it.
+    pub tops: LinkedList<(u32, u16)>,
+
+    /// Its names among the seats of the table.
+    pub names: LinkedList<SeatName>,
+}

@@ -1,0 +1,2 @@
+pub mod SeatNames
+pub mod Totals

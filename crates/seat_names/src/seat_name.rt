@@ -1,0 +1,10 @@
+use std::collections::LinkedList;
+
+/// A name that a seat holds. It exists in proofs alone: no value of it is made.
+pub struct SeatName {
+    /// The numbers of the splits that made the name, the last one in front. The first seat's name is empty.
+    pub path: LinkedList<u64>,
+
+    /// How often a seat was split from this name.
+    pub splits: u64,
+}
