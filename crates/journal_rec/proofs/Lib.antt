@@ -1,0 +1,4 @@
+pub mod DigitTable
+pub mod Spelling
+pub mod PanLemmas
+pub mod Joined
