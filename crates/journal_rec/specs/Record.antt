@@ -1,5 +1,5 @@
 -- Which entries are records.
-use Rattle.std.specs.Prelude.{◌≡◌, ℕ, ◌^◌, ◌<◌, ◌≤◌, Bool, ◌&&◌, nat_le, IsTrue, List, [], ◌∷◌, length, map}
+use Rattle.std.specs.Prelude.{◌≡◌, ℕ, ◌^◌, ◌<◌, ◌≤◌, Bool, ◌&&◌, nat_le, IsTrue, List, [], ◌∷◌, ◌++◌, length, map}
 use Rattle.hex.specs.Hex.{IsBytes}
 use Rattle.issuer_base.specs.CardNumber.{is_pan}
 use Rattle.issuer_base.specs.ChipData.{is_bcd, is_request}
@@ -10,7 +10,7 @@ use Rattle.issuer_base.specs.declared.command.Command.{Command}
 use Rattle.issuer_base.specs.declared.answer.Reply.{Reply}
 use Rattle.issuer_base.specs.declared.entry.Entry.{Entry}
 use Rattle.issuer_base.specs.declared.entry.Entry.TheVariants.{Decided, Queued, Status}
-use Rattle.journal_rec.specs.RecordText.{request_fields, request_bytes}
+use Rattle.journal_rec.specs.RecordText.{newline, request_bytes, request_fields, text_of}
 
 -- an entry is a record where its reply has a byte, its sequence number is decimal, its command is the host's, its status is one digit
 unfoldable pub is_record : Entry → Bool
@@ -52,3 +52,7 @@ IsEntry (Status pan psn status) = IsTrue (is_pan pan) × (psn < 256)
 pub record IsRecord (entry : Entry) : Type 0 where
   pub held : IsEntry entry
   pub may_stand : IsTrue (is_record entry)
+
+-- the line, which is given without its newline, is that of the record
+abbrev pub IsLineOf : Entry → List ℕ → Type 0
+IsLineOf entry line = IsRecord entry × (text_of entry ≡ line ++ newline ∷ [])

@@ -1,6 +1,6 @@
 //! Hexadecimal digits in lower case.
 ghost use Rattle.std.specs.Prelude.{◌≡◌, ◌≤◌, ◌*◌, length, if◌then◌else◌, option_map, unwrap_or};
-ghost use Rattle.journal_rec.specs.Reading.{digit_value, byte_of, rest_of, spelled};
+ghost use Rattle.journal_rec.specs.Reading.{byte_of, digit_value, spelled, spelled_within};
 
 use arrayvec::ArrayVec;
 
@@ -62,7 +62,7 @@ pub(crate) fn decode_into(digits: &[u8], out: &mut [u8]) -> bool
 
 /// The bytes that the digits spell, where there is room for them.
 pub(crate) fn decode<const CAP: usize>(digits: &[u8]) -> Option<ArrayVec<u8, CAP>>
-    ensures { option_map (λ bytes. bytes.items) result ≡ rest_of CAP digits.now }
+    ensures { option_map (λ bytes. bytes.items) result ≡ spelled_within CAP digits.now }
 {
     let count = digits.len() / 2;
     if digits.len() % 2 == 1 {

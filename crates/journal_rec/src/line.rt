@@ -1,6 +1,6 @@
 //! A cursor over the bytes of a line.
-ghost use Rattle.std.specs.Prelude.{◌≡◌, ◌*◌, ◌^◌, ◌<◌, ◌==◌, length, option_map, IfSome};
-ghost use Rattle.journal_rec.specs.Reading.{piece_at, bytes_at, byte_at, mark_at, next_at, pan_at, rest_of};
+ghost use Rattle.std.specs.Prelude.{◌≡◌, ◌*◌, ◌^◌, ◌<◌, length, option_map, IfSome};
+ghost use Rattle.journal_rec.specs.Reading.{byte_at, bytes_at, counter_at, end_at, mark_at, next_at, pan_at, piece_at, rest_at};
 
 use crate::digits::{decode, decode_into};
 use crate::pan::{PAN_DIGITS, read_pan};
@@ -62,6 +62,14 @@ impl<'a> Line<'a> {
         Some(self.bytes::<1>()?[0])
     }
 
+    /// A number of two bytes in hexadecimal, the higher first.
+    #[tactic(auto, unfolding(crate::specs::Reading::counter_at))]
+    pub(crate) fn counter(&mut self) -> Option<u16>
+        ensures { option_map (λ counter. (counter, self.new)) result ≡ counter_at self.old }
+    {
+        Some(u16::from_be_bytes(self.bytes()?))
+    }
+
     /// An account number: its digits, and `f` behind them.
     #[tactic(auto, unfolding(crate::specs::Reading::pan_at))]
     pub(crate) fn pan(&mut self) -> Option<Pan>
@@ -72,6 +80,7 @@ impl<'a> Line<'a> {
     }
 
     /// The next byte as it stands.
+    #[tactic(auto, unfolding(crate::specs::Reading::next_at))]
     pub(crate) fn next(&mut self) -> Option<u8>
         ensures { option_map (λ byte. (byte, self.new)) result ≡ next_at self.old }
     {
@@ -83,30 +92,35 @@ impl<'a> Line<'a> {
     }
 
     /// This byte.
+    #[tactic(auto, unfolding(crate::specs::Reading::mark_at))]
     pub(crate) fn mark(&mut self, byte: u8) -> Option<()>
-        ensures { option_map (λ _. self.new) result ≡ mark_at byte self.old }
+        ensures { option_map (λ unit. (unit, self.new)) result ≡ mark_at byte self.old }
     {
-        let [first, left @ ..] = self.left else {
-            return None;
-        };
-        if *first != byte {
+        let next = self.next()?;
+        if next != byte {
             return None;
         }
-        self.left = left;
         Some(())
     }
 
     /// All that is left, in hexadecimal, where there is room for it.
-    pub(crate) fn rest<const CAP: usize>(&self) -> Option<ArrayVec<u8, CAP>>
-        ensures { option_map (λ bytes. bytes.items) result ≡ rest_of CAP self.now }
+    #[tactic(auto, unfolding(crate::specs::Reading::rest_at))]
+    pub(crate) fn rest<const CAP: usize>(&mut self) -> Option<ArrayVec<u8, CAP>>
+        ensures { option_map (λ bytes. (bytes.items, self.new)) result ≡ rest_at CAP self.old }
     {
-        decode(self.left)
+        let digits = self.left;
+        self.left = &[];
+        decode(digits)
     }
 
-    /// Whether nothing is left.
-    pub(crate) fn is_empty(&self) -> bool
-        ensures { result ≡ (length self.now == 0) }
+    /// The end of the line.
+    #[tactic(auto, unfolding(crate::specs::Reading::end_at))]
+    pub(crate) fn end(&self) -> Option<()>
+        ensures { option_map (λ unit. (unit, self.now)) result ≡ end_at self.now }
     {
-        self.left.is_empty()
+        if !self.left.is_empty() {
+            return None;
+        }
+        Some(())
     }
 }

@@ -1,21 +1,35 @@
 //! Reading a record from its line.
-ghost use Rattle.std.specs.Prelude.{◌≡◌, option_map};
+ghost use Rattle.std.specs.Prelude.{◌≡◌, ◌↔◌, option_map};
+ghost use Rattle.issuer_base.specs.declared.entry.Entry.{Entry};
 ghost use Rattle.issuer_base.specs.ChipData.{is_bcd};
-ghost use Rattle.journal_rec.specs.Reading.{approval_at, card_at, decided_of, entry_of, parts_at, psn_at, queued_of, reply_of, request_at, status_of};
+ghost use Rattle.journal_rec.specs.Record.{IsLineOf};
+ghost use Rattle.journal_rec.specs.Reading.{approval_at, behind_letter, card_at, decided_at, entry_at, parts_at, psn_at, queued_at, reply_at, request_at, status_at};
 
-use crate::command::read_command;
+use crate::command::{COMMAND_BYTES, read_command};
 use crate::line::Line;
 use issuer_base::{Entry, NotEntry, Pan, Parts, Reply, Request};
 
-pub fn read_entry(line: &[u8]) -> Result<Entry, NotEntry> {
-    entry(Line::new(line)).ok_or(NotEntry)
+/// The record of a line, which is given without its newline.
+pub fn read_entry(line: &[u8]) -> Result<Entry, NotEntry>
+    ensures { (entry : Entry) → (result ≡ Ok entry) ↔ IsLineOf entry line.now }
+{
+    entry(&mut Line::new(line)).ok_or(NotEntry)
 }
 
-#[tactic(auto, unfolding(crate::specs::Reading::entry_of))]
-fn entry(mut line: Line) -> Option<Entry>
-    ensures { result ≡ entry_of line.entry }
+#[tactic(auto, unfolding(crate::specs::Reading::entry_at))]
+fn entry(line: &mut Line) -> Option<Entry>
+    ensures { option_map (λ entry. (entry, line.new)) result ≡ entry_at line.old }
 {
-    match line.next()? {
+    let letter = line.next()?;
+    let entry = behind_letter(line, letter)?;
+    line.end()?;
+    Some(entry)
+}
+
+fn behind_letter(line: &mut Line, letter: u8) -> Option<Entry>
+    ensures { option_map (λ entry. (entry, line.new)) result ≡ behind_letter letter line.old }
+{
+    match letter {
         b'd' => decided(line),
         b'q' => queued(line),
         b's' => status(line),
@@ -23,12 +37,12 @@ fn entry(mut line: Line) -> Option<Entry>
     }
 }
 
-#[tactic(auto, unfolding(crate::specs::Reading::decided_of))]
-fn decided(mut line: Line) -> Option<Entry>
-    ensures { result ≡ decided_of line.entry }
+#[tactic(auto, unfolding(crate::specs::Reading::decided_at))]
+fn decided(line: &mut Line) -> Option<Entry>
+    ensures { option_map (λ entry. (entry, line.new)) result ≡ decided_at line.old }
 {
     line.mark(b' ')?;
-    let request = request(&mut line)?;
+    let request = request(line)?;
     line.mark(b' ')?;
     let reply = reply(line)?;
     Some(Entry::Decided { request, reply })
@@ -49,7 +63,7 @@ fn parts(line: &mut Line) -> Option<Parts>
         pan: line.pan()?,
         psn: line.byte()?,
         aip: line.bytes()?,
-        atc: u16::from_be_bytes(line.bytes()?),
+        atc: line.counter()?,
         tvr: line.bytes()?,
         date: line.bytes()?,
         kind: line.byte()?,
@@ -64,13 +78,13 @@ fn parts(line: &mut Line) -> Option<Parts>
     })
 }
 
-#[tactic(auto, unfolding(crate::specs::Reading::reply_of))]
-fn reply(mut line: Line) -> Option<Reply>
-    ensures { result ≡ reply_of line.entry }
+#[tactic(auto, unfolding(crate::specs::Reading::reply_at))]
+fn reply(line: &mut Line) -> Option<Reply>
+    ensures { option_map (λ reply. (reply, line.new)) result ≡ reply_at line.old }
 {
     let arc = line.bytes()?;
     line.mark(b' ')?;
-    let approve = approval(&mut line)?;
+    let approve = approval(line)?;
     line.mark(b' ')?;
     let bytes = line.rest()?;
     if bytes.is_empty() {
@@ -94,23 +108,23 @@ fn approval(line: &mut Line) -> Option<bool>
     }
 }
 
-#[tactic(auto, unfolding(crate::specs::Reading::queued_of))]
-fn queued(mut line: Line) -> Option<Entry>
-    ensures { result ≡ queued_of line.entry }
+#[tactic(auto, unfolding(crate::specs::Reading::queued_at))]
+fn queued(line: &mut Line) -> Option<Entry>
+    ensures { option_map (λ entry. (entry, line.new)) result ≡ queued_at line.old }
 {
-    let (pan, psn) = card(&mut line)?;
-    let bytes = line.rest::<68>()?;
+    let (pan, psn) = card(line)?;
+    let bytes = line.rest::<COMMAND_BYTES>()?;
     let command = read_command(bytes.as_slice())?;
     Some(Entry::Queued { pan, psn, command })
 }
 
-#[tactic(auto, unfolding(crate::specs::Reading::status_of))]
-fn status(mut line: Line) -> Option<Entry>
-    ensures { result ≡ status_of line.entry }
+#[tactic(auto, unfolding(crate::specs::Reading::status_at))]
+fn status(line: &mut Line) -> Option<Entry>
+    ensures { option_map (λ entry. (entry, line.new)) result ≡ status_at line.old }
 {
-    let (pan, psn) = card(&mut line)?;
+    let (pan, psn) = card(line)?;
     let digit = line.next()?;
-    if !digit.is_ascii_digit() || !line.is_empty() {
+    if !digit.is_ascii_digit() {
         return None;
     }
     Some(Entry::Status {
@@ -122,7 +136,7 @@ fn status(mut line: Line) -> Option<Entry>
 
 #[tactic(auto, unfolding(crate::specs::Reading::card_at))]
 fn card(line: &mut Line) -> Option<(Pan, u8)>
-    ensures { option_map (λ card. (card.0, card.1, line.new)) result ≡ card_at line.old }
+    ensures { option_map (λ card. (card, line.new)) result ≡ card_at line.old }
 {
     line.mark(b' ')?;
     let pan = line.pan()?;

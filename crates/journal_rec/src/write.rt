@@ -7,6 +7,7 @@ ghost use Rattle.issuer_base.specs.CardNumber.{is_pan};
 ghost use Rattle.journal_rec.specs.RecordText.{pan_bytes, request_bytes, request_fields, text_of};
 ghost use Rattle.journal_rec.specs.Record.{IsCommand, IsRecord, IsReply, IsRequest, is_record, request_sizes};
 
+use crate::command::COMMAND_BYTES;
 use crate::pan::pan_bytes;
 use arrayvec::ArrayVec;
 use issuer_base::{Command, Entry, MAX_BODY_BYTES, Pan, Parts, Reply, Request};
@@ -22,9 +23,6 @@ const WORD_DIGITS: usize = 2 * WORD_BYTES;
 
 /// How many bytes a request has.
 const REQUEST_BYTES: usize = 85;
-
-/// How many bytes a command has at most.
-const COMMAND_BYTES: usize = 4 + MAX_BODY_BYTES;
 
 /// The line of a record, with its newline.
 pub fn write_entry(entry: &Entry) -> ArrayVec<u8, RECORD_ROOM>
