@@ -9,3 +9,4 @@ pub mod Words
 pub mod Parts
 pub mod Records
 pub mod Lines
+pub mod TextLaws

@@ -71,3 +71,7 @@ texts_of entries = flat_map text_of entries
 -- a text without a newline
 abbrev pub IsUnbroken : List ℕ → Type 0
 IsUnbroken text = All (λ byte. byte ≢ newline) text
+
+-- one line: a newline at its end and none before
+abbrev pub IsLine : List ℕ → Type 0
+IsLine text = (front : List ℕ) × IsUnbroken front × (text ≡ front ++ newline ∷ [])
