@@ -1,0 +1,5 @@
+use Rattle.journal_rec.proofs.TextLaws.{text_of-no_front}
+use Rattle.journal_rec.proofs.laws.no_text_begins_another.Goals as goal
+
+pub returns : goal.returns
+returns c = text_of-no_front

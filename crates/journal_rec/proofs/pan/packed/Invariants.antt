@@ -1,0 +1,10 @@
+use Rattle.std.proofs.Common.{◌≡◌, ◌*◌, ◌++◌, length, drop}
+use Rattle.journal_rec.specs.RecordText.{packed}
+use Rattle.journal_rec.proofs.pan.packed.Given as goal
+
+-- the bytes so far and those of the nibbles that are left
+abbrev pub invariant-bytes : goal.invariant-bytes
+invariant-bytes l = record {
+  packed : l.bytes.items ++ packed (drop (2 * l.i) l.nibbles) ≡ packed l.nibbles;
+  count : length l.bytes.items ≡ l.i;
+}

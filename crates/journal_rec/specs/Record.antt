@@ -1,0 +1,58 @@
+-- Which entries are records.
+use Rattle.std.specs.Prelude.{◌≡◌, ℕ, ◌^◌, ◌<◌, ◌≤◌, Bool, ◌&&◌, nat_le, IsTrue, List, [], ◌∷◌, ◌++◌, length, map}
+use Rattle.hex.specs.Hex.{IsBytes}
+use Rattle.issuer_base.specs.CardNumber.{is_pan}
+use Rattle.issuer_base.specs.ChipData.{is_bcd, is_request}
+use Rattle.issuer_base.specs.ScriptCommand.{is_command, command_bytes}
+use Rattle.issuer_base.specs.declared.limits.TheConstants.{MAX_BODY_BYTES}
+use Rattle.issuer_base.specs.declared.request.Parts.{Parts}
+use Rattle.issuer_base.specs.declared.command.Command.{Command}
+use Rattle.issuer_base.specs.declared.answer.Reply.{Reply}
+use Rattle.issuer_base.specs.declared.entry.Entry.{Entry}
+use Rattle.issuer_base.specs.declared.entry.Entry.TheVariants.{Decided, Queued, Status}
+use Rattle.journal_rec.specs.RecordText.{newline, request_bytes, request_fields, text_of}
+
+-- an entry is a record where its reply has a byte, its sequence number is decimal, its command is the host's, its status is one digit
+unfoldable pub is_record : Entry → Bool
+is_record (Decided request reply) = nat_le 1 (length reply.bytes.items)
+is_record (Queued pan psn command) = is_bcd psn && is_command command
+is_record (Status pan psn status) = is_bcd psn && nat_le status 9
+
+-- how many bytes each field of a request has
+abbrev pub request_sizes : List ℕ
+request_sizes = 10 ∷ 1 ∷ 2 ∷ 2 ∷ 5 ∷ 3 ∷ 1 ∷ 6 ∷ 6 ∷ 2 ∷ 2 ∷ 4 ∷ 1 ∷ 32 ∷ 8 ∷ []
+
+-- a request as the host holds it
+pub record IsRequest (parts : Parts) : Type 0 where
+  pub has_form : IsTrue (is_request parts)
+  pub pan : IsTrue (is_pan parts.pan)
+  pub atc : parts.atc < 2 ^ 16
+  pub sizes : map length (request_fields parts) ≡ request_sizes
+  pub bytes : IsBytes (request_bytes parts)
+
+-- a reply as the host holds it
+pub record IsReply (reply : Reply) : Type 0 where
+  pub arc_size : length reply.arc ≡ 2
+  pub arc : IsBytes reply.arc
+  pub size : length reply.bytes.items ≤ 160
+  pub bytes : IsBytes reply.bytes.items
+
+-- a command as the host holds it
+pub record IsCommand (command : Command) : Type 0 where
+  pub size : length command.body.items ≤ MAX_BODY_BYTES
+  pub bytes : IsBytes (command_bytes command)
+
+-- an entry as the host holds it: each field has its size
+abbrev pub IsEntry : Entry → Type 0
+IsEntry (Decided request reply) = IsRequest request × IsReply reply
+IsEntry (Queued pan psn command) = IsTrue (is_pan pan) × (psn < 256) × IsCommand command
+IsEntry (Status pan psn status) = IsTrue (is_pan pan) × (psn < 256)
+
+-- a record
+pub record IsRecord (entry : Entry) : Type 0 where
+  pub held : IsEntry entry
+  pub may_stand : IsTrue (is_record entry)
+
+-- the line, which is given without its newline, is that of the record
+abbrev pub IsLineOf : Entry → List ℕ → Type 0
+IsLineOf entry line = IsRecord entry × (text_of entry ≡ line ++ newline ∷ [])

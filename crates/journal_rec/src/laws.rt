@@ -1,0 +1,31 @@
+//! What holds of the texts of records, for whoever keeps them one behind another.
+ghost use Rattle.std.specs.Prelude.{◌≡◌, ◌≤◌, ℕ, List, [], ◌++◌, All, length};
+ghost use Rattle.issuer_base.specs.declared.entry.Entry.{Entry};
+ghost use Rattle.journal_rec.specs.RecordText.{IsLine, IsUnbroken, text_of, texts_of};
+ghost use Rattle.journal_rec.specs.Record.{IsRecord};
+
+/// How many bytes the text of a record has at least: that of a status.
+pub const LEAST_RECORD_BYTES: usize = 28;
+
+/// How many bytes the text of a record has at most: that of a decided request with the longest reply.
+pub const MOST_RECORD_BYTES: usize = 501;
+
+/// The text of a record is one line.
+pub fn a_text_is_one_line()
+    ensures line { (entry : Entry) → IsRecord entry → IsLine (text_of entry) }
+    ensures least { (entry : Entry) → IsRecord entry → LEAST_RECORD_BYTES ≤ length (text_of entry) }
+    ensures most { (entry : Entry) → IsRecord entry → length (text_of entry) ≤ MOST_RECORD_BYTES }
+{}
+
+/// No record's text begins another's: where it does, the records are the same and nothing follows.
+pub fn no_text_begins_another()
+    ensures { (entry other : Entry) (rest : List ℕ) → IsRecord entry → IsRecord other
+        → text_of entry ++ rest ≡ text_of other → (entry ≡ other) × (rest ≡ []) }
+{}
+
+/// A text of records, and behind them the torn front of a line, has one reading.
+pub fn a_text_has_one_reading()
+    ensures { (entries others : List Entry) (rest other_rest : List ℕ) → All IsRecord entries → All IsRecord others
+        → IsUnbroken rest → IsUnbroken other_rest
+        → texts_of entries ++ rest ≡ texts_of others ++ other_rest → (entries ≡ others) × (rest ≡ other_rest) }
+{}

@@ -1,0 +1,88 @@
+//! Account numbers in a line.
+ghost use Rattle.std.specs.Prelude.{◌≡◌, ◌-◌, ◌<◌, ◌≤◌, ◌==◌, ◌++◌, All, IsTrue, length, map, replicate, take_while};
+ghost use Rattle.std.specs.Char.{is_ascii_digit};
+ghost use Rattle.std.specs.List.{list_all};
+ghost use Rattle.issuer_base.specs.CardNumber.{is_pan};
+ghost use Rattle.journal_rec.specs.Reading.{pan_of};
+ghost use Rattle.journal_rec.specs.RecordText.{packed, pan_bytes};
+
+use arrayvec::ArrayVec;
+use issuer_base::Pan;
+
+/// How many bytes an account number has in a line.
+pub(crate) const PAN_BYTES: usize = 10;
+
+/// How many digits it has there, those that fill it up among them.
+pub(crate) const PAN_DIGITS: usize = 2 * PAN_BYTES;
+
+/// The account number that these digits are, where nothing but `f` stands behind them.
+#[tactic(auto, unfolding(crate::specs::Reading::pan_of))]
+pub(crate) fn read_pan(text: &[u8]) -> Option<Pan>
+    requires { length text.now ≡ PAN_DIGITS }
+    ensures { result ≡ pan_of text.now }
+{
+    let (digits, filling) = text.split_at(digits_in_front(text));
+    if !is_filling(filling) {
+        return None;
+    }
+    Pan::new(values(digits).as_slice())
+}
+
+fn digits_in_front(text: &[u8]) -> usize
+    ensures count { result ≡ length (take_while is_ascii_digit text.now) }
+    ensures within { result ≤ length text.now }
+{
+    text.iter().take_while(|byte| byte.is_ascii_digit()).count()
+}
+
+fn is_filling(text: &[u8]) -> bool
+    ensures { result ≡ list_all (λ byte. byte == 102) text.now }
+{
+    text.iter().all(|byte| *byte == b'f')
+}
+
+fn values(digits: &[u8]) -> ArrayVec<u8, PAN_DIGITS>
+    requires { length digits.now ≤ PAN_DIGITS }
+    ensures { result.items ≡ map (λ digit. digit - 48) digits.now }
+{
+    let mut values = ArrayVec::new();
+    for digit in digits {
+        values.push(digit.saturating_sub(b'0'));
+    }
+    values
+}
+
+/// The bytes of an account number.
+#[tactic(auto, unfolding(crate::specs::RecordText::pan_bytes))]
+pub(crate) fn pan_bytes(pan: &Pan) -> ArrayVec<u8, PAN_BYTES>
+    ensures bytes { result.items ≡ pan_bytes pan.now }
+    ensures size { length result.items ≡ PAN_BYTES }
+    ensures valid { IsTrue (is_pan pan.now) }
+{
+    packed(filled(pan.digits()).as_slice())
+}
+
+fn filled(digits: &[u8]) -> ArrayVec<u8, PAN_DIGITS>
+    requires { length digits.now ≤ PAN_DIGITS }
+    ensures { result.items ≡ digits.now ++ replicate (20 - length digits.now) 0x0F }
+{
+    let filling = [0x0F; PAN_DIGITS];
+    let mut nibbles = ArrayVec::try_from(digits).unwrap();
+    nibbles
+        .try_extend_from_slice(&filling[digits.len()..])
+        .unwrap();
+    nibbles
+}
+
+fn packed(nibbles: &[u8]) -> ArrayVec<u8, PAN_BYTES>
+    requires size { length nibbles.now ≡ PAN_DIGITS }
+    requires nibbles { All (λ nibble. nibble < 16) nibbles.now }
+    ensures bytes { result.items ≡ packed nibbles.now }
+    ensures size { length result.items ≡ PAN_BYTES }
+{
+    let mut bytes = ArrayVec::new();
+    'bytes: for i in 0..PAN_BYTES {
+        bytes.push(16 * nibbles[2 * i] + nibbles[2 * i + 1]);
+    }
+    bytes
+}

@@ -1,0 +1,155 @@
+//! Writing the line of a record.
+ghost use Rattle.std.specs.Prelude.{◌≡◌, ◌+◌, ◌*◌, ◌^◌, ◌<◌, ◌≤◌, [], ◌∷◌, ◌++◌, length, map, IsTrue};
+ghost use Rattle.hex.specs.Hex.{encode_lower, IsBytes};
+ghost use Rattle.arrayvec.specs.ArrayVec.{array_vec_len};
+ghost use Rattle.issuer_base.specs.ScriptCommand.{command_bytes};
+ghost use Rattle.issuer_base.specs.CardNumber.{is_pan};
+ghost use Rattle.journal_rec.specs.RecordText.{pan_bytes, request_bytes, request_fields, text_of};
+ghost use Rattle.journal_rec.specs.Record.{IsCommand, IsRecord, IsReply, IsRequest, is_record, request_sizes};
+
+use crate::command::COMMAND_BYTES;
+use crate::pan::pan_bytes;
+use arrayvec::ArrayVec;
+use issuer_base::{Command, Entry, MAX_BODY_BYTES, Pan, Parts, Reply, Request};
+
+/// How many bytes there is room for in a record's line; the longest has 501.
+pub const RECORD_ROOM: usize = 512;
+
+/// How many bytes a word of a line has at most, two digits each.
+const WORD_BYTES: usize = 160;
+
+/// How many digits that are.
+const WORD_DIGITS: usize = 2 * WORD_BYTES;
+
+/// How many bytes a request has.
+const REQUEST_BYTES: usize = 85;
+
+/// The line of a record, with its newline.
+pub fn write_entry(entry: &Entry) -> ArrayVec<u8, RECORD_ROOM>
+    requires { IsTrue (is_record entry.now) }
+    ensures text { result.items ≡ text_of entry.now }
+    ensures record { IsRecord entry.now }
+{
+    match entry {
+        Entry::Decided { request, reply } => decided_line(request, reply),
+        Entry::Queued { pan, psn, command } => queued_line(pan, *psn, command),
+        Entry::Status { pan, psn, status } => status_line(pan, *psn, *status),
+    }
+}
+
+#[tactic(auto, unfolding(crate::specs::RecordText::text_of))]
+fn decided_line(request: &Request, reply: &Reply) -> ArrayVec<u8, RECORD_ROOM>
+    ensures text { result.items ≡ text_of (Entry.Decided request.now reply.now) }
+    ensures request { IsRequest request.now }
+    ensures reply { IsReply reply.now }
+{
+    let mut line = ArrayVec::new();
+    line.push(b'd');
+    put_word(&mut line, request_bytes(request.parts()).as_slice());
+    put_word(&mut line, &reply.arc);
+    line.push(b' ');
+    line.push(if reply.approve { b'1' } else { b'0' });
+    put_word(&mut line, reply.bytes.as_slice());
+    line.push(b'\n');
+    line
+}
+
+#[tactic(auto, unfolding(crate::specs::RecordText::text_of))]
+fn queued_line(pan: &Pan, psn: u8, command: &Command) -> ArrayVec<u8, RECORD_ROOM>
+    ensures text { result.items ≡ text_of (Entry.Queued pan.now psn command.now) }
+    ensures card { IsTrue (is_pan pan.now) × (psn < 256) }
+    ensures command { IsCommand command.now }
+{
+    let mut line = card_line(b'q', pan, psn);
+    put_word(&mut line, command_bytes(command).as_slice());
+    line.push(b'\n');
+    line
+}
+
+fn status_line(pan: &Pan, psn: u8, status: u8) -> ArrayVec<u8, RECORD_ROOM>
+    requires { status ≤ 9 }
+    ensures text { result.items ≡ text_of (Entry.Status pan.now psn status) }
+    ensures card { IsTrue (is_pan pan.now) × (psn < 256) }
+{
+    let mut line = card_line(b's', pan, psn);
+    line.push(b' ');
+    line.push(b'0' + status);
+    line.push(b'\n');
+    line
+}
+
+/// The front of a line: a letter, and the card.
+fn card_line(letter: u8, pan: &Pan, psn: u8) -> ArrayVec<u8, RECORD_ROOM>
+    ensures text { result.items ≡ letter ∷ (32 ∷ encode_lower (pan_bytes pan.now) ++ 32 ∷ encode_lower (psn ∷ [])) }
+    ensures room { array_vec_len result ≡ 25 }
+    ensures card { IsTrue (is_pan pan.now) × (psn < 256) }
+{
+    let mut line = ArrayVec::new();
+    line.push(letter);
+    put_word(&mut line, pan_bytes(pan).as_slice());
+    put_word(&mut line, &[psn]);
+    line
+}
+
+fn command_bytes(command: &Command) -> ArrayVec<u8, COMMAND_BYTES>
+    ensures bytes { result.items ≡ command_bytes command.now }
+    ensures size { length command.now.body.items ≤ MAX_BODY_BYTES }
+{
+    let mut bytes = ArrayVec::new();
+    put(
+        &mut bytes,
+        &[command.cla, command.ins, command.p1, command.p2],
+    );
+    put(&mut bytes, command.body.as_slice());
+    bytes
+}
+
+/// A space, and the bytes in hexadecimal.
+fn put_word(line: &mut ArrayVec<u8, RECORD_ROOM>, bytes: &[u8])
+    requires short { length bytes.now ≤ WORD_BYTES }
+    requires room { array_vec_len line.old + (2 * length bytes.now + 1) ≤ RECORD_ROOM }
+    ensures text { line.new.items ≡ line.old.items ++ 32 ∷ encode_lower bytes.now }
+    ensures room { array_vec_len line.new ≡ array_vec_len line.old + (2 * length bytes.now + 1) }
+    ensures bytes { IsBytes bytes.now }
+{
+    let mut digits = [0; WORD_DIGITS];
+    let digits = &mut digits[..2 * bytes.len()];
+    hex::encode_to_slice(bytes, digits).unwrap();
+    line.push(b' ');
+    put(line, digits);
+}
+
+/// These bytes behind those that stand there.
+fn put<const CAP: usize>(out: &mut ArrayVec<u8, CAP>, bytes: &[u8])
+    requires { array_vec_len out.old + length bytes.now ≤ CAP }
+    ensures text { out.new.items ≡ out.old.items ++ bytes.now }
+    ensures room { array_vec_len out.new ≡ array_vec_len out.old + length bytes.now }
+{
+    out.try_extend_from_slice(bytes).unwrap();
+}
+
+/// The fields of a request one behind another.
+fn request_bytes(parts: &Parts) -> ArrayVec<u8, REQUEST_BYTES>
+    ensures bytes { result.items ≡ request_bytes parts.now }
+    ensures sizes { map length (request_fields parts.now) ≡ request_sizes }
+    ensures pan { IsTrue (is_pan parts.now.pan) }
+    ensures counter { parts.now.atc < 2 ^ 16 }
+{
+    let mut bytes = ArrayVec::new();
+    put(&mut bytes, pan_bytes(&parts.pan).as_slice());
+    put(&mut bytes, &[parts.psn]);
+    put(&mut bytes, &parts.aip);
+    put(&mut bytes, &parts.atc.to_be_bytes());
+    put(&mut bytes, &parts.tvr);
+    put(&mut bytes, &parts.date);
+    put(&mut bytes, &[parts.kind]);
+    put(&mut bytes, &parts.amount);
+    put(&mut bytes, &parts.other);
+    put(&mut bytes, &parts.country);
+    put(&mut bytes, &parts.currency);
+    put(&mut bytes, &parts.un);
+    put(&mut bytes, &[parts.cid]);
+    put(&mut bytes, &parts.iad);
+    put(&mut bytes, &parts.ac);
+    bytes
+}
