@@ -5,7 +5,7 @@ use Rattle.issuer_base.specs.declared.answer.Reply.{Reply}
 use Rattle.issuer_base.specs.declared.answer.Answer.{Answer}
 use Rattle.issuer_base.specs.declared.answer.Answer.TheVariants.{Fresh, Kept, Refused}
 use Rattle.issuer_base.specs.declared.answer.Refusal.{Refusal}
-use Rattle.issuer_base.specs.declared.answer.Refusal.TheVariants.{BadLine, Below, Taken, NoMemory}
+use Rattle.issuer_base.specs.declared.answer.Refusal.TheVariants.{BadLine, Below, Taken}
 use Rattle.issuer_base.specs.declared.entry.Entry.{Entry}
 use Rattle.issuer_base.specs.declared.entry.Entry.TheVariants.{Decided}
 use Rattle.card_history.specs.declared.decision.Asked.{Asked}
@@ -49,8 +49,6 @@ Answers shard reply_to before request (Refused (Below top)) after =
 Answers shard reply_to before request (Refused (Taken at place)) after =
     ((decision : Decision) × IsUsed (decided_for request before) request decision × (decision.place ≡ place) × (decision.request ≢ request))
     × (at ≡ shard) × (after ≡ before)
--- want of memory may come in place of a new record, and leaves the history
-Answers shard reply_to before request (Refused NoMemory) after = IsUnused (decided_for request before) request × (after ≡ before)
 -- no other answer is possible
 Answers shard reply_to before request _ after = ⊥
 
