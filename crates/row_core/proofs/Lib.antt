@@ -1,3 +1,3 @@
-pub mod UnusedCounters
+pub mod WindowLemmas
 pub mod RowLemmas
 pub mod PlanLemmas

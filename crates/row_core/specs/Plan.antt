@@ -7,8 +7,8 @@ use Rattle.issuer_base.specs.declared.answer.Refusal.TheVariants.{Below as IsBel
 use Rattle.issuer_base.specs.declared.entry.Entry.{Entry}
 use Rattle.issuer_base.specs.declared.entry.Entry.TheVariants.{Decided}
 use Rattle.card_history.specs.declared.decision.Decision.{Decision}
-use Rattle.card_history.specs.Records.{card_of, status_of}
-use Rattle.card_history.specs.Turns.{Answers}
+use Rattle.card_history.specs.Records.{card_of, decided, status_of}
+use Rattle.card_history.specs.Turns.{IsUnused, Answers}
 use Rattle.key_derive.specs.declared.card.CardKeys.{CardKeys}
 use Rattle.decision_table.specs.declared.row.TableRow.{TableRow}
 use Rattle.issuer_setup.specs.declared.card.CardInfo.{CardInfo}
@@ -43,7 +43,9 @@ IsPlan row keys table request place outcome =
     → Answers shard (λ history request. decided_reply card.method keys table (status_of (name_of card) history) request)
     history request (answer_of shard outcome) (history_after history outcome)
 
--- the decision is the next one of the row's card after this history
+-- the decision is the next one of the row's card after this history: it is of the card, it stands at the place after the last, and
+-- its counter is in the window and unused
 pub record IsNext (card : CardInfo) (history : List Entry) (decision : Decision) : Type 0 where
   pub of_card : card_of decision.request ≡ name_of card
   pub at_end : decision.place ≡ length history
+  pub unused : IsUnused (decided (name_of card) history) decision.request

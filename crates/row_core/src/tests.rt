@@ -5,7 +5,7 @@ use super::*;
 use arrayvec::ArrayVec;
 use decision_table::{Table, TableRow};
 use des_block::Key16;
-use issuer_base::{Method, NoMemory, Pan, Parts, Reply, Request};
+use issuer_base::{Method, Pan, Parts, Reply, Request};
 use key_derive::CardKeys;
 use std::alloc::{AllocError, Global};
 use std::test::Fail;
@@ -86,14 +86,7 @@ fn keep(row: &mut Row, table: &Table, counter: u16, place: u64) -> Result<(), Fa
     let Outcome::Fresh(_, step) = row.plan(&keys(), table, &asked, place) else {
         return Err(Fail::from("a request that isn't fresh"));
     };
-    keep_step(row, step)
-}
-
-fn keep_step(row: &mut Row, step: Step) -> Result<(), Fail> {
-    match row.reserve() {
-        Ok(()) => row.apply(step),
-        Err(NoMemory) => return Err(Fail::from("memory")),
-    }
+    row.apply(step);
     Ok(())
 }
 
@@ -191,7 +184,7 @@ fn gives_the_kept_reply_again(rt: HostRuntime) -> Result<(), Fail> {
     let Outcome::Fresh(given, step) = row.plan(&keys(), &approving, &asked, 3) else {
         return Err(Fail::from("a request that isn't fresh"));
     };
-    keep_step(&mut row, step)?;
+    row.apply(step);
     for (name, table) in [
         ("the same table", &approving),
         ("another table", &declining),
@@ -201,6 +194,21 @@ fn gives_the_kept_reply_again(rt: HostRuntime) -> Result<(), Fail> {
         };
         assert!(rt; reply.is_same(&given), "{name}");
         assert_eq!(rt; place, 3, "{name}");
+    }
+    Ok(())
+}
+
+#[test]
+fn keeps_the_window_of_three_hundred_decisions(rt: HostRuntime) -> Result<(), Fail> {
+    let table = table(&[OTHERWISE])?;
+    let mut row = Row::new(rt.alloc(), Method::One).map_err(|_| "memory")?;
+    for counter in 0..300 {
+        keep(&mut row, &table, counter, u64::from(counter))?;
+    }
+    for (counter, expected) in [(235, "below 299"), (236, "kept 236"), (299, "kept 299")] {
+        let asked = request(counter, 1).ok_or("a request")?;
+        let planned = told(rt.alloc(), row.plan(&keys(), &table, &asked, 300))?;
+        assert_eq!(rt; planned.as_str(), expected, "{counter}");
     }
     Ok(())
 }
