@@ -6,17 +6,13 @@ use Rattle.issuer_base.specs.declared.answer.Method.TheVariants.{One, Two}
 use Rattle.des_block.specs.Cipher.{tdes_encipher}
 use Rattle.des_block.proofs.Laws.{length-des_encipher}
 use Rattle.retail_mac.specs.Mac.{retail_mac}
+use Rattle.retail_mac.proofs.Blocks.{length-retail_mac}
 use Rattle.arpc_methods.specs.Arpc.{method1, method2, value91}
 
 -- method 1 gives eight bytes
 pub length-method1 : (sk ac arc : List ℕ) → length (method1 sk ac arc) ≡ 8
 unfolding method1 tdes_encipher
 length-method1 sk ac arc = length-des_encipher _ _
-
--- a retail MAC has eight bytes
-pub length-retail_mac : (key text : List ℕ) → length (retail_mac key text) ≡ 8
-unfolding retail_mac
-length-retail_mac key text = length-des_encipher _ _
 
 -- method 2 gives four bytes
 pub length-method2 : (sk ac csu : List ℕ) → length (method2 sk ac csu) ≡ 4

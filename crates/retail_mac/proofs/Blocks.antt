@@ -6,10 +6,10 @@ use Rattle.std.proofs.lemmas.List.{get_or_past, drop_more, drop-append-le, take-
 use Rattle.std.proofs.lemmas.Nat.{xor_shr, xor_mod}
 use Rattle.std.proofs.lemmas.Bool.{cases_lt}
 use Rattle.std.specs.Int.{from_be_bytes, to_be_bytes}
-use Rattle.des_block.proofs.Laws.{word_bytes-from_be_bytes}
+use Rattle.des_block.proofs.Laws.{length-des_encipher, word_bytes-from_be_bytes}
 use borrow.Rule.Slice.PartMut.{put_mid}
 use Rattle.des_block.specs.Cipher.{word_bytes, tdes_encipher}
-use Rattle.retail_mac.specs.Mac.{padded, blocks, padded_blocks, xor_bytes, zero_block, cbc_from, cbc}
+use Rattle.retail_mac.specs.Mac.{padded, blocks, padded_blocks, xor_bytes, zero_block, retail_mac, cbc_from, cbc}
 
 -- eight bytes of a text, one by one
 eight_at : (text : List ℕ) (at : ℕ) → at + 8 ≤ length text
@@ -97,6 +97,11 @@ last_word_is rest copied j w short small ej same e =
     omega (arith, length-append rest (128 ∷ replicate (7 - n) 0), length-replicate {A = ℕ} (7 - n) 0) in
     word_bytes-from_be_bytes (rest ++ 128 ∷ replicate (7 - n) 0) w whole (end_small rest (7 - n) small)
     (e ∙ ap (from_be_bytes w64) (ap (λ bytes. set (put_mid 0 j (replicate 8 0) bytes) n 128) same ∙ last_block rest n j refl ej short))
+
+-- a MAC has eight bytes
+pub length-retail_mac : (key text : List ℕ) → length (retail_mac key text) ≡ 8
+unfolding retail_mac
+length-retail_mac key text = length-des_encipher _ _
 
 pub length-padded : (text : List ℕ) → length (padded text) ≡ 8 * (length text / 8) + 8
 unfolding padded

@@ -1,0 +1,5 @@
+use Rattle.secure_msg.proofs.Opening.{opened_command-AreSealed, AreSealed-opened_command}
+use Rattle.secure_msg.proofs.sealing.only_sealed_commands_open.Goals as goal
+
+pub returns : goal.returns
+returns c = record { opens = opened_command-AreSealed; only = AreSealed-opened_command }

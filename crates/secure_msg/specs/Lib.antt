@@ -1,0 +1,3 @@
+pub mod Commands
+pub mod Sealing
+pub mod Batch

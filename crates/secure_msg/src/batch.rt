@@ -1,0 +1,112 @@
+//! The template that carries a batch of sealed commands.
+
+ghost use Rattle.std.specs.Prelude.{◌≡◌, ℕ, ◌+◌, ◌≤◌, ◌↔◌, List, [], ◌++◌, length, fold, sum_by, IsTrue};
+ghost use Rattle.std.specs.List.{flat_map};
+ghost use Rattle.retail_mac.specs.Run.{IsRun};
+ghost use Rattle.tlv_objects.specs.Writing.{is_tag_number, object_text};
+ghost use Rattle.secure_msg.specs.Sealing.{command_mac};
+ghost use Rattle.secure_msg.specs.Batch.{sealed_commands, command_room, IsBatch, template_bytes};
+
+use crate::reading::is_command;
+use crate::sealing::seal_in;
+use arrayvec::ArrayVec;
+use des_block::Key16;
+use issuer_base::{Command, MAX_TEMPLATE_BYTES};
+use retail_mac::MacRun;
+use tlv_objects::{ROOM, put};
+
+/// The tag of an issuer script template whose commands a card runs after its last cryptogram.
+const SCRIPT_TEMPLATE: u32 = 0x72;
+
+/// The tag of the script's identifier: here the number of its first command in the card's queue.
+const SCRIPT_IDENTIFIER: u32 = 0x9F18;
+
+/// The tag of a script command.
+const SCRIPT_COMMAND: u32 = 0x86;
+
+/// How many bytes a template takes beside its commands: its tag and length, and the object with the first number.
+const BARE_TEMPLATE_BYTES: usize = 9;
+
+/// How many bytes a command takes in a template beside its data: tag and length, five before the data, and the MAC.
+const BARE_COMMAND_BYTES: usize = 15;
+
+/// The bytes of a script template.
+pub type Template = ArrayVec<u8, MAX_TEMPLATE_BYTES>;
+
+/// Whether one template carries these commands, which is the condition of `template`: there is one, each is a command of the
+/// host, and they fit.
+pub fn is_batch(commands: &[Command]) -> bool
+    ensures { IsTrue result ↔ IsBatch commands.now }
+{
+    let mut room = BARE_TEMPLATE_BYTES;
+    for command in commands {
+        room += BARE_COMMAND_BYTES + command.body.len();
+        if !is_command(command) || room > MAX_TEMPLATE_BYTES {
+            return false;
+        }
+    }
+    !commands.is_empty()
+}
+
+/// The template of a batch for the card that made this application cryptogram. `first` is the number of the batch's first
+/// command in the card's queue. Sets up the key once, however many commands there are.
+pub fn template(key: &Key16, ac: &[u8; 8], first: u32, commands: &[Command]) -> Template
+    requires { IsBatch commands.now }
+    ensures { result.items ≡ template_bytes key.now.0 ac.now first commands.now }
+{
+    template_of(key, ac, first, commands, &[])
+}
+
+/// The template, as `template` gives it, of a batch that lies in two pieces, as in a ring.
+pub fn template_of(
+    key: &Key16,
+    ac: &[u8; 8],
+    first: u32,
+    front: &[Command],
+    back: &[Command],
+) -> Template
+    requires { IsBatch (front.now ++ back.now) }
+    ensures { result.items ≡ template_bytes key.now.0 ac.now first (front.now ++ back.now) }
+{
+    let mut run = MacRun::new(key);
+    let mut value = ArrayVec::new();
+    write(&mut value, SCRIPT_IDENTIFIER, &first.to_be_bytes());
+    let chain = write_sealed(&mut value, &mut run, *ac, front);
+    write_sealed(&mut value, &mut run, chain, back);
+    let mut bytes = ArrayVec::new();
+    write(&mut bytes, SCRIPT_TEMPLATE, value.as_slice());
+    let mut template = ArrayVec::new();
+    template.try_extend_from_slice(bytes.as_slice()).unwrap();
+    template
+}
+
+/// Writes an object for each command, sealed in a run that has taken nothing, and gives the chain behind them.
+fn write_sealed(
+    value: &mut ArrayVec<u8, ROOM>,
+    run: &mut MacRun,
+    mut chain: [u8; 8],
+    commands: &[Command],
+) -> [u8; 8]
+    requires { length value.old.items + sum_by command_room commands.now ≤ ROOM }
+    ensures written { (key : List ℕ) → IsRun run.old key [] → value.new.items
+        ≡ value.old.items ++ flat_map (object_text 0x86) (sealed_commands key chain commands.now) }
+    ensures chain { (key : List ℕ) → IsRun run.old key [] → result ≡ fold (command_mac key) chain commands.now }
+    ensures again { (key : List ℕ) → IsRun run.old key [] → IsRun run.new key [] }
+    ensures len { length value.new.items ≡ length value.old.items + sum_by command_room commands.now }
+{
+    for command in commands {
+        let (sealed, next) = seal_in(run, &chain, command);
+        write(value, SCRIPT_COMMAND, sealed.as_slice());
+        chain = next;
+    }
+    chain
+}
+
+/// Writes an object behind bytes that leave room for it.
+fn write(bytes: &mut ArrayVec<u8, ROOM>, tag: u32, value: &[u8])
+    requires tag { IsTrue (is_tag_number tag) }
+    requires room { length bytes.old.items + length (object_text tag value.now) ≤ ROOM }
+    ensures { bytes.new.items ≡ bytes.old.items ++ object_text tag value.now }
+{
+    put(bytes, tag, value).unwrap();
+}

@@ -1,0 +1,16 @@
+//! Script commands for a card under secure messaging: EMV 4.3 Book 2, section 9, in format 2.
+//!
+//! A command is sealed by a retail MAC over a chain of eight bytes and the command as it is sent. The first chain of a batch is the
+//! application cryptogram, and each later one the MAC of the command before it: the chain is this project's profile. No call takes
+//! memory.
+#![tactic(auto)]
+
+mod batch;
+mod reading;
+mod sealing;
+#[cfg(test)]
+mod tests;
+
+pub use batch::{Template, is_batch, template, template_of};
+pub use reading::{commands_have_one_text, read_command};
+pub use sealing::{MAX_SEALED_BYTES, SealedCommand, only_sealed_commands_open, seal, unseal};

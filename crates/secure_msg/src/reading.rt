@@ -1,0 +1,61 @@
+//! The command that bytes are, before it is sealed.
+
+ghost use Rattle.std.specs.Prelude.{◌≡◌, ℕ, ◌↔◌, List, Some, IfOk, OnErr, IsTrue};
+ghost use Rattle.std.specs.Result.{result_ok};
+ghost use Rattle.issuer_base.specs.declared.command.Command.{Command};
+ghost use Rattle.issuer_base.specs.ScriptCommand.{is_command};
+ghost use Rattle.secure_msg.specs.Commands.{if_allowed, command_of, AreBytesOf};
+
+use arrayvec::ArrayVec;
+use issuer_base::{BadCommand, Command};
+
+/// The class byte's low nibble under secure messaging of the host's format: EMV 4.3 Book 3, section 6.3.2.
+const SECURE_MESSAGING: u8 = 0x04;
+
+/// The instructions of card block, application unblock, application block, PIN change or unblock, put data and update record.
+const INSTRUCTIONS: [u8; 6] = [0x16, 0x18, 0x1E, 0x24, 0xDA, 0xDC];
+
+/// Reads a command of the host: class, instruction, two parameters and the data, without their length. Other bytes are a
+/// `BadCommand`.
+#[tactic(auto, unfolding(crate::specs::Commands::command_of))]
+pub fn read_command(bytes: &[u8]) -> Result<Command, BadCommand>
+    ensures exact { result_ok result ≡ command_of bytes.now }
+    ensures spelled { IfOk result (AreBytesOf bytes.now) }
+    ensures refused { OnErr result ((command : Command) → ¬ AreBytesOf bytes.now command) }
+{
+    let [cla, ins, p1, p2, body @ ..] = bytes else {
+        return Err(BadCommand);
+    };
+    command_with(*cla, *ins, *p1, *p2, body).ok_or(BadCommand)
+}
+
+/// The command of these parts, if the host has such a command.
+pub(crate) fn command_with(cla: u8, ins: u8, p1: u8, p2: u8, data: &[u8]) -> Option<Command>
+    ensures { result ≡ if_allowed (record { cla = cla; ins = ins; p1 = p1; p2 = p2; body = record { items = «data».now } }) }
+{
+    let mut body = ArrayVec::new();
+    body.try_extend_from_slice(data).ok()?;
+    let command = Command {
+        cla,
+        ins,
+        p1,
+        p2,
+        body,
+    };
+    if !is_command(&command) {
+        return None;
+    }
+    Some(command)
+}
+
+/// Whether the host has such a command.
+pub(crate) fn is_command(command: &Command) -> bool
+    ensures { result ≡ is_command command.now }
+{
+    command.cla & 0x0F == SECURE_MESSAGING && INSTRUCTIONS.contains(&command.ins)
+}
+
+/// Bytes are read as a command exactly where they are its bytes, it is one of the host's, and its data are not too long.
+pub fn commands_have_one_text()
+    ensures { (bytes : List ℕ) (command : Command) → (command_of bytes ≡ Some command) ↔ AreBytesOf bytes command }
+{}

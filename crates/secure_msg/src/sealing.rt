@@ -1,0 +1,103 @@
+//! Commands that are sealed at a chain, and sealed commands that are opened.
+
+ghost use Rattle.std.specs.Prelude.{◌≡◌, ℕ, ◌+◌, ◌≤◌, List, [], ◌∷◌, ◌++◌, length, Some, IfSome, IfNone, IsTrue};
+ghost use Rattle.issuer_base.specs.declared.command.Command.{Command};
+ghost use Rattle.issuer_base.specs.ScriptCommand.{is_command};
+ghost use Rattle.retail_mac.specs.Run.{IsRun};
+ghost use Rattle.secure_msg.specs.Commands.{command_of};
+ghost use Rattle.secure_msg.specs.Sealing.{sent_bytes, command_mac, sealed_command, unsealed_bytes, opened_command, AreSealed};
+
+use crate::reading::command_with;
+use arrayvec::ArrayVec;
+use des_block::Key16;
+use issuer_base::{Command, MAX_BODY_BYTES};
+use retail_mac::MacRun;
+
+/// How many bytes stand before the data of a command that is sent: class, instruction, two parameters and Lc.
+const HEADER_BYTES: usize = 5;
+
+/// How many bytes a MAC has.
+const MAC_BYTES: usize = 8;
+
+/// How many bytes a sealed command has at most.
+pub const MAX_SEALED_BYTES: usize = HEADER_BYTES + MAX_BODY_BYTES + MAC_BYTES;
+
+/// The bytes of a sealed command.
+pub type SealedCommand = ArrayVec<u8, MAX_SEALED_BYTES>;
+
+/// Seals a command at a chain, and gives the next chain beside it: the MAC that the sealed command ends with.
+pub fn seal(key: &Key16, chain: &[u8; 8], command: &Command) -> (SealedCommand, [u8; 8])
+    requires { IsTrue (is_command command.now) }
+    ensures sealed { result.0.items ≡ sealed_command key.now.0 chain.now command.now }
+    ensures next { result.1 ≡ command_mac key.now.0 chain.now command.now }
+{
+    seal_in(&mut MacRun::new(key), chain, command)
+}
+
+/// Seals a command in a run that has taken nothing, and leaves it so.
+pub(crate) fn seal_in(
+    run: &mut MacRun,
+    chain: &[u8; 8],
+    command: &Command,
+) -> (SealedCommand, [u8; 8])
+    ensures sealed { (key : List ℕ) → IsRun run.old key [] → result.0.items ≡ sealed_command key chain.now command.now }
+    ensures next { (key : List ℕ) → IsRun run.old key [] → result.1 ≡ command_mac key chain.now command.now }
+    ensures again { (key : List ℕ) → IsRun run.old key [] → IsRun run.new key [] }
+    ensures len { length result.0.items ≡ 13 + length command.now.body.items }
+{
+    let mut sealed = sent(command);
+    run.update(chain);
+    run.update(sealed.as_slice());
+    let mac = run.take();
+    sealed.try_extend_from_slice(&mac).unwrap();
+    (sealed, mac)
+}
+
+/// The command as it is sent, up to its MAC.
+fn sent(command: &Command) -> SealedCommand
+    ensures exact { result.items ≡ sent_bytes command.now }
+    ensures within { length command.now.body.items ≤ MAX_BODY_BYTES }
+{
+    let body = command.body.as_slice();
+    let lc = (body.len() + MAC_BYTES) as u8;
+    let mut sent = ArrayVec::new();
+    let header = [command.cla, command.ins, command.p1, command.p2, lc];
+    sent.try_extend_from_slice(&header).unwrap();
+    sent.try_extend_from_slice(body).unwrap();
+    sent
+}
+
+/// Opens a sealed command at a chain, and gives the next chain beside it. None where these bytes are no command of the host
+/// that was sealed at this chain.
+pub fn unseal(key: &Key16, chain: &[u8; 8], bytes: &[u8]) -> Option<(Command, [u8; 8])>
+    ensures exact { result ≡ opened_command key.now.0 chain.now bytes.now }
+    ensures sealed { IfSome result (λ found. AreSealed key.now.0 chain.now bytes.now found.0 found.1) }
+    ensures refused { IfNone result ((command : Command) (next : List ℕ) → ¬ AreSealed key.now.0 chain.now bytes.now command next) }
+{
+    let command = unsealed(bytes)?;
+    let (sealed, next) = seal(key, chain, &command);
+    if sealed.as_slice() != bytes {
+        return None;
+    }
+    Some((command, next))
+}
+
+/// The command of the bytes without Lc and MAC, whatever these are.
+#[tactic(auto, unfolding(crate::specs::Commands::command_of))]
+fn unsealed(bytes: &[u8]) -> Option<Command>
+    ensures { result ≡ command_of (unsealed_bytes bytes.now) }
+{
+    let [cla, ins, p1, p2, _, rest @ ..] = bytes else {
+        return None;
+    };
+    let body = &rest[..rest.len().saturating_sub(MAC_BYTES)];
+    command_with(*cla, *ins, *p1, *p2, body)
+}
+
+/// What a command is sealed to at a chain opens there to that command and the next chain, and nothing else opens there.
+pub fn only_sealed_commands_open()
+    ensures opens { (key chain bytes next : List ℕ) (command : Command)
+        → AreSealed key chain bytes command next → opened_command key chain bytes ≡ Some (command, next) }
+    ensures only { (key chain bytes next : List ℕ) (command : Command)
+        → opened_command key chain bytes ≡ Some (command, next) → AreSealed key chain bytes command next }
+{}
