@@ -1,5 +1,7 @@
 -- What the crate `hex` decodes is what the definition of a line's chip data says.
-use Rattle.std.proofs.Common.{◌≡◌, ℕ, suc, ◌+◌, ◌*◌, ◌/◌, ◌%◌, ◌<◌, ◌≤◌, ◌⊎◌, inl, inr, Bool, true, false, List, [], ◌∷◌, length, Option, Some, None, Result, Ok, Err, MatchResult, option_and_then, refl, sym, ap, ◌∙◌, arith, ◌==◌, ◌++◌, take, drop, leb, eqb-true, eq-eqb, le-leb}
+use Rattle.std.proofs.Common.{◌≡◌, ℕ, suc, ◌+◌, ◌*◌, ◌/◌, ◌%◌, ◌<◌, ◌≤◌, ◌⊎◌, inl, inr, Bool, true, false, List, [], ◌∷◌, length, Option, Some, None}
+use Rattle.std.proofs.Common.{Result, Ok, Err, MatchResult, option_and_then, refl, sym, ap, ◌∙◌, arith, ◌==◌, ◌++◌, take, drop, leb, eqb-true, eq-eqb}
+use Rattle.std.proofs.Common.{le-leb}
 use borrow.Author.Tests.{lt-leb}
 use Rattle.std.proofs.Math.Bool.{and-false}
 use Rattle.std.proofs.Math.Seq.{take-append_seam}
@@ -9,7 +11,11 @@ use Rattle.hex.specs.Hex.{hex_digit_value, digit_or_error, decode_pairs, decode_
 use Rattle.chip_request.specs.Ask.{pairs, within_line, data_bytes}
 
 -- one pair in front of others, by either definition
-pair_either : (high low i j : ℕ) (h l : Option ℕ) (rest : Result (List ℕ) FromHexError) → result_ok (((digit_or_error high i h) >>= (λ x. (digit_or_error low j l) >>= (λ y. Ok (x * 16 + y)))) >>= (λ byte. rest >>= (λ bytes. Ok (byte ∷ bytes)))) ≡ option_and_then (λ x. option_and_then (λ y. option_and_then (λ bytes. Some ((x * 16 + y) ∷ bytes)) (result_ok rest)) l) h
+pair_either : (high low i j : ℕ) (h l : Option ℕ) (rest : Result (List ℕ) FromHexError)
+    → result_ok
+    (((digit_or_error high i h) >>= (λ x. (digit_or_error low j l) >>= (λ y. Ok (x * 16 + y)))) >>=
+    (λ byte. rest >>= (λ bytes. Ok (byte ∷ bytes)))) ≡ option_and_then
+    (λ x. option_and_then (λ y. option_and_then (λ bytes. Some ((x * 16 + y) ∷ bytes)) (result_ok rest)) l) h
 pair_either high low i j None l rest = refl
 pair_either high low i j (Some x) None rest = refl
 pair_either high low i j (Some x) (Some y) (Ok bytes) = refl
@@ -22,9 +28,13 @@ result_ok-decode_pairs i [] = refl
 result_ok-decode_pairs i (digit ∷ []) = refl
 result_ok-decode_pairs i (high ∷ low ∷ rest) =
     pair_either high low i (i + 1) (hex_digit_value high) (hex_digit_value low) (decode_pairs (i + 2) rest)
-    ∙ ap (λ (others : Option (List ℕ)). option_and_then (λ x. option_and_then (λ y. option_and_then (λ bytes. Some ((x * 16 + y) ∷ bytes)) others) (hex_digit_value low)) (hex_digit_value high)) (result_ok-decode_pairs (i + 2) rest)
+    ∙ ap (λ (others : Option (List ℕ)). option_and_then
+    (λ x. option_and_then (λ y. option_and_then (λ bytes. Some ((x * 16 + y) ∷ bytes)) others) (hex_digit_value low))
+    (hex_digit_value high)) (result_ok-decode_pairs (i + 2) rest)
 
-length_either : (h l : Option ℕ) (others : Option (List ℕ)) (bytes : List ℕ) → option_and_then (λ x. option_and_then (λ y. option_and_then (λ bytes. Some ((x * 16 + y) ∷ bytes)) others) l) h ≡ Some bytes → (rest : List ℕ) × (others ≡ Some rest) × (length bytes ≡ suc (length rest))
+length_either : (h l : Option ℕ) (others : Option (List ℕ)) (bytes : List ℕ)
+    → option_and_then (λ x. option_and_then (λ y. option_and_then (λ bytes. Some ((x * 16 + y) ∷ bytes)) others) l) h ≡ Some bytes
+    → (rest : List ℕ) × (others ≡ Some rest) × (length bytes ≡ suc (length rest))
 length_either None l others bytes h = absurd cc
 length_either (Some x) None others bytes h = absurd cc
 length_either (Some x) (Some y) None bytes h = absurd cc
@@ -53,15 +63,18 @@ result_ok-decode_sized text = sized_either (length text % 2 == 1) refl
     sized_either false even = rw (even, eq-eqb (length text / 2) (length text / 2) refl) (result_ok-decode_pairs 0 text)
 
 -- what a call that decodes and answers left
-decoded : (r : Result (List ℕ) FromHexError) (result : Result (Unit {0}) FromHexError) (new : List ℕ) → MatchResult r (λ bytes. (result ≡ Ok tt) × (new ≡ bytes)) (λ e. result ≡ Err e) → (u : Unit {0}) → result_ok result ≡ Some u → result_ok r ≡ Some new
+decoded : (r : Result (List ℕ) FromHexError) (result : Result (Unit {0}) FromHexError) (new : List ℕ)
+    → MatchResult r (λ bytes. (result ≡ Ok tt) × (new ≡ bytes)) (λ e. result ≡ Err e) → (u : Unit {0}) → result_ok result ≡ Some u → result_ok r ≡ Some new
 decoded (Ok bytes) result new h u ok = ap Some (sym h.1)
 decoded (Err e) result new h u ok = let none : None ≡ Some u = sym (ap result_ok h) ∙ ok in absurd cc
 
-undecoded : (r : Result (List ℕ) FromHexError) (result : Result (Unit {0}) FromHexError) (new : List ℕ) → MatchResult r (λ bytes. (result ≡ Ok tt) × (new ≡ bytes)) (λ e. result ≡ Err e) → result_ok result ≡ None → result_ok r ≡ None
+undecoded : (r : Result (List ℕ) FromHexError) (result : Result (Unit {0}) FromHexError) (new : List ℕ)
+    → MatchResult r (λ bytes. (result ≡ Ok tt) × (new ≡ bytes)) (λ e. result ≡ Err e) → result_ok result ≡ None → result_ok r ≡ None
 undecoded (Ok bytes) result new h none = let some : Some tt ≡ None = sym (ap result_ok h.0) ∙ none in absurd cc
 undecoded (Err e) result new h none = refl
 
-within_either : (text : List ℕ) (found : Option (List ℕ)) → pairs text ≡ found → (length text / 2 < 1) ⊎ (1024 < length text / 2) → option_and_then within_line found ≡ None
+within_either : (text : List ℕ) (found : Option (List ℕ)) → pairs text ≡ found → (length text / 2 < 1) ⊎ (1024 < length text / 2)
+    → option_and_then within_line found ≡ None
 within_either text None h outside = refl
 within_either text (Some bytes) h outside =
     let half : length text / 2 ≡ length bytes = omega (arith, length-pairs text bytes h) in
@@ -83,13 +96,22 @@ inside_line text bytes low high h =
     rw (h, some, few) refl
 
 -- room for half as many bytes as there are digits, when it is decoded into
-pub decoded_data : (text room new : List ℕ) (result : Result (Unit {0}) FromHexError) (u : Unit {0}) → 1 ≤ length text / 2 → length text / 2 ≤ 1024 → length room ≡ length text / 2 → MatchResult (decode_sized text (length room)) (λ bytes. (result ≡ Ok tt) × (new ≡ bytes)) (λ e. result ≡ Err e) → result_ok result ≡ Some u → data_bytes text ≡ Some new
+pub decoded_data : (text room new : List ℕ) (result : Result (Unit {0}) FromHexError) (u : Unit {0}) → 1 ≤ length text / 2
+    → length text / 2 ≤ 1024 → length room ≡ length text / 2
+    → MatchResult (decode_sized text (length room)) (λ bytes. (result ≡ Ok tt) × (new ≡ bytes)) (λ e. result ≡ Err e)
+    → result_ok result ≡ Some u → data_bytes text ≡ Some new
 decoded_data text room new result u low high sized h ok =
-    inside_line text new low high (sym (result_ok-decode_sized text) ∙ ap (λ (n : ℕ). result_ok (decode_sized text n)) (sym sized) ∙ decoded (decode_sized text (length room)) result new h u ok)
+    inside_line text new low high
+    (sym (result_ok-decode_sized text) ∙ ap (λ (n : ℕ). result_ok (decode_sized text n)) (sym sized)
+    ∙ decoded (decode_sized text (length room)) result new h u ok)
 
-pub undecoded_data : (text room new : List ℕ) (result : Result (Unit {0}) FromHexError) → length room ≡ length text / 2 → MatchResult (decode_sized text (length room)) (λ bytes. (result ≡ Ok tt) × (new ≡ bytes)) (λ e. result ≡ Err e) → result_ok result ≡ None → data_bytes text ≡ None
+pub undecoded_data : (text room new : List ℕ) (result : Result (Unit {0}) FromHexError) → length room ≡ length text / 2
+    → MatchResult (decode_sized text (length room)) (λ bytes. (result ≡ Ok tt) × (new ≡ bytes)) (λ e. result ≡ Err e)
+    → result_ok result ≡ None → data_bytes text ≡ None
 undecoded_data text room new result sized h none =
-    let spelled : pairs text ≡ None = sym (result_ok-decode_sized text) ∙ ap (λ (n : ℕ). result_ok (decode_sized text n)) (sym sized) ∙ undecoded (decode_sized text (length room)) result new h none in
+    let spelled : pairs text ≡ None =
+    sym (result_ok-decode_sized text) ∙ ap (λ (n : ℕ). result_ok (decode_sized text n)) (sym sized)
+    ∙ undecoded (decode_sized text (length room)) result new h none in
     rw spelled refl
 
 -- all of the room is written

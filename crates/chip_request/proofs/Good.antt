@@ -1,11 +1,13 @@
 -- Objects with which nothing is wrong make a request.
-use Rattle.std.proofs.Common.{◌≡◌, ℕ, ◌==◌, Bool, true, false, not, cond, List, [], ◌∷◌, length, replicate, Option, Some, None, option_and_then, refl, ◌∙◌, slice_index}
+use Rattle.std.proofs.Common.{◌≡◌, ℕ, ◌==◌, Bool, true, false, not, cond, List, [], ◌∷◌, length, replicate, Option, Some, None, option_and_then, refl}
+use Rattle.std.proofs.Common.{◌∙◌, slice_index}
 use Rattle.std.proofs.lemmas.Bool.{and_parts}
 use Rattle.std.specs.List.{list_all}
 use Rattle.tlv_objects.specs.Tlv.{TlvObject}
 use Rattle.issuer_base.specs.ChipData.{is_bcd, has_profile, is_request, request_from}
 use Rattle.issuer_base.proofs.ChipDataLemmas.{request_from-valid}
-use Rattle.chip_request.specs.Fields.{Field, fields, has_bytes, has_decimal_bytes, has_account_number, has_application_data, leading_digits, required, optional}
+use Rattle.chip_request.specs.Fields.{Field, fields, has_bytes, has_decimal_bytes, has_account_number, has_application_data, leading_digits, required}
+use Rattle.chip_request.specs.Fields.{optional}
 use Rattle.chip_request.specs.Forms.{account_number_in}
 use Rattle.chip_request.specs.Reading.{values_of, is_missing, is_misformed, first_wrong, first_or, parts_of}
 use Rattle.chip_request.proofs.Found.{first_of, all_found}
@@ -33,7 +35,8 @@ unfolding IsGood
 good_field field [] present formed = present
 good_field field (value ∷ values) present formed = not_false (field.has_form value) formed
 
-are_good : (fs : List Field) (objects : List TlvObject) → first_wrong is_missing objects fs ≡ None → first_wrong is_misformed objects fs ≡ None → AreGood fs objects
+are_good : (fs : List Field) (objects : List TlvObject) → first_wrong is_missing objects fs ≡ None
+    → first_wrong is_misformed objects fs ≡ None → AreGood fs objects
 unfolding first_wrong AreGood
 are_good [] objects present formed = tt
 are_good (field ∷ fs) objects present formed =
@@ -48,12 +51,14 @@ unfolding IsGood
 sized_bytes tag count [] good = absurd cc
 sized_bytes tag count (value ∷ values) good = rw good refl
 
-sized_optional : (tag count : ℕ) (values : List (List ℕ)) → IsGood (optional tag (has_bytes count)) values → sized count (first_of values) ≡ first_or (replicate count 0) values
+sized_optional : (tag count : ℕ) (values : List (List ℕ)) → IsGood (optional tag (has_bytes count)) values
+    → sized count (first_of values) ≡ first_or (replicate count 0) values
 unfolding IsGood
 sized_optional tag count [] good = refl
 sized_optional tag count (value ∷ values) good = rw good refl
 
-sized_decimal : (tag count : ℕ) (values : List (List ℕ)) → IsGood (required tag (has_decimal_bytes count)) values → sized count (first_of values) ≡ first_or [] values
+sized_decimal : (tag count : ℕ) (values : List (List ℕ)) → IsGood (required tag (has_decimal_bytes count)) values
+    → sized count (first_of values) ≡ first_or [] values
 unfolding IsGood
 sized_decimal tag count [] good = absurd cc
 sized_decimal tag count (value ∷ values) good =
@@ -68,7 +73,8 @@ sized_data tag (value ∷ values) good =
     rw (both.0) refl
 
 -- an absent sequence number is 0
-sized_number : (tag : ℕ) (values : List (List ℕ)) → IsGood (optional tag (has_decimal_bytes 1)) values → slice_index (sized 1 (first_of values)) 0 ≡ slice_index (first_or [] values) 0
+sized_number : (tag : ℕ) (values : List (List ℕ)) → IsGood (optional tag (has_decimal_bytes 1)) values
+    → slice_index (sized 1 (first_of values)) 0 ≡ slice_index (first_or [] values) 0
 unfolding IsGood
 sized_number tag [] good = refl
 sized_number tag (value ∷ values) good =
@@ -83,7 +89,8 @@ decimal_number tag ((byte ∷ value) ∷ values) good =
     let both : (length (byte ∷ value) == 1 ≡ true) × (list_all is_bcd (byte ∷ value) ≡ true) = and_parts _ _ good in
     (and_parts _ _ both.1).0
 
-decimal_amount : (tag count : ℕ) (values : List (List ℕ)) → IsGood (required tag (has_decimal_bytes count)) values → list_all is_bcd (first_or [] values) ≡ true
+decimal_amount : (tag count : ℕ) (values : List (List ℕ)) → IsGood (required tag (has_decimal_bytes count)) values
+    → list_all is_bcd (first_or [] values) ≡ true
 unfolding IsGood
 decimal_amount tag count [] good = refl
 decimal_amount tag count (value ∷ values) good =
@@ -97,7 +104,8 @@ profile_data tag (value ∷ values) good =
     let both : (length value == 32 ≡ true) × (has_profile value ≡ true) = and_parts _ _ good in
     both.1
 
-account_found : (tag : ℕ) (values : List (List ℕ)) → IsGood (required tag has_account_number) values → option_and_then account_number_in (first_of values) ≡ Some (leading_digits (first_or [] values))
+account_found : (tag : ℕ) (values : List (List ℕ)) → IsGood (required tag has_account_number) values
+    → option_and_then account_number_in (first_of values) ≡ Some (leading_digits (first_or [] values))
 unfolding IsGood
 account_found tag [] good = absurd cc
 account_found tag (value ∷ values) good = rw good refl
@@ -149,7 +157,8 @@ good_parts objects good =
     rw (number, amount, profile) refl
 
 -- where no field is missing and none is misformed, what was found makes the request that the objects say
-pub finds_request : (objects : List TlvObject) → first_wrong is_missing objects fields ≡ None → first_wrong is_misformed objects fields ≡ None → request_in (all_found objects) ≡ Some (parts_of objects)
+pub finds_request : (objects : List TlvObject) → first_wrong is_missing objects fields ≡ None
+    → first_wrong is_misformed objects fields ≡ None → request_in (all_found objects) ≡ Some (parts_of objects)
 finds_request objects present formed =
     let good = are_good fields objects present formed in
     good_request objects good ∙ request_from-valid (parts_of objects) (good_parts objects good)

@@ -3,3 +3,9 @@ pub mod Found
 pub mod Meaning
 pub mod Good
 pub mod Digits
+pub mod LoopsOfParts
+pub mod Readings
+pub mod DataReading
+pub mod CardReading
+pub mod LineForms
+pub mod LineLaws

@@ -15,7 +15,8 @@ after : Found → List (List ℕ) → Found
 after found [] = found
 after found (value ∷ values) = after (with_value found value) values
 
-after_two : (field : Field) (first : List ℕ) (values : List (List ℕ)) → after (record { field = field; first = Some first; is_repeated = true }) values ≡ record { field = field; first = Some first; is_repeated = true }
+after_two : (field : Field) (first : List ℕ) (values : List (List ℕ))
+    → after (record { field = field; first = Some first; is_repeated = true }) values ≡ record { field = field; first = Some first; is_repeated = true }
 unfolding after
 after_two field first [] = refl
 after_two field first (value ∷ values) = after_two field first values
@@ -42,15 +43,18 @@ tag_of-with_object object found = with_either (found.field.tag == object.tag) fo
     with_either false found value = refl
 
 -- one slot takes the values of its field
-after_either : (is : Bool) (found : Found) (value : List ℕ) (values : List (List ℕ)) → after (cond is (with_value found value) found) values ≡ after found (cond is (value ∷ values) values)
+after_either : (is : Bool) (found : Found) (value : List ℕ) (values : List (List ℕ))
+    → after (cond is (with_value found value) found) values ≡ after found (cond is (value ∷ values) values)
 unfolding after
 after_either true found value values = refl
 after_either false found value values = refl
 
-after_object : (found : Found) (object : TlvObject) (objects : List TlvObject) → after (with_object object found) (values_of (with_object object found).field.tag objects) ≡ after found (values_of found.field.tag (object ∷ objects))
+after_object : (found : Found) (object : TlvObject) (objects : List TlvObject)
+    → after (with_object object found) (values_of (with_object object found).field.tag objects) ≡ after found (values_of found.field.tag (object ∷ objects))
 unfolding values_of
 after_object found object objects =
-    ap (λ (tag : ℕ). after (with_object object found) (values_of tag objects)) (tag_of-with_object object found) ∙ after_either (found.field.tag == object.tag) found object.value (values_of found.field.tag objects)
+    ap (λ (tag : ℕ). after (with_object object found) (values_of tag objects)) (tag_of-with_object object found)
+    ∙ after_either (found.field.tag == object.tag) found object.value (values_of found.field.tag objects)
 
 -- what was found, after more objects
 after_all : List TlvObject → Found → Found
@@ -60,7 +64,8 @@ after_none : (found : Found) → after_all [] found ≡ found
 unfolding after_all after values_of
 after_none found = refl
 
-after_one_more : (object : TlvObject) (objects : List TlvObject) (found : Found) → after_all objects (with_object object found) ≡ after_all (object ∷ objects) found
+after_one_more : (object : TlvObject) (objects : List TlvObject) (found : Found)
+    → after_all objects (with_object object found) ≡ after_all (object ∷ objects) found
 unfolding after_all
 after_one_more object objects found = after_object found object objects
 
@@ -80,15 +85,18 @@ map_twice f g (x ∷ xs) = ap (λ ys. g (f x) ∷ ys) (map_twice f g xs)
 after_objects : (objects : List TlvObject) (founds : List Found) → with_objects founds objects ≡ map (after_all objects) founds
 after_objects [] founds = sym (map_nothing (after_all []) after_none founds)
 after_objects (object ∷ objects) founds =
-    after_objects objects (map (with_object object) founds) ∙ map_twice (with_object object) (after_all objects) founds ∙ map_same (λ found. after_all objects (with_object object found)) (after_all (object ∷ objects)) (after_one_more object objects) founds
+    after_objects objects (map (with_object object) founds) ∙ map_twice (with_object object) (after_all objects) founds
+    ∙ map_same (λ found. after_all objects (with_object object found)) (after_all (object ∷ objects)) (after_one_more object objects) founds
 
 after_all_unfound : (objects : List TlvObject) (field : Field) → after_all objects (unfound field) ≡ found_of field (values_of field.tag objects)
 unfolding after_all
 after_all_unfound objects field = after_unfound field (values_of field.tag objects)
 
-after_all_fields : (objects : List TlvObject) (fs : List Field) → with_objects (map unfound fs) objects ≡ map (λ field. found_of field (values_of field.tag objects)) fs
+after_all_fields : (objects : List TlvObject) (fs : List Field)
+    → with_objects (map unfound fs) objects ≡ map (λ field. found_of field (values_of field.tag objects)) fs
 after_all_fields objects fs =
-    after_objects objects (map unfound fs) ∙ map_twice unfound (after_all objects) fs ∙ map_same (λ field. after_all objects (unfound field)) (λ field. found_of field (values_of field.tag objects)) (after_all_unfound objects) fs
+    after_objects objects (map unfound fs) ∙ map_twice unfound (after_all objects) fs
+    ∙ map_same (λ field. after_all objects (unfound field)) (λ field. found_of field (values_of field.tag objects)) (after_all_unfound objects) fs
 
 -- after all objects the slots hold what all values of the fields say
 pub with_objects-unfound : (objects : List TlvObject) → with_objects (map unfound fields) objects ≡ all_found objects
@@ -102,7 +110,10 @@ misformed_same : (field : Field) (values : List (List ℕ)) → is_wrong wrongs.
 misformed_same field [] = refl
 misformed_same field (value ∷ values) = refl
 
-first_wrong_same : (wrong : Wrong) (test : Field → List (List ℕ) → Bool) → ((field : Field) (values : List (List ℕ)) → is_wrong wrong (found_of field values) ≡ test field values) → (objects : List TlvObject) (fs : List Field) → first_wrong_found wrong (map (λ field. found_of field (values_of field.tag objects)) fs) ≡ first_wrong test objects fs
+first_wrong_same : (wrong : Wrong) (test : Field → List (List ℕ) → Bool)
+    → ((field : Field) (values : List (List ℕ)) → is_wrong wrong (found_of field values) ≡ test field values)
+    → (objects : List TlvObject) (fs : List Field)
+    → first_wrong_found wrong (map (λ field. found_of field (values_of field.tag objects)) fs) ≡ first_wrong test objects fs
 unfolding first_wrong_found first_wrong
 first_wrong_same wrong test same objects [] = refl
 first_wrong_same wrong test same objects (field ∷ fs) = rw (same field (values_of field.tag objects), first_wrong_same wrong test same objects fs) refl
@@ -122,39 +133,52 @@ pub refuses_torn : (bytes : List ℕ) (place : ℕ) → (objects_of bytes).torn 
 unfolding request_of
 refuses_torn bytes place torn = rw torn refl
 
-pub refuses_missing : (bytes : List ℕ) (tag : ℕ) → (objects_of bytes).torn ≡ None → first_wrong is_missing (objects_of bytes).objects fields ≡ Some tag → request_of bytes ≡ Err (Missing tag)
+pub refuses_missing : (bytes : List ℕ) (tag : ℕ) → (objects_of bytes).torn ≡ None
+    → first_wrong is_missing (objects_of bytes).objects fields ≡ Some tag → request_of bytes ≡ Err (Missing tag)
 unfolding request_of
 refuses_missing bytes tag whole missing = rw (whole, missing) refl
 
-pub refuses_misformed : (bytes : List ℕ) (tag : ℕ) → (objects_of bytes).torn ≡ None → first_wrong is_missing (objects_of bytes).objects fields ≡ None → first_wrong is_misformed (objects_of bytes).objects fields ≡ Some tag → request_of bytes ≡ Err (BadField tag)
+pub refuses_misformed : (bytes : List ℕ) (tag : ℕ) → (objects_of bytes).torn ≡ None
+    → first_wrong is_missing (objects_of bytes).objects fields ≡ None
+    → first_wrong is_misformed (objects_of bytes).objects fields ≡ Some tag → request_of bytes ≡ Err (BadField tag)
 unfolding request_of
 refuses_misformed bytes tag whole present misformed = rw (whole, present, misformed) refl
 
-pub refuses_repeated : (bytes : List ℕ) (tag : ℕ) → (objects_of bytes).torn ≡ None → first_wrong is_missing (objects_of bytes).objects fields ≡ None → first_wrong is_misformed (objects_of bytes).objects fields ≡ None → first_wrong is_repeated (objects_of bytes).objects fields ≡ Some tag → request_of bytes ≡ Err (Repeated tag)
+pub refuses_repeated : (bytes : List ℕ) (tag : ℕ) → (objects_of bytes).torn ≡ None
+    → first_wrong is_missing (objects_of bytes).objects fields ≡ None → first_wrong is_misformed (objects_of bytes).objects fields ≡ None
+    → first_wrong is_repeated (objects_of bytes).objects fields ≡ Some tag → request_of bytes ≡ Err (Repeated tag)
 unfolding request_of
 refuses_repeated bytes tag whole present formed repeated = rw (whole, present, formed, repeated) refl
 
-pub takes_request : (bytes : List ℕ) → (objects_of bytes).torn ≡ None → first_wrong is_missing (objects_of bytes).objects fields ≡ None → first_wrong is_misformed (objects_of bytes).objects fields ≡ None → first_wrong is_repeated (objects_of bytes).objects fields ≡ None → request_of bytes ≡ Ok (parts_of (objects_of bytes).objects)
+pub takes_request : (bytes : List ℕ) → (objects_of bytes).torn ≡ None → first_wrong is_missing (objects_of bytes).objects fields ≡ None
+    → first_wrong is_misformed (objects_of bytes).objects fields ≡ None → first_wrong is_repeated (objects_of bytes).objects fields ≡ None
+    → request_of bytes ≡ Ok (parts_of (objects_of bytes).objects)
 unfolding request_of
 takes_request bytes whole present formed once = rw (whole, present, formed, once) refl
 
 -- a walk over a whole text leaves in the slots what all its objects say
-pub walked : (bytes : List ℕ) (ahead : Ahead) (first last : List Found) → ahead ≡ record { bytes = bytes; at = 0 } → first ≡ map unfound fields → ((objects_ahead ahead).torn ≡ None) × (last ≡ with_objects first (objects_ahead ahead).objects) → ((objects_of bytes).torn ≡ None) × (last ≡ all_found (objects_of bytes).objects)
+pub walked : (bytes : List ℕ) (ahead : Ahead) (first last : List Found) → ahead ≡ record { bytes = bytes; at = 0 }
+    → first ≡ map unfound fields → ((objects_ahead ahead).torn ≡ None) × (last ≡ with_objects first (objects_ahead ahead).objects)
+    → ((objects_of bytes).torn ≡ None) × (last ≡ all_found (objects_of bytes).objects)
 walked bytes ahead first last begins empty ends = (
   ap (λ (ahead : Ahead). (objects_ahead ahead).torn) (sym begins) ∙ ends.0,
-  ends.1 ∙ ap (λ (founds : List Found). with_objects founds (objects_ahead ahead).objects) empty ∙ ap (λ (ahead : Ahead). with_objects (map unfound fields) (objects_ahead ahead).objects) begins ∙ with_objects-unfound (objects_of bytes).objects,
+  ends.1 ∙ ap (λ (founds : List Found). with_objects founds (objects_ahead ahead).objects) empty
+      ∙ ap (λ (ahead : Ahead). with_objects (map unfound fields) (objects_ahead ahead).objects) begins ∙ with_objects-unfound (objects_of bytes).objects,
 )
 
 -- what a look at the slots gives is what is wrong with the objects
-pub looked_missing : (objects : List TlvObject) (founds : List Found) (tag : Option ℕ) → founds ≡ all_found objects → tag ≡ first_wrong_found wrongs.Missing founds → first_wrong is_missing objects fields ≡ tag
+pub looked_missing : (objects : List TlvObject) (founds : List Found) (tag : Option ℕ) → founds ≡ all_found objects
+    → tag ≡ first_wrong_found wrongs.Missing founds → first_wrong is_missing objects fields ≡ tag
 looked_missing objects founds tag found looked =
     sym (looked ∙ ap (first_wrong_found wrongs.Missing) found ∙ first_wrong-missing objects)
 
-pub looked_misformed : (objects : List TlvObject) (founds : List Found) (tag : Option ℕ) → founds ≡ all_found objects → tag ≡ first_wrong_found wrongs.Misformed founds → first_wrong is_misformed objects fields ≡ tag
+pub looked_misformed : (objects : List TlvObject) (founds : List Found) (tag : Option ℕ) → founds ≡ all_found objects
+    → tag ≡ first_wrong_found wrongs.Misformed founds → first_wrong is_misformed objects fields ≡ tag
 looked_misformed objects founds tag found looked =
     sym (looked ∙ ap (first_wrong_found wrongs.Misformed) found ∙ first_wrong-misformed objects)
 
-pub looked_repeated : (objects : List TlvObject) (founds : List Found) (tag : Option ℕ) → founds ≡ all_found objects → tag ≡ first_wrong_found wrongs.Repeated founds → first_wrong is_repeated objects fields ≡ tag
+pub looked_repeated : (objects : List TlvObject) (founds : List Found) (tag : Option ℕ) → founds ≡ all_found objects
+    → tag ≡ first_wrong_found wrongs.Repeated founds → first_wrong is_repeated objects fields ≡ tag
 looked_repeated objects founds tag found looked =
     sym (looked ∙ ap (first_wrong_found wrongs.Repeated) found ∙ first_wrong-repeated objects)
 

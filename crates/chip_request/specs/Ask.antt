@@ -1,6 +1,7 @@
 -- The line that asks for a request's check: `A`, one space, and the request's chip data in hexadecimal.
 use Rattle.std.specs.Prelude.{ℕ, ◌*◌, ◌+◌, ◌&&◌, List, [], ◌∷◌, length, Option, Some, None, option_and_then, nat_le, ◌==◌, if◌then◌else◌}
 use Rattle.hex.specs.Hex.{hex_digit_value}
+use Rattle.issuer_base.specs.declared.limits.TheConstants.{MAX_CHIP_BYTES}
 
 infixl 10 ◌>>=◌
 abbrev pub ◌>>=◌ : {A B : Type 0} → Option A → (A → Option B) → Option B
@@ -18,7 +19,7 @@ pairs (high ∷ low ∷ rest) = do
 
 -- the bytes where there are 1 to 1,024
 abbrev pub within_line : List ℕ → Option (List ℕ)
-within_line bytes = if nat_le 1 (length bytes) && nat_le (length bytes) 1024 then Some bytes else None
+within_line bytes = if nat_le 1 (length bytes) && nat_le (length bytes) MAX_CHIP_BYTES then Some bytes else None
 
 -- what stands behind `A` and one space
 unfoldable pub ask_digits : List ℕ → Option (List ℕ)

@@ -4,3 +4,5 @@ pub mod Reading
 pub mod Slots
 pub mod SlotViews
 pub mod Ask
+pub mod Lines
+pub mod LineParts

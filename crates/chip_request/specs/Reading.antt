@@ -1,5 +1,6 @@
 -- The request that chip data say, or the first thing that is wrong with them.
-use Rattle.std.specs.Prelude.{ℕ, ◌+◌, ◌*◌, Bool, true, false, not, List, [], ◌∷◌, replicate, slice_index, Option, Some, None, Result, Ok, Err, ◌==◌, if◌then◌else◌}
+use Rattle.std.specs.Prelude.{ℕ, ◌+◌, ◌*◌, Bool, true, false, not, List, [], ◌∷◌, replicate, slice_index, Option, Some, None, Result, Ok, Err, ◌==◌}
+use Rattle.std.specs.Prelude.{if◌then◌else◌}
 use Rattle.tlv_objects.specs.Tlv.{TlvObject, objects_of}
 use Rattle.issuer_base.specs.declared.request.Parts.{Parts}
 use Rattle.chip_request.specs.declared.reading.RequestFault.{RequestFault}

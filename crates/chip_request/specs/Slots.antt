@@ -1,5 +1,6 @@
 -- What a walk over the objects keeps of each field.
-use Rattle.std.specs.Prelude.{ℕ, ◌+◌, ◌*◌, Bool, true, false, not, ◌&&◌, List, [], ◌∷◌, map, length, replicate, slice_index, Option, Some, None, option_and_then, is_some, is_none, ◌==◌, if◌then◌else◌}
+use Rattle.std.specs.Prelude.{ℕ, ◌+◌, ◌*◌, Bool, true, false, not, ◌&&◌, List, [], ◌∷◌, map, length, replicate, slice_index, Option, Some, None}
+use Rattle.std.specs.Prelude.{option_and_then, is_some, is_none, ◌==◌, if◌then◌else◌}
 use Rattle.tlv_objects.specs.Tlv.{TlvObject}
 use Rattle.chip_request.specs.Fields.{Field}
 use Rattle.issuer_base.specs.declared.request.Parts.{Parts}

@@ -9,7 +9,7 @@ use issuer_base::{Pan, has_profile, is_decimal};
 
 /// What the value of a field has to be.
 #[derive(Clone, Copy, Debug, PartialEq, Eq)]
-pub enum Form {
+pub(crate) enum Form {
     /// So many bytes.
     Bytes(usize),
     /// So many bytes of two decimal digits each.
@@ -22,7 +22,7 @@ pub enum Form {
 
 impl Form {
     /// Whether a value has this form.
-    pub fn fits(self, value: &[u8]) -> bool
+    pub(crate) fn fits(self, value: &[u8]) -> bool
         ensures { result ≡ fits self value.now }
     {
         match self {
@@ -42,7 +42,7 @@ fn are_decimal(value: &[u8]) -> bool
 
 /// The account number in a value of that form.
 #[tactic(auto, unfolding(crate::specs::Fields::has_account_number, crate::specs::Fields::leading_digits, issuer_base::specs::CardNumber::pan_from))]
-pub fn account_number(value: &[u8]) -> Option<Pan>
+pub(crate) fn account_number(value: &[u8]) -> Option<Pan>
     ensures { result ≡ account_number_in value.now }
 {
     if !(4..=10).contains(&value.len()) {

@@ -1,13 +1,16 @@
-//! Reading the chip data of a request for a cryptogram's check (EMV 4.3 Book 3, Annexes A and B), and the line that
-//! carries them.
+//! Reading the lines of the host's input, and the chip data of a request for a cryptogram's check (EMV 4.3 Book 3,
+//! Annexes A and B).
 #![tactic(auto)]
 
 mod ask;
 mod form;
+mod line;
+mod line_parts;
 mod reading;
 mod slots;
 #[cfg(test)]
 mod tests;
 
 pub use ask::read_ask;
-pub use reading::{LONGEST, RequestFault, read_request};
+pub use line::{LineKind, MAX_QUEUE_BYTES, read_line};
+pub use reading::{RequestFault, read_request};

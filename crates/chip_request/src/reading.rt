@@ -8,11 +8,8 @@ ghost use Rattle.chip_request.specs.SlotViews.{found_in};
 
 use crate::form::account_number;
 use crate::slots::{Slot, Wrong, bytes, first_value, first_wrong, note, unfound};
-use issuer_base::{Parts, Request};
+use issuer_base::{MAX_CHIP_BYTES, Parts, Request};
 use tlv_objects::{Objects, TlvFault};
-
-/// The most bytes that chip data may have.
-pub const LONGEST: usize = 1024;
 
 /// Why chip data are no request: the first of these that is so.
 #[derive(Clone, Copy, Debug, PartialEq, Eq)]
@@ -31,7 +28,7 @@ pub enum RequestFault {
 /// A torn text is refused first, then a missing field, a misformed one and a repeated one, each time the first in the
 /// order of the table.
 pub fn read_request(bytes: &[u8]) -> Result<Request, RequestFault>
-    requires { length bytes.now ≤ LONGEST }
+    requires { length bytes.now ≤ MAX_CHIP_BYTES }
     ensures { result ≡ request_of bytes.now }
 {
     let mut walk = Walk::new(bytes);

@@ -10,18 +10,18 @@ use tlv_objects::Object;
 
 /// A field that a request may have.
 #[derive(Clone, Copy, Debug, PartialEq, Eq)]
-pub struct Field {
-    pub tag: u32,
-    pub is_required: bool,
-    pub form: Form,
+pub(crate) struct Field {
+    pub(crate) tag: u32,
+    pub(crate) is_required: bool,
+    pub(crate) form: Form,
 }
 
 /// What was found of a field: the value of the first object with its tag, and whether there is another.
 #[derive(Clone, Copy, Debug, PartialEq, Eq)]
-pub struct Slot<'a> {
-    pub field: Field,
-    pub first: Option<&'a [u8]>,
-    pub is_repeated: bool,
+pub(crate) struct Slot<'a> {
+    pub(crate) field: Field,
+    pub(crate) first: Option<&'a [u8]>,
+    pub(crate) is_repeated: bool,
 }
 
 macro_rules! slot {
@@ -58,7 +58,7 @@ const UNFOUND: [Slot<'static>; 15] = [
 ];
 
 /// The slots before any object is found.
-pub fn unfound<'a>() -> [Slot<'a>; 15]
+pub(crate) fn unfound<'a>() -> [Slot<'a>; 15]
     ensures { map found_in result ≡ map unfound fields }
 {
     UNFOUND
@@ -105,14 +105,14 @@ impl<'a> Slot<'a> {
 
 /// What may be wrong with a field.
 #[derive(Clone, Copy, Debug, PartialEq, Eq)]
-pub enum Wrong {
+pub(crate) enum Wrong {
     Missing,
     Misformed,
     Repeated,
 }
 
 /// Takes one more object into its slot, if it has one.
-pub fn note<'a>(slots: &mut [Slot<'a>; 15], object: Object<'a>)
+pub(crate) fn note<'a>(slots: &mut [Slot<'a>; 15], object: Object<'a>)
     ensures { map found_in slots.new ≡ map (with_object (object_seen object.entry)) (map found_in slots.old) }
 {
     for slot in slots.iter_mut() {
@@ -121,7 +121,7 @@ pub fn note<'a>(slots: &mut [Slot<'a>; 15], object: Object<'a>)
 }
 
 /// The tag of the first field with which this is wrong.
-pub fn first_wrong(slots: &[Slot<'_>; 15], wrong: Wrong) -> Option<u32>
+pub(crate) fn first_wrong(slots: &[Slot<'_>; 15], wrong: Wrong) -> Option<u32>
     ensures { result ≡ first_wrong_found wrong (map found_in slots.now) }
 {
     for slot in slots {
@@ -133,7 +133,7 @@ pub fn first_wrong(slots: &[Slot<'_>; 15], wrong: Wrong) -> Option<u32>
 }
 
 /// The value of the first object with this tag, which is a field's.
-pub fn first_value<'a>(slots: &[Slot<'a>; 15], tag: u32) -> Option<&'a [u8]>
+pub(crate) fn first_value<'a>(slots: &[Slot<'a>; 15], tag: u32) -> Option<&'a [u8]>
     ensures { option_map (λ value. value.now) result ≡ first_with_tag tag (map found_in slots.now) }
 {
     for slot in slots {
@@ -145,7 +145,7 @@ pub fn first_value<'a>(slots: &[Slot<'a>; 15], tag: u32) -> Option<&'a [u8]>
 }
 
 /// That value in an array, and 00 bytes where the field is absent.
-pub fn bytes<const N: usize>(slots: &[Slot<'_>; 15], tag: u32) -> [u8; N]
+pub(crate) fn bytes<const N: usize>(slots: &[Slot<'_>; 15], tag: u32) -> [u8; N]
     ensures { result ≡ sized N (first_with_tag tag (map found_in slots.now)) }
 {
     let mut bytes = [0; N];

@@ -1,3 +1,4 @@
+-- The nibbles of a value.
 use Rattle.std.proofs.Common.{◌≡◌, ◌*◌, take, length}
 use Rattle.std.specs.List.{flat_map}
 use Rattle.issuer_base.specs.ChipData.{digits_of}

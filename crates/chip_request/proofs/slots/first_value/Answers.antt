@@ -1,3 +1,4 @@
+-- The first value of the field with a tag.
 use Rattle.std.proofs.Common.{sym, ◌∙◌, arith, eq-eqb, ne_eqb}
 use Rattle.chip_request.proofs.Walk.{first_with_tag_behind, first_with_tag_here, first_with_tag_end}
 use Rattle.chip_request.proofs.slots.first_value.Goals as goal

@@ -1,3 +1,4 @@
+-- The first value of the field with a tag.
 use Rattle.std.proofs.Common.{◌≡◌, map, drop}
 use Rattle.chip_request.specs.Slots.{first_with_tag}
 use Rattle.chip_request.specs.SlotViews.{found_in}

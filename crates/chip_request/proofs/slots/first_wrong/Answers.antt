@@ -1,3 +1,4 @@
+-- The first field with which something is wrong.
 use Rattle.std.proofs.Common.{sym, ◌∙◌, arith}
 use Rattle.chip_request.proofs.Walk.{first_wrong_behind, first_wrong_here, first_wrong_end}
 use Rattle.chip_request.proofs.slots.first_wrong.Goals as goal

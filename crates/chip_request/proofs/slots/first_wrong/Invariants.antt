@@ -1,3 +1,4 @@
+-- The first field with which something is wrong.
 use Rattle.std.proofs.Common.{◌≡◌, map, drop}
 use Rattle.chip_request.specs.Slots.{first_wrong_found}
 use Rattle.chip_request.specs.SlotViews.{found_in}

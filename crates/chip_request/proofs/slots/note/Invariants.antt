@@ -1,3 +1,4 @@
+-- An object is taken by the slot of its field.
 use Rattle.std.proofs.Common.{◌≡◌, map, ◌++◌, take, drop}
 use Rattle.tlv_objects.specs.Seen.{seen as object_seen}
 use Rattle.chip_request.specs.Slots.{with_object}

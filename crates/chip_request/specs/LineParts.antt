@@ -1,0 +1,139 @@
+-- A line read from its front, part by part: each part's value and the text behind it, or the text from the first byte
+-- on that can't stand there.
+use Rattle.std.specs.Prelude.{ℕ, zero, suc, ◌+◌, ◌-◌, ◌*◌, ◌&&◌, List, [], ◌∷◌, length, Option, Some, None, Result, Ok, Err, nat_le, ◌==◌, if◌then◌else◌}
+use Rattle.hex.specs.Hex.{hex_digit_value}
+use Rattle.issuer_base.specs.CardNumber.{pan_from}
+use Rattle.issuer_base.specs.declared.limits.TheConstants.{MAX_PAN_DIGITS, MAX_CHIP_BYTES}
+use Rattle.chip_request.specs.declared.line.TheConstants.{MAX_QUEUE_BYTES}
+use Rattle.chip_request.specs.declared.line.LineKind.{LineKind}
+use Rattle.chip_request.specs.declared.line.LineKind.TheVariants.{Ask, Queue, Set}
+
+-- what is read, or the text from the first byte on that can't stand there
+abbrev pub Part : Type 0 → Type 0
+Part A = Result A (List ℕ)
+
+infixl 10 ◌>>=◌
+abbrev pub ◌>>=◌ : {A B : Type 0} → Part A → (A → Part B) → Part B
+(Ok a) >>= f = f a
+(Err rest) >>= f = Err rest
+
+-- the text behind this byte
+unfoldable pub byte_at : ℕ → List ℕ → Part (List ℕ)
+byte_at byte [] = Err []
+byte_at byte (first ∷ rest) = if first == byte then Ok rest else Err (first ∷ rest)
+
+-- the value of the byte in front, if it has one
+abbrev pub value_in_front : Option ℕ → ℕ → List ℕ → Part (ℕ × List ℕ)
+value_in_front None byte rest = Err (byte ∷ rest)
+value_in_front (Some value) byte rest = Ok (value, rest)
+
+abbrev pub value_at : (ℕ → Option ℕ) → List ℕ → Part (ℕ × List ℕ)
+value_at value [] = Err []
+value_at value (byte ∷ rest) = value_in_front (value byte) byte rest
+
+-- the value of a decimal digit
+abbrev pub decimal_digit_value : ℕ → Option ℕ
+decimal_digit_value byte = if nat_le 48 byte && nat_le byte 57 then Some (byte - 48) else None
+
+unfoldable pub digit_at : List ℕ → Part (ℕ × List ℕ)
+digit_at text = value_at decimal_digit_value text
+
+unfoldable pub hex_digit_at : List ℕ → Part (ℕ × List ℕ)
+hex_digit_at text = value_at hex_digit_value text
+
+-- a digit, where one was read, in front of those behind it
+abbrev pub and_others : (List ℕ → List ℕ × List ℕ) → Part (ℕ × List ℕ) → List ℕ × List ℕ
+and_others others (Err rest) = ([], rest)
+and_others others (Ok found) = (found.0 ∷ (others found.1).0, (others found.1).1)
+
+-- the decimal digits in front, at most so many, and the text behind them
+unfoldable pub digits_at : ℕ → List ℕ → List ℕ × List ℕ
+digits_at zero text = ([], text)
+digits_at (suc room) text = and_others (digits_at room) (digit_at text)
+
+-- the account number that these digits are
+abbrev pub number_in_front : Option (List ℕ) → List ℕ → Part (List ℕ × List ℕ)
+number_in_front None rest = Err rest
+number_in_front (Some pan) rest = Ok (pan, rest)
+
+unfoldable pub account_number_at : List ℕ → Part (List ℕ × List ℕ)
+account_number_at text =
+    let found = digits_at MAX_PAN_DIGITS text in number_in_front (pan_from found.0) found.1
+
+-- a card's account number and sequence number, each between spaces
+pub record CardPart : Type 0 where
+  pub pan : List ℕ
+  pub psn : ℕ
+  pub rest : List ℕ
+
+unfoldable pub card_at : List ℕ → Part CardPart
+card_at text = do
+  start ← byte_at 32 text
+  number ← account_number_at start
+  behind ← byte_at 32 number.1
+  high ← digit_at behind
+  low ← digit_at high.1
+  rest ← byte_at 32 low.1
+  Ok (record { pan = number.0; psn = 16 * high.0 + low.0; rest = rest })
+
+-- a value at the end of a text
+abbrev pub at_end : {A : Type 0} → A → List ℕ → Part A
+at_end value [] = Ok value
+at_end value (byte ∷ rest) = Err (byte ∷ rest)
+
+unfoldable pub last_digit_at : List ℕ → Part ℕ
+last_digit_at text = do
+  digit ← digit_at text
+  at_end digit.0 digit.1
+
+unfoldable pub pair_at : List ℕ → Part (ℕ × List ℕ)
+pair_at text = do
+  high ← hex_digit_at text
+  low ← hex_digit_at high.1
+  Ok (16 * high.0 + low.0, low.1)
+
+-- the bytes of one pair of hexadecimal digits or more, at most so many, up to the end of the text
+unfoldable pub data_at : ℕ → List ℕ → Part (List ℕ)
+data_at zero text = Err text
+data_at (suc room) text = do
+  pair ← pair_at text
+  elim (pair.1) [
+    | [] ↦ Ok (pair.0 ∷ [])
+    | byte ∷ rest ↦ data_at room (byte ∷ rest) >>= λ bytes. Ok (pair.0 ∷ bytes)
+  ]
+
+abbrev pub ask_at : List ℕ → Part LineKind
+ask_at text = do
+  digits ← byte_at 32 text
+  bytes ← data_at MAX_CHIP_BYTES digits
+  Ok (Ask (record { items = bytes }))
+
+abbrev pub queue_at : List ℕ → Part LineKind
+queue_at text = do
+  card ← card_at text
+  bytes ← data_at MAX_QUEUE_BYTES card.rest
+  Ok (Queue card.pan card.psn (record { items = bytes }))
+
+abbrev pub set_at : List ℕ → Part LineKind
+set_at text = do
+  card ← card_at text
+  status ← last_digit_at card.rest
+  Ok (Set card.pan card.psn status)
+
+-- by the first letter
+unfoldable pub kind_at : List ℕ → Part LineKind
+kind_at [] = Err []
+kind_at (letter ∷ text) =
+    if letter == 65 then ask_at text
+    else if letter == 81 then queue_at text
+    else if letter == 83 then set_at text
+    else Err (letter ∷ text)
+
+-- the column of the first byte of what is left
+abbrev pub with_column : ℕ → Part LineKind → Result LineKind ℕ
+with_column size (Ok kind) = Ok kind
+with_column size (Err rest) = Err (size - length rest + 1)
+
+-- what a line says, or the column at which it stops being a line of these forms
+unfoldable pub line_of : List ℕ → Result LineKind ℕ
+line_of line = with_column (length line) (kind_at line)

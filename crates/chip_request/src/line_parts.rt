@@ -1,0 +1,123 @@
+//! The parts of a line, each read from the front of a text: its value and the text behind it, or the text from the
+//! first byte on that can't stand there.
+ghost use Rattle.std.specs.Prelude.{◌≡◌, ◌<◌, IfOk};
+ghost use Rattle.std.specs.Result.{result_map_both};
+ghost use Rattle.chip_request.specs.LineParts.{byte_at, card_at, account_number_at, digits_at, last_digit_at, digit_at, data_at, pair_at, hex_digit_at};
+
+use arrayvec::ArrayVec;
+use issuer_base::{MAX_PAN_DIGITS, Pan};
+
+/// This byte.
+#[tactic(auto, unfolding(crate::specs::LineParts::byte_at))]
+pub(crate) fn read_byte(text: &[u8], byte: u8) -> Result<&[u8], &[u8]>
+    ensures { result_map_both (λ rest. rest.now) (λ rest. rest.now) result ≡ byte_at byte text.now }
+{
+    match text {
+        [first, rest @ ..] if *first == byte => Ok(rest),
+        _ => Err(text),
+    }
+}
+
+/// A card's account number and sequence number, each between spaces.
+#[tactic(auto, unfolding(crate::specs::LineParts::card_at))]
+pub(crate) fn read_card(text: &[u8]) -> Result<(Pan, u8, &[u8]), &[u8]>
+    ensures { result_map_both (λ found. record { pan = found.0; psn = found.1; rest = found.2.now }) (λ rest. rest.now) result
+        ≡ card_at text.now }
+{
+    let rest = read_byte(text, b' ')?;
+    let (pan, rest) = read_account_number(rest)?;
+    let rest = read_byte(rest, b' ')?;
+    let (high, rest) = read_digit(rest)?;
+    let (low, rest) = read_digit(rest)?;
+    let rest = read_byte(rest, b' ')?;
+    Ok((pan, 16 * high + low, rest))
+}
+
+/// The digits of an account number, as many as may stand there.
+#[tactic(auto, unfolding(crate::specs::LineParts::account_number_at))]
+fn read_account_number(text: &[u8]) -> Result<(Pan, &[u8]), &[u8]>
+    ensures { result_map_both (λ found. (found.0, found.1.now)) (λ rest. rest.now) result ≡ account_number_at text.now }
+{
+    let (digits, rest) = leading_digits(text);
+    let pan = Pan::new(digits.as_slice()).ok_or(rest)?;
+    Ok((pan, rest))
+}
+
+fn leading_digits(text: &[u8]) -> (ArrayVec<u8, MAX_PAN_DIGITS>, &[u8])
+    ensures { (result.0.items, result.1.now) ≡ digits_at MAX_PAN_DIGITS text.now }
+{
+    let mut digits = ArrayVec::new();
+    let mut rest = text;
+    for _ in 0..MAX_PAN_DIGITS {
+        match read_digit(rest) {
+            Ok((digit, after)) => {
+                digits.push(digit);
+                rest = after;
+            }
+            Err(rest) => return (digits, rest),
+        }
+    }
+    (digits, rest)
+}
+
+/// One decimal digit, and then the end of the text.
+#[tactic(auto, unfolding(crate::specs::LineParts::last_digit_at))]
+pub(crate) fn read_last_digit(text: &[u8]) -> Result<u8, &[u8]>
+    ensures { result_map_both (λ digit. digit) (λ rest. rest.now) result ≡ last_digit_at text.now }
+{
+    let (digit, rest) = read_digit(text)?;
+    if !rest.is_empty() {
+        return Err(rest);
+    }
+    Ok(digit)
+}
+
+#[tactic(auto, unfolding(crate::specs::LineParts::digit_at))]
+fn read_digit(text: &[u8]) -> Result<(u8, &[u8]), &[u8]>
+    ensures found { result_map_both (λ found. (found.0, found.1.now)) (λ rest. rest.now) result ≡ digit_at text.now }
+    ensures small { IfOk result (λ found. found.0 < 10) }
+{
+    match text {
+        [digit @ b'0'..=b'9', rest @ ..] => Ok((digit - b'0', rest)),
+        _ => Err(text),
+    }
+}
+
+/// The bytes of 1 to `N` pairs of hexadecimal digits, up to the end of the text.
+pub(crate) fn read_data<const N: usize>(text: &[u8]) -> Result<ArrayVec<u8, N>, &[u8]>
+    ensures { result_map_both (λ bytes. bytes.items) (λ rest. rest.now) result ≡ data_at N text.now }
+{
+    let mut bytes = ArrayVec::new();
+    let mut rest = text;
+    for _ in 0..N {
+        let (byte, after) = read_pair(rest)?;
+        bytes.push(byte);
+        rest = after;
+        if rest.is_empty() {
+            return Ok(bytes);
+        }
+    }
+    Err(rest)
+}
+
+#[tactic(auto, unfolding(crate::specs::LineParts::pair_at))]
+fn read_pair(text: &[u8]) -> Result<(u8, &[u8]), &[u8]>
+    ensures { result_map_both (λ found. (found.0, found.1.now)) (λ rest. rest.now) result ≡ pair_at text.now }
+{
+    let (high, rest) = read_hex_digit(text)?;
+    let (low, rest) = read_hex_digit(rest)?;
+    Ok((16 * high + low, rest))
+}
+
+#[tactic(auto, unfolding(crate::specs::LineParts::hex_digit_at))]
+fn read_hex_digit(text: &[u8]) -> Result<(u8, &[u8]), &[u8]>
+    ensures found { result_map_both (λ found. (found.0, found.1.now)) (λ rest. rest.now) result ≡ hex_digit_at text.now }
+    ensures small { IfOk result (λ found. found.0 < 16) }
+{
+    match text {
+        [digit @ b'0'..=b'9', rest @ ..] => Ok((digit - b'0', rest)),
+        [digit @ b'a'..=b'f', rest @ ..] => Ok((digit - b'a' + 10, rest)),
+        [digit @ b'A'..=b'F', rest @ ..] => Ok((digit - b'A' + 10, rest)),
+        _ => Err(text),
+    }
+}
