@@ -16,7 +16,7 @@ use serde_json::Value;
 
 /// The key set that an element says.
 #[tactic(auto, unfolding(crate::specs::Elements::key_set_in))]
-pub fn read_key_set(element: &Value) -> Option<KeySet>
+pub(crate) fn read_key_set(element: &Value) -> Option<KeySet>
     ensures { result ≡ key_set_in (view element.now) }
 {
     Some(KeySet {
@@ -29,7 +29,7 @@ pub fn read_key_set(element: &Value) -> Option<KeySet>
 
 /// The card that an element says.
 #[tactic(auto, unfolding(crate::specs::Elements::card_in))]
-pub fn read_card(element: &Value) -> Option<CardInfo>
+pub(crate) fn read_card(element: &Value) -> Option<CardInfo>
     ensures { result ≡ card_in (view element.now) }
 {
     Some(CardInfo {
@@ -41,7 +41,7 @@ pub fn read_card(element: &Value) -> Option<CardInfo>
 
 /// The row of the decision table that an element says.
 #[tactic(auto, unfolding(crate::specs::Elements::row_in))]
-pub fn read_row(element: &Value) -> Option<TableRow>
+pub(crate) fn read_row(element: &Value) -> Option<TableRow>
     ensures { result ≡ row_in (view element.now) }
 {
     let (tvr_mask, tvr_value) = read_bits(element, "tvr_mask", "tvr_value")?;

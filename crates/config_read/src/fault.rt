@@ -4,19 +4,19 @@ ghost use Rattle.std.specs.Prelude.{◌≡◌, ◌+◌, ◌<◌};
 use issuer_base::{MAX_CARDS, NoMemory};
 
 /// The number by which a fault names the whole configuration.
-pub const WHOLE: u8 = 1;
+pub(crate) const WHOLE: u8 = 1;
 
 /// That of the member `shards`.
-pub const SHARDS: u8 = 2;
+pub(crate) const SHARDS: u8 = 2;
 
 /// That of the member `keys`.
-pub const KEYS: u8 = 3;
+pub(crate) const KEYS: u8 = 3;
 
 /// That of the member `cards`.
-pub const CARDS: u8 = 4;
+pub(crate) const CARDS: u8 = 4;
 
 /// That of the member `table`.
-pub const TABLE: u8 = 5;
+pub(crate) const TABLE: u8 = 5;
 
 /// Why a configuration gives no issuer.
 #[derive(Clone, Copy, PartialEq, Eq, Debug)]

@@ -14,7 +14,7 @@ use serde_json::Value;
 use std::alloc::Global;
 
 /// The key sets that the elements say, up to the first that says none.
-pub fn front_keys(elements: &[Value]) -> ArrayVec<KeySet, MAX_KEY_SETS>
+pub(crate) fn front_keys(elements: &[Value]) -> ArrayVec<KeySet, MAX_KEY_SETS>
     requires { length elements.now ≤ MAX_KEY_SETS }
     ensures { result.items ≡ front key_set_in (map view elements.now) }
 {
@@ -29,7 +29,7 @@ pub fn front_keys(elements: &[Value]) -> ArrayVec<KeySet, MAX_KEY_SETS>
 }
 
 /// The cards that the elements say, up to the first that says none.
-pub fn front_cards(alloc: Global, elements: &[Value]) -> Result<Vec<CardInfo>, NoMemory>
+pub(crate) fn front_cards(alloc: Global, elements: &[Value]) -> Result<Vec<CardInfo>, NoMemory>
     ensures cards { IfOk result (λ cards. cards.items ≡ front card_in (map view elements.now)) }
     ensures few { IfOk result (λ cards. length cards.items ≤ length elements.now) }
 {
@@ -44,7 +44,7 @@ pub fn front_cards(alloc: Global, elements: &[Value]) -> Result<Vec<CardInfo>, N
 }
 
 /// The rows that the elements say, up to the first that says none.
-pub fn front_rows(elements: &[Value]) -> ArrayVec<TableRow, MAX_TABLE_ROWS>
+pub(crate) fn front_rows(elements: &[Value]) -> ArrayVec<TableRow, MAX_TABLE_ROWS>
     requires { length elements.now ≤ MAX_TABLE_ROWS }
     ensures { result.items ≡ front row_in (map view elements.now) }
 {

@@ -10,7 +10,7 @@ use std::alloc::Global;
 
 /// The JSON value that these bytes are.
 #[tactic(auto, unfolding(crate::specs::Json::json_of))]
-pub fn read_json(alloc: Global, bytes: &[u8]) -> Result<Value, ConfigFault>
+pub(crate) fn read_json(alloc: Global, bytes: &[u8]) -> Result<Value, ConfigFault>
     ensures value { IfOk result (λ value. json_of bytes.now ≡ Some (view value)) }
     ensures none { IfErr result (λ fault. fault ≢ ConfigFault.NoMemory
         → (fault ≡ ConfigFault.NotJson) × (json_of bytes.now ≡ None)) }
@@ -23,7 +23,7 @@ pub fn read_json(alloc: Global, bytes: &[u8]) -> Result<Value, ConfigFault>
 }
 
 /// The text of the member with this name. `None` where there is no such member, or it is no text.
-pub fn text_member<'a>(element: &'a Value, name: &str) -> Option<&'a str>
+pub(crate) fn text_member<'a>(element: &'a Value, name: &str) -> Option<&'a str>
     ensures { option_map (λ text. text.now) result ≡ text_member name.now (view element.now) }
 {
     element.get(name)?.as_str()
@@ -31,14 +31,14 @@ pub fn text_member<'a>(element: &'a Value, name: &str) -> Option<&'a str>
 
 /// The unsigned whole number of the member with this name. `None` where there is no such member, or it is no such
 /// number.
-pub fn number_member(element: &Value, name: &str) -> Option<u64>
+pub(crate) fn number_member(element: &Value, name: &str) -> Option<u64>
     ensures { result ≡ number_member name.now (view element.now) }
 {
     element.get(name)?.as_u64()
 }
 
 /// The elements of the list of the member with this name. `None` where there is no such member, or it is no list.
-pub fn list_member<'a>(value: &'a Value, name: &str) -> Option<&'a [Value]>
+pub(crate) fn list_member<'a>(value: &'a Value, name: &str) -> Option<&'a [Value]>
     ensures { option_map (λ elements. map view elements.now) result ≡ list_member name.now (view value.now) }
 {
     Some(value.get(name)?.as_array()?.as_slice())

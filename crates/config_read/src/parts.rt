@@ -16,7 +16,7 @@ use serde_json::Value;
 use std::alloc::Global;
 
 /// The number of shards, 1 to 16.
-pub fn read_shards(value: &Value) -> Result<ShardCount, ConfigFault>
+pub(crate) fn read_shards(value: &Value) -> Result<ShardCount, ConfigFault>
     ensures { result ≡ shards_in (view value.now) }
 {
     shard_count(value).ok_or(ConfigFault::of_part(SHARDS))
@@ -32,7 +32,7 @@ fn shard_count(value: &Value) -> Option<ShardCount>
 }
 
 /// The 1 to 16 key sets, no two of one index.
-pub fn read_keys(value: &Value) -> Result<KeySets, ConfigFault>
+pub(crate) fn read_keys(value: &Value) -> Result<KeySets, ConfigFault>
     ensures { result ≡ keys_in (view value.now) }
 {
     let elements = part_elements(KEYS, "keys", MAX_KEY_SETS, value)?;
@@ -45,7 +45,7 @@ pub fn read_keys(value: &Value) -> Result<KeySets, ConfigFault>
 }
 
 /// The 1 to 4,096 cards, no two of one account and sequence number.
-pub fn read_cards(alloc: Global, value: &Value) -> Result<Cards, ConfigFault>
+pub(crate) fn read_cards(alloc: Global, value: &Value) -> Result<Cards, ConfigFault>
     ensures { MatchResult result
         (λ cards. cards_in (view value.now) ≡ Ok cards)
         (λ fault. fault ≢ ConfigFault.NoMemory → cards_in (view value.now) ≡ Err fault) }
@@ -61,7 +61,7 @@ pub fn read_cards(alloc: Global, value: &Value) -> Result<Cards, ConfigFault>
 }
 
 /// The 1 to 64 rows, of which the last takes all.
-pub fn read_table(value: &Value) -> Result<Table, ConfigFault>
+pub(crate) fn read_table(value: &Value) -> Result<Table, ConfigFault>
     ensures { result ≡ table_in (view value.now) }
 {
     let elements = part_elements(TABLE, "table", MAX_TABLE_ROWS, value)?;

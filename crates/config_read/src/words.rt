@@ -8,7 +8,7 @@ use issuer_base::{MasterOption, Method, Pan};
 
 /// The account number of 8 to 19 digits.
 #[tactic(auto, unfolding(crate::specs::Words::pan_of))]
-pub fn read_pan(text: &str) -> Option<Pan>
+pub(crate) fn read_pan(text: &str) -> Option<Pan>
     ensures { result ≡ pan_of text.now }
 {
     let mut digits = ArrayVec::<u8, 19>::new();
@@ -20,7 +20,7 @@ pub fn read_pan(text: &str) -> Option<Pan>
 
 /// The sequence number of two digits, a nibble each.
 #[tactic(auto, unfolding(crate::specs::Words::psn_of))]
-pub fn read_psn(text: &str) -> Option<u8>
+pub(crate) fn read_psn(text: &str) -> Option<u8>
     ensures { result ≡ psn_of text.now }
 {
     let [tens, units] = text.as_bytes() else {
@@ -40,7 +40,7 @@ fn read_digit(character: u8) -> Option<u8>
 
 /// The option `A` or `B`.
 #[tactic(auto, unfolding(crate::specs::Words::option_of))]
-pub fn read_option(text: &str) -> Option<MasterOption>
+pub(crate) fn read_option(text: &str) -> Option<MasterOption>
     ensures { result ≡ option_of text.now }
 {
     match text {
@@ -52,7 +52,7 @@ pub fn read_option(text: &str) -> Option<MasterOption>
 
 /// The method 1 or 2.
 #[tactic(auto, unfolding(crate::specs::Words::method_of))]
-pub fn read_method(number: u64) -> Option<Method>
+pub(crate) fn read_method(number: u64) -> Option<Method>
     ensures { result ≡ method_of number }
 {
     match number {
@@ -63,14 +63,14 @@ pub fn read_method(number: u64) -> Option<Method>
 }
 
 /// The bytes that hexadecimal digits of either case write, two digits each.
-pub fn read_bytes<const N: usize>(text: &str) -> Option<[u8; N]>
+pub(crate) fn read_bytes<const N: usize>(text: &str) -> Option<[u8; N]>
     ensures { result ≡ bytes_of N text.now }
 {
     <[u8; N] as FromHex>::from_hex(text).ok()
 }
 
 /// The number, where it isn't above the greatest.
-pub fn up_to(most: u64, number: u64) -> Option<u64>
+pub(crate) fn up_to(most: u64, number: u64) -> Option<u64>
     ensures { result ≡ at_most most number }
 {
     if number <= most { Some(number) } else { None }
