@@ -5,15 +5,17 @@ ghost use Rattle.issuer_base.specs.declared.entry.Entry.{Entry};
 ghost use Rattle.card_history.specs.declared.decision.Decision.{Decision};
 ghost use Rattle.card_history.specs.Records.{greatest, IsBelow};
 ghost use Rattle.card_history.specs.Turns.{IsUnused};
+ghost use Rattle.key_derive.specs.SessionKey.{session_ac};
 ghost use Rattle.issuer_setup.specs.declared.card.CardInfo.{CardInfo};
 ghost use Rattle.row_core.specs.CardRow.{KeepsWindow, StandsFor};
 ghost use Rattle.row_core.specs.Known.{IsKnown};
+ghost use Rattle.row_core.specs.Replying.{decided_reply};
 ghost use Rattle.row_core.specs.Plan.{IsPlan, IsNext, with_record};
 
 use crate::reply::decided_reply;
 use decision_table::Table;
 use issuer_base::{Method, NoMemory, Reply, Request, WINDOW};
-use key_derive::CardKeys;
+use key_derive::{CardKeys, SessionKey};
 use reply_keep::{Kept, KeptEntry};
 use script_queue::Queue;
 use std::alloc::Global;
@@ -124,20 +126,33 @@ impl Row {
     /// What is to be done with a request of the row's card: one turn's answer to it.
     ///
     /// `keys` are the card's master keys from the key set of the request, and `place` is where the next record
-    /// of the card's shard would stand.
+    /// of the card's shard would stand. Sets up the session key for cryptograms where the request is decided now.
     pub fn plan(&self, keys: &CardKeys, table: &Table, request: &Request, place: u64) -> Outcome
         ensures { IsPlan self.now keys.now table.now request.now place result }
     {
         if let Some(outcome) = self.known(request) {
             return outcome;
         }
-        let reply = decided_reply(self.method, keys, table, self.status, request);
-        let decision = KeptEntry {
-            request: request.copy(),
-            reply: reply.copy(),
-            place,
-        };
-        Outcome::Fresh(reply, Step { decision })
+        let session = SessionKey::for_cryptograms(&keys.ac, request.parts().atc);
+        self.decide(&session, table, request, place)
+    }
+
+    /// As `plan`, under the session key for the cryptograms of the request's transaction, which is set up already.
+    pub fn plan_under(
+        &self,
+        session: &SessionKey,
+        keys: &CardKeys,
+        table: &Table,
+        request: &Request,
+        place: u64,
+    ) -> Outcome
+        requires { session.now ≡ session_ac keys.now.ac.0 request.now.atc }
+        ensures { IsPlan self.now keys.now table.now request.now place result }
+    {
+        if let Some(outcome) = self.known(request) {
+            return outcome;
+        }
+        self.decide(session, table, request, place)
     }
 
     /// Keeps the decision of a plan on this row as it is.
@@ -148,6 +163,21 @@ impl Row {
         let counter = step.decision.request.parts().atc;
         self.hi = Some(greater(self.hi, counter));
         self.kept.keep(step.decision);
+    }
+
+    /// The plan for a request on an unused counter.
+    fn decide(&self, session: &SessionKey, table: &Table, request: &Request, place: u64) -> Outcome
+        ensures { (keys : CardKeys) → session.now ≡ session_ac keys.ac.0 request.now.atc
+            → let reply = decided_reply self.now.method keys table.now self.now.status request.now in
+            result ≡ Outcome.Fresh reply (record { request = request.now; reply = reply; place = place }) }
+    {
+        let reply = decided_reply(self.method, session, table, self.status, request);
+        let decision = KeptEntry {
+            request: request.copy(),
+            reply: reply.copy(),
+            place,
+        };
+        Outcome::Fresh(reply, Step { decision })
     }
 
     /// What the decisions of the window say of a request; `None` where its counter is in the window and unused.

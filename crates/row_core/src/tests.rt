@@ -6,7 +6,7 @@ use arrayvec::ArrayVec;
 use decision_table::{Table, TableRow};
 use des_block::Key16;
 use issuer_base::{Method, Pan, Parts, Reply, Request};
-use key_derive::CardKeys;
+use key_derive::{CardKeys, SessionKey};
 use std::alloc::{AllocError, Global};
 use std::test::Fail;
 
@@ -115,6 +115,7 @@ fn plans_by_the_decisions(rt: HostRuntime) -> Result<(), Fail> {
     let mut row = Row::new(rt.alloc(), Method::One).map_err(|_| "memory")?;
     assert_eq!(rt; row.hi(), None);
     assert_eq!(rt; row.status(), 0);
+    assert_eq!(rt; row.queue().undone(), 0);
     for (counter, place) in [(1, 0), (65, 4), (2, 7)] {
         keep(&mut row, &table, counter, place)?;
     }
@@ -166,7 +167,9 @@ fn decides_by_the_first_row_that_fits(rt: HostRuntime) -> Result<(), Fail> {
     ] {
         let row = Row::new(rt.alloc(), method).map_err(|_| "memory")?;
         let asked = request_for(amount).ok_or("a request")?;
-        let Outcome::Fresh(reply, _) = row.plan(&keys(), &table, &asked, 0) else {
+        let keys = keys();
+        let session = SessionKey::for_cryptograms(&keys.ac, asked.parts().atc);
+        let Outcome::Fresh(reply, _) = row.plan_under(&session, &keys, &table, &asked, 0) else {
             return Err(Fail::from(name));
         };
         let decided = shown(rt.alloc(), &reply)?;
