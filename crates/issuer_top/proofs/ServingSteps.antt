@@ -25,7 +25,7 @@ use Rattle.memory_host.specs.Answering.{rules_of}
 use Rattle.memory_host.proofs.KeptLines.{reading-kept}
 use Rattle.issuer_base.specs.Tells.{Tells}
 use Rattle.issuer_top.specs.Answered.{AreAnswered, WasRead, AllAnswered, WholeAnswered, FrontAnswered, PassedAnswered}
-use Rattle.issuer_top.specs.Serving.{HasServed, ServesLines}
+use Rattle.issuer_top.specs.Serving.{ServesLines}
 
 -- ---- what an input had
 
@@ -80,6 +80,19 @@ run-line issuer host next whole answers histories line hand answer same stands r
     (t.0, t.1, run_more (rules_of issuer) (no_records issuer.shards) whole answers histories line answer t.0 run turn)
 
 -- ---- the run
+
+-- these bytes were read so far, and the lines that stand whole in them were answered, but for what the reader has ahead
+pub record HasServed (issuer : Setup) (was now held_before held_after : Option (List ℕ)) (host : Holding) (reader : Reading) : Type 0 where
+  pub read : List ℕ
+  pub whole : List (List ℕ)
+  pub answers : List Answer
+  pub histories : List (List Entry)
+  pub consumed : Consumes was now read
+  pub given : HasGivenLines reader read whole
+  pub issuer_is : host.issuer ≡ issuer
+  pub stands : StandsFor host histories
+  pub run : Run (rules_of issuer) (no_records issuer.shards) whole answers histories
+  pub written : Appends held_before held_after (flat_map printed answers)
 
 -- nothing is served yet
 pub HasServed-none : (issuer : Setup) (was held : Option (List ℕ)) (host : Holding) (reader : Reading)

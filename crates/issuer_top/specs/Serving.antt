@@ -1,16 +1,15 @@
 -- What serving a file of request lines does, from its first line on.
 use Rattle.std.specs.Prelude.{◌≡◌, ℕ, Bool, true, false, List, Option, Result}
-use Rattle.std.specs.List.{flat_map}
-use Rattle.std.specs.Io.KnownBytes.{Appends, Consumes}
+use Rattle.std.specs.Io.KnownBytes.{Appends}
 use Rattle.issuer_base.specs.declared.answer.Answer.{Answer}
 use Rattle.issuer_base.specs.declared.entry.Entry.{Entry}
 use Rattle.issuer_base.specs.declared.faults.WriteFault.{WriteFault}
 use Rattle.issuer_base.specs.Sink.{AppendsFront, WritesAll}
-use Rattle.line_reader.specs.Reading.{Reading, HasGivenLines, unread}
-use Rattle.card_history.specs.Turns.{Run, Turn, no_records}
+use Rattle.line_reader.specs.Reading.{unread}
+use Rattle.card_history.specs.Turns.{Turn, no_records}
 use Rattle.issuer_setup.specs.IssuerSetup.{Setup}
 use Rattle.answer_text.specs.AnswerText.{printed}
-use Rattle.memory_host.specs.Holding.{Holding, StandsFor}
+use Rattle.memory_host.specs.Holding.{StandsFor}
 use Rattle.memory_host.specs.Reading.{reading}
 use Rattle.memory_host.specs.Answering.{rules_of}
 use Rattle.issuer_top.specs.declared.serve.Server.{Server}
@@ -33,19 +32,6 @@ pub record AnswersLine (old new : Server) (held_before held_after : Option (List
   pub prints : WritesAll held_before held_after written (printed answer)
   pub same_issuer : new.host.issuer ≡ old.host.issuer
   pub same_reader : new.reader ≡ old.reader
-
--- these bytes were read so far, and the lines that stand whole in them were answered, but for what the reader has ahead
-pub record HasServed (issuer : Setup) (was now held_before held_after : Option (List ℕ)) (host : Holding) (reader : Reading) : Type 0 where
-  pub read : List ℕ
-  pub whole : List (List ℕ)
-  pub answers : List Answer
-  pub histories : List (List Entry)
-  pub consumed : Consumes was now read
-  pub given : HasGivenLines reader read whole
-  pub issuer_is : host.issuer ≡ issuer
-  pub stands : StandsFor host histories
-  pub run : Run (rules_of issuer) (no_records issuer.shards) whole answers histories
-  pub written : Appends held_before held_after (flat_map printed answers)
 
 -- lines were answered, and their answers written: `Answered` says which lines, of the file and of what was read of it, and
 -- `Written` what the sink took

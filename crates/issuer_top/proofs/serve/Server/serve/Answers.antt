@@ -1,7 +1,6 @@
 -- Serving goes on by a line, and ends in one of its ways.
 use Rattle.std.proofs.Common.{rules, refl, sym, subst, ◌∙◌}
-use Rattle.issuer_top.specs.Serving.{HasServed}
-use Rattle.issuer_top.proofs.ServingSteps.{HasServed-none, HasServed-line, serves-end, serves-rest, serves-broken_line, serves-broken_rest}
+use Rattle.issuer_top.proofs.ServingSteps.{HasServed, HasServed-none, HasServed-line, serves-end, serves-rest, serves-broken_line, serves-broken_rest}
 use Rattle.issuer_top.proofs.ServingSteps.{serves-fault, serves-limit}
 use Rattle.issuer_top.proofs.serve.Server.serve.Goals as goal
 

@@ -1,7 +1,7 @@
 -- Serving, a line at a time.
 use Rattle.std.proofs.Common.{◌≡◌, ◌-◌}
 use Rattle.line_reader.specs.declared.limits.TheConstants.{MAX_LINES}
-use Rattle.issuer_top.specs.Serving.{HasServed}
+use Rattle.issuer_top.proofs.ServingSteps.{HasServed}
 use Rattle.issuer_top.proofs.serve.Server.serve.Given as goal
 
 abbrev pub invariant-loop-self : goal.invariant-loop-self
