@@ -145,6 +145,7 @@ impl Issuer {
     /// The shard of the card with this number.
     pub fn shard_of(&self, card: u32) -> u8
         ensures number { result ≡ card % self.now.shards }
+        ensures below { result < self.now.shards }
         ensures shard { (name : CardName) → number_of name self.now.cards ≡ Some card → result ≡ shard_of self.now name }
     {
         (card % u32::from(self.shards())) as u8

@@ -1,4 +1,3 @@
 pub mod EmptyRows
 pub mod RowsAfter
 pub mod PlannedTurns
-pub mod KeptLines

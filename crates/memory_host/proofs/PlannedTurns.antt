@@ -24,9 +24,9 @@ use Rattle.row_core.specs.Plan.{answer_of, with_record, history_after, IsPlan}
 use Rattle.row_core.specs.Replying.{decided_reply, reply_by, reply_of_card, reply_to}
 use Rattle.issuer_setup.proofs.CardListLemmas.{number_of-found}
 use Rattle.issuer_setup.proofs.Shards.{shard_of-known}
-use Rattle.memory_host.specs.declared.reading.Checked.{Checked}
+use Rattle.line_checks.specs.declared.checked.CheckedRequest.{CheckedRequest}
+use Rattle.line_checks.specs.AtHand.{IsRequestAtHand}
 use Rattle.memory_host.specs.Answering.{rules_of}
-use Rattle.memory_host.specs.AtHand.{IsAtHand}
 use Rattle.memory_host.specs.Holding.{Holding, history_for, StandsFor}
 use Rattle.memory_host.specs.Deciding.{IsShardOf, IsNextOf, with_record_of, IsPlanFor}
 use Rattle.memory_host.proofs.RowsAfter.{row-there, place-at_end}
@@ -41,30 +41,30 @@ answers-alike shard one other before request (Refused NoMemory) after same answe
 answers-alike shard one other before request _ after same answers = absurd answers
 
 -- the card and the keys that are at hand give the issuer's reply
-reply-at_hand : (issuer : Setup) (found : Checked) (card : CardInfo) (history : List Entry) → IsAtHand issuer found → slice_get issuer.cards found.card ≡ Some card → name_of card ≡ card_of found.request → decided_reply card.method found.keys issuer.table (status_of (name_of card) history) found.request ≡ reply_to issuer history found.request
+reply-at_hand : (issuer : Setup) (found : CheckedRequest) (card : CardInfo) (history : List Entry) → IsRequestAtHand issuer found → slice_get issuer.cards found.card ≡ Some card → name_of card ≡ card_of found.request → decided_reply card.method found.keys issuer.table (status_of (name_of card) history) found.request ≡ reply_to issuer history found.request
 reply-at_hand issuer found card history at_hand card_is named =
     ap (λ (name : CardName). decided_reply card.method found.keys issuer.table (status_of name history) found.request) named
     ∙ sym (
-    ap (λ (number : Option ℕ). reply_of_card issuer number history found.request) at_hand.number_is
+    ap (λ (number : Option ℕ). reply_of_card issuer number history found.request) at_hand.card_is.number_is
     ∙ ap (λ (card : Option CardInfo). reply_by card (keys_of issuer found.card found.request) issuer.table history found.request) card_is
     ∙ ap (λ (keys : Option CardKeys). reply_by (Some card) keys issuer.table history found.request) at_hand.keys_are
     )
 
 -- the plan of the row of the request's card, for the place after the last record of the card's shard, is the answer of this shard
-pub row-plan : (host : Holding) (found : Checked) (shard : ℕ) (row : CardRow) (place : ℕ) (outcome : Outcome) → IsAtHand host.issuer found → IsShardOf host.issuer found.card shard → slice_get host.rows found.card ≡ Some row → place ≡ get_or host.records shard place → IsPlan row found.keys host.issuer.table found.request place outcome → IsPlanFor host found shard outcome
+pub row-plan : (host : Holding) (found : CheckedRequest) (shard : ℕ) (row : CardRow) (place : ℕ) (outcome : Outcome) → IsRequestAtHand host.issuer found → IsShardOf host.issuer found.card shard → slice_get host.rows found.card ≡ Some row → place ≡ get_or host.records shard place → IsPlan row found.keys host.issuer.table found.request place outcome → IsPlanFor host found shard outcome
 row-plan host found shard row place outcome at_hand home row_is place_is plan histories stands =
     let history : List Entry = history_for host.issuer histories found.card in
-    let known = number_of-found (card_of found.request) host.issuer.cards found.card at_hand.number_is in
+    let known = number_of-found (card_of found.request) host.issuer.cards found.card at_hand.card_is.number_is in
     let reply_by_card : List Entry → Request → Reply = λ history request. decided_reply known.0.method found.keys host.issuer.table (status_of (name_of known.0) history) request in
     let at_end = place-at_end host histories stands found.card shard place home place_is in
     let answers = plan shard known.0 history (row-there host histories stands found.card known.0 row known.1 row_is) (sym known.2) at_end in
     answers-alike shard reply_by_card (reply_to host.issuer) history found.request (answer_of shard outcome) (history_after history outcome) (reply-at_hand host.issuer found known.0 history at_hand known.1 known.2) answers
 
-module _ (host : Holding) (found : Checked) (at_hand : IsAtHand host.issuer found) (shard : ℕ) (home : IsShardOf host.issuer found.card shard) (histories : List (List Entry)) (stands : StandsFor host histories) where
+module _ (host : Holding) (found : CheckedRequest) (at_hand : IsRequestAtHand host.issuer found) (shard : ℕ) (home : IsShardOf host.issuer found.card shard) (histories : List (List Entry)) (stands : StandsFor host histories) where
   -- what this shard answers is answered on its history alone
   answered : (answer : Answer) (after : List Entry) → Answers shard (reply_to host.issuer) (history_for host.issuer histories found.card) found.request answer after → AnswersIn (rules_of host.issuer) histories found.request answer (set histories (found.card % host.issuer.shards) after)
   answered answer after answers =
-      let named : found.card % host.issuer.shards ≡ shard_of host.issuer (card_of found.request) = sym (shard_of-known host.issuer (card_of found.request) found.card at_hand.number_is) in
+      let named : found.card % host.issuer.shards ≡ shard_of host.issuer (card_of found.request) = sym (shard_of-known host.issuer (card_of found.request) found.card at_hand.card_is.number_is) in
       record {
         old = history_for host.issuer histories found.card;
         new = after;
@@ -84,12 +84,12 @@ module _ (host : Holding) (found : Checked) (at_hand : IsAtHand host.issuer foun
     -- the record of a fresh plan is the next one of the request's card
     pub next-planned : IsNextOf host.issuer histories found.card step
     next-planned =
-        let known = number_of-found (card_of found.request) host.issuer.cards found.card at_hand.number_is in
+        let known = number_of-found (card_of found.request) host.issuer.cards found.card at_hand.card_is.number_is in
         let answers = plan histories stands in
         let last : Decided step.request step.reply ∷ [] ≡ Decided found.request reply ∷ [] = append_cancel_left (history_for host.issuer histories found.card) _ _ answers.4 in
         let same : step.request ≡ found.request = cc in
         record {
-          valid = at_hand.valid;
+          valid = at_hand.card_is.valid;
           card = known.0;
           card_is = known.1;
           next = record { of_card = ap card_of same ∙ sym known.2; at_end = answers.2 };

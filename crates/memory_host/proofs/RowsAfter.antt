@@ -4,7 +4,6 @@ use Rattle.std.proofs.lemmas.Bool.{cases_eq, cases_lt}
 use Rattle.std.proofs.lemmas.List.{length_push, map-set, get_or-map, get_or-set_same, get_or-set_other}
 use Rattle.std.proofs.lemmas.Option.{same_Some, slice_get_within, slice_get-get_or, get_or_from_slice_get}
 use Rattle.std.specs.List.{slice_get}
-use Rattle.issuer_base.specs.declared.request.Request.{Request}
 use Rattle.issuer_base.specs.declared.entry.Entry.{Entry}
 use Rattle.issuer_base.specs.declared.entry.Entry.TheVariants.{Decided}
 use Rattle.card_history.specs.declared.decision.Decision.{Decision}
@@ -13,18 +12,11 @@ use Rattle.card_history.proofs.CardNames.{is_of-other}
 use Rattle.card_history.proofs.OneMoreRecord.{decided-other}
 use Rattle.card_history.proofs.OtherRecords.{queue-decided, status_of-decided}
 use Rattle.issuer_setup.specs.declared.card.CardInfo.{CardInfo}
-use Rattle.issuer_setup.specs.CardList.{name_of, number_of, AreCards}
+use Rattle.issuer_setup.specs.CardList.{name_of, AreCards}
 use Rattle.row_core.specs.CardRow.{CardRow, StandsFor as RowStandsFor}
 use Rattle.row_core.specs.Plan.{IsNext, with_record}
-use Rattle.issuer_setup.proofs.CardListLemmas.{number_of-found}
 use Rattle.memory_host.specs.Holding.{Holding, history_for, RowStands, StandsFor}
 use Rattle.memory_host.specs.Deciding.{IsShardOf, IsNextOf, with_record_of, IsRecorded}
-
--- the number of a request's card is that of one of the cards
-pub number-within : (cards : List CardInfo) (request : Request) (number : ℕ) → number_of (card_of request) cards ≡ Some number → number < length cards
-number-within cards request number known =
-    let found = number_of-found (card_of request) cards number known in
-    slice_get_within cards number found.0 found.1
 
 -- what was written is read again
 there : {X : Type 0} (xs : List X) (place : ℕ) (old new : X) → slice_get xs place ≡ Some old → slice_get (set xs place new) place ≡ Some new

@@ -2,7 +2,7 @@
 use Rattle.card_history.specs.Turns.{Rules}
 use Rattle.issuer_setup.specs.IssuerSetup.{Setup, shard_of}
 use Rattle.row_core.specs.Replying.{reply_to}
-use Rattle.memory_host.specs.Reading.{reading}
+use Rattle.line_checks.specs.Reading.{reading}
 
 -- the rules of this issuer's host
 abbrev pub rules_of : Setup → Rules

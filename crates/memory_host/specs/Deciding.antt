@@ -10,7 +10,7 @@ use Rattle.issuer_setup.specs.IssuerSetup.{Setup}
 use Rattle.row_core.specs.Plan.{answer_of, history_after, with_record, IsNext}
 use Rattle.row_core.specs.Replying.{reply_to}
 use Rattle.row_core.specs.declared.row.Outcome.{Outcome}
-use Rattle.memory_host.specs.declared.reading.Checked.{Checked}
+use Rattle.line_checks.specs.declared.checked.CheckedRequest.{CheckedRequest}
 use Rattle.memory_host.specs.Holding.{Holding, history_for, StandsFor}
 
 -- each of the first so many cards has a row, which stands for no records
@@ -37,7 +37,7 @@ with_record_of issuer histories number step =
     slice_set histories (number % issuer.shards) (with_record (history_for issuer histories number) step)
 
 -- the plan for this request is the answer of this shard to it, after each of the histories that the host stands for
-abbrev pub IsPlanFor : Holding → Checked → ℕ → Outcome → Type 0
+abbrev pub IsPlanFor : Holding → CheckedRequest → ℕ → Outcome → Type 0
 IsPlanFor host found shard outcome =
     (histories : List (List Entry)) → StandsFor host histories
     → Answers shard (reply_to host.issuer) (history_for host.issuer histories found.card) found.request (answer_of shard outcome)

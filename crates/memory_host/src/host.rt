@@ -1,17 +1,21 @@
 ghost use Rattle.std.specs.Prelude.{◌≡◌, ◌<◌, List, length, replicate, IfOk, IfErr};
 ghost use Rattle.issuer_base.specs.declared.entry.Entry.{Entry};
 ghost use Rattle.card_history.specs.Turns.{Turn, AnswersIn, no_records};
-ghost use Rattle.memory_host.specs.Reading.{reading};
+ghost use Rattle.line_checks.specs.Reading.{reading};
+ghost use Rattle.line_checks.specs.AtHand.{IsRequestAtHand};
 ghost use Rattle.memory_host.specs.Answering.{rules_of};
-ghost use Rattle.memory_host.specs.AtHand.{IsAtHand};
 ghost use Rattle.memory_host.specs.Holding.{StandsFor};
 ghost use Rattle.memory_host.specs.Deciding.{AreEmpty, IsShardOf, IsPlanFor, IsRecorded};
 
-use crate::reading::{Checked, read_line};
 use issuer_base::{Answer, NoMemory, Refusal};
-use row_core::{Issuer, Outcome, Row, Step};
+use issuer_setup::Issuer;
+use line_checks::{Checked, CheckedRequest, check_line};
+use row_core::{Outcome, Row, Step};
 use std::alloc::Global;
 use std::marker::Model;
+
+/// What is answered to a command or a status: the host takes none.
+const NOT_TAKEN: Answer = Answer::Refused(Refusal::BadLine(1));
 
 /// The host of one caller: it answers line after line, and keeps what it decided in memory.
 ///
@@ -63,15 +67,16 @@ impl MemoryHost {
             × Turn (rules_of self.old.issuer) histories (reading self.old.issuer line.now) result after }
         ensures issuer { self.new.issuer ≡ self.old.issuer }
     {
-        match read_line(&self.issuer, line) {
-            Ok(checked) => self.decide(checked),
+        match check_line(&self.issuer, line) {
+            Ok(Checked::Decide(found)) => self.decide(found),
+            Ok(Checked::Queue(_)) | Ok(Checked::Status(_)) => NOT_TAKEN,
             Err(refusal) => Answer::Refused(refusal),
         }
     }
 
     /// The answer to a request that was checked.
-    fn decide(&mut self, checked: Checked) -> Answer
-        requires { IsAtHand self.old.issuer checked }
+    fn decide(&mut self, checked: CheckedRequest) -> Answer
+        requires { IsRequestAtHand self.old.issuer checked }
         ensures turn { (histories : List (List Entry)) → StandsFor self.old histories
             → (after : List (List Entry)) × StandsFor self.new after
             × AnswersIn (rules_of self.old.issuer) histories checked.request result after }
@@ -102,12 +107,12 @@ impl MemoryHost {
     fn shard_of(&self, card: u32) -> u8
         ensures { IsShardOf self.now.issuer card result }
     {
-        (card % u32::from(self.issuer.shards())) as u8
+        self.issuer.shard_of(card)
     }
 
     /// What is to be done with a request that was checked, in the shard of its card.
-    fn plan(&self, checked: &Checked, shard: u8) -> Outcome
-        requires at_hand { IsAtHand self.now.issuer checked.now }
+    fn plan(&self, checked: &CheckedRequest, shard: u8) -> Outcome
+        requires at_hand { IsRequestAtHand self.now.issuer checked.now }
         requires shard { IsShardOf self.now.issuer checked.now.card shard }
         ensures { IsPlanFor self.now checked.now shard result }
     {

@@ -2,7 +2,6 @@
 #![tactic(auto)]
 
 mod host;
-mod reading;
 
 pub use host::MemoryHost;
 

@@ -4,14 +4,15 @@ use Rattle.std.specs.List.{slice_get}
 use Rattle.decision_table.specs.declared.row.TableRow.{TableRow}
 use Rattle.row_core.specs.Plan.{IsPlan}
 use Rattle.memory_host.specs.Holding.{Holding}
-use Rattle.memory_host.proofs.RowsAfter.{number-within}
+use Rattle.card_history.specs.Records.{card_of}
+use Rattle.line_checks.proofs.Numbers.{number-within}
 use Rattle.memory_host.proofs.PlannedTurns.{row-plan}
 use Rattle.memory_host.proofs.host.MemoryHost.plan.Goals as goal
 
 pub returns : goal.returns
 returns c =
     let cards = ap (λ (host : Holding). length host.issuer.cards) c.self.view_is in
-    let known = number-within c.args.self.now.issuer.cards c.args.checked.now.request c.args.checked.now.card c.requires.at_hand.number_is in
+    let known = number-within c.args.self.now.issuer.cards (card_of c.args.checked.now.request) c.args.checked.now.card c.requires.at_hand.card_is.number_is in
     let within : c.args.checked.now.card < length c.self.inside.rows.items = omega (arith, c.self.invariant, cards, known) in
     let row_is : slice_get c.args.self.now.rows c.args.checked.now.card ≡ Some c.index-row.result.now =
     ap (λ (host : Holding). slice_get host.rows c.args.checked.now.card) (sym c.self.view_is)

@@ -6,7 +6,7 @@ use Rattle.std.proofs.lemmas.List.{take_all, length-take-le}
 use Rattle.chip_request.specs.Ask.{pairs, within_line, ask_digits, data_bytes, ask_bytes}
 use Rattle.chip_request.proofs.Digits.{length-pairs, outside_line}
 use Rattle.issuer_setup.specs.IssuerSetup.{Setup}
-use Rattle.memory_host.specs.Reading.{said_by, where_asked, reading}
+use Rattle.line_checks.specs.Reading.{said_by, reading}
 
 -- nothing follows from no bytes
 no_bytes : (found : Option (List ℕ)) → ((bytes : List ℕ) → found ≡ Some bytes → ⊥) → option_and_then within_line found ≡ None
@@ -45,4 +45,4 @@ ask_bytes-kept (a ∷ space ∷ digits) = behind (a == 65 && space == 32) (take 
 
 -- a line cut to its first 2,051 bytes reads as the whole line
 pub reading-kept : (issuer : Setup) (line : List ℕ) → reading issuer (take 2051 line) ≡ reading issuer line
-reading-kept issuer line = ap (λ found. where_asked issuer (said_by found)) (ask_bytes-kept line)
+reading-kept issuer line = ap (said_by issuer) (ask_bytes-kept line)

@@ -2,11 +2,11 @@ use Rattle.std.proofs.Common.{ap, sym, ◌∙◌}
 use Rattle.card_history.specs.Records.{card_of}
 use Rattle.issuer_setup.specs.CardList.{number_of}
 use Rattle.issuer_base.specs.declared.request.Parts.{Parts}
-use Rattle.memory_host.proofs.RowsAfter.{number-within}
-use Rattle.memory_host.proofs.reading.check.Goals as goal
+use Rattle.line_checks.proofs.Numbers.{number-within}
+use Rattle.line_checks.proofs.request.check.Goals as goal
 
 pub keys_of-requires : goal.keys_of-requires
 keys_of-requires c =
     let cards = c.args.issuer.now.cards in
     let known = ap (λ (parts : Parts). number_of (card_of parts) cards) (sym c.parts-parts.ensures.same) ∙ sym c.in-Some.ensures.number in
-    number-within cards c.args.request c.in-Some.card known
+    number-within cards (card_of c.args.request) c.in-Some.card known

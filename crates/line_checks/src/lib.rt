@@ -1,0 +1,12 @@
+//! What a line says to an issuer: what it asks, with what was found and derived for it, or the first thing that is wrong.
+#![tactic(auto)]
+
+mod checked;
+mod line;
+mod request;
+
+pub use checked::{Checked, CheckedCommand, CheckedRequest, CheckedStatus};
+pub use line::check_line;
+
+#[cfg(test)]
+mod tests;
