@@ -8,7 +8,7 @@ use Rattle.issuer_base.specs.declared.request.Request.{Request}
 use Rattle.issuer_base.specs.declared.answer.Reply.{Reply}
 use Rattle.issuer_base.specs.declared.answer.Answer.{Answer}
 use Rattle.issuer_base.specs.declared.answer.Answer.TheVariants.{Fresh, Kept, Refused}
-use Rattle.issuer_base.specs.declared.answer.Refusal.TheVariants.{Below, Taken, NoMemory}
+use Rattle.issuer_base.specs.declared.answer.Refusal.TheVariants.{Below, Taken}
 use Rattle.issuer_base.specs.declared.entry.Entry.{Entry}
 use Rattle.issuer_base.specs.declared.entry.Entry.TheVariants.{Decided}
 use Rattle.card_history.specs.declared.decision.Asked.TheVariants.{Decide}
@@ -156,5 +156,4 @@ module _ (rules : Rules) where
       same-keeps before request (Kept at place reply) after sound after_is (λ histories here. placed histories (rules.shard_of (card_of request)) before at place (Decided request reply) here at_is kept.0)
   answers-keep before request (Refused (Below top)) after asked sound (too_old, after_is) = same-keeps before request (Refused (Below top)) after sound after_is (λ histories here. tt)
   answers-keep before request (Refused (Taken at place)) after asked sound (taken, at_is, after_is) = same-keeps before request (Refused (Taken at place)) after sound after_is (λ histories here. tt)
-  answers-keep before request (Refused NoMemory) after asked sound (unused, after_is) = same-keeps before request (Refused NoMemory) after sound after_is (λ histories here. tt)
   answers-keep before request _ after asked sound turn = absurd turn
