@@ -9,7 +9,7 @@ use Rattle.hex.specs.Hex.{encode_with, encode_lower}
 use Rattle.issuer_base.specs.declared.answer.Answer.{Answer}
 use Rattle.issuer_base.specs.declared.answer.Answer.TheVariants.{Fresh, Kept, Queued, Set, Refused}
 use Rattle.issuer_base.specs.declared.answer.Refusal.{Refusal}
-use Rattle.issuer_base.specs.declared.answer.Refusal.TheVariants.{BadLine, BadTlv, Missing, BadField, Repeated, UnknownCard, NotArqc, UnknownKey, BadCryptogram, Below, Taken, Pending, QueueFull, BadCommand, StoreFault, NoMemory}
+use Rattle.issuer_base.specs.declared.answer.Refusal.TheVariants.{BadLine, BadTlv, Missing, BadField, Repeated, UnknownCard, NotArqc, UnknownKey, BadCryptogram, Below, Taken, Pending, QueueFull, BadCommand, StoreFault}
 use Rattle.answer_text.specs.AnswerText.{newline, line_of, IsLine, yes_or_no, refusal_words, answer_words, printed}
 use Rattle.answer_text.specs.StopText.{stop_words, stop_text}
 use Rattle.answer_text.specs.declared.stop_line.Stop.{Stop}
@@ -86,7 +86,6 @@ refusal_words-inner Pending = refl
 refusal_words-inner QueueFull = refl
 refusal_words-inner BadCommand = refl
 refusal_words-inner StoreFault = refl
-refusal_words-inner NoMemory = refl
 
 answer_words-inner : (answer : Answer) → list_all has_no_newline (answer_words answer) ≡ true
 unfolding answer_words

@@ -6,7 +6,7 @@ use Rattle.hex.specs.Hex.{encode_lower}
 use Rattle.issuer_base.specs.declared.answer.Answer.{Answer}
 use Rattle.issuer_base.specs.declared.answer.Answer.TheVariants.{Fresh, Kept, Queued, Set, Refused}
 use Rattle.issuer_base.specs.declared.answer.Refusal.{Refusal}
-use Rattle.issuer_base.specs.declared.answer.Refusal.TheVariants.{BadLine, BadTlv, Missing, BadField, Repeated, UnknownCard, NotArqc, UnknownKey, BadCryptogram, Below, Taken, Pending, QueueFull, BadCommand, StoreFault, NoMemory}
+use Rattle.issuer_base.specs.declared.answer.Refusal.TheVariants.{BadLine, BadTlv, Missing, BadField, Repeated, UnknownCard, NotArqc, UnknownKey, BadCryptogram, Below, Taken, Pending, QueueFull, BadCommand, StoreFault}
 use Rattle.issuer_base.specs.declared.answer.Reply.{Reply}
 
 -- a newline
@@ -54,7 +54,6 @@ refusal_words Pending = codes "12" ∷ []
 refusal_words QueueFull = codes "13" ∷ []
 refusal_words BadCommand = codes "14" ∷ []
 refusal_words StoreFault = codes "15" ∷ []
-refusal_words NoMemory = codes "16" ∷ []
 
 -- an answer: what was done, where its record stands, and the reply, or that and why it was refused
 unfoldable pub answer_words : Answer → List (List ℕ)

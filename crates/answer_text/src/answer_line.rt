@@ -69,7 +69,6 @@ fn put_refusal(out: &mut ArrayVec<u8, LINE_ROOM>, refusal: Refusal)
         Refusal::QueueFull => put(out, b"refused 13"),
         Refusal::BadCommand => put(out, b"refused 14"),
         Refusal::StoreFault => put(out, b"refused 15"),
-        Refusal::NoMemory => put(out, b"refused 16"),
     }
 }
 
@@ -155,7 +154,7 @@ mod tests {
 
     #[test]
     fn prints_refusals(rt: HostRuntime) {
-        let refusals: [(Refusal, &[u8]); 18] = [
+        let refusals: [(Refusal, &[u8]); 17] = [
             (Refusal::BadLine(2052), b"refused 1 2052\n"),
             (Refusal::BadTlv(0), b"refused 2 0\n"),
             (Refusal::Missing(0x5A), b"refused 3 5a\n"),
@@ -173,7 +172,6 @@ mod tests {
             (Refusal::QueueFull, b"refused 13\n"),
             (Refusal::BadCommand, b"refused 14\n"),
             (Refusal::StoreFault, b"refused 15\n"),
-            (Refusal::NoMemory, b"refused 16\n"),
         ];
         for (refusal, text) in refusals {
             assert_eq!(rt; line_of(Answer::Refused(refusal)).as_slice(), text);

@@ -125,7 +125,4 @@ pub enum Refusal {
 
     /// The store failed, and the record is in doubt: the store is to blame.
     StoreFault,
-
-    /// No memory was left for the record: the machine is to blame.
-    NoMemory,
 }
