@@ -4,6 +4,7 @@ use Rattle.std.specs.Cmp.Lexicographic.{pointwise}
 use Rattle.std.specs.List.{last_or}
 use Rattle.std.specs.Option.{option_map_or, unwrap_or}
 use Rattle.issuer_base.specs.declared.command.Command.{Command}
+use Rattle.issuer_base.specs.declared.limits.TheConstants.{WINDOW}
 use Rattle.issuer_base.specs.declared.request.Request.{Request}
 use Rattle.issuer_base.specs.declared.entry.Entry.{Entry}
 use Rattle.issuer_base.specs.declared.entry.Entry.TheVariants.{Decided, Queued, Status}
@@ -46,10 +47,10 @@ greatest [] = None
 greatest (decision ∷ decisions) =
     Some (option_map_or (λ counter. max decision.request.atc counter) (greatest decisions) decision.request.atc)
 
--- a counter is below the window where a greatest counter is 64 or more above it
+-- a counter is below the window where a greatest counter is as far above it as the window goes, or farther
 abbrev pub IsBelow : Option ℕ → ℕ → Type 0
 IsBelow None counter = ⊥
-IsBelow (Some top) counter = counter + 64 ≤ top
+IsBelow (Some top) counter = counter + WINDOW ≤ top
 
 -- the commands that were queued for a card, oldest first
 abbrev pub queue : CardName → List Entry → List Command

@@ -1,5 +1,6 @@
 -- One turn of a host with one caller over its shards, by cases on its answer, and a run of turns.
 use Rattle.std.specs.Prelude.{◌≡◌, ◌≢◌, ℕ, ◌+◌, ◌≤◌, List, [], ◌∷◌, ◌++◌, length, replicate, slice_get, slice_set, Some, Result, Ok, Err, All, Contains}
+use Rattle.issuer_base.specs.declared.limits.TheConstants.{WINDOW}
 use Rattle.issuer_base.specs.declared.request.Request.{Request}
 use Rattle.issuer_base.specs.declared.answer.Reply.{Reply}
 use Rattle.issuer_base.specs.declared.answer.Answer.{Answer}
@@ -27,7 +28,7 @@ pub record IsUsed (decisions : List Decision) (request : Request) (decision : De
 -- the counter is below the window that this greatest counter shows
 pub record IsTooOld (decisions : List Decision) (request : Request) (top : ℕ) : Type 0 where
   pub greatest_is : greatest decisions ≡ Some top
-  pub below : request.atc + 64 ≤ top
+  pub below : request.atc + WINDOW ≤ top
 
 -- what the shard has decided for the request's card
 abbrev pub decided_for : Request → List Entry → List Decision
@@ -42,7 +43,7 @@ Answers shard reply_to before request (Fresh at place reply) after =
 -- the same request again gets the reply that is kept for it
 Answers shard reply_to before request (Kept at place reply) after =
     IsUsed (decided_for request before) request (record { request = request; reply = reply; place = place }) × (at ≡ shard) × (after ≡ before)
--- a counter 64 or more below the greatest is too old
+-- a counter below the window is too old
 Answers shard reply_to before request (Refused (Below top)) after =
     IsTooOld (decided_for request before) request top × (after ≡ before)
 -- a counter that another request was decided on is taken

@@ -6,6 +6,7 @@ use Rattle.std.proofs.lemmas.Bool.{cases_eq}
 use Rattle.std.proofs.lemmas.Option.{same_Some}
 use Rattle.std.proofs.lemmas.List.Elements.{All-contains}
 use Rattle.std.proofs.lemmas.List.Elements.{Contains-append_left, Contains-push, Contains-push_cases}
+use Rattle.issuer_base.specs.declared.limits.TheConstants.{WINDOW}
 use Rattle.card_history.specs.declared.decision.Decision.{Decision}
 use Rattle.card_history.specs.Records.{greatest, IsBelow}
 use Rattle.card_history.specs.Turns.{IsUnused}
@@ -25,7 +26,7 @@ window-empty = record {
 -- two counters of one window have slots of their own
 slots_apart : (top counter other : ℕ)
     → counter ≤ top → other ≤ top
-    → (counter + 64 ≤ top → ⊥) → (other + 64 ≤ top → ⊥)
+    → (counter + WINDOW ≤ top → ⊥) → (other + WINDOW ≤ top → ⊥)
     → counter ≢ other → slot_of counter ≢ slot_of other
 slots_apart top counter other under other_under in_window other_in_window apart same = apart (omega arith)
 
@@ -53,9 +54,9 @@ stays decisions decision other unused within late =
           let counter = decision.request.atc in
           let raised : greatest (decisions ++ decision ∷ []) ≡ Some (max top counter) =
           greatest-more decisions decision ∙ ap (λ so_far. Some (option_map_or (λ top. max top counter) so_far counter)) is in
-          let in_new : other.request.atc + 64 ≤ max top counter → ⊥ =
+          let in_new : other.request.atc + WINDOW ≤ max top counter → ⊥ =
           λ below. late (subst (λ (so_far : Option ℕ). IsBelow so_far other.request.atc) (sym raised) below) in
-          let in_old : counter + 64 ≤ top → ⊥ =
+          let in_old : counter + WINDOW ≤ top → ⊥ =
           λ below. unused.in_window (subst (λ (so_far : Option ℕ). IsBelow so_far counter) (sym is) below) in
           let under : other.request.atc ≤ top =
           All-contains (λ decision. decision.request.atc ≤ top) decisions other (greatest-above decisions top is) within in
@@ -63,7 +64,7 @@ stays decisions decision other unused within late =
           All-contains (λ decision. decision.request.atc ≢ counter) decisions other unused.unrecorded within in
           record {
             in_window = λ below.
-                let far : other.request.atc + 64 ≤ top = subst (λ (so_far : Option ℕ). IsBelow so_far other.request.atc) is below in
+                let far : other.request.atc + WINDOW ≤ top = subst (λ (so_far : Option ℕ). IsBelow so_far other.request.atc) is below in
                 in_new (omega arith);
             apart = slots_apart (max top counter) other.request.atc counter (omega arith) (omega arith) in_new (λ below. in_old (omega arith)) differ;
           }
