@@ -1,4 +1,5 @@
 pub mod ClaimBits
 pub mod ClaimCounts
+pub mod ContestLemmas
 pub mod KeepsClaims
 pub mod OpeningLemmas

@@ -1,6 +1,7 @@
 pub mod ClaimRule
 pub mod ClaimSteps
 pub mod ClaimViews
+pub mod Contest
 pub mod Layout
 pub mod Opening
 pub mod Seats
