@@ -1,5 +1,6 @@
 ghost use Rattle.std.specs.Prelude.{◌≡◌, ◌↔◌, IsTrue};
 
+use crate::limits::MAX_REPLY_BYTES;
 use arrayvec::ArrayVec;
 
 /// What the host answers to a request that it decided.
@@ -12,7 +13,7 @@ pub struct Reply {
     pub approve: bool,
 
     /// What goes to the card: tag 8A, tag 91 and the script template, where there is one.
-    pub bytes: ArrayVec<u8, 160>,
+    pub bytes: ArrayVec<u8, MAX_REPLY_BYTES>,
 }
 
 impl Reply {

@@ -18,8 +18,8 @@ pub use faults::{
     BadCommand, Full, NoMemory, NotEntry, QueueFull, ReadFault, StoreFail, WriteFault,
 };
 pub use limits::{
-    MAX_BODY_BYTES, MAX_CARDS, MAX_CHIP_BYTES, MAX_KEY_SETS, MAX_SHARDS, MAX_TABLE_ROWS,
-    MAX_TEMPLATE_BYTES, MAX_UNDONE, WINDOW,
+    MAX_BODY_BYTES, MAX_CARDS, MAX_CHIP_BYTES, MAX_KEY_SETS, MAX_REPLY_BYTES, MAX_SHARDS,
+    MAX_TABLE_ROWS, MAX_TEMPLATE_BYTES, MAX_UNDONE, WINDOW,
 };
 pub use outside::{Desk, DeskFault, MemoryDesk, MemorySink, MemorySource, Sink, Source, write_all};
 pub use pan::Pan;

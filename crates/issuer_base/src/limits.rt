@@ -26,3 +26,6 @@ pub const MAX_BODY_BYTES: usize = 64;
 
 /// How many bytes a script template has at most, tag and length counted in.
 pub const MAX_TEMPLATE_BYTES: usize = 128;
+
+/// How many bytes a reply to a card has at most.
+pub const MAX_REPLY_BYTES: usize = 160;

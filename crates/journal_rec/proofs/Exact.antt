@@ -1,6 +1,6 @@
 -- Readers that read just what was written, and join.
 use Rattle.std.proofs.Common.{◌≡◌, ℕ, List, [], ◌∷◌, ◌++◌, Option, Some, None, option_map, option_and_then, refl, sym, ap, subst, ◌∙◌, append_assoc}
-use Rattle.std.proofs.lemmas.Option.{some_pair_parts, same_Some}
+use Rattle.std.proofs.lemmas.Option.{same_Some}
 use Rattle.journal_rec.specs.Reading.{Reader, given, ◌>>=◌, ◌>>◌}
 
 -- a reader reads the text of each valid value and gives the value, and reads no other text; `follows` says what may stand behind it

@@ -1,12 +1,12 @@
 -- What reading a line as a record comes to.
-use Rattle.std.proofs.Common.{◌≡◌, List, ℕ, [], ◌∷◌, ◌++◌, Option, Some, None, Result, Ok, Err, option_map, refl, sym, ap, subst, ◌∙◌}
+use Rattle.std.proofs.Common.{◌≡◌, List, ℕ, [], ◌∷◌, ◌++◌, Option, Some, None, Result, Ok, option_map, refl, sym, ap, ◌∙◌}
 use Rattle.std.proofs.lemmas.List.{append-nil, same_from_push}
 use Rattle.std.specs.Option.{ok_or}
 use Rattle.std.specs.Prelude.{◌↔◌}
 use Rattle.issuer_base.specs.declared.entry.Entry.{Entry}
 use Rattle.issuer_base.specs.declared.faults.NotEntry.{NotEntry}
 use Rattle.journal_rec.specs.RecordText.{newline, text_of}
-use Rattle.journal_rec.specs.Record.{IsLineOf, IsRecord}
+use Rattle.journal_rec.specs.Record.{IsLineOf}
 use Rattle.journal_rec.specs.Reading.{entry_at}
 use Rattle.journal_rec.proofs.Exact.{map_some}
 use Rattle.journal_rec.proofs.Records.{exact_entry, line_of}

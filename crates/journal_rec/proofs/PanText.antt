@@ -1,5 +1,5 @@
 -- The text of an account number: a digit for each of its digits, and `f` behind them.
-use Rattle.std.proofs.Common.{◌≡◌, ℕ, zero, suc, ◌+◌, ◌-◌, ◌*◌, ◌/◌, ◌%◌, ◌<◌, ◌≤◌, ◌==◌, Bool, true, false, cond, leb, le-leb, List, [], ◌∷◌, ◌++◌, length, get_or, slice_index, drop, map, replicate, Option, Some, None, IsTrue, refl, sym, ap, ap₂, subst, ◌∙◌, inl, inr, lit<, arith, length-append}
+use Rattle.std.proofs.Common.{◌≡◌, ℕ, zero, suc, ◌+◌, ◌-◌, ◌*◌, ◌/◌, ◌%◌, ◌<◌, ◌≤◌, ◌==◌, Bool, true, false, cond, leb, le-leb, List, [], ◌∷◌, ◌++◌, length, get_or, drop, map, replicate, Some, None, IsTrue, refl, sym, ap, ap₂, subst, ◌∙◌, inl, inr, lit<, arith, length-append}
 use Rattle.std.proofs.lemmas.Bool.{and_from, and_parts, cases_lt, eqb-true, leb-true}
 use Rattle.std.proofs.lemmas.List.{drop_at, get_or_past, length-replicate, length-map, map-append}
 use Rattle.std.proofs.lemmas.List.FromFn.{get_or-map-range_with_len}

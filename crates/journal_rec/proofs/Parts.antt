@@ -1,5 +1,5 @@
 -- The fields of a request are read just where their text stands.
-use Rattle.std.proofs.Common.{◌≡◌, ℕ, zero, suc, ◌+◌, ◌/◌, ◌%◌, ◌<◌, ◌^◌, List, [], ◌∷◌, ◌++◌, length, get_or, slice_index, map, Some, IsTrue, refl, sym, ap, ap₂, subst, ◌∙◌, append_assoc, length-append, arith, lit<}
+use Rattle.std.proofs.Common.{◌≡◌, ℕ, zero, suc, ◌/◌, ◌%◌, ◌<◌, ◌^◌, List, [], ◌∷◌, ◌++◌, length, map, Some, IsTrue, refl, sym, ap, ap₂, subst, arith, lit<}
 use Rattle.std.proofs.lemmas.List.{append-nil}
 use Rattle.std.proofs.lemmas.Option.{same_Some}
 use Rattle.std.specs.Int.{w16, to_be_bytes}
@@ -11,7 +11,7 @@ use Rattle.issuer_base.specs.declared.request.Parts.{Parts}
 use Rattle.issuer_base.proofs.ChipDataLemmas.{request_from-some, request_from-valid}
 use Rattle.journal_rec.specs.RecordText.{pan_bytes, request_bytes, request_fields}
 use Rattle.journal_rec.specs.Record.{IsRequest, request_sizes}
-use Rattle.journal_rec.specs.Reading.{Reader, ◌>>=◌, byte_at, bytes_at, counter_at, given, pan_at, parts_at, request_at}
+use Rattle.journal_rec.specs.Reading.{byte_at, bytes_at, counter_at, pan_at, parts_at, request_at}
 use Rattle.journal_rec.proofs.Exact.{Exact, anything, exact_map, exact_same, exact_then}
 use Rattle.journal_rec.proofs.HexText.{encode_lower-concat}
 use Rattle.journal_rec.proofs.PanText.{IsBytes-pan_bytes, length-pan_bytes}

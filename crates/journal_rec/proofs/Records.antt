@@ -1,25 +1,24 @@
 -- A record is read just where its line stands.
-use Rattle.std.proofs.Common.{◌≡◌, ℕ, suc, ◌+◌, ◌-◌, ◌<◌, ◌≤◌, ◌==◌, Bool, true, false, cond, ◌&&◌, if◌then◌else◌, leb, le-leb, eq-eqb, List, [], ◌∷◌, ◌++◌, length, Option, Some, None, codes, IsTrue, option_map, option_and_then, refl, sym, ap, ap₂, subst, ◌∙◌, append_assoc, arith}
+use Rattle.std.proofs.Common.{◌≡◌, ℕ, ◌+◌, ◌-◌, ◌<◌, ◌≤◌, ◌==◌, Bool, true, false, if◌then◌else◌, leb, le-leb, eq-eqb, List, [], ◌∷◌, ◌++◌, length, Some, None, codes, IsTrue, option_map, option_and_then, refl, sym, ap, ap₂, subst, ◌∙◌, append_assoc, arith}
 use Rattle.std.proofs.lemmas.Bool.{and_from, and_parts, cond-true, eqb-true, leb-true}
 use Rattle.std.proofs.lemmas.Fmt.{decimal_digit}
-use Rattle.std.proofs.lemmas.List.{append-nil}
 use Rattle.std.proofs.lemmas.Option.{cond_some, same_Some}
 use Rattle.std.specs.Char.{is_ascii_digit}
-use Rattle.std.specs.Fmt.{decimal}
 use Rattle.std.specs.List.{join_with_byte}
 use Rattle.hex.specs.Hex.{IsBytes, encode_lower}
 use Rattle.issuer_base.specs.CardNumber.{is_pan}
 use Rattle.issuer_base.specs.ChipData.{is_bcd}
 use Rattle.issuer_base.specs.ScriptCommand.{command_bytes, is_command}
-use Rattle.issuer_base.specs.declared.limits.TheConstants.{MAX_BODY_BYTES}
+use Rattle.issuer_base.specs.declared.limits.TheConstants.{MAX_BODY_BYTES, MAX_REPLY_BYTES}
 use Rattle.issuer_base.specs.declared.request.Parts.{Parts}
 use Rattle.issuer_base.specs.declared.command.Command.{Command}
 use Rattle.issuer_base.specs.declared.answer.Reply.{Reply}
 use Rattle.issuer_base.specs.declared.entry.Entry.{Entry}
 use Rattle.issuer_base.specs.declared.entry.Entry.TheVariants.{Decided, Queued, Status}
+use Rattle.journal_rec.specs.declared.limits.TheConstants.{COMMAND_BYTES}
 use Rattle.journal_rec.specs.RecordText.{pan_bytes, request_bytes, space, words_of}
-use Rattle.journal_rec.specs.Record.{IsCommand, IsEntry, IsRecord, IsReply, IsRequest, is_record}
-use Rattle.journal_rec.specs.Reading.{Reader, ◌>>=◌, ◌>>◌, approval_at, behind_letter, bytes_at, card_at, command_of, decided_at, end_at, entry_at, given, mark_at, next_at, pan_at, psn_at, queued_at, reply_at, request_at, rest_at, status_at}
+use Rattle.journal_rec.specs.Record.{IsCommand, IsRecord, IsRequest, is_record}
+use Rattle.journal_rec.specs.Reading.{Reader, ◌>>=◌, ◌>>◌, approval_at, bytes_at, card_at, command_of, decided_at, end_at, entry_at, given, mark_at, next_at, pan_at, psn_at, queued_at, reply_at, request_at, rest_at, status_at}
 use Rattle.journal_rec.proofs.Exact.{Exact, anything, nothing, exact_behind, exact_map, exact_same, exact_then, then_some, map_some}
 use Rattle.journal_rec.proofs.Parts.{exact_request}
 use Rattle.journal_rec.proofs.Words.{IsField, exact_bytes, exact_end, exact_mark, exact_next, exact_pan, exact_psn, exact_rest}
@@ -58,7 +57,7 @@ reply_text reply = encode_lower reply.arc ++ (space ∷ (approval_text reply.app
 
 -- the parts of a reply as they are read
 abbrev IsReadReply : Reply → Type 0
-IsReadReply reply = Unit {0} × (IsField 2 reply.arc × (Unit {0} × ((1 ≤ length reply.bytes.items) × ((length reply.bytes.items ≤ 160) × IsBytes reply.bytes.items))))
+IsReadReply reply = Unit {0} × (IsField 2 reply.arc × (Unit {0} × ((1 ≤ length reply.bytes.items) × ((length reply.bytes.items ≤ MAX_REPLY_BYTES) × IsBytes reply.bytes.items))))
 
 same_reply : (reply : Reply) (arc : List ℕ) (approve : Bool) → reply.arc ≡ arc → reply.approve ≡ approve → record { arc = arc; approve = approve; bytes = record { items = reply.bytes.items } } ≡ reply
 same_reply reply arc approve is_arc is_approve = rw (← is_arc, ← is_approve) refl
@@ -70,7 +69,7 @@ exact_reply =
     exact_behind _ _ _ _ _ _ (exact_mark space) (
     exact_then approval_at _ _ _ _ _ _ nothing (λ reply. reply.approve) exact_approval (λ approve.
     exact_behind _ _ _ _ _ _ (exact_mark space) (
-    exact_map (rest_at 160) _ _ _ nothing _ (λ reply. reply.bytes.items) (exact_rest 160)
+    exact_map (rest_at MAX_REPLY_BYTES) _ _ _ nothing _ (λ reply. reply.bytes.items) (exact_rest MAX_REPLY_BYTES)
     (λ reply holds. (holds.1.1, cond-true _ _ _ (le-leb _ _ holds.1.0) ∙ ap Some (same_reply reply arc approve holds.0.0.1 holds.0.1)))
     (λ bytes reply valid made.
     let tested = cond_some _ _ _ made in
@@ -78,7 +77,7 @@ exact_reply =
     let is_bytes : reply.bytes.items ≡ bytes = ap (λ (r : Reply). r.bytes.items) back in (
       (
         ((tt, ap (λ (r : Reply). r.arc) back), ap (λ (r : Reply). r.approve) back),
-        subst (λ (bs : List ℕ). (1 ≤ length bs) × ((length bs ≤ 160) × IsBytes bs)) (sym is_bytes) (leb-true _ _ tested.0, valid),
+        subst (λ (bs : List ℕ). (1 ≤ length bs) × ((length bs ≤ MAX_REPLY_BYTES) × IsBytes bs)) (sym is_bytes) (leb-true _ _ tested.0, valid),
       ),
       is_bytes,
     ))))))
@@ -217,7 +216,7 @@ exact_queued : Exact queued_at IsReadQueued queued_text nothing
 unfolding queued_at
 exact_queued =
     exact_then card_at _ _ _ (λ entry. Unit {0}) _ _ nothing card_part exact_card (λ card.
-    exact_map (rest_at (4 + MAX_BODY_BYTES)) _ _ _ nothing _ (λ entry. command_bytes (command_part entry)) (exact_rest (4 + MAX_BODY_BYTES))
+    exact_map (rest_at COMMAND_BYTES) _ _ _ nothing _ (λ entry. command_bytes (command_part entry)) (exact_rest COMMAND_BYTES)
     (λ entry holds.
     let command : Command = command_part entry in
     let few : length command.body.items ≤ MAX_BODY_BYTES = holds.1.1.1.size in (

@@ -1,5 +1,5 @@
 -- The texts of records are lines of their own, and are told apart.
-use Rattle.std.proofs.Common.{◌≡◌, ◌≢◌, ℕ, zero, suc, ◌+◌, ◌*◌, ◌/◌, ◌%◌, ◌<◌, ◌≤◌, ◌==◌, Bool, true, false, not, ◌&&◌, if◌then◌else◌, leb, List, [], ◌∷◌, ◌++◌, length, get_or, map, Some, IsTrue, All, codes, refl, sym, ap, ap₂, subst, ◌∙◌, append_assoc, length-append, arith}
+use Rattle.std.proofs.Common.{◌≡◌, ℕ, zero, suc, ◌+◌, ◌*◌, ◌/◌, ◌%◌, ◌<◌, ◌≤◌, ◌==◌, Bool, true, false, not, leb, List, [], ◌∷◌, ◌++◌, length, get_or, map, Some, All, refl, sym, ap, ap₂, ◌∙◌, append_assoc, length-append, arith}
 use Rattle.std.proofs.lemmas.Bool.{and_from, and_parts, leb-true}
 use Rattle.std.proofs.lemmas.Fmt.{decimal_digit}
 use Rattle.std.proofs.lemmas.List.{append-nil, append_cancel_left, get_or_at}
@@ -19,7 +19,7 @@ use Rattle.issuer_base.specs.declared.request.Parts.{Parts}
 use Rattle.journal_rec.specs.RecordText.{IsLine, IsUnbroken, newline, pan_bytes, request_bytes, request_fields, space, text_of, texts_of, words_of}
 use Rattle.journal_rec.specs.Record.{IsRecord, is_record, request_sizes}
 use Rattle.journal_rec.specs.Reading.{entry_at}
-use Rattle.journal_rec.specs.declared.laws.TheConstants.{LEAST_RECORD_BYTES, MOST_RECORD_BYTES}
+use Rattle.journal_rec.specs.declared.limits.TheConstants.{LEAST_RECORD_BYTES, MOST_RECORD_BYTES}
 use Rattle.journal_rec.proofs.PanText.{length-pan_bytes}
 use Rattle.journal_rec.proofs.Records.{approval_text, exact_entry, line_of}
 

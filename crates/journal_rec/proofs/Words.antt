@@ -1,5 +1,5 @@
 -- Each part of a line is read just where its text stands.
-use Rattle.std.proofs.Common.{◌≡◌, ℕ, suc, ◌+◌, ◌-◌, ◌*◌, ◌/◌, ◌%◌, ◌^◌, ◌<◌, ◌≤◌, ◌==◌, Bool, true, false, cond, leb, le-leb, List, [], ◌∷◌, ◌++◌, length, get_or, slice_index, take, drop, Option, Some, None, IsTrue, if◌then◌else◌, eq-eqb, zero, option_map, option_and_then, refl, sym, ap, ap₂, subst, ◌∙◌, lit<, arith, length-append}
+use Rattle.std.proofs.Common.{◌≡◌, ℕ, suc, ◌*◌, ◌/◌, ◌%◌, ◌^◌, ◌<◌, ◌≤◌, ◌==◌, true, leb, le-leb, List, [], ◌∷◌, ◌++◌, length, slice_index, take, drop, Some, None, IsTrue, if◌then◌else◌, eq-eqb, zero, refl, sym, ap, ap₂, subst, ◌∙◌, lit<, arith, length-append}
 use Rattle.std.proofs.lemmas.Bool.{cond-true, eqb-true, leb-true}
 use Rattle.std.proofs.lemmas.List.{append-nil, drop_at, length-take-le, take-append-drop, take_at}
 use Rattle.std.proofs.lemmas.Option.{cond_some, same_Some}
@@ -10,9 +10,9 @@ use Rattle.hex.proofs.HexLemmas.{length-encode_with}
 use Rattle.issuer_base.specs.CardNumber.{is_pan}
 use Rattle.issuer_base.specs.ChipData.{is_bcd}
 use Rattle.journal_rec.specs.RecordText.{pan_bytes}
-use Rattle.journal_rec.specs.Reading.{Reader, ◌>>=◌, byte_at, bytes_at, counter_at, end_at, given, mark_at, next_at, pan_at, pan_of, piece_at, psn_at, rest_at, spelled, spelled_within}
-use Rattle.journal_rec.proofs.Exact.{Exact, anything, nothing, exact_map, exact_same, map_some, then_some}
-use Rattle.journal_rec.proofs.HexText.{glyph, spelled-again, spelled-takes}
+use Rattle.journal_rec.specs.Reading.{byte_at, bytes_at, counter_at, end_at, mark_at, next_at, pan_at, pan_of, piece_at, psn_at, rest_at, spelled, spelled_within}
+use Rattle.journal_rec.proofs.Exact.{Exact, anything, nothing, exact_map, map_some, then_some}
+use Rattle.journal_rec.proofs.HexText.{spelled-again, spelled-takes}
 use Rattle.journal_rec.proofs.PanText.{pan_of-again, pan_of-takes, pan_text, pan_text-size}
 
 -- so many bytes
