@@ -17,7 +17,8 @@ ok_some (Some x) error entry ok = cc
 
 -- a line reads as a record exactly where it is the record's
 pub reads_line : (line left : List ℕ) (found : Option Entry) (error : NotEntry) (result : Result Entry NotEntry)
-    → option_map (λ (entry : Entry). (entry, left)) found ≡ entry_at line → result ≡ ok_or found error → (entry : Entry) → (result ≡ Ok entry) ↔ IsLineOf entry line
+    → option_map (λ (entry : Entry). (entry, left)) found ≡ entry_at line → result ≡ ok_or found error
+    → (entry : Entry) → (result ≡ Ok entry) ↔ IsLineOf entry line
 unfolding text_of
 reads_line line left found error result read answer entry = (
   λ ok.

@@ -12,6 +12,8 @@ use crate::pan::pan_bytes;
 use arrayvec::ArrayVec;
 use issuer_base::{Command, Entry, MAX_BODY_BYTES, MAX_REPLY_BYTES, Pan, Parts, Reply, Request};
 
+const NEWLINE: u8 = b'\n';
+
 /// How many digits a word of a line has at most: those of the longest reply.
 const WORD_DIGITS: usize = 2 * MAX_REPLY_BYTES;
 
@@ -42,7 +44,7 @@ fn decided_line(request: &Request, reply: &Reply) -> ArrayVec<u8, RECORD_ROOM>
     line.push(b' ');
     line.push(if reply.approve { b'1' } else { b'0' });
     put_word(&mut line, reply.bytes.as_slice());
-    line.push(b'\n');
+    line.push(NEWLINE);
     line
 }
 
@@ -54,7 +56,7 @@ fn queued_line(pan: &Pan, psn: u8, command: &Command) -> ArrayVec<u8, RECORD_ROO
 {
     let mut line = card_line(b'q', pan, psn);
     put_word(&mut line, command_bytes(command).as_slice());
-    line.push(b'\n');
+    line.push(NEWLINE);
     line
 }
 
@@ -66,7 +68,7 @@ fn status_line(pan: &Pan, psn: u8, status: u8) -> ArrayVec<u8, RECORD_ROOM>
     let mut line = card_line(b's', pan, psn);
     line.push(b' ');
     line.push(b'0' + status);
-    line.push(b'\n');
+    line.push(NEWLINE);
     line
 }
 
