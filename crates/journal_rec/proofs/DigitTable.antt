@@ -1,10 +1,10 @@
 -- The table of the digits' values is the tabulation of what a digit's value is.
-use Rattle.std.proofs.Common.{◌≡◌, ℕ, ◌+◌, ◌*◌, ◌<◌, ◌≤◌, length, get_or, map, Option, Some, None, option_and_then, refl, sym, ap, ◌∙◌, unwrap_or, ◌==◌, lit≤, arith}
+use Rattle.std.proofs.Common.{◌≡◌, ℕ, ◌<◌, ◌≤◌, get_or, map, Option, Some, None, refl, ap, ◌∙◌, unwrap_or, ◌==◌, lit≤, arith}
 use Rattle.std.proofs.lemmas.List.FromFn.{get_or-map-range_with_len}
 use Rattle.std.proofs.lemmas.List.Quantifiers.{position-Some}
 use Rattle.std.specs.List.{range_with_len}
 use Rattle.hex.specs.Hex.{lower_digits}
-use Rattle.journal_rec.specs.Reading.{digit_value, byte_of, ◌>>=◌}
+use Rattle.journal_rec.specs.Reading.{digit_value}
 use Rattle.journal_rec.specs.declared.digits.TheConstants.{NONE, VALUES}
 
 tabulated : VALUES ≡ map (λ digit. unwrap_or (digit_value digit) NONE) (range_with_len 0 256)

@@ -1,6 +1,6 @@
 -- Readers that read just what was written, and join.
 use Rattle.std.proofs.Common.{◌≡◌, ℕ, List, [], ◌∷◌, ◌++◌, Option, Some, None, option_map, option_and_then, refl, sym, ap, subst, ◌∙◌, append_assoc}
-use Rattle.std.proofs.lemmas.Option.{some_pair_parts, same_Some}
+use Rattle.std.proofs.lemmas.Option.{same_Some}
 use Rattle.journal_rec.specs.Reading.{Reader, given, ◌>>=◌, ◌>>◌}
 
 -- a reader reads the text of each valid value and gives the value, and reads no other text; `follows` says what may stand behind it
@@ -27,7 +27,8 @@ map_some None f y found = absurd cc
 map_some (Some x) f y found = (x, refl, same_Some _ _ found)
 
 -- one part, and then more: what is read has the first part as its `part`
-pub exact_then : {A B : Type 0} (read : Reader A) (next : A → Reader B) (valid : A → Type 0) (text : A → List ℕ) (known rest_valid : B → Type 0) (more : B → List ℕ) (follows : List ℕ → Type 0) (part : B → A)
+pub exact_then : {A B : Type 0} (read : Reader A) (next : A → Reader B) (valid : A → Type 0) (text : A → List ℕ)
+    (known rest_valid : B → Type 0) (more : B → List ℕ) (follows : List ℕ → Type 0) (part : B → A)
     → Exact read valid text anything
     → ((a : A) → Exact (next a) (λ b. (known b × (part b ≡ a)) × rest_valid b) more follows)
     → Exact (read >>= next) (λ b. known b × (valid (part b) × rest_valid b)) (λ b. text (part b) ++ more b) follows
@@ -52,7 +53,8 @@ exact_then {A} {B} read next valid text known rest_valid more follows part first
 }
 
 -- what is read, made into something else where that can be
-pub exact_map : {A B : Type 0} (read : Reader A) (made : A → Option B) (valid : A → Type 0) (text : A → List ℕ) (follows : List ℕ → Type 0) (made_valid : B → Type 0) (back : B → A)
+pub exact_map : {A B : Type 0} (read : Reader A) (made : A → Option B) (valid : A → Type 0) (text : A → List ℕ)
+    (follows : List ℕ → Type 0) (made_valid : B → Type 0) (back : B → A)
     → Exact read valid text follows
     → ((b : B) → made_valid b → valid (back b) × (made (back b) ≡ Some b))
     → ((a : A) (b : B) → valid a → made a ≡ Some b → made_valid b × (back b ≡ a))

@@ -1,5 +1,5 @@
 -- Lists put one behind another.
-use Rattle.std.proofs.Common.{◌≡◌, ℕ, ◌+◌, ◌<◌, List, [], ◌∷◌, ◌++◌, fold, refl, sym, ◌∙◌, append_assoc}
+use Rattle.std.proofs.Common.{◌≡◌, ℕ, ◌+◌, ◌<◌, List, [], ◌∷◌, ◌++◌, fold, sym, ◌∙◌, append_assoc}
 use Rattle.std.proofs.lemmas.Fmt.{decimal_digit}
 use Rattle.std.proofs.lemmas.List.{append-nil}
 use Rattle.std.specs.List.{concat}
@@ -12,12 +12,14 @@ pub fold-concat : (front : List ℕ) (lists : List (List ℕ)) → fold (λ out 
 fold-concat front [] = sym (append-nil front)
 fold-concat front (list ∷ lists) = fold-concat (front ++ list) lists ∙ append_assoc front list (concat lists)
 
-regroup : (pan psn digits : List ℕ) → ((115 ∷ ((32 ∷ pan) ++ (32 ∷ psn))) ++ 32 ∷ [] ++ digits) ++ 10 ∷ [] ≡ 115 ∷ 32 ∷ (pan ++ 32 ∷ (psn ++ 32 ∷ digits)) ++ 10 ∷ []
+regroup : (pan psn digits : List ℕ)
+    → ((115 ∷ ((32 ∷ pan) ++ (32 ∷ psn))) ++ 32 ∷ [] ++ digits) ++ 10 ∷ [] ≡ 115 ∷ 32 ∷ (pan ++ 32 ∷ (psn ++ 32 ∷ digits)) ++ 10 ∷ []
 regroup pan psn digits = simp append_assoc
 
 -- the line of a status as it is put together
 pub text_of-Status : (pan : List ℕ) (psn status : ℕ) → status < 10
-    → ((115 ∷ ((32 ∷ encode_lower (pan_bytes pan)) ++ (32 ∷ encode_lower (psn ∷ [])))) ++ 32 ∷ [] ++ (48 + status) ∷ []) ++ 10 ∷ [] ≡ text_of (Status pan psn status)
+    → ((115 ∷ ((32 ∷ encode_lower (pan_bytes pan)) ++ (32 ∷ encode_lower (psn ∷ [])))) ++ 32 ∷ [] ++ (48 + status) ∷ []) ++ 10 ∷ []
+    ≡ text_of (Status pan psn status)
 unfolding text_of
 text_of-Status pan psn status one_digit =
     rw (decimal_digit status one_digit) (regroup (encode_lower (pan_bytes pan)) (encode_lower (psn ∷ [])) ((48 + status) ∷ []))

@@ -1,12 +1,12 @@
 -- What reading a line as a record comes to.
-use Rattle.std.proofs.Common.{◌≡◌, List, ℕ, [], ◌∷◌, ◌++◌, Option, Some, None, Result, Ok, Err, option_map, refl, sym, ap, subst, ◌∙◌}
+use Rattle.std.proofs.Common.{◌≡◌, List, ℕ, [], ◌∷◌, ◌++◌, Option, Some, None, Result, Ok, option_map, refl, sym, ap, ◌∙◌}
 use Rattle.std.proofs.lemmas.List.{append-nil, same_from_push}
 use Rattle.std.specs.Option.{ok_or}
 use Rattle.std.specs.Prelude.{◌↔◌}
 use Rattle.issuer_base.specs.declared.entry.Entry.{Entry}
 use Rattle.issuer_base.specs.declared.faults.NotEntry.{NotEntry}
 use Rattle.journal_rec.specs.RecordText.{newline, text_of}
-use Rattle.journal_rec.specs.Record.{IsLineOf, IsRecord}
+use Rattle.journal_rec.specs.Record.{IsLineOf}
 use Rattle.journal_rec.specs.Reading.{entry_at}
 use Rattle.journal_rec.proofs.Exact.{map_some}
 use Rattle.journal_rec.proofs.Records.{exact_entry, line_of}
@@ -17,7 +17,8 @@ ok_some (Some x) error entry ok = cc
 
 -- a line reads as a record exactly where it is the record's
 pub reads_line : (line left : List ℕ) (found : Option Entry) (error : NotEntry) (result : Result Entry NotEntry)
-    → option_map (λ (entry : Entry). (entry, left)) found ≡ entry_at line → result ≡ ok_or found error → (entry : Entry) → (result ≡ Ok entry) ↔ IsLineOf entry line
+    → option_map (λ (entry : Entry). (entry, left)) found ≡ entry_at line → result ≡ ok_or found error
+    → (entry : Entry) → (result ≡ Ok entry) ↔ IsLineOf entry line
 unfolding text_of
 reads_line line left found error result read answer entry = (
   λ ok.

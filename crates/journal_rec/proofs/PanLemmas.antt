@@ -1,6 +1,6 @@
 -- The bytes of an account number, from its digits and what fills it up.
-use Rattle.std.proofs.Common.{◌≡◌, ℕ, suc, ◌+◌, ◌-◌, ◌*◌, ◌<◌, ◌≤◌, List, [], ◌∷◌, ◌++◌, length, get_or, drop, replicate, All, IsTrue, refl, sym, ap, ◌∙◌, append_assoc, arith, lit<}
-use Rattle.std.proofs.lemmas.Bool.{and_parts, leb-true}
+use Rattle.std.proofs.Common.{◌≡◌, ℕ, ◌+◌, ◌*◌, ◌<◌, ◌≤◌, List, [], ◌∷◌, ◌++◌, length, get_or, drop, replicate, All, IsTrue, sym, ap, ◌∙◌}
+use Rattle.std.proofs.Common.{append_assoc, arith, lit<}
 use Rattle.std.proofs.lemmas.List.{append-nil, drop_all, get_or_default}
 use Rattle.std.proofs.lemmas.List.Elements.{All-append, All-replicate}
 use Rattle.issuer_base.specs.CardNumber.{is_pan}

@@ -1,5 +1,7 @@
 -- The text of an account number: a digit for each of its digits, and `f` behind them.
-use Rattle.std.proofs.Common.{◌≡◌, ℕ, zero, suc, ◌+◌, ◌-◌, ◌*◌, ◌/◌, ◌%◌, ◌<◌, ◌≤◌, ◌==◌, Bool, true, false, cond, leb, le-leb, List, [], ◌∷◌, ◌++◌, length, get_or, slice_index, drop, map, replicate, Option, Some, None, IsTrue, refl, sym, ap, ap₂, subst, ◌∙◌, inl, inr, lit<, arith, length-append}
+use Rattle.std.proofs.Common.{◌≡◌, ℕ, zero, suc, ◌+◌, ◌-◌, ◌*◌, ◌/◌, ◌%◌, ◌<◌, ◌≤◌, ◌==◌, Bool, true, false, cond, leb, le-leb, List, []}
+use Rattle.std.proofs.Common.{◌∷◌, ◌++◌, length, get_or, drop, map, replicate, Some, None, IsTrue, refl, sym, ap, ap₂, subst, ◌∙◌, inl, inr}
+use Rattle.std.proofs.Common.{lit<, arith, length-append}
 use Rattle.std.proofs.lemmas.Bool.{and_from, and_parts, cases_lt, eqb-true, leb-true}
 use Rattle.std.proofs.lemmas.List.{drop_at, get_or_past, length-replicate, length-map, map-append}
 use Rattle.std.proofs.lemmas.List.FromFn.{get_or-map-range_with_len}
@@ -10,6 +12,7 @@ use Rattle.hex.specs.Hex.{IsBytes, encode_lower, encode_with, lower_digits}
 use Rattle.hex.proofs.HexLemmas.{length-encode_with}
 use Rattle.issuer_base.specs.CardNumber.{is_pan, pan_from}
 use Rattle.issuer_base.proofs.CardNumberLemmas.{length-pan, pan_from-some, pan_from-valid}
+use Rattle.journal_rec.specs.declared.limits.TheConstants.{PAN_DIGITS}
 use Rattle.journal_rec.specs.RecordText.{packed, pan_bytes}
 use Rattle.journal_rec.specs.Reading.{pan_of}
 use Rattle.journal_rec.proofs.HexText.{glyph}
@@ -85,7 +88,8 @@ all_same byte (first ∷ bytes) same =
     ap₂ (λ b (bs : List ℕ). b ∷ bs) (eqb-true first byte parts.0) (all_same byte bytes parts.1)
 
 -- text that is read as an account number is its text
-pub pan_of-takes : (text pan : List ℕ) → length text ≡ 20 → pan_of text ≡ Some pan → IsTrue (is_pan pan) × (text ≡ map glyph pan ++ replicate (20 - length pan) 102)
+pub pan_of-takes : (text pan : List ℕ) → length text ≡ PAN_DIGITS → pan_of text ≡ Some pan
+    → IsTrue (is_pan pan) × (text ≡ map glyph pan ++ replicate (PAN_DIGITS - length pan) 102)
 unfolding pan_of
 pan_of-takes text pan sized found =
     let digits : List ℕ = take_while is_ascii_digit text in
@@ -96,7 +100,7 @@ pan_of-takes text pan sized found =
     let front : map glyph pan ≡ digits = ap (map glyph) (sym made.1) ∙ digits_back text in
     let count : length digits ≡ length pan = omega (arith, ap length made.1, length-map digits (λ d. d - 48)) in
     let whole = digits_and_rest text in
-    let filled : length rest ≡ 20 - length pan = omega (arith, ap length whole, length-append digits rest) in
+    let filled : length rest ≡ PAN_DIGITS - length pan = omega (arith, ap length whole, length-append digits rest) in
     (valid, whole ∙ ap₂ (λ (a b : List ℕ). a ++ b) (sym front) (all_same 102 rest tested.0 ∙ ap (λ n. replicate n 102) filled))
   where
     pan_test : (test : Bool) (values pan : List ℕ) → cond test (pan_from values) None ≡ Some pan → (test ≡ true) × (pan_from values ≡ Some pan)
@@ -123,7 +127,8 @@ is_digit digit small =
     let below = leb-true digit 9 small in
     and_from _ _ (le-leb 48 (glyph digit) (omega arith)) (le-leb (glyph digit) 57 (omega arith))
 
-digits_again : (digits : List ℕ) (count : ℕ) → are_decimal digits ≡ true → take_while is_ascii_digit (map glyph digits ++ replicate count 102) ≡ map glyph digits
+digits_again : (digits : List ℕ) (count : ℕ) → are_decimal digits ≡ true
+    → take_while is_ascii_digit (map glyph digits ++ replicate count 102) ≡ map glyph digits
 digits_again [] count small = no_digits count
 digits_again (digit ∷ digits) count small =
     let parts = and_parts _ _ small in
@@ -158,21 +163,22 @@ nibble-below pan count valid i =
       | inr past ↦ rw (get_or_past (pan ++ replicate count 0x0F) i 0 past) (lit< tt)
     ]
 
-pub pan_text : (pan : List ℕ) → IsTrue (is_pan pan) → encode_lower (pan_bytes pan) ≡ map glyph pan ++ replicate (20 - length pan) 102
+pub pan_text : (pan : List ℕ) → IsTrue (is_pan pan) → encode_lower (pan_bytes pan) ≡ map glyph pan ++ replicate (PAN_DIGITS - length pan) 102
 unfolding pan_bytes
 pan_text pan valid =
-    let count : ℕ = 20 - length pan in
+    let count : ℕ = PAN_DIGITS - length pan in
     let few = (length-pan pan valid).1 in
     let even : length (pan ++ replicate count 0x0F) % 2 ≡ 0 = omega (arith, length-append pan (replicate count 0x0F), length-replicate {A = ℕ} count 0x0F) in
     encode_lower-packed (pan ++ replicate count 0x0F) (nibble-below pan count valid) even
     ∙ map-append glyph pan (replicate count 0x0F)
     ∙ ap (λ (text : List ℕ). map glyph pan ++ text) (glyphs_filled count)
 
--- it has twenty digits
-pub pan_text-size : (pan : List ℕ) → IsTrue (is_pan pan) → length (map glyph pan ++ replicate (20 - length pan) 102) ≡ 20
+-- how many digits it has
+pub pan_text-size : (pan : List ℕ) → IsTrue (is_pan pan) → length (map glyph pan ++ replicate (PAN_DIGITS - length pan) 102) ≡ PAN_DIGITS
 pan_text-size pan valid =
     let few = (length-pan pan valid).1 in
-    omega (arith, length-append (map glyph pan) (replicate (20 - length pan) 102), length-map pan glyph, length-replicate {A = ℕ} (20 - length pan) 102)
+    let count : ℕ = PAN_DIGITS - length pan in
+    omega (arith, length-append (map glyph pan) (replicate count 102), length-map pan glyph, length-replicate {A = ℕ} count 102)
 
 IsBytes-packed : (nibbles : List ℕ) → ((i : ℕ) → get_or nibbles i 0 < 16) → IsBytes (packed nibbles)
 unfolding packed
@@ -184,7 +190,7 @@ IsBytes-packed (high ∷ low ∷ nibbles) small (suc i) = IsBytes-packed nibbles
 -- an account number's bytes are bytes, ten of them
 pub IsBytes-pan_bytes : (pan : List ℕ) → IsTrue (is_pan pan) → IsBytes (pan_bytes pan)
 unfolding pan_bytes
-IsBytes-pan_bytes pan valid = IsBytes-packed (pan ++ replicate (20 - length pan) 0x0F) (nibble-below pan (20 - length pan) valid)
+IsBytes-pan_bytes pan valid = IsBytes-packed (pan ++ replicate (PAN_DIGITS - length pan) 0x0F) (nibble-below pan (PAN_DIGITS - length pan) valid)
 
 pub length-pan_bytes : (pan : List ℕ) → IsTrue (is_pan pan) → length (pan_bytes pan) ≡ 10
 length-pan_bytes pan valid =

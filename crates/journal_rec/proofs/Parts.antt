@@ -1,5 +1,6 @@
 -- The fields of a request are read just where their text stands.
-use Rattle.std.proofs.Common.{◌≡◌, ℕ, zero, suc, ◌+◌, ◌/◌, ◌%◌, ◌<◌, ◌^◌, List, [], ◌∷◌, ◌++◌, length, get_or, slice_index, map, Some, IsTrue, refl, sym, ap, ap₂, subst, ◌∙◌, append_assoc, length-append, arith, lit<}
+use Rattle.std.proofs.Common.{◌≡◌, ℕ, zero, suc, ◌/◌, ◌%◌, ◌<◌, ◌^◌, List, [], ◌∷◌, ◌++◌, length, map, Some, IsTrue, refl, sym, ap, ap₂}
+use Rattle.std.proofs.Common.{subst, arith, lit<}
 use Rattle.std.proofs.lemmas.List.{append-nil}
 use Rattle.std.proofs.lemmas.Option.{same_Some}
 use Rattle.std.specs.Int.{w16, to_be_bytes}
@@ -11,7 +12,7 @@ use Rattle.issuer_base.specs.declared.request.Parts.{Parts}
 use Rattle.issuer_base.proofs.ChipDataLemmas.{request_from-some, request_from-valid}
 use Rattle.journal_rec.specs.RecordText.{pan_bytes, request_bytes, request_fields}
 use Rattle.journal_rec.specs.Record.{IsRequest, request_sizes}
-use Rattle.journal_rec.specs.Reading.{Reader, ◌>>=◌, byte_at, bytes_at, counter_at, given, pan_at, parts_at, request_at}
+use Rattle.journal_rec.specs.Reading.{byte_at, bytes_at, counter_at, pan_at, parts_at, request_at}
 use Rattle.journal_rec.proofs.Exact.{Exact, anything, exact_map, exact_same, exact_then}
 use Rattle.journal_rec.proofs.HexText.{encode_lower-concat}
 use Rattle.journal_rec.proofs.PanText.{IsBytes-pan_bytes, length-pan_bytes}
@@ -56,41 +57,70 @@ fields_text parts =
     ++ (encode_lower parts.iad
     ++ encode_lower parts.ac)))))))))))))
 
--- fields that are these are those of a request of these
-same_fields : (parts : Parts) (pan : List ℕ) (psn : ℕ) (aip : List ℕ) (atc : ℕ) (tvr date : List ℕ) (kind : ℕ) (amount other country currency un : List ℕ) (cid : ℕ) (iad : List ℕ)
-    → parts.pan ≡ pan
-    → parts.psn ≡ psn
-    → parts.aip ≡ aip
-    → parts.atc ≡ atc
-    → parts.tvr ≡ tvr
-    → parts.date ≡ date
-    → parts.kind ≡ kind
-    → parts.amount ≡ amount
-    → parts.other ≡ other
-    → parts.country ≡ country
-    → parts.currency ≡ currency
-    → parts.un ≡ un
-    → parts.cid ≡ cid
-    → parts.iad ≡ iad
-    → record {
-      pan = pan;
-      psn = psn;
-      aip = aip;
-      atc = atc;
-      tvr = tvr;
-      date = date;
-      kind = kind;
-      amount = amount;
-      other = other;
-      country = country;
-      currency = currency;
-      un = un;
-      cid = cid;
-      iad = iad;
-      ac = parts.ac;
-    } ≡ parts
-same_fields parts pan psn aip atc tvr date kind amount other country currency un cid iad e0 e1 e2 e3 e4 e5 e6 e7 e8 e9 e10 e11 e12 e13 =
-    rw (← e0, ← e1, ← e2, ← e3, ← e4, ← e5, ← e6, ← e7, ← e8, ← e9, ← e10, ← e11, ← e12, ← e13) refl
+-- what is read before the last field
+module _ (pan : List ℕ) (psn : ℕ) (aip : List ℕ) (atc : ℕ) (tvr date : List ℕ) (kind : ℕ)
+    (amount other country currency un : List ℕ) (cid : ℕ) (iad : List ℕ) where
+  -- the fields before the last are these
+  abbrev AreThese : Parts → Type 0
+  AreThese parts =
+      (((((((((((((Unit {0} × (parts.pan ≡ pan)) × (parts.psn ≡ psn)) × (parts.aip ≡ aip)) × (parts.atc ≡ atc)) × (parts.tvr ≡ tvr)) ×
+      (parts.date ≡ date)) × (parts.kind ≡ kind)) × (parts.amount ≡ amount)) × (parts.other ≡ other)) × (parts.country ≡ country)) ×
+      (parts.currency ≡ currency)) × (parts.un ≡ un)) × (parts.cid ≡ cid)) × (parts.iad ≡ iad)
+
+  -- a request of these fields and the last
+  abbrev with_last : List ℕ → Parts
+  with_last ac = record {
+    pan = pan;
+    psn = psn;
+    aip = aip;
+    atc = atc;
+    tvr = tvr;
+    date = date;
+    kind = kind;
+    amount = amount;
+    other = other;
+    country = country;
+    currency = currency;
+    un = un;
+    cid = cid;
+    iad = iad;
+    ac = ac;
+  }
+
+  with_last-own : (parts : Parts) → AreThese parts → with_last parts.ac ≡ parts
+  with_last-own parts (
+    (
+      (
+        (
+          ((((((((((start, pan_is), psn_is), aip_is), atc_is), tvr_is), date_is), kind_is), amount_is), other_is), country_is),
+          currency_is,
+        ),
+        un_is,
+      ),
+      cid_is,
+    ),
+    iad_is,
+  ) =
+      rw (
+        ← pan_is,
+        ← psn_is,
+        ← aip_is,
+        ← atc_is,
+        ← tvr_is,
+        ← date_is,
+        ← kind_is,
+        ← amount_is,
+        ← other_is,
+        ← country_is,
+        ← currency_is,
+        ← un_is,
+        ← cid_is,
+        ← iad_is,
+      ) refl
+
+  with_last-these : (parts : Parts) (ac : List ℕ) → with_last ac ≡ parts → AreThese parts
+  with_last-these parts ac made =
+      subst AreThese made ((((((((((((((tt, refl), refl), refl), refl), refl), refl), refl), refl), refl), refl), refl), refl), refl), refl)
 
 pub exact_fields : Exact parts_at AreFields fields_text anything
 unfolding parts_at
@@ -110,15 +140,11 @@ exact_fields =
     exact_then byte_at _ _ _ _ _ _ anything (λ parts. parts.cid) exact_byte (λ cid.
     exact_then (bytes_at 32) _ _ _ _ _ _ anything (λ parts. parts.iad) (exact_bytes 32) (λ iad.
     exact_map (bytes_at 8) _ (IsField 8) encode_lower anything _ (λ parts. parts.ac) (exact_bytes 8)
-    (λ parts holds. (
-      holds.1,
-      ap Some (same_fields parts pan psn aip atc tvr date kind amount other country currency un cid iad
-          holds.0.0.0.0.0.0.0.0.0.0.0.0.0.0.1 holds.0.0.0.0.0.0.0.0.0.0.0.0.0.1 holds.0.0.0.0.0.0.0.0.0.0.0.0.1 holds.0.0.0.0.0.0.0.0.0.0.0.1 holds.0.0.0.0.0.0.0.0.0.0.1 holds.0.0.0.0.0.0.0.0.0.1 holds.0.0.0.0.0.0.0.0.1 holds.0.0.0.0.0.0.0.1 holds.0.0.0.0.0.0.1 holds.0.0.0.0.0.1 holds.0.0.0.0.1 holds.0.0.0.1 holds.0.0.1 holds.0.1),
-    ))
+    (λ parts holds. (holds.1, ap Some (with_last-own pan psn aip atc tvr date kind amount other country currency un cid iad parts holds.0)))
     (λ ac parts field made.
-    let back = sym (same_Some _ _ made) in
-    let is_ac : parts.ac ≡ ac = ap (λ (p : Parts). p.ac) back in
-    ((((((((((((((((tt, ap (λ (p : Parts). p.pan) back), ap (λ (p : Parts). p.psn) back), ap (λ (p : Parts). p.aip) back), ap (λ (p : Parts). p.atc) back), ap (λ (p : Parts). p.tvr) back), ap (λ (p : Parts). p.date) back), ap (λ (p : Parts). p.kind) back), ap (λ (p : Parts). p.amount) back), ap (λ (p : Parts). p.other) back), ap (λ (p : Parts). p.country) back), ap (λ (p : Parts). p.currency) back), ap (λ (p : Parts). p.un) back), ap (λ (p : Parts). p.cid) back), ap (λ (p : Parts). p.iad) back), subst (IsField 8) (sym is_ac) field), is_ac))))))))))))))))
+    let is = same_Some _ _ made in
+    let these = with_last-these pan psn aip atc tvr date kind amount other country currency un cid iad parts ac is in
+    ((these, subst (λ (p : Parts). IsField 8 p.ac) is field), ap (λ (p : Parts). p.ac) (sym is)))))))))))))))))
 
 -- ---- the same by sizes and bytes
 
@@ -166,15 +192,113 @@ AllFields-bytes [] (field ∷ fields) all i = absurd all
 AllFields-bytes (size ∷ sizes) [] all i = absurd all
 AllFields-bytes (size ∷ sizes) (field ∷ fields) all i = IsBytes-append field (concat fields) all.0.bytes (AllFields-bytes sizes fields all.1) i
 
+-- a request's fields from their sizes and bytes
+fields_from : (parts : Parts) → IsTrue (is_pan parts.pan) → parts.atc < 2 ^ 16 → AllFields request_sizes (request_fields parts) → AreFields parts
+fields_from parts pan atc (
+  pan_field,
+  (
+    psn_field,
+    (
+      aip_field,
+      (
+        atc_field,
+        (
+          tvr_field,
+          (
+            date_field,
+            (
+              kind_field,
+              (
+                amount_field,
+                (
+                  other_field,
+                  (
+                    country_field,
+                    (currency_field, (un_field, (cid_field, (iad_field, (ac_field, end))))),
+                  ),
+                ),
+              ),
+            ),
+          ),
+        ),
+      ),
+    ),
+  ),
+) = (
+  tt,
+  (
+    pan,
+    (
+      psn_field.bytes 0,
+      (
+        aip_field,
+        (
+          atc,
+          (
+            tvr_field,
+            (
+              date_field,
+              (
+                kind_field.bytes 0,
+                (
+                  amount_field,
+                  (
+                    other_field,
+                    (
+                      country_field,
+                      (currency_field, (un_field, (cid_field.bytes 0, (iad_field, ac_field)))),
+                    ),
+                  ),
+                ),
+              ),
+            ),
+          ),
+        ),
+      ),
+    ),
+  ),
+)
+
+IsField-one : (byte : ℕ) → byte < 256 → IsField 1 (byte ∷ [])
+IsField-one byte below = record { size = refl; bytes = IsBytes-one byte below }
+
+-- and the sizes and bytes from the fields
+fields_to : (parts : Parts) → AreFields parts → AllFields request_sizes (request_fields parts)
+fields_to parts
+    (start, (pan, (psn, (aip, (atc, (tvr, (date, (kind, (amount, (other, (country, (currency, (un, (cid, (iad, ac))))))))))))))) = (
+      record { size = length-pan_bytes parts.pan pan; bytes = IsBytes-pan_bytes parts.pan pan },
+      (
+        IsField-one parts.psn psn,
+        (
+          aip,
+          (
+            record {
+              size =
+                  refl;
+              bytes = IsBytes-two (parts.atc / 256 % 256) (parts.atc % 256) (omega arith) (omega arith);
+            },
+            (
+              tvr,
+              (
+                date,
+                (
+                  IsField-one parts.kind kind,
+                  (amount, (other, (country, (currency, (un, (IsField-one parts.cid cid, (iad, (ac, tt)))))))),
+                ),
+              ),
+            ),
+          ),
+        ),
+      ),
+    )
+
 IsRequest-fields : (parts : Parts) → IsRequest parts → AreFields parts
 IsRequest-fields parts request =
-    let all : AllFields request_sizes (request_fields parts) = AllFields-from request_sizes (request_fields parts) request.sizes request.bytes in
-    (tt, (request.pan, (all.1.0.bytes 0, (all.1.1.0, (request.atc, (all.1.1.1.1.0, (all.1.1.1.1.1.0, (all.1.1.1.1.1.1.0.bytes 0, (all.1.1.1.1.1.1.1.0, (all.1.1.1.1.1.1.1.1.0, (all.1.1.1.1.1.1.1.1.1.0, (all.1.1.1.1.1.1.1.1.1.1.0, (all.1.1.1.1.1.1.1.1.1.1.1.0, (all.1.1.1.1.1.1.1.1.1.1.1.1.0.bytes 0, (all.1.1.1.1.1.1.1.1.1.1.1.1.1.0, all.1.1.1.1.1.1.1.1.1.1.1.1.1.1.0)))))))))))))))
+    fields_from parts request.pan request.atc (AllFields-from request_sizes (request_fields parts) request.sizes request.bytes)
 
 IsRequest-from : (parts : Parts) → AreFields parts → IsTrue (is_request parts) → IsRequest parts
 IsRequest-from parts fields form =
-    let all : AllFields request_sizes (request_fields parts) =
-    (record { size = length-pan_bytes parts.pan fields.1.0; bytes = IsBytes-pan_bytes parts.pan fields.1.0 }, (record { size = refl; bytes = IsBytes-one parts.psn fields.1.1.0 }, (fields.1.1.1.0, (record { size = refl; bytes = IsBytes-two (parts.atc / 256 % 256) (parts.atc % 256) (omega arith) (omega arith) }, (fields.1.1.1.1.1.0, (fields.1.1.1.1.1.1.0, (record { size = refl; bytes = IsBytes-one parts.kind fields.1.1.1.1.1.1.1.0 }, (fields.1.1.1.1.1.1.1.1.0, (fields.1.1.1.1.1.1.1.1.1.0, (fields.1.1.1.1.1.1.1.1.1.1.0, (fields.1.1.1.1.1.1.1.1.1.1.1.0, (fields.1.1.1.1.1.1.1.1.1.1.1.1.0, (record { size = refl; bytes = IsBytes-one parts.cid fields.1.1.1.1.1.1.1.1.1.1.1.1.1.0 }, (fields.1.1.1.1.1.1.1.1.1.1.1.1.1.1.0, (fields.1.1.1.1.1.1.1.1.1.1.1.1.1.1.1, tt))))))))))))))) in
+    let all = fields_to parts fields in
     record {
       has_form = form;
       pan = fields.1.0;

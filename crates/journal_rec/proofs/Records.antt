@@ -1,8 +1,9 @@
 -- A record is read just where its line stands.
-use Rattle.std.proofs.Common.{◌≡◌, ℕ, suc, ◌+◌, ◌-◌, ◌<◌, ◌≤◌, ◌==◌, Bool, true, false, cond, ◌&&◌, if◌then◌else◌, leb, le-leb, eq-eqb, List, [], ◌∷◌, ◌++◌, length, Option, Some, None, codes, IsTrue, option_map, option_and_then, refl, sym, ap, ap₂, subst, ◌∙◌, append_assoc, arith}
+use Rattle.std.proofs.Common.{◌≡◌, ℕ, ◌+◌, ◌-◌, ◌<◌, ◌≤◌, ◌==◌, Bool, true, false, if◌then◌else◌, leb, le-leb, eq-eqb, List, [], ◌∷◌, ◌++◌}
+use Rattle.std.proofs.Common.{length, Some, None, codes, IsTrue, option_map, option_and_then, refl, sym, ap, ap₂, subst, ◌∙◌, append_assoc}
+use Rattle.std.proofs.Common.{Option, arith}
 use Rattle.std.proofs.lemmas.Bool.{and_from, and_parts, cond-true, eqb-true, leb-true}
 use Rattle.std.proofs.lemmas.Fmt.{decimal_digit}
-use Rattle.std.proofs.lemmas.List.{append-nil}
 use Rattle.std.proofs.lemmas.Option.{cond_some, same_Some}
 use Rattle.std.specs.Char.{is_ascii_digit}
 use Rattle.std.specs.Fmt.{decimal}
@@ -11,15 +12,17 @@ use Rattle.hex.specs.Hex.{IsBytes, encode_lower}
 use Rattle.issuer_base.specs.CardNumber.{is_pan}
 use Rattle.issuer_base.specs.ChipData.{is_bcd}
 use Rattle.issuer_base.specs.ScriptCommand.{command_bytes, is_command}
-use Rattle.issuer_base.specs.declared.limits.TheConstants.{MAX_BODY_BYTES}
+use Rattle.issuer_base.specs.declared.limits.TheConstants.{MAX_BODY_BYTES, MAX_REPLY_BYTES}
 use Rattle.issuer_base.specs.declared.request.Parts.{Parts}
 use Rattle.issuer_base.specs.declared.command.Command.{Command}
 use Rattle.issuer_base.specs.declared.answer.Reply.{Reply}
 use Rattle.issuer_base.specs.declared.entry.Entry.{Entry}
 use Rattle.issuer_base.specs.declared.entry.Entry.TheVariants.{Decided, Queued, Status}
+use Rattle.journal_rec.specs.declared.limits.TheConstants.{COMMAND_BYTES}
 use Rattle.journal_rec.specs.RecordText.{pan_bytes, request_bytes, space, words_of}
-use Rattle.journal_rec.specs.Record.{IsCommand, IsEntry, IsRecord, IsReply, IsRequest, is_record}
-use Rattle.journal_rec.specs.Reading.{Reader, ◌>>=◌, ◌>>◌, approval_at, behind_letter, bytes_at, card_at, command_of, decided_at, end_at, entry_at, given, mark_at, next_at, pan_at, psn_at, queued_at, reply_at, request_at, rest_at, status_at}
+use Rattle.journal_rec.specs.Record.{IsCommand, IsRecord, IsReply, IsRequest, is_record}
+use Rattle.journal_rec.specs.Reading.{Reader, ◌>>=◌, ◌>>◌, approval_at, bytes_at, card_at, command_of, decided_at, end_at, entry_at, given}
+use Rattle.journal_rec.specs.Reading.{mark_at, next_at, pan_at, psn_at, queued_at, reply_at, request_at, rest_at, status_at}
 use Rattle.journal_rec.proofs.Exact.{Exact, anything, nothing, exact_behind, exact_map, exact_same, exact_then, then_some, map_some}
 use Rattle.journal_rec.proofs.Parts.{exact_request}
 use Rattle.journal_rec.proofs.Words.{IsField, exact_bytes, exact_end, exact_mark, exact_next, exact_pan, exact_psn, exact_rest}
@@ -32,35 +35,46 @@ approval_text approve = if approve then codes "1" else codes "0"
 abbrev approval_digit : Bool → ℕ
 approval_digit approve = if approve then 49 else 48
 
+abbrev approval_of : ℕ → Option Bool
+approval_of digit = if digit == 49 then Some true else if digit == 48 then Some false else None
+
+approval_again : (approve : Bool) → Unit {0} → Unit {0} × (approval_of (approval_digit approve) ≡ Some approve)
+approval_again true valid = (tt, refl)
+approval_again false valid = (tt, refl)
+
+approval_takes : (digit : ℕ) (approve one zero : Bool) → (digit == 49) ≡ one → (digit == 48) ≡ zero
+    → (if one then Some true else if zero then Some false else None) ≡ Some approve → approval_digit approve ≡ digit
+approval_takes digit approve true zero is_one is_zero made = ap approval_digit (sym (same_Some _ _ made)) ∙ sym (eqb-true digit 49 is_one)
+approval_takes digit approve false true is_one is_zero made = ap approval_digit (sym (same_Some _ _ made)) ∙ sym (eqb-true digit 48 is_zero)
+approval_takes digit approve false false is_one is_zero made = absurd cc
+
+approval_text-digit : (approve : Bool) → approval_digit approve ∷ [] ≡ approval_text approve
+approval_text-digit true = refl
+approval_text-digit false = refl
+
 exact_approval : Exact approval_at (λ approve. Unit {0}) approval_text anything
 unfolding approval_at
 exact_approval =
-    exact_same approval_at (λ approve. Unit {0}) (λ approve. Unit {0}) (λ approve. approval_digit approve ∷ []) approval_text anything
-    (exact_map next_at (λ digit. if digit == 49 then Some true else if digit == 48 then Some false else None) (λ digit. Unit {0}) (λ digit. digit ∷ []) anything
-    (λ approve. Unit {0}) approval_digit exact_next forth (λ digit approve valid made. (tt, only digit approve (digit == 49) (digit == 48) refl refl made)))
-    (λ approve valid. tt) (λ approve valid. tt) (λ approve valid. same_text approve)
-  where
-    forth : (approve : Bool) → Unit {0} → Unit {0} × ((if approval_digit approve == 49 then Some true else if approval_digit approve == 48 then Some false else None) ≡ Some approve)
-    forth true valid = (tt, refl)
-    forth false valid = (tt, refl)
-
-    only : (digit : ℕ) (approve : Bool) (one zero : Bool) → (digit == 49) ≡ one → (digit == 48) ≡ zero → (if one then Some true else if zero then Some false else None) ≡ Some approve → approval_digit approve ≡ digit
-    only digit approve true zero is_one is_zero made = ap approval_digit (sym (same_Some _ _ made)) ∙ sym (eqb-true digit 49 is_one)
-    only digit approve false true is_one is_zero made = ap approval_digit (sym (same_Some _ _ made)) ∙ sym (eqb-true digit 48 is_zero)
-    only digit approve false false is_one is_zero made = absurd cc
-
-    same_text : (approve : Bool) → approval_digit approve ∷ [] ≡ approval_text approve
-    same_text true = refl
-    same_text false = refl
+    let by_digit : Exact approval_at (λ approve. Unit {0}) (λ approve. approval_digit approve ∷ []) anything =
+    exact_map next_at approval_of _ _ anything (λ approve. Unit {0}) approval_digit exact_next approval_again
+    (λ digit approve valid made. (tt, approval_takes digit approve (digit == 49) (digit == 48) refl refl made)) in
+    exact_same _ _ _ _ approval_text anything by_digit (λ approve valid. tt) (λ approve valid. tt)
+    (λ approve valid. approval_text-digit approve)
 
 abbrev pub reply_text : Reply → List ℕ
 reply_text reply = encode_lower reply.arc ++ (space ∷ (approval_text reply.approve ++ (space ∷ encode_lower reply.bytes.items)))
 
 -- the parts of a reply as they are read
 abbrev IsReadReply : Reply → Type 0
-IsReadReply reply = Unit {0} × (IsField 2 reply.arc × (Unit {0} × ((1 ≤ length reply.bytes.items) × ((length reply.bytes.items ≤ 160) × IsBytes reply.bytes.items))))
+IsReadReply reply =
+    Unit {0}
+    × (IsField 2 reply.arc
+    × (Unit {0}
+    × ((1 ≤ length reply.bytes.items)
+    × ((length reply.bytes.items ≤ MAX_REPLY_BYTES) × IsBytes reply.bytes.items))))
 
-same_reply : (reply : Reply) (arc : List ℕ) (approve : Bool) → reply.arc ≡ arc → reply.approve ≡ approve → record { arc = arc; approve = approve; bytes = record { items = reply.bytes.items } } ≡ reply
+same_reply : (reply : Reply) (arc : List ℕ) (approve : Bool) → reply.arc ≡ arc → reply.approve ≡ approve
+    → record { arc = arc; approve = approve; bytes = record { items = reply.bytes.items } } ≡ reply
 same_reply reply arc approve is_arc is_approve = rw (← is_arc, ← is_approve) refl
 
 exact_reply : Exact reply_at IsReadReply reply_text nothing
@@ -70,7 +84,7 @@ exact_reply =
     exact_behind _ _ _ _ _ _ (exact_mark space) (
     exact_then approval_at _ _ _ _ _ _ nothing (λ reply. reply.approve) exact_approval (λ approve.
     exact_behind _ _ _ _ _ _ (exact_mark space) (
-    exact_map (rest_at 160) _ _ _ nothing _ (λ reply. reply.bytes.items) (exact_rest 160)
+    exact_map (rest_at MAX_REPLY_BYTES) _ _ _ nothing _ (λ reply. reply.bytes.items) (exact_rest MAX_REPLY_BYTES)
     (λ reply holds. (holds.1.1, cond-true _ _ _ (le-leb _ _ holds.1.0) ∙ ap Some (same_reply reply arc approve holds.0.0.1 holds.0.1)))
     (λ bytes reply valid made.
     let tested = cond_some _ _ _ made in
@@ -78,7 +92,7 @@ exact_reply =
     let is_bytes : reply.bytes.items ≡ bytes = ap (λ (r : Reply). r.bytes.items) back in (
       (
         ((tt, ap (λ (r : Reply). r.arc) back), ap (λ (r : Reply). r.approve) back),
-        subst (λ (bs : List ℕ). (1 ≤ length bs) × ((length bs ≤ 160) × IsBytes bs)) (sym is_bytes) (leb-true _ _ tested.0, valid),
+        subst (λ (bs : List ℕ). (1 ≤ length bs) × ((length bs ≤ MAX_REPLY_BYTES) × IsBytes bs)) (sym is_bytes) (leb-true _ _ tested.0, valid),
       ),
       is_bytes,
     ))))))
@@ -106,11 +120,13 @@ exact_card =
 
 -- ---- a command
 
-command_of-again : (command : Command) → IsTrue (is_command command) → length command.body.items ≤ MAX_BODY_BYTES → command_of (command_bytes command) ≡ Some command
+command_of-again : (command : Command) → IsTrue (is_command command) → length command.body.items ≤ MAX_BODY_BYTES
+    → command_of (command_bytes command) ≡ Some command
 unfolding command_of
 command_of-again command form few = cond-true _ _ _ (and_from _ _ form (le-leb _ _ few))
 
-command_of-takes : (bytes : List ℕ) (command : Command) → command_of bytes ≡ Some command → IsTrue (is_command command) × (length command.body.items ≤ MAX_BODY_BYTES) × (command_bytes command ≡ bytes)
+command_of-takes : (bytes : List ℕ) (command : Command) → command_of bytes ≡ Some command
+    → IsTrue (is_command command) × (length command.body.items ≤ MAX_BODY_BYTES) × (command_bytes command ≡ bytes)
 unfolding command_of
 command_of-takes [] command made = absurd cc
 command_of-takes (cla ∷ []) command made = absurd cc
@@ -217,12 +233,13 @@ exact_queued : Exact queued_at IsReadQueued queued_text nothing
 unfolding queued_at
 exact_queued =
     exact_then card_at _ _ _ (λ entry. Unit {0}) _ _ nothing card_part exact_card (λ card.
-    exact_map (rest_at (4 + MAX_BODY_BYTES)) _ _ _ nothing _ (λ entry. command_bytes (command_part entry)) (exact_rest (4 + MAX_BODY_BYTES))
+    exact_map (rest_at COMMAND_BYTES) _ _ _ nothing _ (λ entry. command_bytes (command_part entry)) (exact_rest COMMAND_BYTES)
     (λ entry holds.
     let command : Command = command_part entry in
     let few : length command.body.items ≤ MAX_BODY_BYTES = holds.1.1.1.size in (
       (omega arith, holds.1.1.1.bytes),
-      ap (option_map (λ (c : Command). Queued card.0 card.1 c)) (command_of-again command holds.1.1.0 few) ∙ ap Some (queued_again entry card holds.0.1 holds.1.0),
+      ap (option_map (λ (c : Command). Queued card.0 card.1 c)) (command_of-again command holds.1.1.0 few)
+          ∙ ap Some (queued_again entry card holds.0.1 holds.1.0),
     ))
     (λ bytes entry valid made.
     let read = map_some (command_of bytes) (λ (c : Command). Queued card.0 card.1 c) entry made in
@@ -242,7 +259,8 @@ status_text entry = card_text (card_part entry) ++ ((48 + status_part entry) ∷
 abbrev IsReadStatus : Entry → Type 0
 IsReadStatus entry = Unit {0} × (IsReadCard (card_part entry) × ((letter_of entry ≡ 115) × (status_part entry ≤ 9)))
 
-status_again : (entry : Entry) (card : List ℕ × ℕ) (status : ℕ) → card_part entry ≡ card → status_part entry ≡ status → letter_of entry ≡ 115 → Status card.0 card.1 status ≡ entry
+status_again : (entry : Entry) (card : List ℕ × ℕ) (status : ℕ) → card_part entry ≡ card → status_part entry ≡ status
+    → letter_of entry ≡ 115 → Status card.0 card.1 status ≡ entry
 status_again (Decided request reply) card status same is_status letter = absurd (omega arith)
 status_again (Queued pan psn command) card status same is_status letter = absurd (omega arith)
 status_again (Status pan psn status) card other same is_status letter = ap₂ (λ (c : List ℕ × ℕ) (s : ℕ). Status c.0 c.1 s) (sym same) (sym is_status)
@@ -257,7 +275,8 @@ exact_status =
     exact_map next_at _ _ _ anything _ (λ entry. 48 + status_part entry) exact_next
     (λ entry holds.
     let small : status_part entry ≤ 9 = holds.1.1 in
-    (tt, cond-true _ _ _ (is_status_digit (status_part entry) small) ∙ ap Some (status_again entry card (48 + status_part entry - 48) holds.0.1 (omega arith) holds.1.0)))
+    let back = status_again entry card (48 + status_part entry - 48) holds.0.1 (omega arith) holds.1.0 in
+    (tt, cond-true _ _ _ (is_status_digit (status_part entry) small) ∙ ap Some back))
     (λ digit entry valid made.
     let tested = cond_some _ _ _ made in
     let range = and_parts _ _ tested.0 in
@@ -275,7 +294,8 @@ exact_last : {X : Type 0} (read : Reader X) (valid : X → Type 0) (text : X →
 exact_last {X} read valid text follows exact may_end = record {
   again = λ x rest holds behind.
       let front = exact.again x [] holds may_end in
-      let last : (end_at >> given (Some x)) [] ≡ Some (x, []) = ap (option_and_then (λ (found : Unit {0} × List ℕ). given (Some x) found.1)) (exact_end.again tt [] tt refl) in
+      let last : (end_at >> given (Some x)) [] ≡ Some (x, []) =
+      ap (option_and_then (λ (found : Unit {0} × List ℕ). given (Some x) found.1)) (exact_end.again tt [] tt refl) in
       let whole : (read >>= λ x. end_at >> given (Some x)) (text x ++ []) ≡ Some (x, []) =
       ap (option_and_then (λ (found : X × List ℕ). (end_at >> given (Some found.0)) found.1)) front ∙ last in
       rw behind whole;
@@ -309,95 +329,88 @@ IsLettered letter entry = (Unit {0} × (letter_of entry ≡ letter)) × IsRecord
 module _ (letter : ℕ) where
   decided_to : letter ≡ 100 → (entry : Entry) → IsLettered letter entry → IsReadDecided entry
   unfolding is_record
-  decided_to is (Decided request reply) holds =
-      let held = holds.1.held in
-      let reply_held = held.1 in
-      (tt, (held.0, (refl, (tt, (record { size = reply_held.arc_size; bytes = reply_held.arc }, (tt, (leb-true _ _ holds.1.may_stand, (reply_held.size, reply_held.bytes))))))))
-  decided_to is (Queued pan psn command) holds = absurd (omega (arith, holds.0.1))
-  decided_to is (Status pan psn status) holds = absurd (omega (arith, holds.0.1))
+  decided_to is (Decided request reply) (known, is_one) =
+      let held = is_one.held.1 in
+      let arc : IsField 2 reply.arc = record { size = held.arc_size; bytes = held.arc } in
+      (tt, (is_one.held.0, (refl, (tt, (arc, (tt, (leb-true _ _ is_one.may_stand, (held.size, held.bytes))))))))
+  decided_to is (Queued pan psn command) (known, is_one) = absurd (omega (arith, known.1))
+  decided_to is (Status pan psn status) (known, is_one) = absurd (omega (arith, known.1))
 
   decided_from : letter ≡ 100 → (entry : Entry) → IsReadDecided entry → IsLettered letter entry
   unfolding is_record
-  decided_from is (Decided request reply) read =
-      let reply_read = read.1.1.1 in (
-        (tt, sym is),
-        record {
-          held = (read.1.0, record { arc_size = reply_read.1.0.size; arc = reply_read.1.0.bytes; size = reply_read.1.1.1.1.0; bytes = reply_read.1.1.1.1.1 });
-          may_stand = le-leb _ _ reply_read.1.1.1.0;
-        },
-      )
-  decided_from is (Queued pan psn command) read = absurd (omega (arith, read.1.1.0))
-  decided_from is (Status pan psn status) read = absurd (omega (arith, read.1.1.0))
+  decided_from is (Decided request reply) (start, (request_is, (is_d, (begin, (arc, (approve, (some, (few, bytes)))))))) =
+      let held : IsReply reply = record { arc_size = arc.size; arc = arc.bytes; size = few; bytes = bytes } in
+      ((tt, sym is), record { held = (request_is, held); may_stand = le-leb _ _ some })
+  decided_from is (Queued pan psn command) (start, (request_is, (is_d, reply_is))) = absurd (omega (arith, is_d))
+  decided_from is (Status pan psn status) (start, (request_is, (is_d, reply_is))) = absurd (omega (arith, is_d))
 
   decided_same : letter ≡ 100 → (entry : Entry) → IsLettered letter entry → decided_text entry ≡ behind_text entry
-  decided_same is (Decided request reply) holds = refl
-  decided_same is (Queued pan psn command) holds = absurd (omega (arith, holds.0.1))
-  decided_same is (Status pan psn status) holds = absurd (omega (arith, holds.0.1))
+  decided_same is (Decided request reply) (known, is_one) = refl
+  decided_same is (Queued pan psn command) (known, is_one) = absurd (omega (arith, known.1))
+  decided_same is (Status pan psn status) (known, is_one) = absurd (omega (arith, known.1))
 
   queued_to : letter ≡ 113 → (entry : Entry) → IsLettered letter entry → IsReadQueued entry
   unfolding is_record
-  queued_to is (Decided request reply) holds = absurd (omega (arith, holds.0.1))
-  queued_to is (Queued pan psn command) holds =
-      let held = holds.1.held in
-      let form = and_parts _ _ holds.1.may_stand in
-      (tt, ((tt, (held.0, ((held.1, form.0), tt))), (refl, (form.1, held.2))))
-  queued_to is (Status pan psn status) holds = absurd (omega (arith, holds.0.1))
+  queued_to is (Decided request reply) (known, is_one) = absurd (omega (arith, known.1))
+  queued_to is (Queued pan psn command) (known, is_one) =
+      let form = and_parts _ _ is_one.may_stand in
+      (tt, ((tt, (is_one.held.0, ((is_one.held.1, form.0), tt))), (refl, (form.1, is_one.held.2))))
+  queued_to is (Status pan psn status) (known, is_one) = absurd (omega (arith, known.1))
 
   queued_from : letter ≡ 113 → (entry : Entry) → IsReadQueued entry → IsLettered letter entry
   unfolding is_record
-  queued_from is (Decided request reply) read = absurd (omega (arith, read.1.1.0))
-  queued_from is (Queued pan psn command) read =
-      let card = read.1.0 in (
-        (tt, sym is),
-        record { held = (card.1.0, card.1.1.0.0, read.1.1.1.1); may_stand = and_from _ _ card.1.1.0.1 read.1.1.1.0 },
-      )
-  queued_from is (Status pan psn status) read = absurd (omega (arith, read.1.1.0))
+  queued_from is (Decided request reply) (start, (card, (is_q, command_is))) = absurd (omega (arith, is_q))
+  queued_from is (Queued pan psn command) (start, ((begin, (pan_is, ((below, decimal_psn), end))), (is_q, (form, held)))) =
+      ((tt, sym is), record { held = (pan_is, below, held); may_stand = and_from _ _ decimal_psn form })
+  queued_from is (Status pan psn status) (start, (card, (is_q, command_is))) = absurd (omega (arith, is_q))
 
   queued_same : letter ≡ 113 → (entry : Entry) → IsLettered letter entry → queued_text entry ≡ behind_text entry
-  queued_same is (Decided request reply) holds = absurd (omega (arith, holds.0.1))
-  queued_same is (Queued pan psn command) holds = refl
-  queued_same is (Status pan psn status) holds = absurd (omega (arith, holds.0.1))
+  queued_same is (Decided request reply) (known, is_one) = absurd (omega (arith, known.1))
+  queued_same is (Queued pan psn command) (known, is_one) = refl
+  queued_same is (Status pan psn status) (known, is_one) = absurd (omega (arith, known.1))
 
   status_to : letter ≡ 115 → (entry : Entry) → IsLettered letter entry → IsReadStatus entry
   unfolding is_record
-  status_to is (Decided request reply) holds = absurd (omega (arith, holds.0.1))
-  status_to is (Queued pan psn command) holds = absurd (omega (arith, holds.0.1))
-  status_to is (Status pan psn status) holds =
-      let held = holds.1.held in
-      let form = and_parts _ _ holds.1.may_stand in
-      (tt, ((tt, (held.0, ((held.1, form.0), tt))), (refl, leb-true _ _ form.1)))
+  status_to is (Decided request reply) (known, is_one) = absurd (omega (arith, known.1))
+  status_to is (Queued pan psn command) (known, is_one) = absurd (omega (arith, known.1))
+  status_to is (Status pan psn status) (known, is_one) =
+      let form = and_parts _ _ is_one.may_stand in
+      (tt, ((tt, (is_one.held.0, ((is_one.held.1, form.0), tt))), (refl, leb-true _ _ form.1)))
 
   status_from : letter ≡ 115 → (entry : Entry) → IsReadStatus entry → IsLettered letter entry
   unfolding is_record
-  status_from is (Decided request reply) read = absurd (omega (arith, read.1.1.0))
-  status_from is (Queued pan psn command) read = absurd (omega (arith, read.1.1.0))
-  status_from is (Status pan psn status) read =
-      let card = read.1.0 in (
-        (tt, sym is),
-        record { held = (card.1.0, card.1.1.0.0); may_stand = and_from _ _ card.1.1.0.1 (le-leb _ _ read.1.1.1) },
-      )
+  status_from is (Decided request reply) (start, (card, (is_s, small))) = absurd (omega (arith, is_s))
+  status_from is (Queued pan psn command) (start, (card, (is_s, small))) = absurd (omega (arith, is_s))
+  status_from is (Status pan psn status) (start, ((begin, (pan_is, ((below, decimal_psn), end))), (is_s, small))) =
+      ((tt, sym is), record { held = (pan_is, below); may_stand = and_from _ _ decimal_psn (le-leb _ _ small) })
 
   status_same : letter ≡ 115 → (entry : Entry) → IsLettered letter entry → status_text entry ≡ behind_text entry
-  status_same is (Decided request reply) holds = absurd (omega (arith, holds.0.1))
-  status_same is (Queued pan psn command) holds = absurd (omega (arith, holds.0.1))
-  status_same is (Status pan psn status) holds = refl
+  status_same is (Decided request reply) (known, is_one) = absurd (omega (arith, known.1))
+  status_same is (Queued pan psn command) (known, is_one) = absurd (omega (arith, known.1))
+  status_same is (Status pan psn status) (known, is_one) = refl
 
-  other_letter : (entry : Entry) → (letter == 100) ≡ false → (letter == 113) ≡ false → (letter == 115) ≡ false → letter_of entry ≡ letter → ⊥
+  other_letter : (entry : Entry) → (letter == 100) ≡ false → (letter == 113) ≡ false → (letter == 115) ≡ false
+      → letter_of entry ≡ letter → ⊥
   other_letter (Decided request reply) no_d no_q no_s is = absurd cc (no_d, eq-eqb letter 100 (sym is))
   other_letter (Queued pan psn command) no_d no_q no_s is = absurd cc (no_q, eq-eqb letter 113 (sym is))
   other_letter (Status pan psn status) no_d no_q no_s is = absurd cc (no_s, eq-eqb letter 115 (sym is))
 
+  -- what stands behind a letter, by what the letter is
   by_tests : (is_d is_q is_s : Bool) → (letter == 100) ≡ is_d → (letter == 113) ≡ is_q → (letter == 115) ≡ is_s
-      → Exact (finished (if is_d then decided_at else if is_q then queued_at else if is_s then status_at else given None)) (IsLettered letter) behind_text nothing
+      → Exact (finished (if is_d then decided_at else if is_q then queued_at else if is_s then status_at else given None))
+      (IsLettered letter) behind_text nothing
   by_tests true is_q is_s d q s =
       let is : letter ≡ 100 = eqb-true letter 100 d in
-      exact_same _ _ _ _ _ nothing (exact_last decided_at IsReadDecided decided_text nothing exact_decided refl) (decided_to is) (decided_from is) (decided_same is)
+      let last = exact_last decided_at IsReadDecided decided_text nothing exact_decided refl in
+      exact_same _ _ _ _ _ nothing last (decided_to is) (decided_from is) (decided_same is)
   by_tests false true is_s d q s =
       let is : letter ≡ 113 = eqb-true letter 113 q in
-      exact_same _ _ _ _ _ nothing (exact_last queued_at IsReadQueued queued_text nothing exact_queued refl) (queued_to is) (queued_from is) (queued_same is)
+      let last = exact_last queued_at IsReadQueued queued_text nothing exact_queued refl in
+      exact_same _ _ _ _ _ nothing last (queued_to is) (queued_from is) (queued_same is)
   by_tests false false true d q s =
       let is : letter ≡ 115 = eqb-true letter 115 s in
-      exact_same _ _ _ _ _ nothing (exact_last status_at IsReadStatus status_text anything exact_status tt) (status_to is) (status_from is) (status_same is)
+      let last = exact_last status_at IsReadStatus status_text anything exact_status tt in
+      exact_same _ _ _ _ _ nothing last (status_to is) (status_from is) (status_same is)
   by_tests false false false d q s = record {
     again = λ entry rest holds behind. absurd (other_letter entry d q s holds.0.1);
     takes = λ left entry rest found. absurd cc;
@@ -407,23 +420,33 @@ module _ (letter : ℕ) where
 abbrev pub line_of : Entry → List ℕ
 line_of entry = join_with_byte space (words_of entry)
 
-regroup : (pan psn last : List ℕ) → (space ∷ (pan ++ (space ∷ (psn ++ (space ∷ []))))) ++ last ≡ space ∷ (pan ++ (space ∷ (psn ++ (space ∷ last))))
+regroup : (pan psn last : List ℕ)
+    → (space ∷ (pan ++ (space ∷ (psn ++ (space ∷ []))))) ++ last ≡ space ∷ (pan ++ (space ∷ (psn ++ (space ∷ last))))
 regroup pan psn last = simp append_assoc
 
-line_same : (entry : Entry) → Unit {0} × (Unit {0} × IsRecord entry) → (letter_of entry ∷ []) ++ behind_text entry ≡ line_of entry
+-- a letter and what stands behind it
+card_line : (letter : ℕ) (pan : List ℕ) (psn : ℕ) (last : List ℕ)
+    → letter ∷ (card_text (pan, psn) ++ last)
+    ≡ letter ∷ space ∷ (encode_lower (pan_bytes pan) ++ (space ∷ (encode_lower (psn ∷ []) ++ (space ∷ last))))
+card_line letter pan psn last = ap (λ (text : List ℕ). letter ∷ text) (regroup (encode_lower (pan_bytes pan)) (encode_lower (psn ∷ [])) last)
+
+line_same : (entry : Entry) → IsRecord entry → letter_of entry ∷ behind_text entry ≡ line_of entry
 unfolding is_record
-line_same (Decided request reply) holds = refl
-line_same (Queued pan psn command) holds = ap (λ (text : List ℕ). 113 ∷ text) (regroup (encode_lower (pan_bytes pan)) (encode_lower (psn ∷ [])) (encode_lower (command_bytes command)))
-line_same (Status pan psn status) holds =
-    let form = and_parts (is_bcd psn) (leb status 9) holds.1.1.may_stand in
+line_same (Decided request reply) is_one = refl
+line_same (Queued pan psn command) is_one = card_line 113 pan psn (encode_lower (command_bytes command))
+line_same (Status pan psn status) is_one =
+    let form = and_parts (is_bcd psn) (leb status 9) is_one.may_stand in
     let small : status ≤ 9 = leb-true status 9 form.1 in
-    ap (λ (text : List ℕ). 115 ∷ text) (regroup (encode_lower (pan_bytes pan)) (encode_lower (psn ∷ [])) ((48 + status) ∷ []))
-    ∙ ap (λ (digits : List ℕ). 115 ∷ space ∷ (encode_lower (pan_bytes pan) ++ (space ∷ (encode_lower (psn ∷ []) ++ (space ∷ digits))))) (sym (decimal_digit status (omega arith)))
+    let digit : (48 + status) ∷ [] ≡ decimal status = sym (decimal_digit status (omega arith)) in
+    card_line 115 pan psn ((48 + status) ∷ [])
+    ∙ ap (λ (last : List ℕ). 115 ∷ space ∷ (encode_lower (pan_bytes pan) ++ (space ∷ (encode_lower (psn ∷ []) ++ (space ∷ last))))) digit
 
 -- a record is read just where its line stands
 pub exact_entry : Exact entry_at IsRecord line_of nothing
 unfolding entry_at
 exact_entry =
-    exact_same entry_at _ IsRecord (λ entry. (letter_of entry ∷ []) ++ behind_text entry) line_of nothing
-    (exact_then next_at _ _ _ (λ entry. Unit {0}) IsRecord behind_text nothing letter_of exact_next (λ letter. by_tests letter (letter == 100) (letter == 113) (letter == 115) refl refl refl))
-    (λ entry record_is. (tt, (tt, record_is))) (λ entry holds. holds.1.1) (λ entry record_is. line_same entry (tt, (tt, record_is)))
+    let lettered : Exact entry_at (λ entry. Unit {0} × (Unit {0} × IsRecord entry)) (λ entry. letter_of entry ∷ behind_text entry) nothing =
+    exact_then next_at _ _ _ (λ entry. Unit {0}) IsRecord behind_text nothing letter_of exact_next
+    (λ letter. by_tests letter (letter == 100) (letter == 113) (letter == 115) refl refl refl) in
+    exact_same entry_at _ IsRecord _ line_of nothing lettered
+    (λ entry is_one. (tt, (tt, is_one))) (λ entry holds. holds.1.1) line_same

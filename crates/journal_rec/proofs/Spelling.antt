@@ -1,5 +1,7 @@
 -- Spelling bytes one pair of digits after another.
-use Rattle.std.proofs.Common.{◌≡◌, ℕ, ◌+◌, ◌*◌, ◌<◌, ◌≤◌, List, [], ◌∷◌, ◌++◌, length, get_or, set, take, drop, Option, Some, None, option_map, option_and_then, refl, sym, ap, ◌∙◌, append_assoc, suc, ◌/◌, ◌%◌, leb, le-leb, Bool, true, false, if◌then◌else◌, arith}
+use Rattle.std.proofs.Common.{◌≡◌, ℕ, ◌+◌, ◌*◌, ◌<◌, ◌≤◌, List, [], ◌∷◌, ◌++◌, length, get_or, set, take, drop, Option, Some, None}
+use Rattle.std.proofs.Common.{option_map, option_and_then, refl, sym, ap, ◌∙◌, append_assoc, suc, ◌/◌, ◌%◌, leb, le-leb, true, false}
+use Rattle.std.proofs.Common.{if◌then◌else◌, arith}
 use Rattle.std.proofs.lemmas.List.{append-nil, drop_more, drop_all, take_all, take_more_set}
 use Rattle.std.proofs.Math.Seq.{take-append_seam}
 use borrow.Author.Tests.{lt-leb}
@@ -10,7 +12,8 @@ abbrev pub behind : List ℕ → Option (List ℕ) → Option (List ℕ)
 behind front bytes = option_map (λ more. front ++ more) bytes
 
 -- what is left of a text at a whole pair
-pub drop-pair : (digits : List ℕ) (i : ℕ) → 2 * i + 1 < length digits → drop (2 * i) digits ≡ get_or digits (2 * i) 0 ∷ get_or digits (2 * i + 1) 0 ∷ drop (2 * (i + 1)) digits
+pub drop-pair : (digits : List ℕ) (i : ℕ) → 2 * i + 1 < length digits
+    → drop (2 * i) digits ≡ get_or digits (2 * i) 0 ∷ get_or digits (2 * i + 1) 0 ∷ drop (2 * (i + 1)) digits
 drop-pair digits i fits =
     let two : 2 * i + 1 + 1 ≡ 2 * (i + 1) = omega arith in
     rw (drop_more digits (2 * i) 0 (omega arith), drop_more digits (2 * i + 1) 0 fits, two) refl
@@ -52,7 +55,8 @@ spelled_done digits out i whole full so_far =
     ap (λ rest. behind (take i out) (spelled rest)) none ∙ ap Some (append-nil (take i out) ∙ take_all i out full) in
     sym last ∙ so_far
 
-length_either : (byte : Option ℕ) (others : Option (List ℕ)) (bytes : List ℕ) → option_and_then (λ first. option_map (λ more. first ∷ more) others) byte ≡ Some bytes
+length_either : (byte : Option ℕ) (others : Option (List ℕ)) (bytes : List ℕ)
+    → option_and_then (λ first. option_map (λ more. first ∷ more) others) byte ≡ Some bytes
     → (rest : List ℕ) × (others ≡ Some rest) × (length bytes ≡ suc (length rest))
 length_either None others bytes found = absurd cc
 length_either (Some first) None bytes found = absurd cc

@@ -1,5 +1,6 @@
 -- The texts of records are lines of their own, and are told apart.
-use Rattle.std.proofs.Common.{◌≡◌, ◌≢◌, ℕ, zero, suc, ◌+◌, ◌*◌, ◌/◌, ◌%◌, ◌<◌, ◌≤◌, ◌==◌, Bool, true, false, not, ◌&&◌, if◌then◌else◌, leb, List, [], ◌∷◌, ◌++◌, length, get_or, map, Some, IsTrue, All, codes, refl, sym, ap, ap₂, subst, ◌∙◌, append_assoc, length-append, arith}
+use Rattle.std.proofs.Common.{◌≡◌, ℕ, zero, suc, ◌+◌, ◌*◌, ◌/◌, ◌%◌, ◌<◌, ◌≤◌, ◌==◌, Bool, true, false, not, leb, List, [], ◌∷◌, ◌++◌}
+use Rattle.std.proofs.Common.{length, get_or, map, Some, All, refl, sym, ap, ap₂, ◌∙◌, append_assoc, length-append, arith}
 use Rattle.std.proofs.lemmas.Bool.{and_from, and_parts, leb-true}
 use Rattle.std.proofs.lemmas.Fmt.{decimal_digit}
 use Rattle.std.proofs.lemmas.List.{append-nil, append_cancel_left, get_or_at}
@@ -19,7 +20,7 @@ use Rattle.issuer_base.specs.declared.request.Parts.{Parts}
 use Rattle.journal_rec.specs.RecordText.{IsLine, IsUnbroken, newline, pan_bytes, request_bytes, request_fields, space, text_of, texts_of, words_of}
 use Rattle.journal_rec.specs.Record.{IsRecord, is_record, request_sizes}
 use Rattle.journal_rec.specs.Reading.{entry_at}
-use Rattle.journal_rec.specs.declared.laws.TheConstants.{LEAST_RECORD_BYTES, MOST_RECORD_BYTES}
+use Rattle.journal_rec.specs.declared.limits.TheConstants.{LEAST_RECORD_BYTES, MOST_RECORD_BYTES}
 use Rattle.journal_rec.proofs.PanText.{length-pan_bytes}
 use Rattle.journal_rec.proofs.Records.{approval_text, exact_entry, line_of}
 
@@ -123,7 +124,8 @@ text_of-apart entry other rest behind record_is other_is same =
     let both = lines_apart (line_of entry) (line_of other) rest behind (line-inner entry record_is) (line-inner other other_is) whole in
     (line_of-same entry other record_is other_is both.0, both.1)
 
-pub text_of-no_front : (entry other : Entry) (rest : List ℕ) → IsRecord entry → IsRecord other → text_of entry ++ rest ≡ text_of other → (entry ≡ other) × (rest ≡ [])
+pub text_of-no_front : (entry other : Entry) (rest : List ℕ) → IsRecord entry → IsRecord other
+    → text_of entry ++ rest ≡ text_of other → (entry ≡ other) × (rest ≡ [])
 text_of-no_front entry other rest record_is other_is same =
     text_of-apart entry other rest [] record_is other_is (same ∙ sym (append-nil (text_of other)))
 
@@ -134,7 +136,8 @@ broken : (front behind text : List ℕ) → IsUnbroken text → text ≡ (front 
 broken front behind text unbroken whole =
     let moved : text ≡ front ++ newline ∷ behind = whole ∙ append_assoc front (newline ∷ []) behind in
     let within : length front < length text = omega (arith, ap length moved, length-append front (newline ∷ behind)) in
-    let at : get_or text (length front) 0 ≡ newline = ap (λ (t : List ℕ). get_or t (length front) 0) moved ∙ get_or_at front newline behind 0 (length front) refl in
+    let at : get_or text (length front) 0 ≡ newline =
+    ap (λ (t : List ℕ). get_or t (length front) 0) moved ∙ get_or_at front newline behind 0 (length front) refl in
     unbroken (length front) 0 within at
 
 -- records and a torn line behind them have one reading
@@ -156,7 +159,9 @@ texts_of-one_reading (entry ∷ entries) (other ∷ others) rest other_rest all 
     sym (append_assoc (text_of entry) (texts_of entries) rest) ∙ same ∙ append_assoc (text_of other) (texts_of others) other_rest in
     let first = text_of-apart entry other (texts_of entries ++ rest) (texts_of others ++ other_rest)
     (All-head IsRecord entry entries all) (All-head IsRecord other others others_all) whole in
-    let more = texts_of-one_reading entries others rest other_rest (All-tail IsRecord entry entries all) (All-tail IsRecord other others others_all) torn other_torn first.1 in
+    let more_all = All-tail IsRecord entry entries all in
+    let more_others_all = All-tail IsRecord other others others_all in
+    let more = texts_of-one_reading entries others rest other_rest more_all more_others_all torn other_torn first.1 in
     (ap₂ (λ (e : Entry) (es : List Entry). e ∷ es) first.0 more.0, more.1)
 
 -- ---- how long a text is
@@ -180,10 +185,12 @@ length-approval false = refl
 length-request_bytes : (parts : Parts) → map length (request_fields parts) ≡ request_sizes → length (request_bytes parts) ≡ 85
 length-request_bytes parts sizes = length-concat (request_fields parts) ∙ ap total sizes
 
-length-five : (a b c d : List ℕ) → length ((100 ∷ space ∷ (a ++ (space ∷ (b ++ (space ∷ (c ++ (space ∷ d))))))) ++ newline ∷ []) ≡ length a + length b + length c + length d + 6
+length-five : (a b c d : List ℕ)
+    → length ((100 ∷ space ∷ (a ++ (space ∷ (b ++ (space ∷ (c ++ (space ∷ d))))))) ++ newline ∷ []) ≡ length a + length b + length c + length d + 6
 length-five a b c d = simp length-append (omega arith)
 
-length-four : (letter : ℕ) (a b c : List ℕ) → length ((letter ∷ space ∷ (a ++ (space ∷ (b ++ (space ∷ c))))) ++ newline ∷ []) ≡ length a + length b + length c + 5
+length-four : (letter : ℕ) (a b c : List ℕ)
+    → length ((letter ∷ space ∷ (a ++ (space ∷ (b ++ (space ∷ c))))) ++ newline ∷ []) ≡ length a + length b + length c + 5
 length-four letter a b c = simp length-append (omega arith)
 
 -- the text of a record has 28 bytes at least and 501 at most

@@ -1,5 +1,7 @@
 -- Each part of a line is read just where its text stands.
-use Rattle.std.proofs.Common.{◌≡◌, ℕ, suc, ◌+◌, ◌-◌, ◌*◌, ◌/◌, ◌%◌, ◌^◌, ◌<◌, ◌≤◌, ◌==◌, Bool, true, false, cond, leb, le-leb, List, [], ◌∷◌, ◌++◌, length, get_or, slice_index, take, drop, Option, Some, None, IsTrue, if◌then◌else◌, eq-eqb, zero, option_map, option_and_then, refl, sym, ap, ap₂, subst, ◌∙◌, lit<, arith, length-append}
+use Rattle.std.proofs.Common.{◌≡◌, ℕ, suc, ◌*◌, ◌/◌, ◌%◌, ◌^◌, ◌<◌, ◌≤◌, ◌==◌, true, leb, le-leb, List, [], ◌∷◌, ◌++◌, length, slice_index}
+use Rattle.std.proofs.Common.{take, drop, Some, None, IsTrue, if◌then◌else◌, eq-eqb, zero, refl, sym, ap, ap₂, subst, ◌∙◌, lit<, arith}
+use Rattle.std.proofs.Common.{length-append}
 use Rattle.std.proofs.lemmas.Bool.{cond-true, eqb-true, leb-true}
 use Rattle.std.proofs.lemmas.List.{append-nil, drop_at, length-take-le, take-append-drop, take_at}
 use Rattle.std.proofs.lemmas.Option.{cond_some, same_Some}
@@ -9,10 +11,12 @@ use Rattle.hex.specs.Hex.{IsBytes, encode_lower, lower_digits}
 use Rattle.hex.proofs.HexLemmas.{length-encode_with}
 use Rattle.issuer_base.specs.CardNumber.{is_pan}
 use Rattle.issuer_base.specs.ChipData.{is_bcd}
+use Rattle.journal_rec.specs.declared.limits.TheConstants.{PAN_DIGITS}
 use Rattle.journal_rec.specs.RecordText.{pan_bytes}
-use Rattle.journal_rec.specs.Reading.{Reader, ◌>>=◌, byte_at, bytes_at, counter_at, end_at, given, mark_at, next_at, pan_at, pan_of, piece_at, psn_at, rest_at, spelled, spelled_within}
-use Rattle.journal_rec.proofs.Exact.{Exact, anything, nothing, exact_map, exact_same, map_some, then_some}
-use Rattle.journal_rec.proofs.HexText.{glyph, spelled-again, spelled-takes}
+use Rattle.journal_rec.specs.Reading.{byte_at, bytes_at, counter_at, end_at, mark_at, next_at, pan_at, pan_of, piece_at, psn_at, rest_at}
+use Rattle.journal_rec.specs.Reading.{spelled, spelled_within}
+use Rattle.journal_rec.proofs.Exact.{Exact, anything, nothing, exact_map, map_some, then_some}
+use Rattle.journal_rec.proofs.HexText.{spelled-again, spelled-takes}
 use Rattle.journal_rec.proofs.PanText.{pan_of-again, pan_of-takes, pan_text, pan_text-size}
 
 -- so many bytes
@@ -66,7 +70,8 @@ exact_end = record {
 pub exact_bytes : (count : ℕ) → Exact (bytes_at count) (IsField count) encode_lower anything
 unfolding bytes_at
 exact_bytes count =
-    exact_map (piece_at (2 * count)) spelled (λ piece. length piece ≡ 2 * count) (λ piece. piece) anything (IsField count) encode_lower (exact_piece (2 * count))
+    exact_map (piece_at (2 * count)) spelled (λ piece. length piece ≡ 2 * count) (λ piece. piece) anything
+    (IsField count) encode_lower (exact_piece (2 * count))
     (λ bytes field. (omega (arith, length-encode_with lower_digits bytes, field.size), spelled-again bytes field.bytes))
     (λ piece bytes sized read.
     let text = spelled-takes piece bytes read in (
@@ -104,7 +109,8 @@ IsBytes-two high low first second (suc (suc i)) = lit< tt
 pub exact_counter : Exact counter_at (λ counter. counter < 2 ^ 16) (λ counter. encode_lower (to_be_bytes w16 counter)) anything
 unfolding counter_at
 exact_counter =
-    exact_map (bytes_at 2) (λ bytes. Some (from_be_bytes w16 bytes)) (IsField 2) encode_lower anything (λ counter. counter < 2 ^ 16) (to_be_bytes w16) (exact_bytes 2)
+    exact_map (bytes_at 2) (λ bytes. Some (from_be_bytes w16 bytes)) (IsField 2) encode_lower anything
+    (λ counter. counter < 2 ^ 16) (to_be_bytes w16) (exact_bytes 2)
     (λ counter below. (
       record { size = refl; bytes = IsBytes-two (counter / 256 % 256) (counter % 256) (omega arith) (omega arith) },
       ap Some (from_be_bytes-to_be_bytes_2 counter below),
@@ -147,7 +153,8 @@ exact_rest most = record {
 pub exact_pan : Exact pan_at (λ pan. IsTrue (is_pan pan)) (λ pan. encode_lower (pan_bytes pan)) anything
 unfolding pan_at
 exact_pan =
-    exact_map (piece_at 20) pan_of (λ piece. length piece ≡ 20) (λ piece. piece) anything (λ pan. IsTrue (is_pan pan)) (λ pan. encode_lower (pan_bytes pan)) (exact_piece 20)
+    exact_map (piece_at PAN_DIGITS) pan_of (λ piece. length piece ≡ PAN_DIGITS) (λ piece. piece) anything
+    (λ pan. IsTrue (is_pan pan)) (λ pan. encode_lower (pan_bytes pan)) (exact_piece PAN_DIGITS)
     (λ pan valid.
     let text = pan_text pan valid in
     (omega (arith, ap length text, pan_text-size pan valid), ap pan_of text ∙ pan_of-again pan _ valid))

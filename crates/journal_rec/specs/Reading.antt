@@ -1,5 +1,6 @@
 -- How a line is read, one part after another.
-use Rattle.std.specs.Prelude.{ℕ, ◌+◌, ◌-◌, ◌*◌, Bool, true, false, ◌&&◌, ◌==◌, nat_le, if◌then◌else◌, List, [], ◌∷◌, length, take, drop, map, position, take_while, slice_index, Option, Some, None, option_and_then, option_map}
+use Rattle.std.specs.Prelude.{ℕ, ◌+◌, ◌-◌, ◌*◌, Bool, true, false, ◌&&◌, ◌==◌, nat_le, if◌then◌else◌, List, [], ◌∷◌, length, take, drop}
+use Rattle.std.specs.Prelude.{map, position, take_while, slice_index, Option, Some, None, option_and_then, option_map}
 use Rattle.std.specs.Char.{is_ascii_digit}
 use Rattle.std.specs.Int.{w16, from_be_bytes}
 use Rattle.std.specs.List.{list_all}
@@ -7,12 +8,13 @@ use Rattle.hex.specs.Hex.{lower_digits}
 use Rattle.issuer_base.specs.CardNumber.{pan_from}
 use Rattle.issuer_base.specs.ChipData.{is_bcd, request_from}
 use Rattle.issuer_base.specs.ScriptCommand.{is_command}
-use Rattle.issuer_base.specs.declared.limits.TheConstants.{MAX_BODY_BYTES}
+use Rattle.issuer_base.specs.declared.limits.TheConstants.{MAX_BODY_BYTES, MAX_REPLY_BYTES}
 use Rattle.issuer_base.specs.declared.request.Parts.{Parts}
 use Rattle.issuer_base.specs.declared.command.Command.{Command}
 use Rattle.issuer_base.specs.declared.answer.Reply.{Reply}
 use Rattle.issuer_base.specs.declared.entry.Entry.{Entry}
 use Rattle.issuer_base.specs.declared.entry.Entry.TheVariants.{Decided, Queued, Status}
+use Rattle.journal_rec.specs.declared.limits.TheConstants.{COMMAND_BYTES, PAN_DIGITS}
 use Rattle.journal_rec.specs.RecordText.{space}
 
 -- what is read from the front of a line, and what is left of it
@@ -100,7 +102,7 @@ pan_of text =
 
 unfoldable pub pan_at : Reader (List ℕ)
 pan_at = do
-  text ← piece_at 20
+  text ← piece_at PAN_DIGITS
   given (pan_of text)
 
 -- the fields of a request
@@ -158,7 +160,7 @@ reply_at = do
   mark_at space
   approve ← approval_at
   mark_at space
-  bytes ← rest_at 160
+  bytes ← rest_at MAX_REPLY_BYTES
   given (if nat_le 1 (length bytes) then Some (record { arc = arc; approve = approve; bytes = record { items = bytes } }) else None)
 
 -- a decided request, behind its letter
@@ -197,7 +199,7 @@ command_of _ = None
 unfoldable pub queued_at : Reader Entry
 queued_at = do
   card ← card_at
-  bytes ← rest_at (4 + MAX_BODY_BYTES)
+  bytes ← rest_at COMMAND_BYTES
   given (option_map (λ command. Queued card.0 card.1 command) (command_of bytes))
 
 -- a status, behind its letter

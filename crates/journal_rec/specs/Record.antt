@@ -4,12 +4,13 @@ use Rattle.hex.specs.Hex.{IsBytes}
 use Rattle.issuer_base.specs.CardNumber.{is_pan}
 use Rattle.issuer_base.specs.ChipData.{is_bcd, is_request}
 use Rattle.issuer_base.specs.ScriptCommand.{is_command, command_bytes}
-use Rattle.issuer_base.specs.declared.limits.TheConstants.{MAX_BODY_BYTES}
+use Rattle.issuer_base.specs.declared.limits.TheConstants.{MAX_BODY_BYTES, MAX_REPLY_BYTES}
 use Rattle.issuer_base.specs.declared.request.Parts.{Parts}
 use Rattle.issuer_base.specs.declared.command.Command.{Command}
 use Rattle.issuer_base.specs.declared.answer.Reply.{Reply}
 use Rattle.issuer_base.specs.declared.entry.Entry.{Entry}
 use Rattle.issuer_base.specs.declared.entry.Entry.TheVariants.{Decided, Queued, Status}
+use Rattle.journal_rec.specs.declared.limits.TheConstants.{PAN_BYTES}
 use Rattle.journal_rec.specs.RecordText.{newline, request_bytes, request_fields, text_of}
 
 -- an entry is a record where its reply has a byte, its sequence number is decimal, its command is the host's, its status is one digit
@@ -20,7 +21,7 @@ is_record (Status pan psn status) = is_bcd psn && nat_le status 9
 
 -- how many bytes each field of a request has
 abbrev pub request_sizes : List ℕ
-request_sizes = 10 ∷ 1 ∷ 2 ∷ 2 ∷ 5 ∷ 3 ∷ 1 ∷ 6 ∷ 6 ∷ 2 ∷ 2 ∷ 4 ∷ 1 ∷ 32 ∷ 8 ∷ []
+request_sizes = PAN_BYTES ∷ 1 ∷ 2 ∷ 2 ∷ 5 ∷ 3 ∷ 1 ∷ 6 ∷ 6 ∷ 2 ∷ 2 ∷ 4 ∷ 1 ∷ 32 ∷ 8 ∷ []
 
 -- a request as the host holds it
 pub record IsRequest (parts : Parts) : Type 0 where
@@ -34,7 +35,7 @@ pub record IsRequest (parts : Parts) : Type 0 where
 pub record IsReply (reply : Reply) : Type 0 where
   pub arc_size : length reply.arc ≡ 2
   pub arc : IsBytes reply.arc
-  pub size : length reply.bytes.items ≤ 160
+  pub size : length reply.bytes.items ≤ MAX_REPLY_BYTES
   pub bytes : IsBytes reply.bytes.items
 
 -- a command as the host holds it

@@ -8,6 +8,7 @@ use Rattle.issuer_base.specs.ScriptCommand.{command_bytes}
 use Rattle.issuer_base.specs.declared.request.Parts.{Parts}
 use Rattle.issuer_base.specs.declared.entry.Entry.{Entry}
 use Rattle.issuer_base.specs.declared.entry.Entry.TheVariants.{Decided, Queued, Status}
+use Rattle.journal_rec.specs.declared.limits.TheConstants.{PAN_DIGITS}
 
 -- a space and a newline
 abbrev pub space : ℕ
@@ -24,7 +25,7 @@ packed (high ∷ low ∷ nibbles) = (16 * high + low) ∷ packed nibbles
 
 -- an account number in ten bytes: its digits, and nibbles F behind them: EMV 4.3 Book 3, Annex A, tag 5A
 unfoldable pub pan_bytes : List ℕ → List ℕ
-pan_bytes pan = packed (pan ++ replicate (20 - length pan) 0x0F)
+pan_bytes pan = packed (pan ++ replicate (PAN_DIGITS - length pan) 0x0F)
 
 -- the fields of a request in the order of a line
 abbrev pub request_fields : Parts → List (List ℕ)

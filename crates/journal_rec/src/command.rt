@@ -5,10 +5,7 @@ ghost use Rattle.issuer_base.specs.ScriptCommand.{instructions, is_command};
 ghost use Rattle.journal_rec.specs.Reading.{command_of};
 
 use arrayvec::ArrayVec;
-use issuer_base::{Command, MAX_BODY_BYTES};
-
-/// How many bytes a command has at most.
-pub(crate) const COMMAND_BYTES: usize = 4 + MAX_BODY_BYTES;
+use issuer_base::Command;
 
 /// The command of the host that these bytes are: class, instruction, two parameters and the data.
 #[tactic(auto, unfolding(crate::specs::Reading::command_of, issuer_base::specs::ScriptCommand::is_command))]

@@ -4,7 +4,7 @@ ghost use Rattle.journal_rec.specs.Reading.{byte_of, digit_value, spelled, spell
 
 use arrayvec::ArrayVec;
 
-/// What stands in the table for a byte that is no digit.
+/// What the table has for a byte that is no digit: more than a byte that two digits spell.
 const NONE: u16 = 256;
 
 /// The value of each byte as a digit.
@@ -27,7 +27,6 @@ static VALUES: [u16; 256] = [
     NONE, NONE, NONE, NONE, NONE, NONE, NONE, NONE, NONE,
 ];
 
-/// The value of a byte as a digit, and `NONE` of one that is none.
 fn value(digit: u8) -> u16
     ensures exact { result ≡ unwrap_or (digit_value digit) NONE }
     ensures bounded { result ≤ NONE }
@@ -35,7 +34,6 @@ fn value(digit: u8) -> u16
     VALUES[usize::from(digit)]
 }
 
-/// The byte that two digits spell.
 fn byte(high: u8, low: u8) -> Option<u8>
     ensures { result ≡ byte_of high low }
 {
@@ -46,7 +44,7 @@ fn byte(high: u8, low: u8) -> Option<u8>
     Some(byte as u8)
 }
 
-/// Fills `out` with the bytes that the digits spell, two digits a byte.
+/// Fills `out` with the bytes that the digits spell. Where they spell none, what is in `out` is not specified.
 pub(crate) fn decode_into(digits: &[u8], out: &mut [u8]) -> bool
     requires { length digits.now ≡ 2 * length out.old }
     ensures { (if result then Some out.new else None) ≡ spelled digits.now }

@@ -4,11 +4,7 @@ ghost use Rattle.issuer_base.specs.declared.entry.Entry.{Entry};
 ghost use Rattle.journal_rec.specs.RecordText.{IsLine, IsUnbroken, text_of, texts_of};
 ghost use Rattle.journal_rec.specs.Record.{IsRecord};
 
-/// How many bytes the text of a record has at least: that of a status.
-pub const LEAST_RECORD_BYTES: usize = 28;
-
-/// How many bytes the text of a record has at most: that of a decided request with the longest reply.
-pub const MOST_RECORD_BYTES: usize = 501;
+use crate::limits::{LEAST_RECORD_BYTES, MOST_RECORD_BYTES};
 
 /// The text of a record is one line.
 pub fn a_text_is_one_line()

@@ -1,17 +1,19 @@
-//! The records of a journal as lines of text, written and read exactly.
+//! The records of a journal as lines of text: each is written by one text, and a line is read as the record whose text it is
+//! or as none. No call takes memory.
 #![tactic(auto)]
 
 mod command;
 mod digits;
 mod laws;
+mod limits;
 mod line;
 mod pan;
 mod read;
+#[cfg(test)]
+mod tests;
 mod write;
 
-pub use laws::{
-    LEAST_RECORD_BYTES, MOST_RECORD_BYTES, a_text_has_one_reading, a_text_is_one_line,
-    no_text_begins_another,
-};
+pub use laws::{a_text_has_one_reading, a_text_is_one_line, no_text_begins_another};
+pub use limits::{LEAST_RECORD_BYTES, MOST_RECORD_BYTES, RECORD_ROOM};
 pub use read::read_entry;
-pub use write::{RECORD_ROOM, write_entry};
+pub use write::write_entry;

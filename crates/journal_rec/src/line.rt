@@ -3,7 +3,8 @@ ghost use Rattle.std.specs.Prelude.{◌≡◌, ◌*◌, ◌^◌, ◌<◌, length
 ghost use Rattle.journal_rec.specs.Reading.{byte_at, bytes_at, counter_at, end_at, mark_at, next_at, pan_at, piece_at, rest_at};
 
 use crate::digits::{decode, decode_into};
-use crate::pan::{PAN_DIGITS, read_pan};
+use crate::limits::PAN_DIGITS;
+use crate::pan::read_pan;
 use arrayvec::ArrayVec;
 use issuer_base::Pan;
 use std::marker::Model;
@@ -91,7 +92,7 @@ impl<'a> Line<'a> {
         Some(*byte)
     }
 
-    /// This byte.
+    /// This byte, and no other.
     #[tactic(auto, unfolding(crate::specs::Reading::mark_at))]
     pub(crate) fn mark(&mut self, byte: u8) -> Option<()>
         ensures { option_map (λ unit. (unit, self.new)) result ≡ mark_at byte self.old }

@@ -6,14 +6,9 @@ ghost use Rattle.issuer_base.specs.CardNumber.{is_pan};
 ghost use Rattle.journal_rec.specs.Reading.{pan_of};
 ghost use Rattle.journal_rec.specs.RecordText.{packed, pan_bytes};
 
+use crate::limits::{PAN_BYTES, PAN_DIGITS};
 use arrayvec::ArrayVec;
 use issuer_base::Pan;
-
-/// How many bytes an account number has in a line.
-pub(crate) const PAN_BYTES: usize = 10;
-
-/// How many digits it has there, those that fill it up among them.
-pub(crate) const PAN_DIGITS: usize = 2 * PAN_BYTES;
 
 /// The account number that these digits are, where nothing but `f` stands behind them.
 #[tactic(auto, unfolding(crate::specs::Reading::pan_of))]
@@ -64,7 +59,7 @@ pub(crate) fn pan_bytes(pan: &Pan) -> ArrayVec<u8, PAN_BYTES>
 
 fn filled(digits: &[u8]) -> ArrayVec<u8, PAN_DIGITS>
     requires { length digits.now ≤ PAN_DIGITS }
-    ensures { result.items ≡ digits.now ++ replicate (20 - length digits.now) 0x0F }
+    ensures { result.items ≡ digits.now ++ replicate (PAN_DIGITS - length digits.now) 0x0F }
 {
     let filling = [0x0F; PAN_DIGITS];
     let mut nibbles = ArrayVec::try_from(digits).unwrap();

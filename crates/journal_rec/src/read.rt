@@ -3,13 +3,14 @@ ghost use Rattle.std.specs.Prelude.{◌≡◌, ◌↔◌, option_map};
 ghost use Rattle.issuer_base.specs.declared.entry.Entry.{Entry};
 ghost use Rattle.issuer_base.specs.ChipData.{is_bcd};
 ghost use Rattle.journal_rec.specs.Record.{IsLineOf};
-ghost use Rattle.journal_rec.specs.Reading.{approval_at, behind_letter, card_at, decided_at, entry_at, parts_at, psn_at, queued_at, reply_at, request_at, status_at};
+ghost use Rattle.journal_rec.specs.Reading.{approval_at, behind_letter, card_at, decided_at, entry_at, parts_at, psn_at, queued_at, reply_at, status_at};
 
-use crate::command::{COMMAND_BYTES, read_command};
+use crate::command::read_command;
+use crate::limits::COMMAND_BYTES;
 use crate::line::Line;
 use issuer_base::{Entry, NotEntry, Pan, Parts, Reply, Request};
 
-/// The record of a line, which is given without its newline.
+/// The record of a line, which is given without its newline. `NotEntry` where the line is that of no record.
 pub fn read_entry(line: &[u8]) -> Result<Entry, NotEntry>
     ensures { (entry : Entry) → (result ≡ Ok entry) ↔ IsLineOf entry line.now }
 {
@@ -26,6 +27,7 @@ fn entry(line: &mut Line) -> Option<Entry>
     Some(entry)
 }
 
+// Each kind of line is read by a call of its own: inlined, each line would pay for the values of all three.
 fn behind_letter(line: &mut Line, letter: u8) -> Option<Entry>
     ensures { option_map (λ entry. (entry, line.new)) result ≡ behind_letter letter line.old }
 {
@@ -37,22 +39,16 @@ fn behind_letter(line: &mut Line, letter: u8) -> Option<Entry>
     }
 }
 
-#[tactic(auto, unfolding(crate::specs::Reading::decided_at))]
+#[inline(never)]
+#[tactic(auto, unfolding(crate::specs::Reading::decided_at, crate::specs::Reading::request_at))]
 fn decided(line: &mut Line) -> Option<Entry>
     ensures { option_map (λ entry. (entry, line.new)) result ≡ decided_at line.old }
 {
     line.mark(b' ')?;
-    let request = request(line)?;
+    let request = Request::new(parts(line)?)?;
     line.mark(b' ')?;
     let reply = reply(line)?;
     Some(Entry::Decided { request, reply })
-}
-
-#[tactic(auto, unfolding(crate::specs::Reading::request_at))]
-fn request(line: &mut Line) -> Option<Request>
-    ensures { option_map (λ request. (request, line.new)) result ≡ request_at line.old }
-{
-    Request::new(parts(line)?)
 }
 
 #[tactic(auto, unfolding(crate::specs::Reading::parts_at))]
@@ -108,6 +104,7 @@ fn approval(line: &mut Line) -> Option<bool>
     }
 }
 
+#[inline(never)]
 #[tactic(auto, unfolding(crate::specs::Reading::queued_at))]
 fn queued(line: &mut Line) -> Option<Entry>
     ensures { option_map (λ entry. (entry, line.new)) result ≡ queued_at line.old }
@@ -118,6 +115,7 @@ fn queued(line: &mut Line) -> Option<Entry>
     Some(Entry::Queued { pan, psn, command })
 }
 
+#[inline(never)]
 #[tactic(auto, unfolding(crate::specs::Reading::status_at))]
 fn status(line: &mut Line) -> Option<Entry>
     ensures { option_map (λ entry. (entry, line.new)) result ≡ status_at line.old }

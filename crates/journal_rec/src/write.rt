@@ -7,24 +7,18 @@ ghost use Rattle.issuer_base.specs.CardNumber.{is_pan};
 ghost use Rattle.journal_rec.specs.RecordText.{pan_bytes, request_bytes, request_fields, text_of};
 ghost use Rattle.journal_rec.specs.Record.{IsCommand, IsRecord, IsReply, IsRequest, is_record, request_sizes};
 
-use crate::command::COMMAND_BYTES;
+use crate::limits::{COMMAND_BYTES, RECORD_ROOM, REQUEST_BYTES};
 use crate::pan::pan_bytes;
 use arrayvec::ArrayVec;
-use issuer_base::{Command, Entry, MAX_BODY_BYTES, Pan, Parts, Reply, Request};
+use issuer_base::{Command, Entry, MAX_BODY_BYTES, MAX_REPLY_BYTES, Pan, Parts, Reply, Request};
 
-/// How many bytes there is room for in a record's line; the longest has 501.
-pub const RECORD_ROOM: usize = 512;
+const NEWLINE: u8 = b'\n';
 
-/// How many bytes a word of a line has at most, two digits each.
-const WORD_BYTES: usize = 160;
+/// How many digits a word of a line has at most: those of the longest reply.
+const WORD_DIGITS: usize = 2 * MAX_REPLY_BYTES;
 
-/// How many digits that are.
-const WORD_DIGITS: usize = 2 * WORD_BYTES;
-
-/// How many bytes a request has.
-const REQUEST_BYTES: usize = 85;
-
-/// The line of a record, with its newline.
+/// The text of a record: its line, and the newline that ends it. The reply of a decided request has to have a byte, a
+/// sequence number has to be two decimal digits, a queued command one that the host sends, and a status 0 to 9.
 pub fn write_entry(entry: &Entry) -> ArrayVec<u8, RECORD_ROOM>
     requires { IsTrue (is_record entry.now) }
     ensures text { result.items ≡ text_of entry.now }
@@ -50,7 +44,7 @@ fn decided_line(request: &Request, reply: &Reply) -> ArrayVec<u8, RECORD_ROOM>
     line.push(b' ');
     line.push(if reply.approve { b'1' } else { b'0' });
     put_word(&mut line, reply.bytes.as_slice());
-    line.push(b'\n');
+    line.push(NEWLINE);
     line
 }
 
@@ -62,7 +56,7 @@ fn queued_line(pan: &Pan, psn: u8, command: &Command) -> ArrayVec<u8, RECORD_ROO
 {
     let mut line = card_line(b'q', pan, psn);
     put_word(&mut line, command_bytes(command).as_slice());
-    line.push(b'\n');
+    line.push(NEWLINE);
     line
 }
 
@@ -74,7 +68,7 @@ fn status_line(pan: &Pan, psn: u8, status: u8) -> ArrayVec<u8, RECORD_ROOM>
     let mut line = card_line(b's', pan, psn);
     line.push(b' ');
     line.push(b'0' + status);
-    line.push(b'\n');
+    line.push(NEWLINE);
     line
 }
 
@@ -106,7 +100,7 @@ fn command_bytes(command: &Command) -> ArrayVec<u8, COMMAND_BYTES>
 
 /// A space, and the bytes in hexadecimal.
 fn put_word(line: &mut ArrayVec<u8, RECORD_ROOM>, bytes: &[u8])
-    requires short { length bytes.now ≤ WORD_BYTES }
+    requires short { length bytes.now ≤ MAX_REPLY_BYTES }
     requires room { array_vec_len line.old + (2 * length bytes.now + 1) ≤ RECORD_ROOM }
     ensures text { line.new.items ≡ line.old.items ++ 32 ∷ encode_lower bytes.now }
     ensures room { array_vec_len line.new ≡ array_vec_len line.old + (2 * length bytes.now + 1) }

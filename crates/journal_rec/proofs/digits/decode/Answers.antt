@@ -1,4 +1,4 @@
-use Rattle.std.proofs.Common.{◌≡◌, ◌/◌, length, if◌then◌else◌, Option, Some, None, List, ℕ, sym, ap, ◌∙◌, length-take, arith}
+use Rattle.std.proofs.Common.{◌≡◌, ◌/◌, length, Some, None, arith}
 use Rattle.journal_rec.specs.Reading.{spelled}
 use Rattle.journal_rec.proofs.Spelling.{spelled_within-odd, spelled_within-long, spelled_within-none, spelled_within-some}
 use Rattle.journal_rec.proofs.digits.decode.Goals as goal

@@ -1,4 +1,4 @@
-use Rattle.std.proofs.Common.{◌≡◌, ◌+◌, ◌*◌, ◌++◌, [], ◌∷◌, drop, refl, ap, ◌∙◌, length-append, arith}
+use Rattle.std.proofs.Common.{◌+◌, ◌*◌, ◌++◌, drop, refl, ap, ◌∙◌, arith}
 use Rattle.journal_rec.specs.RecordText.{packed}
 use Rattle.journal_rec.proofs.PanLemmas.{packed_more, packed_done}
 use Rattle.journal_rec.proofs.pan.packed.Goals as goal

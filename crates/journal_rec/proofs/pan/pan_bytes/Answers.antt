@@ -1,4 +1,4 @@
-use Rattle.std.proofs.Common.{◌≡◌, ◌-◌, ◌<◌, ◌++◌, All, IsTrue, length, replicate, subst, sym, ap, ◌∙◌, arith}
+use Rattle.std.proofs.Common.{◌<◌, All, IsTrue, length, subst, sym, ap, ◌∙◌, arith}
 use Rattle.issuer_base.specs.CardNumber.{is_pan}
 use Rattle.issuer_base.proofs.CardNumberLemmas.{length-pan}
 use Rattle.journal_rec.proofs.PanLemmas.{nibbles-below}
