@@ -1,21 +1,25 @@
 -- What a line says to an issuer: what it asks, or the first thing that is wrong.
 use Rattle.std.specs.Prelude.{ℕ, Bool, List, Option, None, Some, Result, Ok, Err, if◌then◌else◌}
 use Rattle.std.specs.Str.{bytes_eq}
+use Rattle.issuer_base.specs.declared.command.Command.{Command}
 use Rattle.issuer_base.specs.declared.request.Request.{Request}
 use Rattle.issuer_base.specs.declared.answer.Refusal.{Refusal}
 use Rattle.issuer_base.specs.declared.answer.Refusal.TheVariants.{BadLine, BadTlv, Missing, BadField, Repeated}
-use Rattle.issuer_base.specs.declared.answer.Refusal.TheVariants.{UnknownCard, NotArqc, UnknownKey, BadCryptogram}
+use Rattle.issuer_base.specs.declared.answer.Refusal.TheVariants.{UnknownCard, NotArqc, UnknownKey, BadCryptogram, BadCommand}
 use Rattle.issuer_base.specs.ChipData.{dki, is_arqc}
 use Rattle.card_history.specs.declared.decision.Asked.{Asked}
-use Rattle.card_history.specs.declared.decision.Asked.TheVariants.{Decide}
-use Rattle.card_history.specs.Records.{card_of}
+use Rattle.card_history.specs.declared.decision.Asked.TheVariants.{Decide, Queue, Status}
+use Rattle.card_history.specs.Records.{CardName, card_of}
 use Rattle.chip_request.specs.declared.reading.RequestFault.{RequestFault}
 use Rattle.chip_request.specs.declared.reading.RequestFault.TheVariants.{BadTlv as IsTorn, Missing as Lacks}
 use Rattle.chip_request.specs.declared.reading.RequestFault.TheVariants.{BadField as HasBadField, Repeated as Repeats}
-use Rattle.chip_request.specs.Ask.{ask_bytes}
+use Rattle.chip_request.specs.declared.line.LineKind.{LineKind}
+use Rattle.chip_request.specs.declared.line.LineKind.TheVariants.{Ask, Queue as IsQueue, Set as IsSet}
+use Rattle.chip_request.specs.LineParts.{line_of}
 use Rattle.chip_request.specs.Reading.{request_of}
 use Rattle.key_derive.specs.declared.card.CardKeys.{CardKeys}
 use Rattle.cryptogram_in.specs.Cryptogram.{application_cryptogram}
+use Rattle.secure_msg.specs.Commands.{command_of}
 use Rattle.issuer_setup.specs.CardList.{number_of}
 use Rattle.issuer_setup.specs.IssuerSetup.{Setup, keys_of}
 
@@ -50,11 +54,26 @@ abbrev pub checked_data : Setup → Result Request RequestFault → Result Asked
 checked_data issuer (Err fault) = Err (refusal_of fault)
 checked_data issuer (Ok request) = checked issuer request
 
--- a line with no chip data is a bad line
-abbrev pub said_by : Setup → Option (List ℕ) → Result Asked Refusal
-said_by issuer None = Err (BadLine 0)
-said_by issuer (Some bytes) = checked_data issuer (request_of bytes)
+-- a command is to wait for its card where the issuer has the card and the bytes are a command that the host sends
+abbrev pub command_for : CardName → Option ℕ → Option Command → Result Asked Refusal
+command_for name None command = Err UnknownCard
+command_for name (Some card) None = Err BadCommand
+command_for name (Some card) (Some command) = Ok (Queue name.pan name.psn command)
+
+-- a card is to have a status where the issuer has the card
+abbrev pub status_for : CardName → Option ℕ → ℕ → Result Asked Refusal
+status_for name None status = Err UnknownCard
+status_for name (Some card) status = Ok (Status name.pan name.psn status)
+
+-- by the form of a line; a line of none is a bad one from this column on
+abbrev pub said_by : Setup → Result LineKind ℕ → Result Asked Refusal
+said_by issuer (Err column) = Err (BadLine column)
+said_by issuer (Ok (Ask bytes)) = checked_data issuer (request_of bytes.items)
+said_by issuer (Ok (IsQueue pan psn bytes)) =
+    let name : CardName = record { pan = pan; psn = psn } in command_for name (number_of name issuer.cards) (command_of bytes.items)
+said_by issuer (Ok (IsSet pan psn status)) =
+    let name : CardName = record { pan = pan; psn = psn } in status_for name (number_of name issuer.cards) status
 
 -- what a line says to this issuer
 abbrev pub reading : Setup → List ℕ → Result Asked Refusal
-reading issuer line = said_by issuer (ask_bytes line)
+reading issuer line = said_by issuer (line_of line)

@@ -1,6 +1,7 @@
 //! What a line says to an issuer: what it asks, with what was found and derived for it, or the first thing that is wrong.
 #![tactic(auto)]
 
+mod card;
 mod checked;
 mod line;
 mod request;

@@ -4,9 +4,10 @@ ghost use Rattle.std.specs.Result.{result_map_both};
 ghost use Rattle.line_checks.specs.Reading.{reading};
 ghost use Rattle.line_checks.specs.AtHand.{asked_of, IsAtHand};
 
+use crate::card::{check_command, check_status};
 use crate::checked::Checked;
 use crate::request::check_request;
-use chip_request::read_ask;
+use chip_request::{LineKind, read_line};
 use issuer_base::Refusal;
 use issuer_setup::Issuer;
 
@@ -15,7 +16,18 @@ pub fn check_line(issuer: &Issuer, line: &[u8]) -> Result<Checked, Refusal>
     ensures asked { result_map_both asked_of (λ refusal. refusal) result ≡ reading issuer.now line.now }
     ensures at_hand { IfOk result (IsAtHand issuer.now) }
 {
-    let bytes = read_ask(line).ok_or(Refusal::BadLine(0))?;
-    let found = check_request(issuer, bytes.as_slice())?;
-    Ok(Checked::Decide(found))
+    match read_line(line).map_err(Refusal::BadLine)? {
+        LineKind::Ask(bytes) => {
+            let found = check_request(issuer, bytes.as_slice())?;
+            Ok(Checked::Decide(found))
+        }
+        LineKind::Queue { pan, psn, bytes } => {
+            let found = check_command(issuer, pan, psn, bytes.as_slice())?;
+            Ok(Checked::Queue(found))
+        }
+        LineKind::Set { pan, psn, status } => {
+            let found = check_status(issuer, pan, psn, status)?;
+            Ok(Checked::Status(found))
+        }
+    }
 }

@@ -181,12 +181,18 @@ fn checks_requests(rt: HostRuntime) -> Result<(), Fail> {
 }
 
 #[test]
-fn refuses_other_lines(rt: HostRuntime) -> Result<(), Fail> {
+fn checks_other_lines(rt: HostRuntime) -> Result<(), Fail> {
     let issuer = issuer(rt.alloc())?;
     for (line, expected) in [
-        ("X", "BadLine(0)"),
+        ("X", "BadLine(1)"),
         ("A 9F3602", "BadTlv(0)"),
         ("A 9F36020007", "Missing(90)"),
+        ("Q 4000000000000010 00 84160000", "queue for card 1"),
+        ("Q 4000000000000010 0 84160000", "BadLine(21)"),
+        ("Q 4000000000000010 01 84", "UnknownCard"),
+        ("Q 4000000000000010 00 84", "BadCommand"),
+        ("S 4000000000000010 00 3", "status for card 1"),
+        ("S 4000000000000010 01 3", "UnknownCard"),
     ] {
         let found = told(rt.alloc(), check_line(&issuer, line.as_bytes()))?;
         assert_eq!(rt; found.as_str(), expected, "{line}");

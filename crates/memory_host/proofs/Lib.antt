@@ -1,3 +1,4 @@
 pub mod EmptyRows
 pub mod RowsAfter
 pub mod PlannedTurns
+pub mod Counts

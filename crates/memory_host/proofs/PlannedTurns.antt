@@ -7,12 +7,12 @@ use Rattle.issuer_base.specs.declared.request.Request.{Request}
 use Rattle.issuer_base.specs.declared.answer.Reply.{Reply}
 use Rattle.issuer_base.specs.declared.answer.Answer.{Answer}
 use Rattle.issuer_base.specs.declared.answer.Answer.TheVariants.{Fresh as AnswerFresh, Kept as AnswerKept, Refused}
-use Rattle.issuer_base.specs.declared.answer.Refusal.TheVariants.{Below as IsBelowWindow, Taken as IsTaken, NoMemory}
+use Rattle.issuer_base.specs.declared.answer.Refusal.TheVariants.{Below as IsBelowWindow, Taken as IsTaken}
 use Rattle.issuer_base.specs.declared.entry.Entry.{Entry}
 use Rattle.issuer_base.specs.declared.entry.Entry.TheVariants.{Decided}
 use Rattle.card_history.specs.declared.decision.Decision.{Decision}
-use Rattle.card_history.specs.Records.{CardName, card_of, status_of}
-use Rattle.card_history.specs.Turns.{Answers, AnswersIn}
+use Rattle.card_history.specs.Records.{CardName, card_of, decided, status_of}
+use Rattle.card_history.specs.Turns.{IsUnused, decided_for, Answers, AnswersIn}
 use Rattle.key_derive.specs.declared.card.CardKeys.{CardKeys}
 use Rattle.issuer_setup.specs.declared.card.CardInfo.{CardInfo}
 use Rattle.row_core.specs.declared.row.Outcome.{Outcome}
@@ -37,8 +37,14 @@ answers-alike shard one other before request (AnswerFresh at place reply) after 
 answers-alike shard one other before request (AnswerKept at place reply) after same answers = answers
 answers-alike shard one other before request (Refused (IsBelowWindow top)) after same answers = answers
 answers-alike shard one other before request (Refused (IsTaken at place)) after same answers = answers
-answers-alike shard one other before request (Refused NoMemory) after same answers = answers
 answers-alike shard one other before request _ after same answers = absurd answers
+
+-- a counter that is unused for a request is unused for its card by any name
+unused-alike : (history : List Entry) (request other : Request) (name : CardName) → other ≡ request → name ≡ card_of request
+    → IsUnused (decided_for request history) request → IsUnused (decided name history) other
+unused-alike history request other name same named unused =
+    subst (λ (other : Request). IsUnused (decided name history) other) (sym same)
+    (subst (λ (name : CardName). IsUnused (decided name history) request) (sym named) unused)
 
 -- the card and the keys that are at hand give the issuer's reply
 reply-at_hand : (issuer : Setup) (found : CheckedRequest) (card : CardInfo) (history : List Entry) → IsRequestAtHand issuer found → slice_get issuer.cards found.card ≡ Some card → name_of card ≡ card_of found.request → decided_reply card.method found.keys issuer.table (status_of (name_of card) history) found.request ≡ reply_to issuer history found.request
@@ -92,7 +98,11 @@ module _ (host : Holding) (found : CheckedRequest) (at_hand : IsRequestAtHand ho
           valid = at_hand.card_is.valid;
           card = known.0;
           card_is = known.1;
-          next = record { of_card = ap card_of same ∙ sym known.2; at_end = answers.2 };
+          next = record {
+            of_card = ap card_of same ∙ sym known.2;
+            at_end = answers.2;
+            unused = unused-alike (history_for host.issuer histories found.card) found.request step.request (name_of known.0) same known.2 answers.0;
+          };
         }
 
     -- once the record is added, the fresh answer is a turn
@@ -100,7 +110,3 @@ module _ (host : Holding) (found : CheckedRequest) (at_hand : IsRequestAtHand ho
     fresh-turn place place_is =
         let answers = plan histories stands in
         answered (AnswerFresh shard place reply) (with_record (history_for host.issuer histories found.card) step) (answers.0, refl, place_is ∙ answers.2, answers.3, answers.4)
-
-    -- where no memory is left for it, the refusal is
-    pub refused-turn : AnswersIn (rules_of host.issuer) histories found.request (Refused NoMemory) histories
-    refused-turn = unchanged (Refused NoMemory) ((plan histories stands).0, refl)

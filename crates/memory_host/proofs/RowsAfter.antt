@@ -1,5 +1,5 @@
 -- The rows of an issuer's cards after one more record: only the row of the record's card is longer.
-use Rattle.std.proofs.Common.{◌≡◌, ◌≢◌, ℕ, ◌+◌, ◌%◌, ◌<◌, List, [], length, map, get_or, set, ap, sym, ◌∙◌, subst, inl, inr, Some, arith, length-set}
+use Rattle.std.proofs.Common.{◌≡◌, ◌≢◌, ℕ, ◌+◌, ◌%◌, List, [], length, map, get_or, set, ap, sym, ◌∙◌, subst, inl, inr, Some, arith, length-set}
 use Rattle.std.proofs.lemmas.Bool.{cases_eq, cases_lt}
 use Rattle.std.proofs.lemmas.List.{length_push, map-set, get_or-map, get_or-set_same, get_or-set_other}
 use Rattle.std.proofs.lemmas.Option.{same_Some, slice_get_within, slice_get-get_or, get_or_from_slice_get}
@@ -13,7 +13,7 @@ use Rattle.card_history.proofs.OneMoreRecord.{decided-other}
 use Rattle.card_history.proofs.OtherRecords.{queue-decided, status_of-decided}
 use Rattle.issuer_setup.specs.declared.card.CardInfo.{CardInfo}
 use Rattle.issuer_setup.specs.CardList.{name_of, AreCards}
-use Rattle.row_core.specs.CardRow.{CardRow, StandsFor as RowStandsFor}
+use Rattle.row_core.specs.CardRow.{CardRow, KeepsWindow, none_done, StandsFor as RowStandsFor}
 use Rattle.row_core.specs.Plan.{IsNext, with_record}
 use Rattle.memory_host.specs.Holding.{Holding, history_for, RowStands, StandsFor}
 use Rattle.memory_host.specs.Deciding.{IsShardOf, IsNextOf, with_record_of, IsRecorded}
@@ -53,8 +53,8 @@ stands-other card row history step other stands =
       method_is = stands.method_is;
       hi_is = stands.hi_is ∙ ap greatest (sym same);
       status_is = stands.status_is ∙ sym (status_of-decided (name_of card) history step.request step.reply);
-      kept_are = stands.kept_are ∙ sym same;
-      queue_is = stands.queue_is ∙ sym (queue-decided (name_of card) history step.request step.reply);
+      window_is = subst (λ (decisions : List Decision). KeepsWindow row.slots decisions) (sym same) stands.window_is;
+      commands_are = stands.commands_are ∙ ap none_done (sym (queue-decided (name_of card) history step.request step.reply));
     }
 
 module _ (host : Holding) (histories : List (List Entry)) (stands : StandsFor host histories) where
@@ -71,32 +71,6 @@ module _ (host : Holding) (histories : List (List Entry)) (stands : StandsFor ho
       ∙ ap (λ records. get_or records shard place) stands.records_are
       ∙ get_or-map length histories shard [] place (omega (arith, home.within, stands.shards_are))
       ∙ ap (λ shard. length (get_or histories shard [])) home.shard_is
-
--- where another row that stands for what the old one stood for is written there, the host stands for the same histories
-pub kept : (host : Holding) (number : ℕ) (old new : CardRow) → slice_get host.rows number ≡ Some old → ((card : CardInfo) (history : List Entry) → RowStandsFor card old history → RowStandsFor card new history) → (histories : List (List Entry)) → StandsFor host histories → StandsFor (record { issuer = host.issuer; rows = set host.rows number new; records = host.records }) histories
-kept host number old new old_is same histories stands =
-    let after : Holding = record { issuer = host.issuer; rows = set host.rows number new; records = host.records } in
-    record {
-      shards_are = stands.shards_are;
-      records_are = stands.records_are;
-      rows_stand = λ other card card_is.
-          elim (cases_eq other number) [
-            | inl its ↦ subst (λ (other : ℕ). RowStands after histories other card) (sym its) (
-                let here : slice_get host.issuer.cards number ≡ Some card = ap (slice_get host.issuer.cards) (sym its) ∙ card_is in
-                record {
-                  row = new;
-                  row_is = there host.rows number old new old_is;
-                  stands = same card (history_for host.issuer histories number) (row-there host histories stands number card old here old_is);
-                })
-            | inr not_it ↦
-                let found = stands.rows_stand other card card_is in
-                record {
-                  row = found.row;
-                  row_is = elsewhere host.rows number new other found.row not_it found.row_is;
-                  stands = found.stands;
-                }
-          ];
-    }
 
 module _ (host : Holding) (number shard : ℕ) (step : Decision) (home : IsShardOf host.issuer number shard) (histories : List (List Entry)) (stands : StandsFor host histories) (next : IsNextOf host.issuer histories number step) where
   -- the history of this card's shard has the record

@@ -1,5 +1,5 @@
 -- What a host in memory holds, and the histories that it stands for.
-use Rattle.std.specs.Prelude.{◌≡◌, ℕ, ◌%◌, List, [], length, map, slice_get, slice_index_or, Some}
+use Rattle.std.specs.Prelude.{◌≡◌, ℕ, ◌+◌, ◌%◌, ◌^◌, ◌<◌, ◌≤◌, List, [], length, map, slice_get, slice_index_or, Some, All}
 use Rattle.issuer_base.specs.declared.entry.Entry.{Entry}
 use Rattle.issuer_setup.specs.declared.card.CardInfo.{CardInfo}
 use Rattle.row_core.specs.CardRow.{CardRow, StandsFor as RowStandsFor}
@@ -26,3 +26,11 @@ pub record StandsFor (host : Holding) (histories : List (List Entry)) : Type 0 w
   pub shards_are : length histories ≡ host.issuer.shards
   pub rows_stand : (number : ℕ) (card : CardInfo) → slice_get host.issuer.cards number ≡ Some card → RowStands host histories number card
   pub records_are : host.records ≡ map length histories
+
+-- no shard has more records than this
+abbrev pub HasAtMost : ℕ → Holding → Type 0
+HasAtMost most host = All (λ count. count ≤ most) host.records
+
+-- each shard's number of records has a successor in its 64 bits
+abbrev pub HasRoom : Holding → Type 0
+HasRoom host = All (λ count. count + 1 < 2 ^ 64) host.records

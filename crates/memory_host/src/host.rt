@@ -1,10 +1,10 @@
-ghost use Rattle.std.specs.Prelude.{◌≡◌, ◌<◌, List, length, replicate, IfOk, IfErr};
+ghost use Rattle.std.specs.Prelude.{◌≡◌, ◌↔◌, ℕ, ◌+◌, ◌<◌, List, length, replicate, IfOk, IsTrue};
 ghost use Rattle.issuer_base.specs.declared.entry.Entry.{Entry};
 ghost use Rattle.card_history.specs.Turns.{Turn, AnswersIn, no_records};
 ghost use Rattle.line_checks.specs.Reading.{reading};
 ghost use Rattle.line_checks.specs.AtHand.{IsRequestAtHand};
 ghost use Rattle.memory_host.specs.Answering.{rules_of};
-ghost use Rattle.memory_host.specs.Holding.{StandsFor};
+ghost use Rattle.memory_host.specs.Holding.{StandsFor, HasAtMost, HasRoom};
 ghost use Rattle.memory_host.specs.Deciding.{AreEmpty, IsShardOf, IsPlanFor, IsRecorded};
 
 use issuer_base::{Answer, NoMemory, Refusal};
@@ -43,10 +43,11 @@ impl Model for MemoryHost {
 }
 
 impl MemoryHost {
-    /// The host of this issuer, before any line.
+    /// The host of this issuer, before any line. No other call takes memory.
     pub fn new(alloc: Global, issuer: Issuer) -> Result<MemoryHost, NoMemory>
         ensures issuer { IfOk result (λ host. host.issuer ≡ issuer) }
         ensures empty { IfOk result (λ host. StandsFor host (no_records issuer.shards)) }
+        ensures count { IfOk result (HasAtMost 0) }
     {
         let rows = empty_rows(alloc, &issuer)?;
         let records = zeros(alloc, issuer.shards())?;
@@ -57,15 +58,23 @@ impl MemoryHost {
         })
     }
 
+    /// Whether each shard has a number left for one record more.
+    pub fn has_room(&self) -> bool
+        ensures { IsTrue result ↔ HasRoom self.now }
+    {
+        self.records.iter().all(|count| *count < u64::MAX)
+    }
+
     /// The answer to a line, which is without its newline. What the issuer has stays as it is.
     ///
-    /// Where a request would be decided and no memory is left for its record, the answer says so, and
-    /// the host stands for the same histories. No other line takes memory.
+    /// Each shard has to have a number left for one record more; a line adds one record at most.
     pub fn answer(&mut self, line: &[u8]) -> Answer
+        requires room { HasRoom self.old }
         ensures turn { (histories : List (List Entry)) → StandsFor self.old histories
             → (after : List (List Entry)) × StandsFor self.new after
             × Turn (rules_of self.old.issuer) histories (reading self.old.issuer line.now) result after }
         ensures issuer { self.new.issuer ≡ self.old.issuer }
+        ensures count { (most : ℕ) → HasAtMost most self.old → HasAtMost (most + 1) self.new }
     {
         match check_line(&self.issuer, line) {
             Ok(Checked::Decide(found)) => self.decide(found),
@@ -76,22 +85,21 @@ impl MemoryHost {
 
     /// The answer to a request that was checked.
     fn decide(&mut self, checked: CheckedRequest) -> Answer
-        requires { IsRequestAtHand self.old.issuer checked }
+        requires at_hand { IsRequestAtHand self.old.issuer checked }
+        requires room { HasRoom self.old }
         ensures turn { (histories : List (List Entry)) → StandsFor self.old histories
             → (after : List (List Entry)) × StandsFor self.new after
             × AnswersIn (rules_of self.old.issuer) histories checked.request result after }
         ensures issuer { self.new.issuer ≡ self.old.issuer }
+        ensures count { (most : ℕ) → HasAtMost most self.old → HasAtMost (most + 1) self.new }
     {
         let card = checked.card;
         let shard = self.shard_of(card);
         match self.plan(&checked, shard) {
-            Outcome::Fresh(reply, step) => match self.record(card, shard, step) {
-                Ok(place) => Answer::Fresh {
-                    shard,
-                    place,
-                    reply,
-                },
-                Err(NoMemory) => Answer::Refused(Refusal::NoMemory),
+            Outcome::Fresh(reply, step) => Answer::Fresh {
+                shard,
+                place: self.record(card, shard, step),
+                reply,
             },
             Outcome::Kept(reply, place) => Answer::Kept {
                 shard,
@@ -121,25 +129,20 @@ impl MemoryHost {
         row.plan(&checked.keys, self.issuer.table(), &checked.request, place)
     }
 
-    /// Adds the record of a decision to the row of this card and to its shard, and gives the record's place. It
-    /// is refused where no memory is left for it, or no number for the records.
-    fn record(&mut self, card: u32, shard: u8, step: Step) -> Result<u64, NoMemory>
+    /// Adds the record of a decision to the row of this card and to its shard, and gives the record's place.
+    fn record(&mut self, card: u32, shard: u8, step: Step) -> u64
         requires card { card < length self.old.issuer.cards }
         requires shard { IsShardOf self.old.issuer card shard }
-        ensures recorded { IfOk result (IsRecorded self.old card step self.new) }
-        ensures refused { IfErr result (λ _. (histories : List (List Entry)) → StandsFor self.old histories → StandsFor self.new histories) }
+        requires room { HasRoom self.old }
+        ensures recorded { IsRecorded self.old card step self.new result }
         ensures issuer { self.new.issuer ≡ self.old.issuer }
+        ensures count { (most : ℕ) → HasAtMost most self.old → HasAtMost (most + 1) self.new }
     {
         let shard = usize::from(shard);
         let place = self.records[shard];
-        if place == u64::MAX {
-            return Err(NoMemory);
-        }
-        let row = &mut self.rows[card as usize];
-        row.reserve()?;
-        row.apply(step);
+        self.rows[card as usize].apply(step);
         self.records[shard] = place + 1;
-        Ok(place)
+        place
     }
 }
 

@@ -180,6 +180,14 @@ fn host(alloc: Global) -> Result<MemoryHost, Fail> {
     Ok(MemoryHost::new(alloc, issuer).map_err(|_| "memory")?)
 }
 
+/// What the host answers to a line, in words.
+fn answer(alloc: Global, host: &mut MemoryHost, line: &[u8]) -> Result<String, Fail> {
+    if !host.has_room() {
+        return Err("too many records".into());
+    }
+    Ok(told(alloc, host.answer(line))?)
+}
+
 /// The answer in words.
 fn told(alloc: Global, answer: Answer) -> Result<String, AllocError> {
     match answer {
@@ -218,7 +226,7 @@ fn answers_requests(rt: HostRuntime) -> Result<(), Fail> {
     for case in &CASES {
         let name = case.name;
         let line = line(rt.alloc(), case.asked)?;
-        let answer = told(rt.alloc(), host.answer(line.as_bytes()))?;
+        let answer = answer(rt.alloc(), &mut host, line.as_bytes())?;
         assert_eq!(rt; answer.as_str(), case.expected, "{name}");
     }
     Ok(())
@@ -230,7 +238,7 @@ fn decides_by_the_table(rt: HostRuntime) -> Result<(), Fail> {
     for case in &AMOUNTS {
         let name = case.name;
         let line = line(rt.alloc(), case.asked)?;
-        let answer = told(rt.alloc(), host.answer(line.as_bytes()))?;
+        let answer = answer(rt.alloc(), &mut host, line.as_bytes())?;
         assert_eq!(rt; answer.as_str(), case.expected, "{name}");
     }
     Ok(())
@@ -239,8 +247,12 @@ fn decides_by_the_table(rt: HostRuntime) -> Result<(), Fail> {
 #[test]
 fn refuses_other_lines(rt: HostRuntime) -> Result<(), Fail> {
     let mut host = host(rt.alloc())?;
-    for (line, expected) in [("X", "refused BadLine(0)"), ("A 9F36020007", "refused Missing(90)")] {
-        let answer = told(rt.alloc(), host.answer(line.as_bytes()))?;
+    for (line, expected) in [
+        ("X", "refused BadLine(1)"),
+        ("A 9F36020007", "refused Missing(90)"),
+        ("S 4000000000000010 00 3", "refused BadLine(1)"),
+    ] {
+        let answer = answer(rt.alloc(), &mut host, line.as_bytes())?;
         assert_eq!(rt; answer.as_str(), expected, "{line}");
     }
     Ok(())
