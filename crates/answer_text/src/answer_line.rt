@@ -1,9 +1,11 @@
+//! The line of an answer.
 ghost use Rattle.std.specs.Prelude.{◌≡◌, ◌+◌, ◌<◌, ◌≤◌, [], ◌∷◌, ◌++◌, length, codes};
 ghost use Rattle.std.specs.List.{join_with_byte};
 ghost use Rattle.std.specs.Fmt.{decimal};
 ghost use Rattle.hex.specs.Hex.{encode_lower};
 ghost use Rattle.arrayvec.specs.ArrayVec.{array_vec_len};
-ghost use Rattle.answer_text.specs.AnswerText.{printed, IsLine, refusal_words, reply_words, tag_bytes};
+ghost use Rattle.tlv_objects.specs.Writing.{tag_bytes};
+ghost use Rattle.answer_text.specs.AnswerText.{printed, IsLine, refusal_words, reply_words};
 
 use crate::words::{LINE_ROOM, put, put_hex, put_number, put_place, put_tag};
 use arrayvec::ArrayVec;
@@ -11,7 +13,7 @@ use issuer_base::{Answer, Refusal, Reply};
 
 /// Writes the line of an answer, in place of what `out` held.
 #[tactic(auto, unfolding(crate::specs::AnswerText::printed, crate::specs::AnswerText::answer_words))]
-pub fn write_answer(answer: &Answer, out: &mut ArrayVec<u8, 512>)
+pub fn write_answer(answer: &Answer, out: &mut ArrayVec<u8, LINE_ROOM>)
     ensures text { out.new.items ≡ printed answer.now }
     ensures line { IsLine out.new.items }
 {
@@ -112,7 +114,7 @@ mod tests {
         }
     }
 
-    fn line_of(answer: Answer) -> ArrayVec<u8, 512> {
+    fn line_of(answer: Answer) -> ArrayVec<u8, LINE_ROOM> {
         let mut out = ArrayVec::new();
         out.push(b'x');
         write_answer(&answer, &mut out);

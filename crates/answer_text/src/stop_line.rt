@@ -1,8 +1,9 @@
+//! The last line of a run that stops early.
 ghost use Rattle.std.specs.Prelude.{◌≡◌};
 ghost use Rattle.answer_text.specs.AnswerText.{IsLine};
 ghost use Rattle.answer_text.specs.StopText.{stop_text};
 
-use crate::words::{put, put_number};
+use crate::words::{LINE_ROOM, put, put_number};
 use arrayvec::ArrayVec;
 
 /// Why a run ends before its input does, or never began.
@@ -27,7 +28,7 @@ pub enum Stop {
 
 /// Writes the last line of a run that stops, in place of what `out` held.
 #[tactic(auto, unfolding(crate::specs::StopText::stop_text, crate::specs::StopText::stop_words))]
-pub fn write_stop(stop: &Stop, out: &mut ArrayVec<u8, 512>)
+pub fn write_stop(stop: &Stop, out: &mut ArrayVec<u8, LINE_ROOM>)
     ensures text { out.new.items ≡ stop_text stop.now }
     ensures line { IsLine out.new.items }
 {

@@ -1,3 +1,4 @@
+-- The text of a stop is one line.
 use Rattle.std.proofs.Common.{◌≡◌, rules}
 use Rattle.answer_text.specs.StopText.{stop_text, stop_words}
 use Rattle.answer_text.proofs.Lines.{stop_text-IsLine}
