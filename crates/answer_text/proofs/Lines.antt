@@ -9,7 +9,8 @@ use Rattle.hex.specs.Hex.{encode_with, encode_lower}
 use Rattle.issuer_base.specs.declared.answer.Answer.{Answer}
 use Rattle.issuer_base.specs.declared.answer.Answer.TheVariants.{Fresh, Kept, Queued, Set, Refused}
 use Rattle.issuer_base.specs.declared.answer.Refusal.{Refusal}
-use Rattle.issuer_base.specs.declared.answer.Refusal.TheVariants.{BadLine, BadTlv, Missing, BadField, Repeated, UnknownCard, NotArqc, UnknownKey, BadCryptogram, Below, Taken, Pending, QueueFull, BadCommand, StoreFault}
+use Rattle.issuer_base.specs.declared.answer.Refusal.TheVariants.{BadLine, BadTlv, Missing, BadField, Repeated, UnknownCard, NotArqc, UnknownKey}
+use Rattle.issuer_base.specs.declared.answer.Refusal.TheVariants.{BadCryptogram, Below, Taken, Pending, QueueFull, BadCommand, StoreFault}
 use Rattle.answer_text.specs.AnswerText.{newline, line_of, IsLine, yes_or_no, refusal_words, answer_words, printed}
 use Rattle.answer_text.specs.StopText.{stop_words, stop_text}
 use Rattle.answer_text.specs.declared.stop_line.Stop.{Stop}
@@ -30,7 +31,8 @@ digits_onto-inner : (k n : ℕ) (acc : List ℕ) → has_no_newline acc ≡ true
 digits_onto-inner zero n acc h = h
 digits_onto-inner (suc k) n acc h =
     let more : has_no_newline (digit_glyph false (n % 10) ∷ acc) ≡ true = rw (digit-inner (n % 10)) h in
-    elim (n / 10 == 0) as (λ b. has_no_newline (if b then digit_glyph false (n % 10) ∷ acc else digits_onto k 10 false (n / 10) (digit_glyph false (n % 10) ∷ acc)) ≡ true) [
+    elim (n / 10 == 0) as
+    (λ b. has_no_newline (if b then digit_glyph false (n % 10) ∷ acc else digits_onto k 10 false (n / 10) (digit_glyph false (n % 10) ∷ acc)) ≡ true) [
       | true ↦ more
       | false ↦ digits_onto-inner k (n / 10) (digit_glyph false (n % 10) ∷ acc) more
     ]

@@ -1,12 +1,14 @@
 -- What the host prints of an answer: one line of words.
-use Rattle.std.specs.Prelude.{◌≡◌, ◌≢◌, ℕ, ◌/◌, ◌%◌, Bool, if◌then◌else◌, nat_lt, List, [], ◌∷◌, ◌++◌, codes, All}
+use Rattle.std.specs.Prelude.{◌≡◌, ◌≢◌, ℕ, Bool, if◌then◌else◌, List, [], ◌∷◌, ◌++◌, codes, All}
 use Rattle.std.specs.List.{join_with_byte}
 use Rattle.std.specs.Fmt.{decimal}
 use Rattle.hex.specs.Hex.{encode_lower}
+use Rattle.tlv_objects.specs.Writing.{tag_bytes}
 use Rattle.issuer_base.specs.declared.answer.Answer.{Answer}
 use Rattle.issuer_base.specs.declared.answer.Answer.TheVariants.{Fresh, Kept, Queued, Set, Refused}
 use Rattle.issuer_base.specs.declared.answer.Refusal.{Refusal}
-use Rattle.issuer_base.specs.declared.answer.Refusal.TheVariants.{BadLine, BadTlv, Missing, BadField, Repeated, UnknownCard, NotArqc, UnknownKey, BadCryptogram, Below, Taken, Pending, QueueFull, BadCommand, StoreFault}
+use Rattle.issuer_base.specs.declared.answer.Refusal.TheVariants.{BadLine, BadTlv, Missing, BadField, Repeated, UnknownCard, NotArqc, UnknownKey}
+use Rattle.issuer_base.specs.declared.answer.Refusal.TheVariants.{BadCryptogram, Below, Taken, Pending, QueueFull, BadCommand, StoreFault}
 use Rattle.issuer_base.specs.declared.answer.Reply.{Reply}
 
 -- a newline
@@ -20,14 +22,6 @@ line_of words = join_with_byte 32 words ++ newline ∷ []
 -- a line has one newline, at its end
 abbrev pub IsLine : List ℕ → Type 0
 IsLine text = (front : List ℕ) × (text ≡ front ++ newline ∷ []) × All (λ byte. byte ≢ newline) front
-
--- the bytes of a tag, the most significant first: none in front is zero, and there is at least one
-unfoldable pub tag_bytes : ℕ → List ℕ
-tag_bytes tag =
-    if nat_lt tag 0x100 then tag ∷ []
-    else if nat_lt tag 0x10000 then tag / 0x100 ∷ tag % 0x100 ∷ []
-    else if nat_lt tag 0x1000000 then tag / 0x10000 ∷ tag / 0x100 % 0x100 ∷ tag % 0x100 ∷ []
-    else tag / 0x1000000 ∷ tag / 0x10000 % 0x100 ∷ tag / 0x100 % 0x100 ∷ tag % 0x100 ∷ []
 
 -- whether the issuer approves, as a word
 abbrev pub yes_or_no : Bool → List ℕ

@@ -1,9 +1,11 @@
+//! The line of an answer.
 ghost use Rattle.std.specs.Prelude.{◌≡◌, ◌+◌, ◌<◌, ◌≤◌, [], ◌∷◌, ◌++◌, length, codes};
 ghost use Rattle.std.specs.List.{join_with_byte};
 ghost use Rattle.std.specs.Fmt.{decimal};
 ghost use Rattle.hex.specs.Hex.{encode_lower};
 ghost use Rattle.arrayvec.specs.ArrayVec.{array_vec_len};
-ghost use Rattle.answer_text.specs.AnswerText.{printed, IsLine, refusal_words, reply_words, tag_bytes};
+ghost use Rattle.tlv_objects.specs.Writing.{tag_bytes};
+ghost use Rattle.answer_text.specs.AnswerText.{printed, IsLine, refusal_words, reply_words};
 
 use crate::words::{LINE_ROOM, put, put_hex, put_number, put_place, put_tag};
 use arrayvec::ArrayVec;

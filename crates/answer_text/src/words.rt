@@ -1,19 +1,20 @@
-// The words of a line, each put after what is written already.
-ghost use Rattle.std.specs.Prelude.{◌≡◌, ◌+◌, ◌*◌, ◌/◌, ◌%◌, ◌≤◌, [], ◌∷◌, ◌++◌, length};
+//! The words of a line, each put after what is written already.
+ghost use Rattle.std.specs.Prelude.{◌≡◌, ◌+◌, ◌*◌, ◌≤◌, [], ◌∷◌, ◌++◌, length};
 ghost use Rattle.std.specs.Fmt.{decimal};
 ghost use Rattle.hex.specs.Hex.{encode_lower};
 ghost use Rattle.arrayvec.specs.ArrayVec.{array_vec_len};
-ghost use Rattle.answer_text.specs.AnswerText.{tag_bytes};
+ghost use Rattle.tlv_objects.specs.Writing.{tag_bytes};
 
 use arrayvec::ArrayVec;
 use itoa::Buffer;
+use tlv_objects::tag_bytes;
 
 /// The most bytes that a line has room for; the longest has 360.
 pub const LINE_ROOM: usize = 512;
 
 const HEX_DIGITS: &[u8; 16] = b"0123456789abcdef";
 
-pub fn put(out: &mut ArrayVec<u8, LINE_ROOM>, text: &[u8])
+pub(crate) fn put(out: &mut ArrayVec<u8, LINE_ROOM>, text: &[u8])
     requires { array_vec_len out.old + length text.now ≤ LINE_ROOM }
     ensures text { out.new.items ≡ out.old.items ++ text.now }
     ensures room { array_vec_len out.new ≡ array_vec_len out.old + length text.now }
@@ -22,7 +23,7 @@ pub fn put(out: &mut ArrayVec<u8, LINE_ROOM>, text: &[u8])
 }
 
 /// A space, and the number in decimal digits.
-pub fn put_number(out: &mut ArrayVec<u8, LINE_ROOM>, number: u64)
+pub(crate) fn put_number(out: &mut ArrayVec<u8, LINE_ROOM>, number: u64)
     requires { array_vec_len out.old + 21 ≤ LINE_ROOM }
     ensures text { out.new.items ≡ out.old.items ++ 32 ∷ decimal number }
     ensures room { array_vec_len out.new ≤ array_vec_len out.old + 21 }
@@ -33,7 +34,7 @@ pub fn put_number(out: &mut ArrayVec<u8, LINE_ROOM>, number: u64)
 }
 
 /// A space, and the bytes in hexadecimal digits.
-pub fn put_hex(out: &mut ArrayVec<u8, LINE_ROOM>, bytes: &[u8])
+pub(crate) fn put_hex(out: &mut ArrayVec<u8, LINE_ROOM>, bytes: &[u8])
     requires { array_vec_len out.old + (2 * length bytes.now + 1) ≤ LINE_ROOM }
     ensures text { out.new.items ≡ out.old.items ++ 32 ∷ encode_lower bytes.now }
     ensures room { array_vec_len out.new ≡ array_vec_len out.old + (2 * length bytes.now + 1) }
@@ -55,27 +56,16 @@ fn put_byte(out: &mut ArrayVec<u8, LINE_ROOM>, byte: u8)
 }
 
 /// A space, and the tag's bytes in hexadecimal digits, without zero bytes in front.
-#[tactic(auto, unfolding(crate::specs::AnswerText::tag_bytes))]
-pub fn put_tag(out: &mut ArrayVec<u8, LINE_ROOM>, tag: u32)
+pub(crate) fn put_tag(out: &mut ArrayVec<u8, LINE_ROOM>, tag: u32)
     requires { array_vec_len out.old + 9 ≤ LINE_ROOM }
     ensures text { out.new.items ≡ out.old.items ++ 32 ∷ encode_lower (tag_bytes tag) }
     ensures room { array_vec_len out.new ≤ array_vec_len out.old + 9 }
 {
-    let bytes = tag.to_be_bytes();
-    let start = if tag < 0x100 {
-        3
-    } else if tag < 0x1_0000 {
-        2
-    } else if tag < 0x100_0000 {
-        1
-    } else {
-        0
-    };
-    put_hex(out, &bytes[start..]);
+    put_hex(out, tag_bytes(tag).as_slice());
 }
 
 /// The word, then a space and the shard, then a space and the place.
-pub fn put_place(out: &mut ArrayVec<u8, LINE_ROOM>, word: &[u8], shard: u8, place: u64)
+pub(crate) fn put_place(out: &mut ArrayVec<u8, LINE_ROOM>, word: &[u8], shard: u8, place: u64)
     requires { array_vec_len out.old + length word.now + 42 ≤ LINE_ROOM }
     ensures text { out.new.items ≡ out.old.items ++ word.now ++ 32 ∷ decimal shard ++ 32 ∷ decimal place }
     ensures room { array_vec_len out.new ≤ array_vec_len out.old + length word.now + 42 }

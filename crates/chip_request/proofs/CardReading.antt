@@ -14,7 +14,7 @@ use Rattle.issuer_base.proofs.CardNumberLemmas.{length-pan}
 use Rattle.chip_request.specs.Lines.{digits_text, IsCard}
 use Rattle.chip_request.specs.LineParts.{Part, ◌>>=◌, value_at, byte_at, decimal_digit_value, digit_at, and_others, digits_at, number_in_front}
 use Rattle.chip_request.specs.LineParts.{account_number_at, CardPart, card_at, value_in_front}
-use Rattle.chip_request.proofs.Readings.{StartAlike, Example, Reads, stops_here, Behind, Reads-after, Reads-behind, then_then}
+use Rattle.chip_request.proofs.Readings.{StartAlike, Example, Reads, stops_here, Behind, behind_example, Reads-after, Reads-behind, then_then}
 
 -- the value of one byte alone
 abbrev pub is_byte : ℕ → ℕ → Option ℕ
@@ -290,14 +290,6 @@ number_then : {K : Type 0} (read : Part (List ℕ × List ℕ)) (f : List ℕ �
 number_then (Ok number) f next = then_then (byte_at 32 number.1) (f number.0) next
 number_then (Err rest) f next = refl
 
--- a byte in front of an example
-byte_behind : {K : Type 0} (byte : ℕ) (F : List ℕ → K → Type 0) → is_byte byte byte ≡ Some 0 → Example F → Example (BehindByte byte F)
-byte_behind byte F here example = record { text = byte ∷ example.text; kind = example.kind; means = (0, here, example.means) }
-
--- the digit 0 in front of an example
-zero_behind : {K : Type 0} (F : ℕ → List ℕ → K → Type 0) → Example (F 0) → Example (Behind decimal_digit_value F)
-zero_behind F example = record { text = 48 ∷ example.text; kind = example.kind; means = (0, refl, example.means) }
-
 -- a card between spaces, and what is behind it
 pub Reads-card : {K : Type 0} (F : List ℕ → ℕ → List ℕ → K → Type 0) → ((pan : List ℕ) (psn : ℕ) → Example (F pan psn))
     → (text : List ℕ) (next : CardPart → Part K)
@@ -307,7 +299,7 @@ unfolding card_at digit_at card_behind low_behind high_behind start_behind
 Reads-card {K} F example text next reads =
     subst (Reads (BehindCard F) text) (sym (then_then (byte_at 32 text) start_behind next))
     (Reads-byte 32 (Number [] after_pan)
-    (byte_behind 32 _ refl (Number-example [] after_pan pan_example (record { decimal = refl; within = omega arith }))) text _ (λ start.
+    (behind_example (is_byte 32) _ 32 0 refl (Number-example [] after_pan pan_example (record { decimal = refl; within = omega arith }))) text _ (λ start.
     subst (Reads (Number [] after_pan) start) (sym (number_then (account_number_at start) high_behind next))
     (Reads-number after_pan pan_example (λ pan behind. high_behind pan behind >>= next) pan_reads start)))
   where
@@ -321,13 +313,13 @@ Reads-card {K} F example text next reads =
     after_pan pan = Behind decimal_digit_value (after_high pan)
 
     low_example : (pan : List ℕ) (high low : ℕ) → Example (after_low pan high low)
-    low_example pan high low = byte_behind 32 _ refl (example pan (16 * high + low))
+    low_example pan high low = behind_example (is_byte 32) (λ v. F pan (16 * high + low)) 32 0 refl (example pan (16 * high + low))
 
     high_example : (pan : List ℕ) (high : ℕ) → Example (after_high pan high)
-    high_example pan high = zero_behind (after_low pan high) (low_example pan high 0)
+    high_example pan high = behind_example decimal_digit_value (after_low pan high) 48 0 refl (low_example pan high 0)
 
     pan_example : (pan : List ℕ) → Example (after_pan pan)
-    pan_example pan = zero_behind (after_high pan) (high_example pan 0)
+    pan_example pan = behind_example decimal_digit_value (after_high pan) 48 0 refl (high_example pan 0)
 
     low_reads : (pan : List ℕ) (high low : ℕ) (rest : List ℕ)
         → Reads (after_low pan high low) rest ((byte_at 32 rest >>= λ left. Ok (record { pan = pan; psn = 16 * high + low; rest = left })) >>= next)

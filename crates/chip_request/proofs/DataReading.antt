@@ -3,24 +3,20 @@ use Rattle.std.proofs.Common.{◌≡◌, ℕ, zero, suc, ◌+◌, ◌*◌, ◌�
 use Rattle.hex.specs.Hex.{hex_digit_value}
 use Rattle.chip_request.specs.Lines.{SpellsByte, Spells, SpellsData}
 use Rattle.chip_request.specs.LineParts.{Part, ◌>>=◌, value_at, hex_digit_at, pair_at, data_at}
-use Rattle.chip_request.proofs.Readings.{StartAlike, Example, Reads, stops_here, Reads-same, Made, Reads-made, Behind, Reads-behind, then_then}
+use Rattle.chip_request.proofs.Readings.{StartAlike, Example, Reads, stops_here, Reads-same, Made, Reads-made, Behind, behind_example, Reads-behind, then_then}
 
 -- two hexadecimal digits, and a text with a meaning behind them
 abbrev pub BehindPair : {K : Type 0} → (ℕ → List ℕ → K → Type 0) → List ℕ → K → Type 0
 BehindPair F = Behind hex_digit_value (λ high. Behind hex_digit_value (λ low. F (16 * high + low)))
-
--- the digit 0 in front of an example
-zero_behind : {K : Type 0} (F : ℕ → List ℕ → K → Type 0) → Example (F 0) → Example (Behind hex_digit_value F)
-zero_behind F example = record { text = 48 ∷ example.text; kind = example.kind; means = (0, refl, example.means) }
 
 pub Reads-pair : {K : Type 0} (F : ℕ → List ℕ → K → Type 0) → ((byte : ℕ) → Example (F byte)) → (text : List ℕ) (next : ℕ × List ℕ → Part K)
     → ((byte : ℕ) (rest : List ℕ) → Reads (F byte) rest (next (byte, rest))) → Reads (BehindPair F) text (pair_at text >>= next)
 unfolding pair_at hex_digit_at
 Reads-pair {K} F example text next reads =
     subst (Reads (BehindPair F) text) (sym (then_then (value_at hex_digit_value text) high_at next))
-    (Reads-behind hex_digit_value _ (zero_behind _ (zero_behind _ (example 0))) text _ (λ high rest.
+    (Reads-behind hex_digit_value _ (behind_example hex_digit_value _ 48 0 refl (behind_example hex_digit_value _ 48 0 refl (example 0))) text _ (λ high rest.
     subst (Reads (Behind hex_digit_value (λ low. F (16 * high + low))) rest) (sym (then_then (value_at hex_digit_value rest) (low_at high) next))
-    (Reads-behind hex_digit_value _ (zero_behind _ (example (16 * high + 0))) rest _ (λ low left. reads (16 * high + low) left))))
+    (Reads-behind hex_digit_value _ (behind_example hex_digit_value _ 48 0 refl (example (16 * high + 0))) rest _ (λ low left. reads (16 * high + low) left))))
   where
     low_at : ℕ → ℕ × List ℕ → Part (ℕ × List ℕ)
     low_at high low = Ok (16 * high + low.0, low.1)

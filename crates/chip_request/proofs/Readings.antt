@@ -72,6 +72,11 @@ abbrev pub Behind : {K : Type 0} → (ℕ → Option ℕ) → (ℕ → List ℕ 
 Behind value F [] kind = ⊥
 Behind value F (byte ∷ rest) kind = (v : ℕ) × (value byte ≡ Some v) × F v rest kind
 
+-- a byte with a value in front of an example
+pub behind_example : {K : Type 0} (value : ℕ → Option ℕ) (F : ℕ → List ℕ → K → Type 0) (byte v : ℕ) → value byte ≡ Some v → Example (F v)
+    → Example (Behind value F)
+behind_example value F byte v has example = record { text = byte ∷ example.text; kind = example.kind; means = (v, has, example.means) }
+
 some_same : (a b : Option ℕ) (v w : ℕ) → a ≡ b → a ≡ Some v → b ≡ Some w → v ≡ w
 some_same a b v w same here there = cc
 

@@ -1,11 +1,8 @@
 -- The line that asks for a request's check: `A`, one space, and the request's chip data in hexadecimal.
-use Rattle.std.specs.Prelude.{ℕ, ◌*◌, ◌+◌, ◌&&◌, List, [], ◌∷◌, length, Option, Some, None, option_and_then, nat_le, ◌==◌, if◌then◌else◌}
+use Rattle.std.specs.Prelude.{ℕ, ◌*◌, ◌+◌, ◌&&◌, List, [], ◌∷◌, length, Option, Some, None, nat_le, ◌==◌, if◌then◌else◌}
 use Rattle.hex.specs.Hex.{hex_digit_value}
+use Rattle.tlv_objects.specs.Tlv.{◌>>=◌}
 use Rattle.issuer_base.specs.declared.limits.TheConstants.{MAX_CHIP_BYTES}
-
-infixl 10 ◌>>=◌
-abbrev pub ◌>>=◌ : {A B : Type 0} → Option A → (A → Option B) → Option B
-o >>= f = option_and_then f o
 
 -- the bytes that pairs of hexadecimal digits of either case spell
 unfoldable pub pairs : List ℕ → Option (List ℕ)

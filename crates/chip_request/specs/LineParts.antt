@@ -1,6 +1,7 @@
 -- A line read from its front, part by part: each part's value and the text behind it, or the text from the first byte
 -- on that can't stand there.
-use Rattle.std.specs.Prelude.{ℕ, zero, suc, ◌+◌, ◌-◌, ◌*◌, ◌&&◌, List, [], ◌∷◌, length, Option, Some, None, Result, Ok, Err, nat_le, ◌==◌, if◌then◌else◌}
+use Rattle.std.specs.Prelude.{ℕ, zero, suc, ◌+◌, ◌-◌, ◌*◌, List, [], ◌∷◌, length, Option, Some, None, Result, Ok, Err, ◌==◌, if◌then◌else◌}
+use Rattle.std.specs.Char.{is_ascii_digit}
 use Rattle.hex.specs.Hex.{hex_digit_value}
 use Rattle.issuer_base.specs.CardNumber.{pan_from}
 use Rattle.issuer_base.specs.declared.limits.TheConstants.{MAX_PAN_DIGITS, MAX_CHIP_BYTES}
@@ -33,7 +34,7 @@ value_at value (byte ∷ rest) = value_in_front (value byte) byte rest
 
 -- the value of a decimal digit
 abbrev pub decimal_digit_value : ℕ → Option ℕ
-decimal_digit_value byte = if nat_le 48 byte && nat_le byte 57 then Some (byte - 48) else None
+decimal_digit_value byte = if is_ascii_digit byte then Some (byte - 48) else None
 
 unfoldable pub digit_at : List ℕ → Part (ℕ × List ℕ)
 digit_at text = value_at decimal_digit_value text

@@ -23,6 +23,7 @@ pub enum LineKind {
     /// hexadecimal digits, each part behind one space.
     Queue {
         pan: Pan,
+        /// Two decimal digits, one in each half of the byte.
         psn: u8,
         bytes: ArrayVec<u8, MAX_QUEUE_BYTES>,
     },
@@ -30,6 +31,7 @@ pub enum LineKind {
     /// space.
     Set {
         pan: Pan,
+        /// Two decimal digits, one in each half of the byte.
         psn: u8,
         status: u8,
     },

@@ -1,5 +1,5 @@
 //! Reading a request's chip data.
-ghost use Rattle.std.specs.Prelude.{◌≡◌, ◌≤◌, ◌<◌, ◌+◌, ◌^◌, ℕ, length, map, Some, None, OnOk, IfErr};
+ghost use Rattle.std.specs.Prelude.{◌≡◌, ◌≤◌, ◌<◌, ◌+◌, ◌^◌, ℕ, length, map, OnOk, IfErr};
 ghost use Rattle.tlv_objects.specs.Tlv.{objects_of, objects_ahead};
 ghost use Rattle.chip_request.specs.Fields.{fields};
 ghost use Rattle.chip_request.specs.Reading.{request_of};
@@ -31,9 +31,8 @@ pub fn read_request(bytes: &[u8]) -> Result<Request, RequestFault>
     requires { length bytes.now ≤ MAX_CHIP_BYTES }
     ensures { result ≡ request_of bytes.now }
 {
-    let mut walk = Walk::new(bytes);
-    walk.finish()?;
-    let slots = walk.slots;
+    let mut slots = unfound();
+    note_all(&mut slots, Objects::new(bytes))?;
     if let Some(tag) = first_wrong(&slots, Wrong::Missing) {
         return Err(RequestFault::Missing(tag));
     }
@@ -46,41 +45,21 @@ pub fn read_request(bytes: &[u8]) -> Result<Request, RequestFault>
     Ok(request_in(&slots).unwrap())
 }
 
-// A walk over the objects of a text, with what it has found of each field.
-#[derive(Drop)]
-struct Walk<'a> {
-    ahead: Objects<'a>,
-    slots: [Slot<'a>; 15],
-}
-
-impl<'a> Walk<'a> {
-    fn new(bytes: &'a [u8]) -> Walk<'a>
-        ensures ahead { result.ahead ≡ record { bytes = bytes.now; at = 0 } }
-        ensures slots { map found_in result.slots ≡ map unfound fields }
-    {
-        Walk {
-            ahead: Objects::new(bytes),
-            slots: unfound(),
+// Notes the objects ahead of a cursor, up to the end of its text.
+fn note_all<'a>(slots: &mut [Slot<'a>; 15], objects: Objects<'a>) -> Result<(), RequestFault>
+    requires { objects.at + length objects.bytes < 2 ^ 32 }
+    ensures ok { OnOk result (((objects_ahead objects.entry).torn ≡ None)
+        × (map found_in slots.new ≡ with_objects (map found_in slots.old) (objects_ahead objects.entry).objects)) }
+    ensures err { IfErr result (λ fault. (place : ℕ)
+        × ((objects_ahead objects.entry).torn ≡ Some place) × (fault ≡ RequestFault.BadTlv place)) }
+{
+    for item in objects {
+        match item {
+            Ok(object) => note(slots, object),
+            Err(TlvFault::Torn(at)) => return Err(RequestFault::BadTlv(at as u32)),
         }
     }
-
-    // Goes on to the end of the text.
-    fn finish(&mut self) -> Result<(), RequestFault>
-        requires { self.old.ahead.at + length self.old.ahead.bytes < 2 ^ 32 }
-        ensures ok { OnOk result (((objects_ahead self.old.ahead).torn ≡ None)
-            × (map found_in self.new.slots
-            ≡ with_objects (map found_in self.old.slots) (objects_ahead self.old.ahead).objects)) }
-        ensures err { IfErr result (λ fault. (place : ℕ)
-            × ((objects_ahead self.old.ahead).torn ≡ Some place) × (fault ≡ RequestFault.BadTlv place)) }
-    {
-        while let Some(item) = self.ahead.next() {
-            match item {
-                Ok(object) => note(&mut self.slots, object),
-                Err(TlvFault::Torn(at)) => return Err(RequestFault::BadTlv(at as u32)),
-            }
-        }
-        Ok(())
-    }
+    Ok(())
 }
 
 // The request that was found, where each field that is there has its form.

@@ -1,9 +1,12 @@
 -- The object at the front of a text: what is read is spelled there, and what is spelled there is read.
-use Rattle.std.proofs.Common.{◌≡◌, ℕ, suc, ◌+◌, ◌*◌, ◌≤◌, Bool, true, false, cond, not, ◌&&◌, List, [], ◌∷◌, ◌++◌, length, take, drop, Option, Some, None, option_and_then, nat_lt, nat_eq, refl, sym, ap, ◌∙◌, subst, append_assoc, arith, tests, rules, length-append, take-append-drop, length-take-le, zero-add, le-ltb, ne_eqb}
+use Rattle.std.proofs.Common.{◌≡◌, ℕ, suc, ◌+◌, ◌*◌, ◌≤◌, Bool, true, false, cond, not, ◌&&◌, List, [], ◌∷◌, ◌++◌, length, take, drop, Option, Some}
+use Rattle.std.proofs.Common.{None, option_and_then, nat_lt, nat_eq, refl, sym, ap, ◌∙◌, subst, append_assoc, arith, tests, rules, length-append}
+use Rattle.std.proofs.Common.{take-append-drop, length-take-le, zero-add, le-ltb, ne_eqb}
 use Rattle.std.proofs.Math.Seq.{take-append_seam, drop-append_seam}
 use Rattle.std.proofs.lemmas.Bool.{and_parts}
 use Rattle.std.proofs.lemmas.Bool.Decides.{nat_tests}
-use Rattle.tlv_objects.specs.Tlv.{opens_long_tag, ends_tag, tag_from_third, tag_from_second, tag_at, short_length, long_length, length_at, FrontObject, front_object}
+use Rattle.tlv_objects.specs.Tlv.{opens_long_tag, ends_tag, tag_from_third, tag_from_second, tag_at, short_length, long_length, length_at}
+use Rattle.tlv_objects.specs.Tlv.{FrontObject, front_object}
 use Rattle.tlv_objects.specs.Grammar.{is_tag, big_endian, SpellsLength, Spells}
 
 -- a fact that holds whichever side of a choice was taken
@@ -25,7 +28,8 @@ pub record TakesTag (text : List ℕ) (found : ℕ × List ℕ) : Type 0 where
   pub is_a_tag : is_tag tag_bytes ≡ true
   pub number : big_endian tag_bytes ≡ found.0
 
-takes_third : (a b : ℕ) (rest : List ℕ) (found : ℕ × List ℕ) → opens_long_tag a ≡ true → ends_tag b ≡ false → tag_from_third (256 * a + b) rest ≡ Some found → TakesTag (a ∷ b ∷ rest) found
+takes_third : (a b : ℕ) (rest : List ℕ) (found : ℕ × List ℕ) → opens_long_tag a ≡ true → ends_tag b ≡ false
+    → tag_from_third (256 * a + b) rest ≡ Some found → TakesTag (a ∷ b ∷ rest) found
 takes_third a b [] found long more h = absurd cc
 takes_third a b (c ∷ rest) found long more h = choose (ends_tag c) _ _ _ h
     (λ last e. subst (TakesTag (a ∷ b ∷ c ∷ rest)) (some_injective _ _ e) (record {
@@ -112,10 +116,13 @@ regrouped : (a b c d : List ℕ) → a ++ (b ++ (c ++ d)) ≡ (a ++ (b ++ c)) ++
 regrouped a b c d = simp append_assoc
 
 -- a value that is cut off behind its tag and length is spelled with them
-takes_value : (text : List ℕ) (tag len : ℕ × List ℕ) → TakesTag text tag → TakesLength tag.1 len → len.0 ≤ length len.1 → TakesObject text (record { tag = tag.0; value = take len.0 len.1; rest = drop len.0 len.1 })
+takes_value : (text : List ℕ) (tag len : ℕ × List ℕ) → TakesTag text tag → TakesLength tag.1 len → len.0 ≤ length len.1
+    → TakesObject text (record { tag = tag.0; value = take len.0 len.1; rest = drop len.0 len.1 })
 takes_value text tag len t l fits = record {
   spelling = t.tag_bytes ++ (l.length_bytes ++ take len.0 len.1);
-  joined = t.joined ∙ ap (λ (ys : List ℕ). t.tag_bytes ++ ys) (l.joined ∙ ap (λ (ys : List ℕ). l.length_bytes ++ ys) (sym (take-append-drop len.0 len.1))) ∙ regrouped t.tag_bytes l.length_bytes (take len.0 len.1) (drop len.0 len.1);
+  joined = t.joined
+      ∙ ap (λ (ys : List ℕ). t.tag_bytes ++ ys) (l.joined ∙ ap (λ (ys : List ℕ). l.length_bytes ++ ys) (sym (take-append-drop len.0 len.1)))
+      ∙ regrouped t.tag_bytes l.length_bytes (take len.0 len.1) (drop len.0 len.1);
   spelled = record {
     tag_bytes = t.tag_bytes;
     length_bytes = l.length_bytes;
@@ -134,7 +141,8 @@ takes_object a rest front h =
     let len = bind_some _ _ _ tag.2 in
     choose (nat_lt (length len.0.1) len.0.0) _ _ _ len.2
     (λ _ e. absurd cc)
-    (λ fits e. subst (TakesObject (suc a ∷ rest)) (some_injective _ _ e) (takes_value _ tag.0 len.0 (takes_tag a rest tag.0 tag.1) (takes_length tag.0.1 len.0 len.1) (search (tests, rules))))
+    (λ fits e. subst (TakesObject (suc a ∷ rest)) (some_injective _ _ e)
+    (takes_value _ tag.0 len.0 (takes_tag a rest tag.0 tag.1) (takes_length tag.0.1 len.0 len.1) (search (tests, rules))))
 
 -- WHAT IS SPELLED IS READ
 
@@ -164,12 +172,23 @@ reads_length (a ∷ b ∷ c ∷ []) rest n h = grind (arith, nat_tests)
 reads_length (a ∷ b ∷ c ∷ d ∷ more) rest n h = absurd h
 
 -- an object that is spelled at the front is read there, and what stands behind it is left
-pub reads_object : (spelling rest : List ℕ) (tag : ℕ) (value : List ℕ) → Spells spelling tag value → front_object (spelling ++ rest) ≡ Some (record { tag = tag; value = value; rest = rest })
+pub reads_object : (spelling rest : List ℕ) (tag : ℕ) (value : List ℕ) → Spells spelling tag value
+    → front_object (spelling ++ rest) ≡ Some (record { tag = tag; value = value; rest = rest })
 unfolding front_object
 reads_object spelling rest tag value s =
     let tag_read = reads_tag s.tag_bytes (s.length_bytes ++ (value ++ rest)) s.is_a_tag in
     let length_read = reads_length s.length_bytes (value ++ rest) (length value) s.spells_length in
-    rw (s.joined, sym (regrouped s.tag_bytes s.length_bytes value rest), tag_read, length_read, s.number, le-ltb _ _ (fits value rest), take-append_seam value rest, drop-append_seam value rest) refl
+    rw (
+      s.joined,
+      sym (regrouped s.tag_bytes s.length_bytes value rest),
+      tag_read,
+      length_read,
+      s.number,
+      le-ltb _ _
+          (fits value rest),
+      take-append_seam value rest,
+      drop-append_seam value rest,
+    ) refl
   where
     fits : (value rest : List ℕ) → length value ≤ length (value ++ rest)
     fits value rest = omega (arith, length-append value rest)

@@ -1,5 +1,7 @@
 -- The objects of a text: what stands in front of it, and that its objects cover it.
-use Rattle.std.proofs.Common.{◌≡◌, ◌≢◌, ℕ, zero, suc, ◌+◌, ◌-◌, ◌<◌, ◌≤◌, ◌⊎◌, true, false, List, [], ◌∷◌, ◌++◌, length, replicate, Option, Some, None, slice_get, refl, sym, ap, ◌∙◌, subst, inl, inr, arith, length-append, append-nil, eqb-true, one-add, ne_eqb, take_while, drop, ◌==◌, add-zero}
+use Rattle.std.proofs.Common.{◌≡◌, ◌≢◌, ℕ, zero, suc, ◌+◌, ◌-◌, ◌<◌, ◌≤◌, ◌⊎◌, true, false, List, [], ◌∷◌, ◌++◌, length, replicate, Option, Some}
+use Rattle.std.proofs.Common.{None, slice_get, refl, sym, ap, ◌∙◌, subst, inl, inr, arith, length-append, append-nil, eqb-true, one-add, ne_eqb}
+use Rattle.std.proofs.Common.{take_while, drop, ◌==◌, add-zero}
 use Rattle.std.proofs.Math.Seq.{drop-append_seam}
 use Rattle.tlv_objects.specs.Tlv.{TlvObject, TlvText, FrontObject, front_object, no_more, torn_at, in_front, objects_from, objects_of}
 use Rattle.tlv_objects.specs.Grammar.{is_tag, Spells, IsNoObject, Covers}
@@ -24,7 +26,10 @@ objects_behind_zeros (suc count) at rest =
     objects_behind_zeros count (at + 1) rest ∙ ap (λ (n : ℕ). objects_from 0 n rest) (omega arith)
 
 -- an object at the front is the first
-objects_behind_front : (a : ℕ) (spelling rest : List ℕ) (at tag : ℕ) (value : List ℕ) → front_object (suc a ∷ (spelling ++ rest)) ≡ Some (record { tag = tag; value = value; rest = rest }) → objects_from 0 at (suc a ∷ (spelling ++ rest)) ≡ in_front (record { tag = tag; value = value; at = at }) (objects_from 0 (at + suc (length spelling)) rest)
+objects_behind_front : (a : ℕ) (spelling rest : List ℕ) (at tag : ℕ) (value : List ℕ)
+    → front_object (suc a ∷ (spelling ++ rest)) ≡ Some (record { tag = tag; value = value; rest = rest })
+    → objects_from 0 at (suc a ∷ (spelling ++ rest)) ≡ in_front (record { tag = tag; value = value; at = at })
+    (objects_from 0 (at + suc (length spelling)) rest)
 unfolding objects_from
 objects_behind_front a spelling rest at tag value h =
     let inside : length (spelling ++ rest) - length rest ≡ length spelling = omega (arith, length-append spelling rest) in
@@ -49,11 +54,16 @@ spelling_begins spelling tag value s =
     (begins.0, begins.1 ++ (s.length_bytes ++ value), s.joined ∙ ap (λ (t : List ℕ). t ++ (s.length_bytes ++ value)) begins.2)
 
 -- an object that is spelled at the front is the first
-pub objects_behind_object : (spelling rest : List ℕ) (at tag : ℕ) (value : List ℕ) → Spells spelling tag value → objects_from 0 at (spelling ++ rest) ≡ in_front (record { tag = tag; value = value; at = at }) (objects_from 0 (at + length spelling) rest)
+pub objects_behind_object : (spelling rest : List ℕ) (at tag : ℕ) (value : List ℕ) → Spells spelling tag value
+    → objects_from 0 at (spelling ++ rest) ≡ in_front (record { tag = tag; value = value; at = at }) (objects_from 0 (at + length spelling) rest)
 objects_behind_object spelling rest at tag value s =
     let begins = spelling_begins spelling tag value s in
-    let P : List ℕ → Type 0 = λ xs. objects_from 0 at (xs ++ rest) ≡ in_front (record { tag = tag; value = value; at = at }) (objects_from 0 (at + length xs) rest) in
-    subst P (sym begins.2) (objects_behind_front begins.0 begins.1 rest at tag value (subst (λ (xs : List ℕ). front_object (xs ++ rest) ≡ Some (record { tag = tag; value = value; rest = rest })) begins.2 (reads_object spelling rest tag value s)))
+    let P : List ℕ → Type 0 =
+    λ xs. objects_from 0 at (xs ++ rest) ≡ in_front (record { tag = tag; value = value; at = at }) (objects_from 0 (at + length xs) rest) in
+    subst P (sym begins.2)
+    (objects_behind_front begins.0 begins.1 rest at tag value
+    (subst (λ (xs : List ℕ). front_object (xs ++ rest) ≡ Some (record { tag = tag; value = value; rest = rest })) begins.2
+    (reads_object spelling rest tag value s)))
 
 -- a text is torn where the object at its front isn't one
 objects_torn_front : (a : ℕ) (rest : List ℕ) (at : ℕ) → front_object (suc a ∷ rest) ≡ None → objects_from 0 at (suc a ∷ rest) ≡ torn_at at
@@ -80,7 +90,8 @@ no_object a rest h = record {
 }
 
 -- one 00 byte more in front
-covers_behind_zero : (at : ℕ) (text : List ℕ) (objects : List TlvObject) (torn : Option ℕ) → Covers (at + 1) text objects torn → Covers at (0 ∷ text) objects torn
+covers_behind_zero : (at : ℕ) (text : List ℕ) (objects : List TlvObject) (torn : Option ℕ) → Covers (at + 1) text objects torn
+    → Covers at (0 ∷ text) objects torn
 covers_behind_zero at text [] None h = (suc h.0, ap (λ (xs : List ℕ). 0 ∷ xs) h.1)
 covers_behind_zero at text [] (Some place) h =
     (suc h.0, h.1, ap (λ (xs : List ℕ). 0 ∷ xs) h.2, omega (arith, h.3), h.4)
@@ -91,7 +102,9 @@ abbrev IsCovered : ℕ → List ℕ → TlvText → Type 0
 IsCovered at text found = Covers at text found.objects found.torn
 
 -- an object in front
-covers_behind_object : (at : ℕ) (spelling rest : List ℕ) (tag : ℕ) (value : List ℕ) → Spells spelling tag value → IsCovered (at + length spelling) rest (objects_from 0 (at + length spelling) rest) → IsCovered at (spelling ++ rest) (objects_from 0 at (spelling ++ rest))
+covers_behind_object : (at : ℕ) (spelling rest : List ℕ) (tag : ℕ) (value : List ℕ) → Spells spelling tag value
+    → IsCovered (at + length spelling) rest (objects_from 0 (at + length spelling) rest)
+    → IsCovered at (spelling ++ rest) (objects_from 0 at (spelling ++ rest))
 covers_behind_object at spelling rest tag value s h =
     subst (IsCovered at (spelling ++ rest)) (sym (objects_behind_object spelling rest at tag value s)) (0, spelling, rest, refl, sym (add-zero at), s, h)
 
@@ -107,7 +120,10 @@ covers (suc n) at (suc a ∷ rest) fits = elim (none_or_some (front_object (suc 
       let taken = takes_object a rest found.0 found.1 in
       let begins = spelling_begins taken.spelling found.0.tag found.0.value taken.spelled in
       let P : List ℕ → Type 0 = λ xs. IsCovered at xs (objects_from 0 at xs) in
-      subst P (sym taken.joined) (covers_behind_object at taken.spelling found.0.rest found.0.tag found.0.value taken.spelled (covers n (at + length taken.spelling) found.0.rest (omega (arith, ap length taken.joined, length-append taken.spelling found.0.rest, ap length begins.2))))
+      subst P (sym taken.joined)
+      (covers_behind_object at taken.spelling found.0.rest found.0.tag found.0.value taken.spelled
+      (covers n (at + length taken.spelling) found.0.rest
+      (omega (arith, ap length taken.joined, length-append taken.spelling found.0.rest, ap length begins.2))))
 ]
 
 -- the objects of a text, and the place where it is torn, cover it
@@ -118,7 +134,8 @@ pub nothing_in : (at : ℕ) → objects_from 0 at [] ≡ no_more
 unfolding objects_from
 nothing_in at = refl
 
-covered_once : (objects : List TlvObject) (torn : Option ℕ) (at : ℕ) (text : List ℕ) → Covers at text objects torn → objects_from 0 at text ≡ record { objects = objects; torn = torn }
+covered_once : (objects : List TlvObject) (torn : Option ℕ) (at : ℕ) (text : List ℕ) → Covers at text objects torn
+    → objects_from 0 at text ≡ record { objects = objects; torn = torn }
 covered_once [] None at text h =
     ap (objects_from 0 at) (h.1 ∙ sym (append-nil (replicate h.0 0))) ∙ objects_behind_zeros h.0 at [] ∙ nothing_in (at + h.0)
 covered_once [] (Some place) at text h =
@@ -128,7 +145,8 @@ covered_once (object ∷ objects) torn at text h =
     ∙ objects_behind_object h.1 h.2 object.at object.tag object.value h.5 ∙ ap (in_front object) (covered_once objects torn (object.at + length h.1) h.2 h.6)
 
 -- what covers a text is its objects, and the place where it is torn
-pub covered_by_objects : (text : List ℕ) (objects : List TlvObject) (torn : Option ℕ) → Covers 0 text objects torn → objects_of text ≡ record { objects = objects; torn = torn }
+pub covered_by_objects : (text : List ℕ) (objects : List TlvObject) (torn : Option ℕ) → Covers 0 text objects torn
+    → objects_of text ≡ record { objects = objects; torn = torn }
 covered_by_objects text objects torn h = covered_once objects torn 0 text h
 
 -- THE CURSOR'S STEPS
@@ -168,9 +186,12 @@ objects_unread (suc a ∷ rest) at some first h = objects_torn_front a rest at h
 -- an object that is read is the first, and takes what isn't left
 pub record IsRead (bytes : List ℕ) (at : ℕ) (front : FrontObject) : Type 0 where
   pub shorter : length front.rest < length bytes
-  pub first : let count = length bytes - length front.rest in objects_from 0 at bytes ≡ in_front (record { tag = front.tag; value = front.value; at = at }) (objects_from 0 (at + count) (drop count bytes))
+  pub first : let count =
+      length bytes - length front.rest in objects_from 0 at bytes ≡ in_front (record { tag = front.tag; value = front.value; at = at })
+      (objects_from 0 (at + count) (drop count bytes))
 
-is_read_at : (spelling rest : List ℕ) (at tag : ℕ) (value : List ℕ) → Spells spelling tag value → IsRead (spelling ++ rest) at (record { tag = tag; value = value; rest = rest })
+is_read_at : (spelling rest : List ℕ) (at tag : ℕ) (value : List ℕ) → Spells spelling tag value
+    → IsRead (spelling ++ rest) at (record { tag = tag; value = value; rest = rest })
 is_read_at spelling rest at tag value s =
     let begins = spelling_begins spelling tag value s in
     let count : length (spelling ++ rest) - length rest ≡ length spelling = omega (arith, length-append spelling rest) in
@@ -179,7 +200,8 @@ is_read_at spelling rest at tag value s =
       first = rw (count, drop-append_seam spelling rest) (objects_behind_object spelling rest at tag value s);
     }
 
-pub is_read : (bytes : List ℕ) (at : ℕ) (front : FrontObject) → slice_get bytes 0 ≢ Some 0 → bytes ≢ [] → front_object bytes ≡ Some front → IsRead bytes at front
+pub is_read : (bytes : List ℕ) (at : ℕ) (front : FrontObject) → slice_get bytes 0 ≢ Some 0 → bytes ≢ [] → front_object bytes ≡ Some front
+    → IsRead bytes at front
 is_read [] at front first some h = absurd (some refl)
 is_read (zero ∷ rest) at front first some h = absurd (first refl)
 is_read (suc a ∷ rest) at front first some h =

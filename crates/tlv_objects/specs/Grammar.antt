@@ -1,5 +1,6 @@
 -- What the bytes of an object are, and how objects cover a text: EMV 4.3 Book 3, Annex B.
-use Rattle.std.specs.Prelude.{◌≡◌, ◌≢◌, ℕ, ◌+◌, ◌*◌, ◌<◌, Bool, false, not, ◌&&◌, List, [], ◌∷◌, ◌++◌, length, replicate, fold, slice_get, Option, Some, None, IsTrue, ◌==◌}
+use Rattle.std.specs.Prelude.{◌≡◌, ◌≢◌, ℕ, ◌+◌, ◌*◌, ◌<◌, Bool, false, not, ◌&&◌, List, [], ◌∷◌, ◌++◌, length, replicate, fold, slice_get, Option}
+use Rattle.std.specs.Prelude.{Some, None, IsTrue, ◌==◌}
 use Rattle.tlv_objects.specs.Tlv.{TlvObject, opens_long_tag, ends_tag}
 
 -- whether the bytes are a tag: one that neither goes on nor is 00, or a first one that goes on with one or two more,

@@ -1,5 +1,6 @@
 -- The BER-TLV objects of a text: EMV 4.3 Book 3, Annex B.
-use Rattle.std.specs.Prelude.{ℕ, zero, suc, ◌+◌, ◌-◌, ◌*◌, Bool, List, [], ◌∷◌, length, take, drop, Option, Some, None, option_and_then, bit_and, nat_lt, ◌==◌, if◌then◌else◌}
+use Rattle.std.specs.Prelude.{ℕ, zero, suc, ◌+◌, ◌-◌, ◌*◌, Bool, List, [], ◌∷◌, length, take, drop, Option, Some, None, option_and_then, bit_and}
+use Rattle.std.specs.Prelude.{nat_lt, ◌==◌, if◌then◌else◌}
 
 -- an object: its tag as a number, the bytes of its value, and the place where it begins
 pub record TlvObject : Type 0 where

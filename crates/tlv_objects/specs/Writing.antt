@@ -2,10 +2,13 @@
 use Rattle.std.specs.Prelude.{ℕ, ◌/◌, ◌%◌, Bool, ◌&&◌, List, [], ◌∷◌, ◌++◌, length, nat_lt, if◌then◌else◌}
 use Rattle.tlv_objects.specs.Grammar.{is_tag}
 
--- the bytes of a tag of at most three, big-endian
+-- the bytes of a tag, the most significant first: none in front of another is zero
 abbrev pub tag_bytes : ℕ → List ℕ
 tag_bytes tag =
-    if nat_lt tag 0x100 then tag ∷ [] else (if nat_lt tag 0x10000 then tag / 256 ∷ tag % 256 ∷ [] else tag / 65536 ∷ tag / 256 % 256 ∷ tag % 256 ∷ [])
+    if nat_lt tag 0x100 then tag ∷ []
+    else if nat_lt tag 0x10000 then tag / 0x100 ∷ tag % 0x100 ∷ []
+    else if nat_lt tag 0x1000000 then tag / 0x10000 ∷ tag / 0x100 % 0x100 ∷ tag % 0x100 ∷ []
+    else tag / 0x1000000 ∷ tag / 0x10000 % 0x100 ∷ tag / 0x100 % 0x100 ∷ tag % 0x100 ∷ []
 
 -- whether a number is that of a tag of one to three bytes whose first byte isn't 00
 abbrev pub is_tag_number : ℕ → Bool

@@ -1,7 +1,7 @@
-ghost use Rattle.std.specs.Prelude.{ℕ, List, Option, ◌≡◌, ◌≢◌, ◌+◌, ◌<◌, ◌≤◌, [], IfSome, IfOk, IfErr, IfNone, OnSome, length, drop, slice_get};
-ghost use Rattle.tlv_objects.specs.Tlv.{TlvObject, objects_of, objects_ahead, in_front, torn_at, no_more};
+//! A cursor over the objects of a text.
+ghost use Rattle.std.specs.Prelude.{ℕ, List, Option, ◌≡◌, ◌≢◌, ◌+◌, ◌≤◌, length, drop, slice_get};
+ghost use Rattle.tlv_objects.specs.Tlv.{TlvObject, objects_of, objects_ahead};
 ghost use Rattle.tlv_objects.specs.Grammar.{Covers};
-ghost use Rattle.tlv_objects.specs.Seen.{seen, place_of};
 
 use crate::reading::{read_object, zeros_in_front};
 use std::marker::Model;
@@ -54,33 +54,6 @@ impl<'a> Objects<'a> {
         }
     }
 
-    /// The next object, or the fault that ends the text. After a fault there is nothing more.
-    pub fn next(&mut self) -> Option<Result<Object<'a>, TlvFault>>
-        ensures object { IfSome result (λ item. IfOk item (λ found.
-            objects_ahead self.old ≡ in_front (seen found) (objects_ahead self.new))) }
-        ensures torn { IfSome result (λ item. IfErr item (λ fault.
-            (objects_ahead self.old ≡ torn_at (place_of fault)) × (self.new.bytes ≡ []))) }
-        ensures none { IfNone result ((objects_ahead self.old ≡ no_more) × (self.new.bytes ≡ [])) }
-
-        // The cursor goes on towards the end of the text, which stays where it is.
-        ensures shrinks { OnSome result (length self.new.bytes < length self.old.bytes) }
-        ensures end { self.new.at + length self.new.bytes ≡ self.old.at + length self.old.bytes }
-        ensures within { IfSome result (λ item. IfErr item (λ fault.
-            place_of fault < self.old.at + length self.old.bytes)) }
-    {
-        self.pass_zeros();
-        let (ahead, at) = (self.ahead, self.at);
-        if ahead.is_empty() {
-            return None;
-        }
-        let Some((tag, value, rest)) = read_object(ahead) else {
-            self.pass(ahead.len());
-            return Some(Err(TlvFault::Torn(at)));
-        };
-        self.pass(ahead.len() - rest.len());
-        Some(Ok(Object { tag, value, at }))
-    }
-
     // Passes over the 00 bytes in front of the next object.
     fn pass_zeros(&mut self)
         ensures same { objects_ahead self.new ≡ objects_ahead self.old }
@@ -97,6 +70,33 @@ impl<'a> Objects<'a> {
     {
         self.at += count;
         self.ahead = &self.ahead[count..];
+    }
+}
+
+impl<'a> Iterator for Objects<'a> {
+    ghost use Rattle.std.specs.Prelude.{length};
+    ghost use Rattle.std.specs.Iterator.{at_most};
+    ghost use Rattle.tlv_objects.specs.Seen.{GivesObject};
+
+    type Item = Result<Object<'a>, TlvFault>;
+
+    ghost next_gives = { GivesObject };
+
+    ghost remaining = { λ cursor. at_most (length cursor.bytes) };
+
+    /// The next object, or the fault that ends the text. After a fault there is nothing more.
+    fn next(&mut self) -> Option<Result<Object<'a>, TlvFault>> {
+        self.pass_zeros();
+        let (ahead, at) = (self.ahead, self.at);
+        if ahead.is_empty() {
+            return None;
+        }
+        let Some((tag, value, rest)) = read_object(ahead) else {
+            self.pass(ahead.len());
+            return Some(Err(TlvFault::Torn(at)));
+        };
+        self.pass(ahead.len() - rest.len());
+        Some(Ok(Object { tag, value, at }))
     }
 }
 

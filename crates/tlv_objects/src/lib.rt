@@ -10,4 +10,4 @@ mod tests;
 mod writing;
 
 pub use cursor::{Object, Objects, TlvFault, objects_cover_the_text};
-pub use writing::{Full, ROOM, put};
+pub use writing::{Full, ROOM, put, tag_bytes};

@@ -1,8 +1,9 @@
+//! Reading the parts of an object from the front of a text.
 ghost use Rattle.std.specs.Prelude.{◌≡◌, ◌==◌, option_map, take_while, length};
 ghost use Rattle.tlv_objects.specs.Tlv.{tag_at, length_at, front_object};
 
 /// The number of 00 bytes at the front.
-pub fn zeros_in_front(bytes: &[u8]) -> usize
+pub(crate) fn zeros_in_front(bytes: &[u8]) -> usize
     ensures { result ≡ length (take_while (λ byte. byte == 0) bytes.now) }
 {
     bytes.iter().take_while(|byte| **byte == 0).count()
@@ -10,7 +11,7 @@ pub fn zeros_in_front(bytes: &[u8]) -> usize
 
 /// The tag at the front, and the bytes behind it.
 #[tactic(auto, unfolding(crate::specs::Tlv::tag_at))]
-pub fn read_tag(bytes: &[u8]) -> Option<(u32, &[u8])>
+fn read_tag(bytes: &[u8]) -> Option<(u32, &[u8])>
     ensures { option_map (λ found. (found.0, found.1.now)) result ≡ tag_at bytes.now }
 {
     match bytes {
@@ -28,7 +29,7 @@ pub fn read_tag(bytes: &[u8]) -> Option<(u32, &[u8])>
 
 /// The length at the front, and the bytes behind it.
 #[tactic(auto, unfolding(crate::specs::Tlv::length_at))]
-pub fn read_length(bytes: &[u8]) -> Option<(usize, &[u8])>
+fn read_length(bytes: &[u8]) -> Option<(usize, &[u8])>
     ensures { option_map (λ found. (found.0, found.1.now)) result ≡ length_at bytes.now }
 {
     match bytes {
@@ -43,7 +44,7 @@ pub fn read_length(bytes: &[u8]) -> Option<(usize, &[u8])>
 
 /// The tag and the value of the object at the front, and the bytes behind it.
 #[tactic(auto, unfolding(crate::specs::Tlv::front_object))]
-pub fn read_object(bytes: &[u8]) -> Option<(u32, &[u8], &[u8])>
+pub(crate) fn read_object(bytes: &[u8]) -> Option<(u32, &[u8], &[u8])>
     ensures { option_map (λ found. record { tag = found.0; value = found.1.now; rest = found.2.now }) result
         ≡ front_object bytes.now }
 {

@@ -1,4 +1,5 @@
-use crate::{Full, Object, Objects, ROOM, TlvFault, put};
+//! Texts with their objects, and objects with their texts.
+use crate::{Full, Object, Objects, ROOM, TlvFault, put, tag_bytes};
 use arrayvec::ArrayVec;
 use std::test::Fail;
 
@@ -136,6 +137,7 @@ fn reads_objects(rt: HostRuntime) {
 
 #[test]
 fn puts_objects(rt: HostRuntime) -> Result<(), Fail> {
+    assert_eq!(rt; tag_bytes(0x9F02).as_slice(), [0x9F, 0x02].as_slice());
     let mut out: ArrayVec<u8, ROOM> = ArrayVec::new();
     assert_eq!(rt; put(&mut out, 0x8A, b"00"), Ok(()));
     assert_eq!(rt; put(&mut out, 0xDF8101, &[]), Ok(()));

@@ -1,3 +1,4 @@
+//! Writing an object in its shortest form.
 ghost use Rattle.std.specs.Prelude.{◌≡◌, ◌+◌, ◌<◌, ◌≤◌, ◌↔◌, ◌++◌, length, IsTrue, IsErr, OnOk, OnErr};
 ghost use Rattle.arrayvec.specs.ArrayVec.{array_vec_len};
 ghost use Rattle.tlv_objects.specs.Tlv.{objects_of, in_front, no_more};
@@ -12,6 +13,23 @@ pub struct Full;
 /// How many bytes the objects written in one place may take: a reply to a card has fewer.
 pub const ROOM: usize = 160;
 
+/// The bytes of a tag that is given as a number, the most significant first, with no 00 in front of another.
+pub fn tag_bytes(tag: u32) -> ArrayVec<u8, 4>
+    ensures { result.items ≡ tag_bytes tag }
+{
+    let bytes = tag.to_be_bytes();
+    let zeros = if tag < 0x100 {
+        3
+    } else if tag < 0x1_0000 {
+        2
+    } else if tag < 0x100_0000 {
+        1
+    } else {
+        0
+    };
+    ArrayVec::try_from(&bytes[zeros..]).unwrap()
+}
+
 // The bytes in front of a value: a tag of up to three and a length of up to three.
 type Head = ArrayVec<u8, 6>;
 
@@ -21,23 +39,10 @@ fn head_of(tag: u32, length: usize) -> Head
     ensures { result.items ≡ tag_bytes tag ++ length_bytes length }
 {
     let mut head = Head::new();
-    push_tag(&mut head, tag);
+    head.try_extend_from_slice(tag_bytes(tag).as_slice())
+        .unwrap();
     push_length(&mut head, length);
     head
-}
-
-fn push_tag(head: &mut Head, tag: u32)
-    requires room { array_vec_len head.old ≡ 0 }
-    requires tag { tag < 0x1000000 }
-    ensures { head.new.items ≡ tag_bytes tag }
-{
-    if tag >= 0x10000 {
-        head.push((tag / 0x10000) as u8);
-    }
-    if tag >= 0x100 {
-        head.push((tag / 0x100 % 0x100) as u8);
-    }
-    head.push((tag % 0x100) as u8);
 }
 
 fn push_length(head: &mut Head, length: usize)

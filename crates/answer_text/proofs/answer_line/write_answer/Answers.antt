@@ -1,3 +1,4 @@
+-- The text of an answer is one line.
 use Rattle.std.proofs.Common.{◌≡◌, rules}
 use Rattle.answer_text.specs.AnswerText.{answer_words, printed}
 use Rattle.answer_text.proofs.Lines.{printed-IsLine}

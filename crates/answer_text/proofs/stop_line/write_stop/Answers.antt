@@ -1,3 +1,4 @@
+-- The text of a stop is one line.
 use Rattle.std.proofs.Common.{◌≡◌, arith}
 use Rattle.std.proofs.lemmas.Grind.{common_steps}
 use Rattle.answer_text.specs.StopText.{stop_text, stop_words}

@@ -1,3 +1,4 @@
+-- The digits of bytes, one byte after another.
 use Rattle.std.proofs.Common.{◌≡◌, ◌+◌, ◌*◌, ◌++◌, ◌∷◌, length, take}
 use Rattle.hex.specs.Hex.{encode_lower}
 use Rattle.answer_text.proofs.words.put_hex.Given as goal

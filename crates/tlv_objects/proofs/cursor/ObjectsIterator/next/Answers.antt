@@ -1,0 +1,63 @@
+-- The next object of a text, or the fault that ends it.
+use Rattle.std.proofs.Common.{◌≢◌, ◌<◌, length, slice_get, Some, arith, ◌∙◌, sym, ap, subst, false-eqb, length-drop}
+use Rattle.std.proofs.Math.Seq.{drop-length}
+use Rattle.tlv_objects.specs.Tlv.{Ahead}
+use Rattle.tlv_objects.proofs.Texts.{nothing_ahead, some_ahead, objects_unread, is_read}
+use Rattle.tlv_objects.proofs.cursor.ObjectsIterator.next.Goals as goal
+
+pub returns-then-is_empty-clause-steps : goal.returns-then-is_empty-clause-steps
+returns-then-is_empty-clause-steps c =
+    let end = nothing_ahead c.self.inside.ahead.now c.self.inside.at (sym c.is_empty.ensures ∙ c.if-is_empty.true) in
+    record {
+      none = rw (← c.pass_zeros.ensures.same, ← c.self.view_is) end.0;
+      nothing = rw (← c.self.view_is) end.1;
+      end = c.pass_zeros.ensures.end;
+    }
+
+pub returns-in_default-clause-steps : goal.returns-in_default-clause-steps
+returns-in_default-clause-steps c =
+    let bytes = c.self.inside.ahead.now in
+    let first = subst (λ (s : Ahead). slice_get s.bytes 0 ≢ Some 0) (sym c.self.view_is) c.pass_zeros.ensures.first in
+    let some = some_ahead bytes (sym c.is_empty.ensures ∙ c.if-is_empty.false) in
+    let size : length bytes ≢ 0 = false-eqb _ _ (sym c.if-is_empty.false ∙ c.is_empty.ensures) in
+    let same = ap (λ (s : Ahead). length s.bytes) c.self.view_is in
+    let place = ap (λ (s : Ahead). s.at) c.self.view_is in
+    let none = drop-length bytes in
+    record {
+      torn = rw (← c.pass_zeros.ensures.same, ← c.self.view_is) (objects_unread bytes c.self.inside.at some first (sym c.in_default.ensures));
+      nothing = rw (c.pass.ensures, ← c.self.view_is) none;
+      moves = record {
+        shrinks = rw (c.pass.ensures, length-drop) (omega arith);
+        end = rw (c.pass.ensures, length-drop) (omega arith);
+      };
+      within = omega arith;
+    }
+
+pub overflow_sub-ahead : goal.overflow_sub-ahead
+overflow_sub-ahead c =
+    let bytes = c.self.inside.ahead.now in
+    let first = subst (λ (s : Ahead). slice_get s.bytes 0 ≢ Some 0) (sym c.self.view_is) c.pass_zeros.ensures.first in
+    let some = some_ahead bytes (sym c.is_empty.ensures ∙ c.if-is_empty.false) in
+    let read = is_read bytes c.self.inside.at _ first some (sym c.in-Some.ensures) in
+    omega (arith, read.shorter)
+
+pub returns-clause-steps : goal.returns-clause-steps
+returns-clause-steps c =
+    let bytes = c.self.inside.ahead.now in
+    let first = subst (λ (s : Ahead). slice_get s.bytes 0 ≢ Some 0) (sym c.self.view_is) c.pass_zeros.ensures.first in
+    let some = some_ahead bytes (sym c.is_empty.ensures ∙ c.if-is_empty.false) in
+    let read = is_read bytes c.self.inside.at _ first some (sym c.in-Some.ensures) in
+    let same = ap (λ (s : Ahead). length s.bytes) c.self.view_is in
+    let place = ap (λ (s : Ahead). s.at) c.self.view_is in
+    record {
+      first = rw (← c.pass_zeros.ensures.same, c.pass-2.ensures, ← c.self.view_is) read.first;
+      moves = record {
+        shrinks = rw (c.pass-2.ensures, length-drop) (omega (arith, read.shorter));
+        end = rw (c.pass-2.ensures, length-drop) (omega (arith, read.shorter));
+      };
+    }
+
+pub returns-clause-goes : goal.returns-clause-goes
+returns-clause-goes c =
+    let smaller : length c.pass-2.new.self.bytes < length c.args.self.now.bytes = (returns-clause-steps c).moves.shrinks in
+    record { on = λ h. (tt, tt, smaller); keeps = tt; rests = λ h. tt }
