@@ -2,7 +2,6 @@ pub mod Walk
 pub mod Found
 pub mod Meaning
 pub mod Good
-pub mod Digits
 pub mod LoopsOfParts
 pub mod Readings
 pub mod DataReading

@@ -3,6 +3,5 @@ pub mod Forms
 pub mod Reading
 pub mod Slots
 pub mod SlotViews
-pub mod Ask
 pub mod Lines
 pub mod LineParts

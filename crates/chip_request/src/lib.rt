@@ -2,7 +2,6 @@
 //! Annexes A and B).
 #![tactic(auto)]
 
-mod ask;
 mod form;
 mod line;
 mod line_parts;
@@ -11,6 +10,5 @@ mod slots;
 #[cfg(test)]
 mod tests;
 
-pub use ask::read_ask;
 pub use line::{LineKind, MAX_QUEUE_BYTES, read_line};
 pub use reading::{RequestFault, read_request};

@@ -1,5 +1,5 @@
 //! Requests whose rules are broken one at a time.
-use crate::{LineKind, RequestFault, read_ask, read_line, read_request};
+use crate::{LineKind, RequestFault, read_line, read_request};
 use arrayvec::ArrayVec;
 use issuer_base::MAX_CHIP_BYTES;
 use std::alloc::{AllocError, Global};
@@ -181,13 +181,5 @@ fn reads_the_fields(rt: HostRuntime) -> Result<(), Fail> {
     assert_eq!(rt; parts.cid, 0x80);
     assert_eq!(rt; request.amount_value(), 12345);
     assert_eq!(rt; request.dki(), 1);
-    Ok(())
-}
-
-#[test]
-fn reads_request_lines(rt: HostRuntime) -> Result<(), Fail> {
-    let data = read_ask(b"A 0aBc").ok_or("refused")?;
-    assert_eq!(rt; data.as_slice(), [0x0A, 0xBC].as_slice());
-    assert!(rt; read_ask(b"A 012").is_none());
     Ok(())
 }
