@@ -1,5 +1,6 @@
 -- Every run from sound histories goes on so, and answers by its records.
-use Rattle.std.proofs.Common.{◌≡◌, ℕ, zero, suc, List, [], ◌∷◌, length, ◌<◌, None, Some, Result, Ok, Err, refl, ap, sym, ◌∙◌, subst, inl, inr, get_or-set_same, get_or-set_other}
+use Rattle.std.proofs.Common.{◌≡◌, ℕ, zero, suc, List, [], ◌∷◌, length, ◌<◌, None, Some, Result, Ok, Err, refl, ap, sym, ◌∙◌, subst, inl, inr}
+use Rattle.std.proofs.Common.{get_or-set_same, get_or-set_other}
 use Rattle.std.proofs.lemmas.Bool.{cases_eq}
 use Rattle.std.proofs.lemmas.Option.{same_Some, none-some, slice_get_within, get_or_from_slice_get}
 use Rattle.std.specs.List.{slice_index_or, slice_set}
@@ -18,10 +19,12 @@ use Rattle.card_history.specs.OneReply.{record_at, IsOncePerCounter, AreLegal, I
 use Rattle.card_history.proofs.ShardTurns.{IsSound, Stays, answers-keep}
 
 -- what holds of each shard's history, and of a new one, holds of each once the new one is written
-each-shard : (Holds : ℕ → List Entry → Type 0) (histories : List (List Entry)) (home : ℕ) (new : List Entry) → home < length histories → Holds home new → ((shard : ℕ) → Holds shard (slice_index_or histories shard [])) → (shard : ℕ) → Holds shard (slice_index_or (slice_set histories home new) shard [])
+each-shard : (Holds : ℕ → List Entry → Type 0) (histories : List (List Entry)) (home : ℕ) (new : List Entry) → home < length histories → Holds home new
+    → ((shard : ℕ) → Holds shard (slice_index_or histories shard [])) → (shard : ℕ) → Holds shard (slice_index_or (slice_set histories home new) shard [])
 each-shard Holds histories home new within here before shard =
     elim (cases_eq shard home) [
-      | inl same ↦ subst (λ (shard : ℕ). Holds shard (slice_index_or (slice_set histories home new) shard [])) (sym same) (subst (Holds home) (sym (get_or-set_same histories home new [] within)) here)
+      | inl same ↦ subst (λ (shard : ℕ). Holds shard (slice_index_or (slice_set histories home new) shard [])) (sym same)
+          (subst (Holds home) (sym (get_or-set_same histories home new [] within)) here)
       | inr other ↦ subst (Holds shard) (sym (get_or-set_other histories home shard new [] other)) (before shard)
     ]
 
@@ -32,7 +35,9 @@ no_records-none (suc shards) zero = refl
 no_records-none (suc shards) (suc shard) = no_records-none shards shard
 
 -- an answer stays that of its record where each record stays
-recorded-stays : (before after : List (List Entry)) (request : Request) (answer : Answer) → ((shard : ℕ) → Stays (slice_index_or before shard []) (slice_index_or after shard [])) → IsOfItsRecord before request answer → IsOfItsRecord after request answer
+recorded-stays : (before after : List (List Entry)) (request : Request) (answer : Answer)
+    → ((shard : ℕ) → Stays (slice_index_or before shard []) (slice_index_or after shard [])) → IsOfItsRecord before request answer
+    → IsOfItsRecord after request answer
 recorded-stays before after request (Fresh shard place reply) stays recorded = stays shard place (Decided request reply) recorded
 recorded-stays before after request (Kept shard place reply) stays recorded = stays shard place (Decided request reply) recorded
 recorded-stays before after request (Queued shard place) stays recorded = tt
@@ -40,21 +45,35 @@ recorded-stays before after request (Set shard place) stays recorded = tt
 recorded-stays before after request (Refused refusal) stays recorded = tt
 
 -- a reply that is that of its record stands in a decided record of the request
-recorded-reply : (histories : List (List Entry)) (request : Request) (answer : Answer) (reply : Reply) → IsOfItsRecord histories request answer → reply_in answer ≡ Some reply → (shard : ℕ) × (place : ℕ) × (record_at histories shard place ≡ Some (Decided request reply))
-recorded-reply histories request (Fresh shard place given) reply recorded is = (shard, place, recorded ∙ ap (λ reply. Some (Decided request reply)) (same_Some given reply is))
-recorded-reply histories request (Kept shard place given) reply recorded is = (shard, place, recorded ∙ ap (λ reply. Some (Decided request reply)) (same_Some given reply is))
+recorded-reply : (histories : List (List Entry)) (request : Request) (answer : Answer) (reply : Reply) → IsOfItsRecord histories request answer
+    → reply_in answer ≡ Some reply → (shard : ℕ) × (place : ℕ) × (record_at histories shard place ≡ Some (Decided request reply))
+recorded-reply histories request (Fresh shard place given) reply recorded is = (
+  shard,
+  place,
+  recorded
+      ∙ ap (λ reply. Some (Decided request reply)) (same_Some given reply is),
+)
+recorded-reply histories request (Kept shard place given) reply recorded is = (
+  shard,
+  place,
+  recorded
+      ∙ ap (λ reply. Some (Decided request reply)) (same_Some given reply is),
+)
 recorded-reply histories request (Queued shard place) reply recorded is = absurd (none-some reply is)
 recorded-reply histories request (Set shard place) reply recorded is = absurd (none-some reply is)
 recorded-reply histories request (Refused refusal) reply recorded is = absurd (none-some reply is)
 
 -- so two replies to one request are those of one record
-same-replies : (histories : List (List Entry)) (request : Request) (answer other : Answer) (reply other_reply : Reply) → IsOncePerCounter histories → IsOfItsRecord histories request answer → IsOfItsRecord histories request other → reply_in answer ≡ Some reply → reply_in other ≡ Some other_reply → reply ≡ other_reply
+same-replies : (histories : List (List Entry)) (request : Request) (answer other : Answer) (reply other_reply : Reply) → IsOncePerCounter histories
+    → IsOfItsRecord histories request answer → IsOfItsRecord histories request other → reply_in answer ≡ Some reply → reply_in other ≡ Some other_reply
+    → reply ≡ other_reply
 same-replies histories request answer other reply other_reply once recorded other_recorded reply_is other_is =
     let first = recorded-reply histories request answer reply recorded reply_is in
     let second = recorded-reply histories request other other_reply other_recorded other_is in
     let same = once first.0 second.0 first.1 second.1 request request reply other_reply first.2 second.2 refl refl in
     let shard : record_at histories first.0 first.1 ≡ record_at histories second.0 first.1 = ap (λ (shard : ℕ). record_at histories shard first.1) same.0 in
-    let both : Some (Decided request reply) ≡ Some (Decided request other_reply) = sym first.2 ∙ shard ∙ ap (record_at histories second.0) same.1 ∙ second.2 in
+    let both : Some (Decided request reply) ≡ Some (Decided request other_reply) = sym first.2 ∙ shard ∙ ap (record_at histories second.0) same.1
+    ∙ second.2 in
     cc
 
 module _ (rules : Rules) where
@@ -71,7 +90,8 @@ module _ (rules : Rules) where
   sound-once : (histories : List (List Entry)) → AreSound histories → IsOncePerCounter histories
   unfolding AreSound
   sound-once histories sound shard other_shard place other_place request other reply other_reply is other_is card counter =
-      let same : shard ≡ other_shard = (sound shard).home place request reply is ∙ ap rules.shard_of card ∙ sym ((sound other_shard).home other_place other other_reply other_is) in
+      let same : shard ≡ other_shard = (sound shard).home place request reply is ∙ ap rules.shard_of card
+      ∙ sym ((sound other_shard).home other_place other other_reply other_is) in
       let here = ap (λ (shard : ℕ). record_at histories shard other_place) same ∙ other_is in
       (same, (sound shard).once place other_place request other reply other_reply is here card counter)
 
@@ -81,7 +101,9 @@ module _ (rules : Rules) where
     stays : (shard : ℕ) → Stays (slice_index_or before shard []) (slice_index_or after shard [])
     recorded : (request : Request) → reading ≡ Ok (Decide request) → IsOfItsRecord after request answer
 
-  answers_in-keep : (before : List (List Entry)) (request : Request) (answer : Answer) (after : List (List Entry)) → (line : List ℕ) × (rules.read line ≡ Ok (Decide request)) → AreSound before → AnswersIn rules before request answer after → TurnKeeps before (Ok (Decide request)) answer after
+  answers_in-keep : (before : List (List Entry)) (request : Request) (answer : Answer) (after : List (List Entry))
+      → (line : List ℕ) × (rules.read line ≡ Ok (Decide request)) → AreSound before → AnswersIn rules before request answer after
+      → TurnKeeps before (Ok (Decide request)) answer after
   unfolding AreSound
   answers_in-keep before request answer after asked sound turn =
       let home = rules.shard_of (card_of request) in
@@ -93,18 +115,25 @@ module _ (rules : Rules) where
       subst (λ (after : List (List Entry)). TurnKeeps before (Ok (Decide request)) answer after) (sym turn.after_is) (record {
         sound = each-shard (IsSound rules) before home turn.new within kept.sound sound;
         stays = each-shard (λ shard history. Stays (slice_index_or before shard []) history) before home turn.new within stay (λ shard place entry is. is);
-        recorded = λ other is. subst (λ (r : Request). IsOfItsRecord (slice_set before home turn.new) r answer) (let e : request ≡ other = cc in e) (kept.recorded (slice_set before home turn.new) new);
+        recorded = λ other is. subst (λ (r : Request). IsOfItsRecord (slice_set before home turn.new) r answer) (let e : request ≡ other =
+            cc in e) (kept.recorded (slice_set before home turn.new) new);
       })
 
   -- a line that is refused keeps all, since it asks no request
-  refused-keeps : (before : List (List Entry)) (reading : Result Asked Refusal) (refusal : Refusal) (answer : Answer) (after : List (List Entry)) → ((request : Request) → reading ≡ Ok (Decide request) → ⊥) → AreSound before → IsRefused before refusal answer after → TurnKeeps before reading answer after
+  refused-keeps : (before : List (List Entry)) (reading : Result Asked Refusal) (refusal : Refusal) (answer : Answer) (after : List (List Entry))
+      → ((request : Request) → reading ≡ Ok (Decide request) → ⊥) → AreSound before → IsRefused before refusal answer after
+      → TurnKeeps before reading answer after
   refused-keeps before reading refusal answer after none sound (answer_is, after_is) =
-      subst (λ (after : List (List Entry)). TurnKeeps before reading answer after) (sym after_is) (record { sound = sound; stays = λ shard place entry is. is; recorded = λ request is. absurd (none request is) })
+      subst (λ (after : List (List Entry)). TurnKeeps before reading answer after) (sym after_is)
+      (record { sound = sound; stays = λ shard place entry is. is; recorded = λ request is. absurd (none request is) })
 
-  turn-keeps : (before : List (List Entry)) (line : List ℕ) (reading : Result Asked Refusal) (answer : Answer) (after : List (List Entry)) → rules.read line ≡ reading → AreSound before → Turn rules before reading answer after → TurnKeeps before reading answer after
+  turn-keeps : (before : List (List Entry)) (line : List ℕ) (reading : Result Asked Refusal) (answer : Answer) (after : List (List Entry))
+      → rules.read line ≡ reading → AreSound before → Turn rules before reading answer after → TurnKeeps before reading answer after
   turn-keeps before line (Ok (Decide request)) answer after read sound turn = answers_in-keep before request answer after (line, read) sound turn
-  turn-keeps before line (Ok (Queue pan psn command)) answer after read sound turn = refused-keeps before (Ok (Queue pan psn command)) _ answer after (λ request is. cc) sound turn
-  turn-keeps before line (Ok (Status pan psn status)) answer after read sound turn = refused-keeps before (Ok (Status pan psn status)) _ answer after (λ request is. cc) sound turn
+  turn-keeps before line (Ok (Queue pan psn command)) answer after read sound turn =
+      refused-keeps before (Ok (Queue pan psn command)) _ answer after (λ request is. cc) sound turn
+  turn-keeps before line (Ok (Status pan psn status)) answer after read sound turn =
+      refused-keeps before (Ok (Status pan psn status)) _ answer after (λ request is. cc) sound turn
   turn-keeps before line (Err refusal) answer after read sound turn = refused-keeps before (Err refusal) refusal answer after (λ request is. cc) sound turn
 
   -- what a run keeps
@@ -113,9 +142,16 @@ module _ (rules : Rules) where
     stays : (shard : ℕ) → Stays (slice_index_or before shard []) (slice_index_or after shard [])
     recorded : (index : ℕ) (request : Request) (answer : Answer) → IsAnswered rules lines answers index request answer → IsOfItsRecord after request answer
 
-  run-keeps : (before : List (List Entry)) (lines : List (List ℕ)) (answers : List Answer) (after : List (List Entry)) → AreSound before → Run rules before lines answers after → RunKeeps before lines answers after
+  run-keeps : (before : List (List Entry)) (lines : List (List ℕ)) (answers : List Answer) (after : List (List Entry)) → AreSound before
+      → Run rules before lines answers after → RunKeeps before lines answers after
   run-keeps before [] [] after sound run =
-      subst (λ (after : List (List Entry)). RunKeeps before [] [] after) (sym run) (record { sound = sound; stays = λ shard place entry is. is; recorded = λ index request answer answered. absurd (let none : None ≡ Some answered.line = answered.line_is in cc) })
+      subst (λ (after : List (List Entry)). RunKeeps before [] [] after) (sym run)
+      (record {
+        sound = sound;
+        stays = λ shard place entry is. is;
+        recorded =
+            λ index request answer answered. absurd (let none : None ≡ Some answered.line = answered.line_is in cc);
+      })
   run-keeps before [] (answer ∷ answers) after sound run = absurd run
   run-keeps before (line ∷ lines) [] after sound run = absurd run
   run-keeps before (line ∷ lines) (answer ∷ answers) after sound (between, turn, rest) =
@@ -124,15 +160,17 @@ module _ (rules : Rules) where
       record {
         sound = others.sound;
         stays = λ shard place entry is. others.stays shard place entry (first.stays shard place entry is);
-        recorded = λ index. elim index as (λ index. (request : Request) (given : Answer) → IsAnswered rules (line ∷ lines) (answer ∷ answers) index request given → IsOfItsRecord after request given) [
-          | zero ↦ λ request given answered.
-              let same_line : line ≡ answered.line = let is : Some line ≡ Some answered.line = answered.line_is in cc in
-              let same_answer : answer ≡ given = let is : Some answer ≡ Some given = answered.answer_is in cc in
-              let now : IsOfItsRecord between request answer = first.recorded request (ap rules.read same_line ∙ answered.request_is) in
-              recorded-stays between after request given others.stays (subst (λ (answer : Answer). IsOfItsRecord between request answer) same_answer now)
-          | suc index ↦ λ request given answered.
-              others.recorded index request given (record { line = answered.line; line_is = answered.line_is; request_is = answered.request_is; answer_is = answered.answer_is })
-        ];
+        recorded = λ index. elim index as (λ index. (request : Request) (given : Answer)
+            → IsAnswered rules (line ∷ lines) (answer ∷ answers) index request given → IsOfItsRecord after request given) [
+              | zero ↦ λ request given answered.
+                  let same_line : line ≡ answered.line = let is : Some line ≡ Some answered.line = answered.line_is in cc in
+                  let same_answer : answer ≡ given = let is : Some answer ≡ Some given = answered.answer_is in cc in
+                  let now : IsOfItsRecord between request answer = first.recorded request (ap rules.read same_line ∙ answered.request_is) in
+                  recorded-stays between after request given others.stays (subst (λ (answer : Answer). IsOfItsRecord between request answer) same_answer now)
+              | suc index ↦ λ request given answered.
+                  others.recorded index request given
+                  (record { line = answered.line; line_is = answered.line_is; request_is = answered.request_is; answer_is = answered.answer_is })
+            ];
       }
 
   -- no records are sound
@@ -146,7 +184,8 @@ module _ (rules : Rules) where
       })
 
   -- the law, over every run from empty histories
-  pub run-consistent : (shards : ℕ) (lines : List (List ℕ)) (answers : List Answer) (histories : List (List Entry)) → Run rules (no_records shards) lines answers histories → IsConsistent rules lines answers histories
+  pub run-consistent : (shards : ℕ) (lines : List (List ℕ)) (answers : List Answer) (histories : List (List Entry))
+      → Run rules (no_records shards) lines answers histories → IsConsistent rules lines answers histories
   run-consistent shards lines answers histories run =
       let kept = run-keeps (no_records shards) lines answers histories (none-sound shards) run in
       let once = sound-once histories kept.sound in
@@ -155,5 +194,6 @@ module _ (rules : Rules) where
         legal = sound-legal histories kept.sound;
         recorded = kept.recorded;
         one_reply = λ first second request answer other reply other_reply first_answered second_answered reply_is other_is.
-            same-replies histories request answer other reply other_reply once (kept.recorded first request answer first_answered) (kept.recorded second request other second_answered) reply_is other_is;
+            same-replies histories request answer other reply other_reply once (kept.recorded first request answer first_answered)
+            (kept.recorded second request other second_answered) reply_is other_is;
       }

@@ -1,5 +1,6 @@
 -- What one more record at the end of a history changes for a card.
-use Rattle.std.proofs.Common.{◌≡◌, ℕ, ◌+◌, max, true, false, cond, List, [], ◌∷◌, ◌++◌, length, None, Some, refl, ap, sym, ◌∙◌, add-zero, append-nil, subst, inl, inr, ◌⊎◌, ◌≤◌, arith}
+use Rattle.std.proofs.Common.{◌≡◌, ℕ, ◌+◌, max, true, false, cond, List, [], ◌∷◌, ◌++◌, length, None, Some, refl, ap, sym, ◌∙◌, add-zero, append-nil, subst}
+use Rattle.std.proofs.Common.{inl, inr, ◌⊎◌, ◌≤◌, arith}
 use Rattle.std.proofs.lemmas.Bool.{cond-true, cond-false}
 use Rattle.std.proofs.lemmas.List.Elements.{All-from_recursion}
 use Rattle.std.proofs.lemmas.Option.{same_Some}
@@ -13,13 +14,18 @@ use Rattle.card_history.specs.declared.decision.Decision.{Decision}
 use Rattle.card_history.specs.Records.{CardName, is_of, decided_from, decided, greatest}
 
 -- the decisions among records that are followed by others
-pub decided_from-append : (place : ℕ) (card : CardName) (before after : List Entry) → decided_from place card (before ++ after) ≡ decided_from place card before ++ decided_from (place + length before) card after
+pub decided_from-append : (place : ℕ) (card : CardName) (before after : List Entry)
+    → decided_from place card (before ++ after) ≡ decided_from place card before ++ decided_from (place + length before) card after
 decided_from-append place card [] after = ap (λ n. decided_from n card after) (sym (add-zero place))
 decided_from-append place card (Decided request reply ∷ before) after =
     let rest = decided_from-append (place + 1) card before after in
     let at : place + 1 + length before ≡ place + length (Decided request reply ∷ before) = omega arith in
     let more = rest ∙ ap (λ n. decided_from (place + 1) card before ++ decided_from n card after) at in
-    elim (is_of card request) as (λ is_its. (cond is_its (record { request = request; reply = reply; place = place } ∷ decided_from (place + 1) card (before ++ after)) (decided_from (place + 1) card (before ++ after))) ≡ (cond is_its (record { request = request; reply = reply; place = place } ∷ decided_from (place + 1) card before) (decided_from (place + 1) card before)) ++ decided_from (place + length (Decided request reply ∷ before)) card after) [
+    elim (is_of card request) as
+    (λ is_its. (cond is_its (record { request = request; reply = reply; place = place } ∷ decided_from (place + 1) card (before ++ after))
+    (decided_from (place + 1) card (before ++ after)))
+    ≡ (cond is_its (record { request = request; reply = reply; place = place } ∷ decided_from (place + 1) card before)
+    (decided_from (place + 1) card before)) ++ decided_from (place + length (Decided request reply ∷ before)) card after) [
       | true ↦ ap (λ decisions. record { request = request; reply = reply; place = place } ∷ decisions) more
       | false ↦ more
     ]
@@ -31,7 +37,8 @@ decided_from-append place card (Status pan psn status ∷ before) after =
     decided_from-append (place + 1) card before after ∙ ap (λ n. decided_from (place + 1) card before ++ decided_from n card after) at
 
 -- a decided record of the card is its last decision, at the place after the last record
-pub decided-more : (card : CardName) (history : List Entry) (request : Request) (reply : Reply) → is_of card request ≡ true → decided card (history ++ Decided request reply ∷ []) ≡ decided card history ++ record { request = request; reply = reply; place = length history } ∷ []
+pub decided-more : (card : CardName) (history : List Entry) (request : Request) (reply : Reply) → is_of card request ≡ true
+    → decided card (history ++ Decided request reply ∷ []) ≡ decided card history ++ record { request = request; reply = reply; place = length history } ∷ []
 decided-more card history request reply its =
     let place : 0 + length history ≡ length history = omega arith in
     decided_from-append 0 card history (Decided request reply ∷ [])
@@ -39,20 +46,24 @@ decided-more card history request reply its =
     ∙ ap (λ n. decided card history ++ record { request = request; reply = reply; place = n } ∷ []) place
 
 -- a decided record of another card is none of its decisions
-pub decided-other : (card : CardName) (history : List Entry) (request : Request) (reply : Reply) → is_of card request ≡ false → decided card (history ++ Decided request reply ∷ []) ≡ decided card history
+pub decided-other : (card : CardName) (history : List Entry) (request : Request) (reply : Reply) → is_of card request ≡ false
+    → decided card (history ++ Decided request reply ∷ []) ≡ decided card history
 decided-other card history request reply other =
     decided_from-append 0 card history (Decided request reply ∷ [])
     ∙ ap (λ last. decided card history ++ last) (cond-false (is_of card request) _ _ other)
     ∙ append-nil (decided card history)
 
 -- one more decision raises the greatest counter, or leaves it
-pub greatest-more : (decisions : List Decision) (decision : Decision) → greatest (decisions ++ decision ∷ []) ≡ Some (option_map_or (λ top. max top decision.request.atc) (greatest decisions) decision.request.atc)
+pub greatest-more : (decisions : List Decision) (decision : Decision)
+    → greatest (decisions ++ decision ∷ []) ≡ Some (option_map_or (λ top. max top decision.request.atc) (greatest decisions) decision.request.atc)
 greatest-more [] decision = refl
 greatest-more (first ∷ decisions) decision =
     ap (λ so_far. Some (option_map_or (λ counter. max first.request.atc counter) so_far first.request.atc)) (greatest-more decisions decision)
-    ∙ elim (greatest decisions) as (λ so_far. Some (max first.request.atc (option_map_or (λ top. max top decision.request.atc) so_far decision.request.atc)) ≡ Some (max (option_map_or (λ counter. max first.request.atc counter) so_far first.request.atc) decision.request.atc)) [
+    ∙ elim (greatest decisions) as (λ so_far. Some (max first.request.atc (option_map_or (λ top. max top decision.request.atc) so_far decision.request.atc))
+    ≡ Some (max (option_map_or (λ counter. max first.request.atc counter) so_far first.request.atc) decision.request.atc)) [
       | None ↦ refl
-      | Some top ↦ let same : max first.request.atc (max top decision.request.atc) ≡ max (max first.request.atc top) decision.request.atc = omega arith in ap Some same
+      | Some top ↦ let same : max first.request.atc (max top decision.request.atc) ≡ max (max first.request.atc top) decision.request.atc =
+          omega arith in ap Some same
     ]
 
 -- only no decisions have no greatest counter
@@ -64,19 +75,26 @@ cases_greatest : (decisions : List Decision) → (greatest decisions ≡ None) �
 cases_greatest [] = inl refl
 cases_greatest (first ∷ decisions) = inr (_, refl)
 
-below-all : (decisions : List Decision) (so_far top : ℕ) → so_far ≤ top → AllByRecursion (λ decision. decision.request.atc ≤ so_far) decisions → AllByRecursion (λ decision. decision.request.atc ≤ top) decisions
+below-all : (decisions : List Decision) (so_far top : ℕ) → so_far ≤ top → AllByRecursion (λ decision. decision.request.atc ≤ so_far) decisions
+    → AllByRecursion (λ decision. decision.request.atc ≤ top) decisions
 below-all [] so_far top le below = tt
 below-all (first ∷ decisions) so_far top le below = (omega arith, below-all decisions so_far top le below.1)
 
-greatest-above_each : (decisions : List Decision) (top : ℕ) → greatest decisions ≡ Some top → AllByRecursion (λ decision. decision.request.atc ≤ top) decisions
+greatest-above_each : (decisions : List Decision) (top : ℕ) → greatest decisions ≡ Some top
+    → AllByRecursion (λ decision. decision.request.atc ≤ top) decisions
 greatest-above_each [] top is = tt
 greatest-above_each (first ∷ decisions) top is =
     elim (cases_greatest decisions) [
       | inl none ↦
-          let alone : first.request.atc ≡ top = same_Some _ _ (sym (ap (λ so_far. Some (option_map_or (λ counter. max first.request.atc counter) so_far first.request.atc)) none) ∙ is) in
-          (omega arith, subst (λ (some : List Decision). AllByRecursion (λ decision. decision.request.atc ≤ top) some) (sym (greatest-none decisions none)) tt)
+          let alone : first.request.atc ≡ top =
+          same_Some _ _ (sym (ap (λ so_far. Some (option_map_or (λ counter. max first.request.atc counter) so_far first.request.atc)) none) ∙ is) in (
+            omega arith,
+            subst (λ (some : List Decision). AllByRecursion (λ decision. decision.request.atc ≤ top) some)
+                (sym (greatest-none decisions none)) tt,
+          )
       | inr (so_far, some) ↦
-          let larger : max first.request.atc so_far ≡ top = same_Some _ _ (sym (ap (λ so_far. Some (option_map_or (λ counter. max first.request.atc counter) so_far first.request.atc)) some) ∙ is) in
+          let larger : max first.request.atc so_far ≡ top =
+          same_Some _ _ (sym (ap (λ so_far. Some (option_map_or (λ counter. max first.request.atc counter) so_far first.request.atc)) some) ∙ is) in
           (omega arith, below-all decisions so_far top (omega arith) (greatest-above_each decisions so_far some))
     ]
 

@@ -23,58 +23,81 @@ record IsRecord (place : ℕ) (card : CardName) (records : List Entry) (decision
   record_is : slice_get records index ≡ Some (Decided decision.request decision.reply)
   its : is_of card decision.request ≡ true
 
-later : (place : ℕ) (card : CardName) (first : Entry) (records : List Entry) (decision : Decision) → IsRecord (place + 1) card records decision → IsRecord place card (first ∷ records) decision
-later place card first records decision found = record { index = suc found.index; place_is = omega (arith, found.place_is); record_is = found.record_is; its = found.its }
+later : (place : ℕ) (card : CardName) (first : Entry) (records : List Entry) (decision : Decision) → IsRecord (place + 1) card records decision
+    → IsRecord place card (first ∷ records) decision
+later place card first records decision found =
+    record { index = suc found.index; place_is = omega (arith, found.place_is); record_is = found.record_is; its = found.its }
 
-recorded_from : (place : ℕ) (card : CardName) (records : List Entry) (decision : Decision) → Contains (decided_from place card records) decision → IsRecord place card records decision
+recorded_from : (place : ℕ) (card : CardName) (records : List Entry) (decision : Decision) → Contains (decided_from place card records) decision
+    → IsRecord place card records decision
 recorded_from place card [] decision (k, below, is) = absurd (omega arith)
 recorded_from place card (Decided request reply ∷ records) decision here =
     elim (cases_Bool (is_of card request)) [
       | inl its ↦
           let made : Decision = record { request = request; reply = reply; place = place } in
-          let within : Contains (made ∷ decided_from (place + 1) card records) decision = subst (λ (decisions : List Decision). Contains decisions decision) (cond-true (is_of card request) _ _ its) here in
+          let within : Contains (made ∷ decided_from (place + 1) card records) decision =
+          subst (λ (decisions : List Decision). Contains decisions decision) (cond-true (is_of card request) _ _ its) here in
           elim (Contains-cons_cases made _ decision within) [
-            | inl same ↦ subst (λ (decision : Decision). IsRecord place card (Decided request reply ∷ records) decision) same (record { index = zero; place_is = omega arith; record_is = refl; its = its })
+            | inl same ↦ subst (λ (decision : Decision). IsRecord place card (Decided request reply ∷ records) decision) same
+                (record { index = zero; place_is = omega arith; record_is = refl; its = its })
             | inr after ↦ later place card (Decided request reply) records decision (recorded_from (place + 1) card records decision after)
           ]
       | inr other ↦
-          let within : Contains (decided_from (place + 1) card records) decision = subst (λ (decisions : List Decision). Contains decisions decision) (cond-false (is_of card request) _ _ other) here in
+          let within : Contains (decided_from (place + 1) card records) decision =
+          subst (λ (decisions : List Decision). Contains decisions decision) (cond-false (is_of card request) _ _ other) here in
           later place card (Decided request reply) records decision (recorded_from (place + 1) card records decision within)
     ]
-recorded_from place card (Queued pan psn command ∷ records) decision here = later place card (Queued pan psn command) records decision (recorded_from (place + 1) card records decision here)
-recorded_from place card (Status pan psn status ∷ records) decision here = later place card (Status pan psn status) records decision (recorded_from (place + 1) card records decision here)
+recorded_from place card (Queued pan psn command ∷ records) decision here =
+    later place card (Queued pan psn command) records decision (recorded_from (place + 1) card records decision here)
+recorded_from place card (Status pan psn status ∷ records) decision here =
+    later place card (Status pan psn status) records decision (recorded_from (place + 1) card records decision here)
 
-decision_from : (place : ℕ) (card : CardName) (records : List Entry) (index : ℕ) (request : Request) (reply : Reply) → slice_get records index ≡ Some (Decided request reply) → is_of card request ≡ true → Contains (decided_from place card records) (record { request = request; reply = reply; place = place + index })
+decision_from : (place : ℕ) (card : CardName) (records : List Entry) (index : ℕ) (request : Request) (reply : Reply)
+    → slice_get records index ≡ Some (Decided request reply) → is_of card request ≡ true
+    → Contains (decided_from place card records) (record { request = request; reply = reply; place = place + index })
 decision_from place card [] index request reply is its = absurd (cc)
 decision_from place card (first ∷ records) zero request reply is its =
     let same : first ≡ Decided request reply = cc in
     let made : Decision = record { request = request; reply = reply; place = place } in
-    let here : Contains (decided_from place card (Decided request reply ∷ records)) made = subst (λ (decisions : List Decision). Contains decisions made) (sym (cond-true (is_of card request) _ _ its)) (0, omega arith, refl) in
+    let here : Contains (decided_from place card (Decided request reply ∷ records)) made =
+    subst (λ (decisions : List Decision). Contains decisions made) (sym (cond-true (is_of card request) _ _ its)) (0, omega arith, refl) in
     let at : place ≡ place + 0 = sym (add-zero place) in
-    subst (λ (n : ℕ). Contains (decided_from place card (first ∷ records)) (record { request = request; reply = reply; place = n })) at (subst (λ (first : Entry). Contains (decided_from place card (first ∷ records)) made) (sym same) here)
+    subst (λ (n : ℕ). Contains (decided_from place card (first ∷ records)) (record { request = request; reply = reply; place = n })) at
+    (subst (λ (first : Entry). Contains (decided_from place card (first ∷ records)) made) (sym same) here)
 decision_from place card (Decided other answer ∷ records) (suc index) request reply is its =
     let at : place + 1 + index ≡ place + suc index = omega arith in
-    let after = subst (λ (n : ℕ). Contains (decided_from (place + 1) card records) (record { request = request; reply = reply; place = n })) at (decision_from (place + 1) card records index request reply is its) in
-    elim (is_of card other) as (λ is_its. Contains (cond is_its (record { request = other; reply = answer; place = place } ∷ decided_from (place + 1) card records) (decided_from (place + 1) card records)) (record { request = request; reply = reply; place = place + suc index })) [
+    let after =
+    subst (λ (n : ℕ). Contains (decided_from (place + 1) card records) (record { request = request; reply = reply; place = n })) at
+    (decision_from (place + 1) card records index request reply is its) in
+    elim (is_of card other) as
+    (λ is_its. Contains
+    (cond is_its (record { request = other; reply = answer; place = place } ∷ decided_from (place + 1) card records)
+    (decided_from (place + 1) card records)) (record { request = request; reply = reply; place = place + suc index })) [
       | true ↦ Contains-cons _ _ _ after
       | false ↦ after
     ]
 decision_from place card (Queued pan psn command ∷ records) (suc index) request reply is its =
     let at : place + 1 + index ≡ place + suc index = omega arith in
-    subst (λ (n : ℕ). Contains (decided_from (place + 1) card records) (record { request = request; reply = reply; place = n })) at (decision_from (place + 1) card records index request reply is its)
+    subst (λ (n : ℕ). Contains (decided_from (place + 1) card records) (record { request = request; reply = reply; place = n })) at
+    (decision_from (place + 1) card records index request reply is its)
 decision_from place card (Status pan psn status ∷ records) (suc index) request reply is its =
     let at : place + 1 + index ≡ place + suc index = omega arith in
-    subst (λ (n : ℕ). Contains (decided_from (place + 1) card records) (record { request = request; reply = reply; place = n })) at (decision_from (place + 1) card records index request reply is its)
+    subst (λ (n : ℕ). Contains (decided_from (place + 1) card records) (record { request = request; reply = reply; place = n })) at
+    (decision_from (place + 1) card records index request reply is its)
 
 -- each decision of a card is a decided record at its place
-pub decided-recorded : (card : CardName) (history : List Entry) (decision : Decision) → Contains (decided card history) decision → (slice_get history decision.place ≡ Some (Decided decision.request decision.reply)) × (is_of card decision.request ≡ true)
+pub decided-recorded : (card : CardName) (history : List Entry) (decision : Decision) → Contains (decided card history) decision
+    → (slice_get history decision.place ≡ Some (Decided decision.request decision.reply)) × (is_of card decision.request ≡ true)
 decided-recorded card history decision here =
     let found = recorded_from 0 card history decision here in
     let at : found.index ≡ decision.place = omega (arith, found.place_is) in
     (subst (λ (n : ℕ). slice_get history n ≡ Some (Decided decision.request decision.reply)) at found.record_is, found.its)
 
 -- each decided record of a card is one of its decisions
-pub recorded-decided : (card : CardName) (history : List Entry) (place : ℕ) (request : Request) (reply : Reply) → slice_get history place ≡ Some (Decided request reply) → is_of card request ≡ true → Contains (decided card history) (record { request = request; reply = reply; place = place })
+pub recorded-decided : (card : CardName) (history : List Entry) (place : ℕ) (request : Request) (reply : Reply)
+    → slice_get history place ≡ Some (Decided request reply) → is_of card request ≡ true
+    → Contains (decided card history) (record { request = request; reply = reply; place = place })
 recorded-decided card history place request reply is its =
     let at : 0 + place ≡ place = omega arith in
-    subst (λ (n : ℕ). Contains (decided card history) (record { request = request; reply = reply; place = n })) at (decision_from 0 card history place request reply is its)
+    subst (λ (n : ℕ). Contains (decided card history) (record { request = request; reply = reply; place = n })) at
+    (decision_from 0 card history place request reply is its)

@@ -10,7 +10,9 @@ module _ (rules : Rules) where
   run_empty histories = refl
 
   -- one more line
-  pub run_more : (before : List (List Entry)) (lines : List (List ℕ)) (answers : List Answer) (between : List (List Entry)) (line : List ℕ) (answer : Answer) (after : List (List Entry)) → Run rules before lines answers between → Turn rules between (rules.read line) answer after → Run rules before (lines ++ line ∷ []) (answers ++ answer ∷ []) after
+  pub run_more : (before : List (List Entry)) (lines : List (List ℕ)) (answers : List Answer) (between : List (List Entry)) (line : List ℕ)
+      (answer : Answer) (after : List (List Entry)) → Run rules before lines answers between → Turn rules between (rules.read line) answer after
+      → Run rules before (lines ++ line ∷ []) (answers ++ answer ∷ []) after
   run_more before [] [] between line answer after so_far turn =
       (after, subst (λ (start : List (List Entry)). Turn rules start (rules.read line) answer after) so_far turn, refl)
   run_more before [] (first ∷ answers) between line answer after so_far turn = absurd so_far

@@ -60,7 +60,8 @@ slice_get-push [] entry = refl
 slice_get-push (first ∷ history) entry = slice_get-push history entry
 
 -- and each other record was there before
-slice_get-push_cases : (history : List Entry) (entry : Entry) (place : ℕ) (other : Entry) → slice_get (history ++ entry ∷ []) place ≡ Some other → (slice_get history place ≡ Some other) ⊎ ((place ≡ length history) × (entry ≡ other))
+slice_get-push_cases : (history : List Entry) (entry : Entry) (place : ℕ) (other : Entry) → slice_get (history ++ entry ∷ []) place ≡ Some other
+    → (slice_get history place ≡ Some other) ⊎ ((place ≡ length history) × (entry ≡ other))
 slice_get-push_cases [] entry zero other is = inr (refl, cc)
 slice_get-push_cases [] entry (suc place) other is = absurd (cc)
 slice_get-push_cases (first ∷ history) entry zero other is = inl is
@@ -71,13 +72,16 @@ slice_get-push_cases (first ∷ history) entry (suc place) other is =
     ]
 
 -- a request on an unused counter has no record on it
-unused-unrecorded : (history : List Entry) (request : Request) → IsUnused (decided_for request history) request → (place : ℕ) (other : Request) (reply : Reply) → slice_get history place ≡ Some (Decided other reply) → card_of request ≡ card_of other → other.atc ≡ request.atc → ⊥
+unused-unrecorded : (history : List Entry) (request : Request) → IsUnused (decided_for request history) request
+    → (place : ℕ) (other : Request) (reply : Reply) → slice_get history place ≡ Some (Decided other reply) → card_of request ≡ card_of other
+    → other.atc ≡ request.atc → ⊥
 unused-unrecorded history request unused place other reply is card counter =
     let here = recorded-decided (card_of request) history place other reply is (is_of-same request other card) in
     All-contains (λ (decision : Decision). decision.request.atc ≡ request.atc → ⊥) _ _ unused.unrecorded here counter
 
 -- so its record keeps each counter decided once
-once-more : (history : List Entry) (request : Request) (reply : Reply) → IsUnused (decided_for request history) request → IsOnceIn history → IsOnceIn (history ++ Decided request reply ∷ [])
+once-more : (history : List Entry) (request : Request) (reply : Reply) → IsUnused (decided_for request history) request → IsOnceIn history
+    → IsOnceIn (history ++ Decided request reply ∷ [])
 once-more history request reply unused once first second asked other given other_reply first_is second_is card counter =
     elim (slice_get-push_cases history (Decided request reply) first (Decided asked given) first_is) [
       | inl first_before ↦
@@ -85,20 +89,23 @@ once-more history request reply unused once first second asked other given other
             | inl second_before ↦ once first second asked other given other_reply first_before second_before card counter
             | inr second_last ↦
                 let same : request ≡ other = cc (second_last.1) in
-                absurd (unused-unrecorded history request unused first asked given first_before (ap card_of same ∙ sym card) (counter ∙ sym (ap (λ (r : Request). r.atc) same)))
+                absurd (unused-unrecorded history request unused first asked given first_before (ap card_of same ∙ sym card) (counter
+                ∙ sym (ap (λ (r : Request). r.atc) same)))
           ]
       | inr first_last ↦
           elim (slice_get-push_cases history (Decided request reply) second (Decided other other_reply) second_is) [
             | inl second_before ↦
                 let same : request ≡ asked = cc (first_last.1) in
-                absurd (unused-unrecorded history request unused second other other_reply second_before (ap card_of same ∙ card) (sym counter ∙ sym (ap (λ (r : Request). r.atc) same)))
+                absurd (unused-unrecorded history request unused second other other_reply second_before (ap card_of same ∙ card) (sym counter
+                ∙ sym (ap (λ (r : Request). r.atc) same)))
             | inr second_last ↦ first_last.0 ∙ sym second_last.0
           ]
     ]
 
 module _ (rules : Rules) where
   -- and a request of one of the shard's cards keeps its decisions of these cards only
-  home-more : (history : List Entry) (request : Request) (reply : Reply) → IsHomeOf rules (rules.shard_of (card_of request)) history → IsHomeOf rules (rules.shard_of (card_of request)) (history ++ Decided request reply ∷ [])
+  home-more : (history : List Entry) (request : Request) (reply : Reply) → IsHomeOf rules (rules.shard_of (card_of request)) history
+      → IsHomeOf rules (rules.shard_of (card_of request)) (history ++ Decided request reply ∷ [])
   home-more history request reply home place other given is =
       elim (slice_get-push_cases history (Decided request reply) place (Decided other given) is) [
         | inl before ↦ home place other given before
@@ -108,12 +115,14 @@ module _ (rules : Rules) where
       ]
 
   -- a legal next record keeps each record legal
-  legal-more : (shard : ℕ) (history : List Entry) (request : Request) (reply : Reply) → IsLegalNext rules shard history request reply → IsLegalIn rules shard history → IsLegalIn rules shard (history ++ Decided request reply ∷ [])
+  legal-more : (shard : ℕ) (history : List Entry) (request : Request) (reply : Reply) → IsLegalNext rules shard history request reply
+      → IsLegalIn rules shard history → IsLegalIn rules shard (history ++ Decided request reply ∷ [])
   legal-more shard history request reply next legal place other given is =
       elim (slice_get-push_cases history (Decided request reply) place (Decided other given) is) [
         | inl before ↦
             let within : place ≤ length history = let below = slice_get_within history place (Decided other given) before in omega (arith, below) in
-            subst (λ (records : List Entry). IsLegalNext rules shard records other given) (sym (take-append-le place history (Decided request reply ∷ []) within)) (legal place other given before)
+            subst (λ (records : List Entry). IsLegalNext rules shard records other given)
+            (sym (take-append-le place history (Decided request reply ∷ []) within)) (legal place other given before)
         | inr last ↦
             let same : Decided request reply ≡ Decided other given = last.1 in
             let asked : request ≡ other = cc in
@@ -123,7 +132,9 @@ module _ (rules : Rules) where
             ∙ take-append-le (length history) history (Decided request reply ∷ []) (omega arith)
             ∙ take_all (length history) history (omega arith)
             in
-            let here : IsLegalNext rules shard history other given = subst (λ (r : Reply). IsLegalNext rules shard history other r) gave (subst (λ (q : Request). IsLegalNext rules shard history q reply) asked next) in
+            let here : IsLegalNext rules shard history other given =
+            subst (λ (r : Reply). IsLegalNext rules shard history other r) gave
+            (subst (λ (q : Request). IsLegalNext rules shard history q reply) asked next) in
             subst (λ (records : List Entry). IsLegalNext rules shard records other given) (sym whole) here
       ]
 
@@ -131,29 +142,47 @@ module _ (rules : Rules) where
   pub record Keeps (before : List Entry) (request : Request) (answer : Answer) (after : List Entry) : Type 0 where
     pub sound : IsSound rules (rules.shard_of (card_of request)) after
     pub stays : Stays before after
-    pub recorded : (histories : List (List Entry)) → slice_index_or histories (rules.shard_of (card_of request)) [] ≡ after → IsOfItsRecord histories request answer
+    pub recorded : (histories : List (List Entry)) → slice_index_or histories (rules.shard_of (card_of request)) [] ≡ after
+        → IsOfItsRecord histories request answer
 
-  same-keeps : (before : List Entry) (request : Request) (answer : Answer) (after : List Entry) → IsSound rules (rules.shard_of (card_of request)) before → after ≡ before → ((histories : List (List Entry)) → slice_index_or histories (rules.shard_of (card_of request)) [] ≡ before → IsOfItsRecord histories request answer) → Keeps before request answer after
+  same-keeps : (before : List Entry) (request : Request) (answer : Answer) (after : List Entry) → IsSound rules (rules.shard_of (card_of request)) before
+      → after ≡ before
+      → ((histories : List (List Entry)) → slice_index_or histories (rules.shard_of (card_of request)) [] ≡ before → IsOfItsRecord histories request answer)
+      → Keeps before request answer after
   same-keeps before request answer after sound same recorded =
-      subst (λ (after : List Entry). Keeps before request answer after) (sym same) (record { sound = sound; stays = λ place entry is. is; recorded = recorded })
+      subst (λ (after : List Entry). Keeps before request answer after) (sym same)
+      (record { sound = sound; stays = λ place entry is. is; recorded = recorded })
 
   -- a record of the shard's history is at its place of the shard
-  placed : (histories : List (List Entry)) (home : ℕ) (history : List Entry) (shard place : ℕ) (entry : Entry) → slice_index_or histories home [] ≡ history → shard ≡ home → slice_get history place ≡ Some entry → record_at histories shard place ≡ Some entry
+  placed : (histories : List (List Entry)) (home : ℕ) (history : List Entry) (shard place : ℕ) (entry : Entry) → slice_index_or histories home [] ≡ history
+      → shard ≡ home → slice_get history place ≡ Some entry → record_at histories shard place ≡ Some entry
   placed histories home history shard place entry here shard_is is =
       ap (λ (shard : ℕ). record_at histories shard place) shard_is ∙ ap (λ (history : List Entry). slice_get history place) here ∙ is
 
-  pub answers-keep : (before : List Entry) (request : Request) (answer : Answer) (after : List Entry) → (line : List ℕ) × (rules.read line ≡ Ok (Decide request)) → IsSound rules (rules.shard_of (card_of request)) before → Answers (rules.shard_of (card_of request)) rules.reply_to before request answer after → Keeps before request answer after
+  pub answers-keep : (before : List Entry) (request : Request) (answer : Answer) (after : List Entry)
+      → (line : List ℕ) × (rules.read line ≡ Ok (Decide request)) → IsSound rules (rules.shard_of (card_of request)) before
+      → Answers (rules.shard_of (card_of request)) rules.reply_to before request answer after → Keeps before request answer after
   answers-keep before request (Fresh at place reply) after asked sound (unused, at_is, place_is, reply_is, after_is) =
-      let last : slice_get (before ++ Decided request reply ∷ []) place ≡ Some (Decided request reply) = ap (slice_get (before ++ Decided request reply ∷ [])) place_is ∙ slice_get-push before (Decided request reply) in
-      let next : IsLegalNext rules (rules.shard_of (card_of request)) before request reply = record { line = asked.0; read = asked.1; at_home = refl; unused = unused; by_rules = reply_is } in
+      let last : slice_get (before ++ Decided request reply ∷ []) place ≡ Some (Decided request reply) =
+      ap (slice_get (before ++ Decided request reply ∷ [])) place_is ∙ slice_get-push before (Decided request reply) in
+      let next : IsLegalNext rules (rules.shard_of (card_of request)) before request reply =
+      record { line = asked.0; read = asked.1; at_home = refl; unused = unused; by_rules = reply_is } in
       subst (λ (after : List Entry). Keeps before request (Fresh at place reply) after) (sym after_is) (record {
-        sound = record { once = once-more before request reply unused sound.once; home = home-more before request reply sound.home; legal = legal-more (rules.shard_of (card_of request)) before request reply next sound.legal };
+        sound = record {
+          once = once-more before request reply unused sound.once;
+          home = home-more before request reply sound.home;
+          legal =
+              legal-more (rules.shard_of (card_of request)) before request reply next sound.legal;
+        };
         stays = stays-push before (Decided request reply);
         recorded = λ histories here. placed histories (rules.shard_of (card_of request)) _ at place _ here at_is last;
       })
   answers-keep before request (Kept at place reply) after asked sound (used, at_is, after_is) =
       let kept = decided-recorded (card_of request) before (record { request = request; reply = reply; place = place }) used.recorded in
-      same-keeps before request (Kept at place reply) after sound after_is (λ histories here. placed histories (rules.shard_of (card_of request)) before at place (Decided request reply) here at_is kept.0)
-  answers-keep before request (Refused (Below top)) after asked sound (too_old, after_is) = same-keeps before request (Refused (Below top)) after sound after_is (λ histories here. tt)
-  answers-keep before request (Refused (Taken at place)) after asked sound (taken, at_is, after_is) = same-keeps before request (Refused (Taken at place)) after sound after_is (λ histories here. tt)
+      same-keeps before request (Kept at place reply) after sound after_is
+      (λ histories here. placed histories (rules.shard_of (card_of request)) before at place (Decided request reply) here at_is kept.0)
+  answers-keep before request (Refused (Below top)) after asked sound (too_old, after_is) =
+      same-keeps before request (Refused (Below top)) after sound after_is (λ histories here. tt)
+  answers-keep before request (Refused (Taken at place)) after asked sound (taken, at_is, after_is) =
+      same-keeps before request (Refused (Taken at place)) after sound after_is (λ histories here. tt)
   answers-keep before request _ after asked sound turn = absurd turn

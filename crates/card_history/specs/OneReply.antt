@@ -64,7 +64,8 @@ pub record IsConsistent (rules : Rules) (lines : List (List ℕ)) (answers : Lis
   -- each decision is a legal next one after the records before it
   pub legal : AreLegal rules histories
   -- each reply that was given is that of its record
-  pub recorded : (index : ℕ) (request : Request) (answer : Answer) → IsAnswered rules lines answers index request answer → IsOfItsRecord histories request answer
+  pub recorded : (index : ℕ) (request : Request) (answer : Answer) → IsAnswered rules lines answers index request answer
+      → IsOfItsRecord histories request answer
   -- two replies to the same request are the same reply
   pub one_reply : (first second : ℕ) (request : Request) (answer other : Answer) (reply other_reply : Reply)
       → IsAnswered rules lines answers first request answer → IsAnswered rules lines answers second request other

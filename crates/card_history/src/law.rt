@@ -1,3 +1,4 @@
+//! The law of every run.
 ghost use Rattle.std.specs.Prelude.{ℕ, List};
 ghost use Rattle.issuer_base.specs.declared.answer.Answer.{Answer};
 ghost use Rattle.issuer_base.specs.declared.entry.Entry.{Entry};

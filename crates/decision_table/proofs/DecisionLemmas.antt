@@ -1,5 +1,6 @@
 -- What the definition of a decision says: which row it is, and that a table always has one.
-use Rattle.std.proofs.Common.{◌≡◌, ℕ, zero, suc, ◌<◌, ◌==◌, true, false, List, [], ◌∷◌, refl, ap, sym, ◌∙◌, subst, inl, inr, Option, None, Some, IsTrue, IsSome, bit_and, arith}
+use Rattle.std.proofs.Common.{◌≡◌, ℕ, zero, suc, ◌<◌, ◌==◌, true, false, List, [], ◌∷◌, refl, ap, sym, ◌∙◌, subst, inl, inr, Option, None, Some, IsTrue}
+use Rattle.std.proofs.Common.{IsSome, bit_and, arith}
 use Rattle.std.proofs.lemmas.Bool.{cond-true, cond-false, cases_Bool, and_parts, and_from, eqb-true, le-leb}
 use Rattle.std.proofs.lemmas.Option.{same_Some}
 use Rattle.std.specs.Int.Bits.{and_zero_r}
@@ -11,12 +12,16 @@ use Rattle.decision_table.specs.declared.row.TableRow.{TableRow}
 use Rattle.decision_table.specs.Fitting.{has_bits, is_for, fits, decision, IsDecision}
 use Rattle.decision_table.specs.Tables.{takes_all, ends_in_all, is_table}
 
-none-before : (status : ℕ) (request : Parts) (here : TableRow) (rows : List TableRow) (place : ℕ) → fits status request here ≡ false → ((before : ℕ) (other : TableRow) → before < place → slice_get rows before ≡ Some other → fits status request other ≡ false) → (before : ℕ) (other : TableRow) → before < suc place → slice_get (here ∷ rows) before ≡ Some other → fits status request other ≡ false
-none-before status request here rows place unfit first zero other below stands = subst (λ (row : TableRow). fits status request row ≡ false) (same_Some here other stands) unfit
+none-before : (status : ℕ) (request : Parts) (here : TableRow) (rows : List TableRow) (place : ℕ) → fits status request here ≡ false
+    → ((before : ℕ) (other : TableRow) → before < place → slice_get rows before ≡ Some other → fits status request other ≡ false)
+    → (before : ℕ) (other : TableRow) → before < suc place → slice_get (here ∷ rows) before ≡ Some other → fits status request other ≡ false
+none-before status request here rows place unfit first zero other below stands =
+    subst (λ (row : TableRow). fits status request row ≡ false) (same_Some here other stands) unfit
 none-before status request here rows place unfit first (suc before) other below stands = first before other (omega arith) stands
 
 -- the row that decides fits, and none before it does
-pub decides : (rows : List TableRow) (status : ℕ) (request : Parts) (row : TableRow) → decision rows status request ≡ Some row → IsDecision rows status request row
+pub decides : (rows : List TableRow) (status : ℕ) (request : Parts) (row : TableRow) → decision rows status request ≡ Some row
+    → IsDecision rows status request row
 decides [] status request row found = absurd (let no : None ≡ Some row = found in cc)
 decides (here ∷ rows) status request row found =
     elim (cases_Bool (fits status request here)) [
@@ -38,7 +43,8 @@ decides (here ∷ rows) status request row found =
           }
     ]
 
-has_bits-zeros : (masks values bytes : List ℕ) → list_all (λ byte. byte == 0) masks ≡ true → list_all (λ byte. byte == 0) values ≡ true → has_bits masks values bytes ≡ true
+has_bits-zeros : (masks values bytes : List ℕ) → list_all (λ byte. byte == 0) masks ≡ true → list_all (λ byte. byte == 0) values ≡ true
+    → has_bits masks values bytes ≡ true
 has_bits-zeros [] values bytes no_masks no_values = refl
 has_bits-zeros (mask ∷ masks) [] bytes no_masks no_values = refl
 has_bits-zeros (mask ∷ masks) (value ∷ values) [] no_masks no_values = refl
@@ -54,7 +60,8 @@ is_for-any None status any = refl
 is_for-any (Some wanted) status any = absurd (let no : false ≡ true = any in cc)
 
 -- a row that takes all fits every request
-pub takes_all-fits : (row : TableRow) (status : ℕ) (request : Parts) → amount_value request < 1000000000000 → takes_all row ≡ true → fits status request row ≡ true
+pub takes_all-fits : (row : TableRow) (status : ℕ) (request : Parts) → amount_value request < 1000000000000 → takes_all row ≡ true
+    → fits status request row ≡ true
 unfolding fits takes_all
 takes_all-fits row status request below all =
     let to_most = and_parts _ _ (and_parts _ _ all).0 in
@@ -71,7 +78,8 @@ takes_all-fits row status request below all =
     (has_bits-zeros row.tvr_mask row.tvr_value request.tvr to_tvr.0 to_tvr.1))
     (has_bits-zeros row.cvr_mask row.cvr_value (cvr request) to_cvr_mask.1 to_cvr.1)
 
-some-fits : (rows : List TableRow) (status : ℕ) (request : Parts) → amount_value request < 1000000000000 → ends_in_all rows ≡ true → decision rows status request ≡ None → ⊥
+some-fits : (rows : List TableRow) (status : ℕ) (request : Parts) → amount_value request < 1000000000000 → ends_in_all rows ≡ true
+    → decision rows status request ≡ None → ⊥
 some-fits [] status request below ends none = let no : false ≡ true = ends in absurd (cc)
 some-fits (row ∷ []) status request below ends none =
     let some : Some row ≡ None = sym (cond-true (fits status request row) _ _ (takes_all-fits row status request below ends)) ∙ none in
@@ -83,11 +91,13 @@ some-fits (row ∷ next ∷ rows) status request below ends none =
     ]
 
 -- a table decides every request
-pub decision-table : (rows : List TableRow) (status : ℕ) (request : Parts) → amount_value request < 1000000000000 → IsTrue (is_table rows) → decision rows status request ≡ None → ⊥
+pub decision-table : (rows : List TableRow) (status : ℕ) (request : Parts) → amount_value request < 1000000000000 → IsTrue (is_table rows)
+    → decision rows status request ≡ None → ⊥
 unfolding is_table
 decision-table rows status request below table none = some-fits rows status request below (and_parts _ _ table).1 none
 
 -- so what is found in a table is there
-pub found-table : {A : Type 0} (shown : A → TableRow) (found : Option A) (rows : List TableRow) (status : ℕ) (request : Parts) → amount_value request < 1000000000000 → IsTrue (is_table rows) → option_map shown found ≡ decision rows status request → IsSome found
+pub found-table : {A : Type 0} (shown : A → TableRow) (found : Option A) (rows : List TableRow) (status : ℕ) (request : Parts)
+    → amount_value request < 1000000000000 → IsTrue (is_table rows) → option_map shown found ≡ decision rows status request → IsSome found
 found-table shown (Some row) rows status request below table is = refl
 found-table shown None rows status request below table is = absurd (decision-table rows status request below table (sym is))

@@ -1,5 +1,6 @@
 -- What the definition of a table says beside that of its first bad row.
-use Rattle.std.proofs.Common.{◌≡◌, ℕ, suc, ◌≤◌, ◌↔◌, ◌==◌, true, false, ◌&&◌, ◌||◌, not, List, [], ◌∷◌, length, refl, ap, sym, ◌∙◌, inl, inr, Option, None, Some, IsTrue, arith}
+use Rattle.std.proofs.Common.{◌≡◌, ℕ, suc, ◌≤◌, ◌↔◌, ◌==◌, true, false, ◌&&◌, ◌||◌, not, List, [], ◌∷◌, length, refl, ap, sym, ◌∙◌, inl, inr, Option, None}
+use Rattle.std.proofs.Common.{Some, IsTrue, arith}
 use Rattle.std.proofs.lemmas.Bool.{cond-true, cond-false, cases_Bool, ne_eqb}
 use Rattle.std.specs.Option.{is_none}
 use Rattle.std.specs.List.{list_all}
@@ -7,7 +8,8 @@ use Rattle.decision_table.specs.declared.row.TableRow.{TableRow}
 use Rattle.decision_table.specs.Tables.{tells_approval, takes_all, ends_in_all, is_table, may_stand, first_bad_from, first_bad_row}
 
 -- of rows that are there, none is bad exactly where each tells its approval and the last one takes all
-bad_from-none : (place : ℕ) (row : TableRow) (rows : List TableRow) → is_none (first_bad_from place (row ∷ rows)) ≡ (list_all tells_approval (row ∷ rows) && ends_in_all (row ∷ rows))
+bad_from-none : (place : ℕ) (row : TableRow) (rows : List TableRow)
+    → is_none (first_bad_from place (row ∷ rows)) ≡ (list_all tells_approval (row ∷ rows) && ends_in_all (row ∷ rows))
 unfolding may_stand
 bad_from-none place row [] =
     elim (cases_Bool (tells_approval row)) [

@@ -1,3 +1,4 @@
+//! A row of a decision table.
 ghost use Rattle.std.specs.Prelude.{◌≡◌, ◌==◌};
 ghost use Rattle.std.specs.List.{list_all};
 ghost use Rattle.issuer_base.specs.ChipData.{amount_value};

@@ -1,3 +1,4 @@
+//! A decision table, and the row that decides a request.
 ghost use Rattle.std.specs.Prelude.{◌≡◌, ◌≤◌, ◌↔◌, None, Some, length, IsTrue};
 ghost use Rattle.std.specs.List.{find};
 ghost use Rattle.std.specs.Option.{option_map};

@@ -1,5 +1,6 @@
 -- Binary digits and the numbers that they write.
-use Rattle.std.proofs.Common.{◌≡◌, ℕ, zero, suc, ◌+◌, ◌-◌, ◌*◌, ◌/◌, ◌%◌, ◌^◌, ◌<◌, ◌≤◌, ◌==◌, Bool, true, false, List, [], ◌∷◌, ◌++◌, length, take, drop, slice_index_or, bit_xor, refl, sym, ap, ◌∙◌, arith, pow-suc, mod-lt, length-append}
+use Rattle.std.proofs.Common.{◌≡◌, ℕ, zero, suc, ◌+◌, ◌-◌, ◌*◌, ◌/◌, ◌%◌, ◌^◌, ◌<◌, ◌≤◌, ◌==◌, Bool, true, false, List, [], ◌∷◌, ◌++◌, length, take, drop}
+use Rattle.std.proofs.Common.{slice_index_or, bit_xor, refl, sym, ap, ◌∙◌, arith, pow-suc, mod-lt, length-append}
 use Rattle.std.proofs.lemmas.Nat.{mod-pow-add, shr_high, mod_low, shr_split, shr-shr, xor_block, xor_shr, xor_mod}
 use Rattle.std.proofs.lemmas.Nat.Bits.{bit_at_cat_low, bit_at_xor, bit_at-lt}
 use Rattle.std.proofs.lemmas.List.{length-map}

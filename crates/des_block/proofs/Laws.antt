@@ -1,5 +1,7 @@
 -- Deciphering undoes enciphering, on bits and on bytes.
-use Rattle.std.proofs.Common.{◌≡◌, ℕ, zero, suc, ◌+◌, ◌-◌, ◌^◌, ◌<◌, Bool, true, false, List, [], ◌∷◌, ◌++◌, length, map, take, drop, reverse, fold, get_or, slice_index_or, refl, sym, ap, ap₂, ◌∙◌, arith, w64, length-append, length-take-le, length-drop, take_at, drop_at, take-append-drop}
+use Rattle.std.proofs.Common.{◌≡◌, ℕ, zero, suc, ◌+◌, ◌-◌, ◌^◌, ◌<◌, Bool, true, false, List, [], ◌∷◌, ◌++◌, length, map, take, drop, reverse, fold, get_or}
+use Rattle.std.proofs.Common.{slice_index_or, refl, sym, ap, ap₂, ◌∙◌, arith, w64, length-append, length-take-le, length-drop, take_at, drop_at}
+use Rattle.std.proofs.Common.{take-append-drop}
 use Rattle.std.specs.Int.{from_be_bytes, to_be_bytes}
 use Rattle.std.specs.List.{range_with_len}
 use Rattle.std.proofs.lemmas.Nat.{be_bytes_8, from_be_bytes-to_be_bytes_8}
@@ -7,7 +9,8 @@ use Rattle.std.proofs.lemmas.List.{ext_get_or, reverse-reverse, reverse-append, 
 use Rattle.std.proofs.lemmas.List.FromFn.{length-map-range_with_len, get_or-map-range_with_len}
 use Rattle.des_block.specs.Bits.{bits, number, picked, xor_bits}
 use Rattle.des_block.specs.Tables.{initial_permutation, inverse_permutation}
-use Rattle.des_block.specs.Cipher.{Halves, halves, cipher_function, round, ciphered, round_keys, word_bytes, block_bits, block_bytes, des_encipher, des_decipher, tdes_encipher, tdes_decipher}
+use Rattle.des_block.specs.Cipher.{Halves, halves, cipher_function, round, ciphered, round_keys, word_bytes, block_bits, block_bytes, des_encipher}
+use Rattle.des_block.specs.Cipher.{des_decipher, tdes_encipher, tdes_decipher}
 use Rattle.des_block.proofs.Digits.{length-picked, length-bits, length-xor_bits, bits-number, number-bits, number-lt}
 use Rattle.des_block.proofs.PlainSteps.{length-cipher_function}
 use mathlib.Core.Bool.{xor}
@@ -30,7 +33,8 @@ picked_all : (bs : List Bool) (n : ℕ) → length bs ≡ n → picked (range_wi
 unfolding picked
 picked_all bs n len =
     let at : (i : ℕ) → i < length (picked (range_with_len 1 n) bs) → slice_index_or (picked (range_with_len 1 n) bs) i false ≡ slice_index_or bs i false =
-    λ i h. get_or-map-range_with_len (λ e. slice_index_or bs (e - 1) false) 1 n i (i + 1) false (omega (arith, length-map-range_with_len (λ (e : ℕ). slice_index_or bs (e - 1) false) 1 n)) (omega arith)
+    λ i h. get_or-map-range_with_len (λ e. slice_index_or bs (e - 1) false) 1 n i (i + 1) false
+    (omega (arith, length-map-range_with_len (λ (e : ℕ). slice_index_or bs (e - 1) false) 1 n)) (omega arith)
     ∙ ap (λ k. slice_index_or bs k false) (omega arith) in
     ext_get_or false (picked (range_with_len 1 n) bs) bs (length-map-range_with_len (λ (e : ℕ). slice_index_or bs (e - 1) false) 1 n ∙ sym len) at
 
@@ -155,7 +159,8 @@ block_bytes-block_bits bytes len small =
     let whole : number (bits 64 n) ≡ n = number-bits 64 n ∙ omega arith in
     ap (to_be_bytes w64) whole ∙ be_bytes_8 bytes n len small refl
 
-pub des_decipher-des_encipher : (key block : List ℕ) → length block ≡ 8 → ((i : ℕ) → get_or block i 0 < 256) → des_decipher key (des_encipher key block) ≡ block
+pub des_decipher-des_encipher : (key block : List ℕ) → length block ≡ 8 → ((i : ℕ) → get_or block i 0 < 256)
+    → des_decipher key (des_encipher key block) ≡ block
 unfolding des_encipher des_decipher
 des_decipher-des_encipher key block len small =
     let keys : List (List Bool) = round_keys (block_bits key) in
@@ -163,12 +168,14 @@ des_decipher-des_encipher key block len small =
     ∙ ap block_bytes (ciphered_back keys (block_bits block) (length-block_bits block))
     ∙ block_bytes-block_bits block len small
 
-pub des_encipher-des_decipher : (key block : List ℕ) → length block ≡ 8 → ((i : ℕ) → get_or block i 0 < 256) → des_encipher key (des_decipher key block) ≡ block
+pub des_encipher-des_decipher : (key block : List ℕ) → length block ≡ 8 → ((i : ℕ) → get_or block i 0 < 256)
+    → des_encipher key (des_decipher key block) ≡ block
 unfolding des_encipher des_decipher
 des_encipher-des_decipher key block len small =
     let keys : List (List Bool) = round_keys (block_bits key) in
     let order : reverse (reverse keys) ≡ keys = reverse-reverse keys in
-    ap (λ b. block_bytes (ciphered keys b)) (block_bits-block_bytes (ciphered (reverse keys) (block_bits block)) (length-ciphered (reverse keys) (block_bits block)))
+    ap (λ b. block_bytes (ciphered keys b))
+    (block_bits-block_bytes (ciphered (reverse keys) (block_bits block)) (length-ciphered (reverse keys) (block_bits block)))
     ∙ ap (λ ks. block_bytes (ciphered ks (ciphered (reverse keys) (block_bits block)))) (sym order)
     ∙ ap block_bytes (ciphered_back (reverse keys) (block_bits block) (length-block_bits block))
     ∙ block_bytes-block_bits block len small
@@ -201,7 +208,8 @@ pub des_decipher_small : (key block : List ℕ) (i : ℕ) → get_or (des_deciph
 unfolding word_bytes des_decipher block_bytes
 des_decipher_small key block i = bytes_small _ i
 
-pub tdes_decipher-tdes_encipher : (key block : List ℕ) → length block ≡ 8 → ((i : ℕ) → get_or block i 0 < 256) → tdes_decipher key (tdes_encipher key block) ≡ block
+pub tdes_decipher-tdes_encipher : (key block : List ℕ) → length block ≡ 8 → ((i : ℕ) → get_or block i 0 < 256)
+    → tdes_decipher key (tdes_encipher key block) ≡ block
 unfolding tdes_encipher tdes_decipher
 tdes_decipher-tdes_encipher key block len small =
     let l : List ℕ = take 8 key in
@@ -212,7 +220,8 @@ tdes_decipher-tdes_encipher key block len small =
     ∙ ap (des_decipher l) (des_encipher-des_decipher r x (length-des_encipher l block) (des_encipher_small l block))
     ∙ des_decipher-des_encipher l block len small
 
-pub tdes_encipher-tdes_decipher : (key block : List ℕ) → length block ≡ 8 → ((i : ℕ) → get_or block i 0 < 256) → tdes_encipher key (tdes_decipher key block) ≡ block
+pub tdes_encipher-tdes_decipher : (key block : List ℕ) → length block ≡ 8 → ((i : ℕ) → get_or block i 0 < 256)
+    → tdes_encipher key (tdes_decipher key block) ≡ block
 unfolding tdes_encipher tdes_decipher
 tdes_encipher-tdes_decipher key block len small =
     let l : List ℕ = take 8 key in
@@ -229,7 +238,8 @@ pub block_bits-word_bytes : (n : ℕ) → n < 2 ^ 64 → block_bits (word_bytes 
 unfolding block_bits word_bytes
 block_bits-word_bytes n h = ap (bits 64) (from_be_bytes-to_be_bytes_8 n h)
 
-pub word_bytes-from_be_bytes : (bytes : List ℕ) (n : ℕ) → length bytes ≡ 8 → ((i : ℕ) → get_or bytes i 0 < 256) → n ≡ from_be_bytes w64 bytes → word_bytes n ≡ bytes
+pub word_bytes-from_be_bytes : (bytes : List ℕ) (n : ℕ) → length bytes ≡ 8 → ((i : ℕ) → get_or bytes i 0 < 256) → n ≡ from_be_bytes w64 bytes
+    → word_bytes n ≡ bytes
 unfolding word_bytes
 word_bytes-from_be_bytes bytes n len small e = be_bytes_8 bytes n len small e
 

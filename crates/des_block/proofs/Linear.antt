@@ -1,6 +1,7 @@
 -- What goes through xor: functions of words, and bits picked by a table. Two such functions agree if they agree on the
 -- powers of two.
-use Rattle.std.proofs.Common.{◌≡◌, ℕ, zero, suc, ◌+◌, ◌-◌, ◌*◌, ◌/◌, ◌%◌, ◌^◌, ◌<◌, ◌≤◌, min, ◌==◌, Bool, true, false, List, [], ◌∷◌, ◌++◌, length, map, slice_index_or, bit_xor, bit_and, refl, sym, ap, ap₂, ◌∙◌, arith, pow_pos, mod-lt, add-zero}
+use Rattle.std.proofs.Common.{◌≡◌, ℕ, zero, suc, ◌+◌, ◌-◌, ◌*◌, ◌/◌, ◌%◌, ◌^◌, ◌<◌, ◌≤◌, min, ◌==◌, Bool, true, false, List, [], ◌∷◌, ◌++◌, length, map}
+use Rattle.std.proofs.Common.{slice_index_or, bit_xor, bit_and, refl, sym, ap, ap₂, ◌∙◌, arith, pow_pos, mod-lt, add-zero}
 use Rattle.std.proofs.lemmas.Nat.{xor_shr, xor_mod, xor_block, shr_split, xor_comm}
 use Rattle.std.proofs.lemmas.Nat.Bits.{bit_at_and, bit_at_xor, bit_at-lt, same_from_bits}
 use lib.Bits.{xor_assoc, xor_self, xor_shifted}
@@ -24,7 +25,10 @@ low_additive k = record { through = λ x y. xor_mod x y k }
 
 pub shl_additive : (k : ℕ) → Additive (λ x. x * 2 ^ k)
 shl_additive k =
-    record { through = λ x y. sym (sym (ap₂ bit_xor (add-zero (x * 2 ^ k)) (add-zero (y * 2 ^ k))) ∙ xor_block k x y 0 0 (pow_pos k) (pow_pos k) ∙ add-zero (bit_xor x y * 2 ^ k)) }
+    record {
+      through = λ x y. sym (sym (ap₂ bit_xor (add-zero (x * 2 ^ k)) (add-zero (y * 2 ^ k))) ∙ xor_block k x y 0 0 (pow_pos k) (pow_pos k)
+          ∙ add-zero (bit_xor x y * 2 ^ k));
+    }
 
 masked_digit : (a b m : ℕ) → a < 2 → b < 2 → m < 2 → min ((a + b) % 2) m ≡ (min a m + min b m) % 2
 masked_digit a b m ha hb hm =
@@ -78,7 +82,8 @@ number-xor_bits (x ∷ xs) (y ∷ ys) e =
     rw (length-xor_bits xs ys same, number-xor_bits xs ys same, digit-xor x y, ← same)
     (sym (xor_block (length xs) (digit x) (digit y) (number xs) (number ys) (number-lt xs) fits))
 
-xor_bits_at : (xs ys : List Bool) (i : ℕ) → length xs ≡ length ys → slice_index_or (xor_bits xs ys) i false ≡ xor (slice_index_or xs i false) (slice_index_or ys i false)
+xor_bits_at : (xs ys : List Bool) (i : ℕ) → length xs ≡ length ys
+    → slice_index_or (xor_bits xs ys) i false ≡ xor (slice_index_or xs i false) (slice_index_or ys i false)
 unfolding xor_bits mathlib.Core.Bool.xor
 xor_bits_at [] [] i e = refl
 xor_bits_at [] (y ∷ ys) i e = absurd (omega arith)
@@ -86,7 +91,8 @@ xor_bits_at (x ∷ xs) [] i e = absurd (omega arith)
 xor_bits_at (x ∷ xs) (y ∷ ys) zero e = refl
 xor_bits_at (x ∷ xs) (y ∷ ys) (suc i) e = xor_bits_at xs ys i (omega arith)
 
-pub picked-xor_bits : (table : List ℕ) (xs ys : List Bool) → length xs ≡ length ys → picked table (xor_bits xs ys) ≡ xor_bits (picked table xs) (picked table ys)
+pub picked-xor_bits : (table : List ℕ) (xs ys : List Bool) → length xs ≡ length ys
+    → picked table (xor_bits xs ys) ≡ xor_bits (picked table xs) (picked table ys)
 unfolding picked xor_bits
 picked-xor_bits [] xs ys e = refl
 picked-xor_bits (n ∷ table) xs ys e = ap₂ (λ b bs. b ∷ bs) (xor_bits_at xs ys (n - 1) e) (picked-xor_bits table xs ys e)
@@ -133,6 +139,7 @@ module _ (f g : ℕ → ℕ) (a : Additive f) (b : Additive g) where
       ∙ ap₂ bit_xor (one_digit n top top_fits (h n (omega arith))) (same_on_words n (λ i k. h i (omega arith)) low low_fits)
       ∙ sym (b.through (top * 2 ^ n) low) ∙ ap g parts
 
-  pub same_additive : (n : ℕ) → map (λ i. f (2 ^ i)) (Rattle.std.specs.List.range_with_len 0 n) ≡ map (λ i. g (2 ^ i)) (Rattle.std.specs.List.range_with_len 0 n)
+  pub same_additive : (n : ℕ)
+      → map (λ i. f (2 ^ i)) (Rattle.std.specs.List.range_with_len 0 n) ≡ map (λ i. g (2 ^ i)) (Rattle.std.specs.List.range_with_len 0 n)
       → (x : ℕ) → x < 2 ^ n → f x ≡ g x
   same_additive n e = same_on_words n (agree_below (λ i. f (2 ^ i)) (λ i. g (2 ^ i)) n e)

@@ -1,5 +1,6 @@
 -- The merged tables are the S boxes and P, and the round's word is the cipher function.
-use Rattle.std.proofs.Common.{◌≡◌, ℕ, ◌+◌, ◌*◌, ◌/◌, ◌%◌, ◌^◌, ◌<◌, ◌≤◌, Bool, List, [], ◌∷◌, ◌++◌, length, map, take, drop, get_or, slice_index, bit_xor, bit_and, bit_or, refl, sym, ap, ap₂, ◌∙◌, arith, append-nil, length-append, fold}
+use Rattle.std.proofs.Common.{◌≡◌, ℕ, ◌+◌, ◌*◌, ◌/◌, ◌%◌, ◌^◌, ◌<◌, ◌≤◌, Bool, List, [], ◌∷◌, ◌++◌, length, map, take, drop, get_or, slice_index, bit_xor}
+use Rattle.std.proofs.Common.{bit_and, bit_or, refl, sym, ap, ap₂, ◌∙◌, arith, append-nil, length-append, fold}
 use Rattle.std.specs.List.{range_with_len}
 use Rattle.std.proofs.lemmas.Nat.{or_comm, and_mask}
 use Rattle.std.proofs.lemmas.List.{drop_more, drop_all, length-map}
@@ -55,7 +56,8 @@ merged-append b rest n len =
 -- the eight boxes over the two words of their inputs
 boxed : (o e : ℕ) → substituted s_boxes (picked box_places (bits 32 o ++ bits 32 e))
     ≡ box_output s1 (take 6 (bits 30 o)) ++ (box_output s2 (take 6 (bits 30 e)) ++ (box_output s3 (take 6 (bits 22 o)) ++ (box_output s4 (take 6 (bits 22 e))
-    ++ (box_output s5 (take 6 (bits 14 o)) ++ (box_output s6 (take 6 (bits 14 e)) ++ (box_output s7 (take 6 (bits 6 o)) ++ (box_output s8 (take 6 (bits 6 e)) ++ [])))))))
+    ++ (box_output s5
+    (take 6 (bits 14 o)) ++ (box_output s6 (take 6 (bits 14 e)) ++ (box_output s7 (take 6 (bits 6 o)) ++ (box_output s8 (take 6 (bits 6 e)) ++ [])))))))
 unfolding substituted s_boxes picked box_places bits
 boxed o e = refl
 
@@ -63,9 +65,11 @@ length_boxes : (a b : List ℕ) (p q : List Bool) → length (box_output a p ++ 
 length_boxes a b p q = omega (arith, length-append (box_output a p) (box_output b q), length-box_output a p, length-box_output b q)
 
 -- a list of eight four-bit outputs as a word
-merged_boxes : (b1 b2 b3 b4 b5 b6 b7 b8 : List Bool) → length b2 ≡ 4 → length b3 ≡ 4 → length b4 ≡ 4 → length b5 ≡ 4 → length b6 ≡ 4 → length b7 ≡ 4 → length b8 ≡ 4
+merged_boxes : (b1 b2 b3 b4 b5 b6 b7 b8 : List Bool) → length b2 ≡ 4 → length b3 ≡ 4 → length b4 ≡ 4 → length b5 ≡ 4 → length b6 ≡ 4 → length b7 ≡ 4
+    → length b8 ≡ 4
     → merged (number (b1 ++ (b2 ++ (b3 ++ (b4 ++ (b5 ++ (b6 ++ (b7 ++ b8))))))))
-    ≡ bit_xor (merged (number b1 * 2 ^ 28)) (bit_xor (merged (number b2 * 2 ^ 24)) (bit_xor (merged (number b3 * 2 ^ 20)) (bit_xor (merged (number b4 * 2 ^ 16))
+    ≡ bit_xor (merged (number b1 * 2 ^ 28))
+    (bit_xor (merged (number b2 * 2 ^ 24)) (bit_xor (merged (number b3 * 2 ^ 20)) (bit_xor (merged (number b4 * 2 ^ 16))
     (bit_xor (merged (number b5 * 2 ^ 12)) (bit_xor (merged (number b6 * 2 ^ 8)) (bit_xor (merged (number b7 * 2 ^ 4)) (merged (number b8))))))))
 merged_boxes b1 b2 b3 b4 b5 b6 b7 b8 l2 l3 l4 l5 l6 l7 l8 =
     let r7 : List Bool = b7 ++ b8 in
@@ -133,25 +137,38 @@ mixed_boxes o e =
     let last : merged (number b8) ≡ merged (number b8 * 2 ^ 0) = ap merged (omega arith) in
     merged_number (substituted s_boxes (picked box_places (bits 32 o ++ bits 32 e))) (length-substituted (picked box_places (bits 32 o ++ bits 32 e)))
     ∙ ap (λ l. merged (number l)) list
-    ∙ merged_boxes b1 b2 b3 b4 b5 b6 b7 b8 (length-box_output s2 _) (length-box_output s3 _) (length-box_output s4 _) (length-box_output s5 _) (length-box_output s6 _) (length-box_output s7 _) (length-box_output s8 _)
-    ∙ ap (λ x. bit_xor (merged (number b1 * 2 ^ 28)) (bit_xor (merged (number b2 * 2 ^ 24)) (bit_xor (merged (number b3 * 2 ^ 20)) (bit_xor (merged (number b4 * 2 ^ 16))
+    ∙ merged_boxes b1 b2 b3 b4 b5 b6 b7 b8 (length-box_output s2 _) (length-box_output s3 _) (length-box_output s4 _) (length-box_output s5 _)
+    (length-box_output s6 _) (length-box_output s7 _) (length-box_output s8 _)
+    ∙ ap (λ x. bit_xor (merged (number b1 * 2 ^ 28))
+    (bit_xor (merged (number b2 * 2 ^ 24)) (bit_xor (merged (number b3 * 2 ^ 20)) (bit_xor (merged (number b4 * 2 ^ 16))
     (bit_xor (merged (number b5 * 2 ^ 12)) (bit_xor (merged (number b6 * 2 ^ 8)) (bit_xor (merged (number b7 * 2 ^ 4)) x))))))) last
     ∙ sym (left_first (merged (number b1 * 2 ^ 28)) (merged (number b2 * 2 ^ 24)) (merged (number b3 * 2 ^ 20)) (merged (number b4 * 2 ^ 16))
     (merged (number b5 * 2 ^ 12)) (merged (number b6 * 2 ^ 8)) (merged (number b7 * 2 ^ 4)) (merged (number b8 * 2 ^ 0)))
 
 -- the word of a round is the cipher function, turned left by one place
 pub mixed_is : (half rot ko ke : ℕ) → half < 2 ^ 32 → rot ≡ bit_or (half / 2 ^ 4) (half * 2 ^ 28 % 2 ^ 32)
-    → mixed_word (bit_xor rot ko) (bit_xor half ke) ≡ number (turned 1 (cipher_function (turned 31 (bits 32 half)) (picked box_places (bits 32 ko ++ bits 32 ke))))
+    → mixed_word (bit_xor rot ko) (bit_xor half ke)
+    ≡ number (turned 1 (cipher_function (turned 31 (bits 32 half)) (picked box_places (bits 32 ko ++ bits 32 ke))))
 unfolding cipher_function
 mixed_is half rot ko ke fits er =
     let o : ℕ = bit_xor rot ko in
     let e : ℕ = bit_xor half ke in
-    let rot_bits : bits 32 rot ≡ turned 28 (bits 32 half) = ap (bits 32) (er ∙ or_comm (half / 2 ^ 4) (half * 2 ^ 28 % 2 ^ 32)) ∙ rotated_bits half 28 4 fits in
+    let rot_bits : bits 32 rot ≡ turned 28 (bits 32 half) = ap (bits 32) (er ∙ or_comm (half / 2 ^ 4) (half * 2 ^ 28 % 2 ^ 32))
+    ∙ rotated_bits half 28 4 fits in
     let len : length (bits 32 rot ++ bits 32 half) ≡ length (bits 32 ko ++ bits 32 ke) =
-    omega (arith, length-append (bits 32 rot) (bits 32 half), length-append (bits 32 ko) (bits 32 ke), length-bits 32 rot, length-bits 32 half, length-bits 32 ko, length-bits 32 ke) in
+    omega (
+      arith,
+      length-append (bits 32 rot) (bits 32 half),
+      length-append (bits 32 ko) (bits 32 ke),
+      length-bits 32 rot,
+      length-bits 32 half,
+      length-bits 32 ko,
+      length-bits 32 ke,
+    ) in
     let expanded : picked expansion (turned 31 (bits 32 half)) ≡ picked box_places (bits 32 rot ++ bits 32 half) =
     expanded_bits half ∙ ap (λ b. picked box_places (b ++ bits 32 half)) (sym rot_bits) in
-    let joined : xor_bits (picked expansion (turned 31 (bits 32 half))) (picked box_places (bits 32 ko ++ bits 32 ke)) ≡ picked box_places (bits 32 o ++ bits 32 e) =
+    let joined : xor_bits (picked expansion (turned 31 (bits 32 half))) (picked box_places (bits 32 ko ++ bits 32 ke))
+    ≡ picked box_places (bits 32 o ++ bits 32 e) =
     ap (λ b. xor_bits b (picked box_places (bits 32 ko ++ bits 32 ke))) expanded
     ∙ sym (picked-xor_bits box_places (bits 32 rot ++ bits 32 half) (bits 32 ko ++ bits 32 ke) len)
     ∙ ap (picked box_places) (xor_bits-append (bits 32 rot) (bits 32 half) (bits 32 ko) (bits 32 ke) (length-bits 32 rot ∙ sym (length-bits 32 ko))
@@ -196,5 +213,6 @@ Runs_more keys left right i l r m key done h ek em =
     ∙ ap (λ b. fold round (record { left = turned 31 (bits 32 r); right = b }) (drop (i + 1) keys)) (sym next) in
     record { joined = sym step ∙ done.joined }
 
-pub Runs_all : (keys : List (List Bool)) (left right i l r : ℕ) → Runs keys left right i l r → length keys ≤ i → turned_halves l r ≡ fold round (turned_halves left right) keys
+pub Runs_all : (keys : List (List Bool)) (left right i l r : ℕ) → Runs keys left right i l r → length keys ≤ i
+    → turned_halves l r ≡ fold round (turned_halves left right) keys
 Runs_all keys left right i l r done h = ap (fold round (turned_halves l r)) (sym (drop_all i keys h)) ∙ done.joined

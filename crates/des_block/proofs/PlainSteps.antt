@@ -1,13 +1,17 @@
 -- The steps of the plain body.
-use Rattle.std.proofs.Common.{ap₂, set, length-set, length-drop, length-take, append_assoc, append-nil, drop-drop, ◌≡◌, ℕ, zero, suc, ◌+◌, ◌-◌, ◌*◌, ◌/◌, ◌%◌, ◌^◌, ◌<◌, ◌≤◌, Bool, true, false, List, [], ◌∷◌, ◌++◌, length, map, take, drop, slice_index, slice_index_or, bit_xor, bit_or, bit_and, refl, sym, ap, ◌∙◌, arith, pow_pos, pow_mono, mod-lt, length-append, length-take-le, fold, get_or}
+use Rattle.std.proofs.Common.{ap₂, set, length-set, length-drop, length-take, append_assoc, append-nil, drop-drop, ◌≡◌, ℕ, zero, suc, ◌+◌, ◌-◌, ◌*◌, ◌/◌, ◌%◌}
+use Rattle.std.proofs.Common.{◌^◌, ◌<◌, ◌≤◌, Bool, true, false, List, [], ◌∷◌, ◌++◌, length, map, take, drop, slice_index, slice_index_or, bit_xor, bit_or}
+use Rattle.std.proofs.Common.{bit_and, refl, sym, ap, ◌∙◌, arith, pow_pos, pow_mono, mod-lt, length-append, length-take-le, fold, get_or}
 use Rattle.std.proofs.lemmas.Nat.{mod-pow-add, shr_high, or_shifted, and_mask, pow-add, xor_lt, shr-shr, shl_below}
 use Rattle.std.proofs.lemmas.List.{take_all, take_more_set, map-append, drop_all, map_more, drop_more}
 use Rattle.std.proofs.lemmas.List.FromFn.{get_or-map-range_with_len}
 use Rattle.std.specs.List.{range_with_len}
 use Rattle.des_block.specs.Bits.{bits, digit, number, picked, xor_bits}
-use Rattle.des_block.specs.Tables.{key_choice_left, key_choice_right, round_key_choice, rotations, expansion, box_permutation, initial_permutation, inverse_permutation, s_boxes}
+use Rattle.des_block.specs.Tables.{key_choice_left, key_choice_right, round_key_choice, rotations, expansion, box_permutation, initial_permutation}
+use Rattle.des_block.specs.Tables.{inverse_permutation, s_boxes}
 use Rattle.des_block.specs.Cipher.{Halves, halves, box_output, substituted, cipher_function, round, ciphered, turned, keys_from, round_keys}
-use Rattle.des_block.proofs.Digits.{bits_low, digit_of, digit_at, number-lt, number-bits, number-append, length-picked, length-bits, bits-number, take-bits, drop-bits, bits-xor, bits_mod}
+use Rattle.des_block.proofs.Digits.{bits_low, digit_of, digit_at, number-lt, number-bits, number-append, length-picked, length-bits, bits-number, take-bits}
+use Rattle.des_block.proofs.Digits.{drop-bits, bits-xor, bits_mod}
 
 -- two functions with one table of values agree on its arguments
 pub agree_below : (f g : ℕ → ℕ) (n : ℕ) → map f (range_with_len 0 n) ≡ map g (range_with_len 0 n) → (x : ℕ) → x < n → f x ≡ g x
@@ -56,9 +60,21 @@ turned_parts half n m width =
     let shifted : lo * 2 ^ n < 2 ^ 28 = omega (arith, shl_below lo m n lo_fits) in
     let whole : (hi * 2 ^ m + lo) * 2 ^ n ≡ hi * 2 ^ 28 + lo * 2 ^ n = omega (arith, ap (λ k. hi * k) (sym (pow-add 2 m n) ∙ product)) in
     let left : bit_and ((half % 2 ^ 28) * 2 ^ n % 2 ^ 64) 268435455 ≡ lo * 2 ^ n =
-    ap (λ k. bit_and (k * 2 ^ n % 2 ^ 64) 268435455) parts ∙ ap (λ k. bit_and (k % 2 ^ 64) 268435455) whole ∙ and_mask ((hi * 2 ^ 28 + lo * 2 ^ n) % 2 ^ 64) 28 ∙ omega arith in
+    ap (λ k. bit_and (k * 2 ^ n % 2 ^ 64) 268435455) parts ∙ ap (λ k. bit_and (k % 2 ^ 64) 268435455) whole
+    ∙ and_mask ((hi * 2 ^ 28 + lo * 2 ^ n) % 2 ^ 64) 28 ∙ omega arith in
     let right : (half % 2 ^ 28) / 2 ^ m ≡ hi = ap (λ k. k / 2 ^ m) parts ∙ shr_high hi m lo lo_fits in
-    rw (masked, left, right, drop-bits n m half, take-bits n m half, number-append (bits m half) (bits n (half / 2 ^ m)), number-bits m half, number-bits n (half / 2 ^ m), length-bits n (half / 2 ^ m))
+    rw (
+      masked,
+      left,
+      right,
+      drop-bits n m half,
+      take-bits n m half,
+      number-append (bits m half) (bits n (half / 2 ^ m)),
+      number-bits m half,
+      number-bits n
+          (half / 2 ^ m),
+      length-bits n (half / 2 ^ m),
+    )
     (or_shifted lo n hi hi_fits)
 
 pub turned_is : (half n : ℕ) → n < 28
@@ -90,7 +106,8 @@ unfolding box_output picked number bits
 box_output_is box six h =
     let place : row_and_column six ≡ 16 * number (picked (1 ∷ 6 ∷ []) (bits 6 six)) + number (picked (2 ∷ 3 ∷ 4 ∷ 5 ∷ []) (bits 6 six)) =
     agree_below row_and_column (λ x. 16 * number (picked (1 ∷ 6 ∷ []) (bits 6 x)) + number (picked (2 ∷ 3 ∷ 4 ∷ 5 ∷ []) (bits 6 x))) 64 refl six h in
-    and_mask (slice_index box (row_and_column six)) 4 ∙ sym (number-bits 4 (slice_index box (row_and_column six))) ∙ ap (λ p. number (bits 4 (slice_index box p))) place
+    and_mask (slice_index box (row_and_column six)) 4 ∙ sym (number-bits 4 (slice_index box (row_and_column six)))
+    ∙ ap (λ p. number (bits 4 (slice_index box p))) place
 
 pub length-box_output : (box : List ℕ) (six : List Bool) → length (box_output box six) ≡ 4
 unfolding box_output
@@ -115,7 +132,8 @@ pub Substitutes_none : (boxes : List (List ℕ)) (word : ℕ) → Substitutes bo
 unfolding bits
 Substitutes_none boxes word = record { fits = omega arith; joined = refl }
 
-pub Substitutes_more : (boxes : List (List ℕ)) (word i out o : ℕ) (box : List ℕ) → Substitutes boxes word i out → i < 8 → length boxes ≡ 8 → box ≡ get_or boxes i []
+pub Substitutes_more : (boxes : List (List ℕ)) (word i out o : ℕ) (box : List ℕ) → Substitutes boxes word i out → i < 8 → length boxes ≡ 8
+    → box ≡ get_or boxes i []
     → o ≡ number (box_output box (bits 6 (bit_and (word / 2 ^ (42 - 6 * i)) 63)))
     → Substitutes boxes word (i + 1) (bit_or (out * 16 % 2 ^ 64) o)
 unfolding substituted
@@ -144,7 +162,8 @@ Substitutes_more boxes word i out o box done h len eb eo =
           (append_assoc (bits (4 * i) out) boxed _ ∙ ap (λ r. bits (4 * i) out ++ r) (sym step) ∙ done.joined);
     }
 
-pub Substitutes_all : (boxes : List (List ℕ)) (word out : ℕ) → Substitutes boxes word 8 out → length boxes ≡ 8 → out ≡ number (substituted boxes (bits 48 word))
+pub Substitutes_all : (boxes : List (List ℕ)) (word out : ℕ) → Substitutes boxes word 8 out → length boxes ≡ 8
+    → out ≡ number (substituted boxes (bits 48 word))
 unfolding substituted
 Substitutes_all boxes word out done len =
     let end : bits 32 out ≡ substituted boxes (bits 48 word) =
@@ -165,7 +184,8 @@ unfolding cipher_function box_permutation
 length-cipher_function right key = length-picked box_permutation _
 
 -- the word of a half and a round key
-pub mixed_bits : (right key : ℕ) (e : List ℕ) → length e ≡ 48 → bits 48 (bit_xor (number (picked e (bits 32 right))) key) ≡ xor_bits (picked e (bits 32 right)) (bits 48 key)
+pub mixed_bits : (right key : ℕ) (e : List ℕ) → length e ≡ 48
+    → bits 48 (bit_xor (number (picked e (bits 32 right))) key) ≡ xor_bits (picked e (bits 32 right)) (bits 48 key)
 mixed_bits right key e len =
     bits-xor 48 (number (picked e (bits 32 right))) key
     ∙ ap (λ b. xor_bits b (bits 48 key)) (bits-number 48 (picked e (bits 32 right)) (length-picked e (bits 32 right) ∙ len))
@@ -235,7 +255,8 @@ Ciphers_all keys block mixed l r out i len ei em done eo =
     let none : drop i keys ≡ [] = drop_all i keys (omega arith) in
     let end : halves_of l r ≡ fold round (halves (picked initial_permutation (bits 64 block))) (map (bits 48) keys) =
     ap (λ ks. fold round (halves_of l r) (map (bits 48) ks)) (sym none) ∙ done.joined ∙ ap (λ h. fold round h (map (bits 48) keys)) start in
-    eo ∙ ap (λ b. number (picked inverse_permutation b)) (joined_of l r done.left_fits done.right_fits) ∙ ap (λ (h : Halves). number (picked inverse_permutation (h.right ++ h.left))) end
+    eo ∙ ap (λ b. number (picked inverse_permutation b)) (joined_of l r done.left_fits done.right_fits)
+    ∙ ap (λ (h : Halves). number (picked inverse_permutation (h.right ++ h.left))) end
 
 pub length-turned : (n : ℕ) (bs : List Bool) → length (turned n bs) ≡ length bs
 unfolding turned
@@ -280,7 +301,8 @@ MakesKeys_more key i left right keys n l r k done h en el er ek =
     let both : bits 56 (bit_or (l * 2 ^ 28 % 2 ^ 64) r) ≡ c ++ d =
     ap (λ x. bits 56 (bit_or x r)) whole ∙ ap (bits 56) (or_shifted l 28 r r_fits) ∙ bits-append 28 28 l r r_fits ∙ ap₂ (λ x y. x ++ y) is_c is_d in
     let round_key : bits 48 k ≡ picked round_key_choice (c ++ d) =
-    ap (bits 48) (ek ∙ ap (λ b. number (picked round_key_choice b)) both) ∙ bits-number 48 _ (length-picked round_key_choice (c ++ d) ∙ length-round_key_choice) in
+    ap (bits 48) (ek ∙ ap (λ b. number (picked round_key_choice b)) both)
+    ∙ bits-number 48 _ (length-picked round_key_choice (c ++ d) ∙ length-round_key_choice) in
     let len : length keys ≡ 16 = done.len in
     let front : map (bits 48) (take (i + 1) (set keys i k)) ≡ map (bits 48) (take i keys) ++ bits 48 k ∷ [] =
     ap (map (bits 48)) (take_more_set keys i k (omega arith)) ∙ map-append (bits 48) (take i keys) (k ∷ []) in

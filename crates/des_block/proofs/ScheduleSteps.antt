@@ -1,5 +1,6 @@
 -- PC-1 and PC-2 on words.
-use Rattle.std.proofs.Common.{◌≡◌, ℕ, zero, suc, ◌+◌, ◌-◌, ◌*◌, ◌/◌, ◌%◌, ◌^◌, ◌<◌, ◌≤◌, Bool, true, false, List, [], ◌∷◌, ◌++◌, length, map, take, drop, set, slice_index, bit_xor, bit_and, bit_or, refl, sym, ap, ap₂, ◌∙◌, arith, append-nil, append_assoc, mod-lt, length-set}
+use Rattle.std.proofs.Common.{◌≡◌, ℕ, zero, suc, ◌+◌, ◌-◌, ◌*◌, ◌/◌, ◌%◌, ◌^◌, ◌<◌, ◌≤◌, Bool, true, false, List, [], ◌∷◌, ◌++◌, length, map, take, drop, set}
+use Rattle.std.proofs.Common.{slice_index, bit_xor, bit_and, bit_or, refl, sym, ap, ap₂, ◌∙◌, arith, append-nil, append_assoc, mod-lt, length-set}
 use Rattle.std.specs.List.{range_with_len}
 use Rattle.std.proofs.lemmas.Nat.{or_comm, and_mask, or_shifted}
 use Rattle.std.proofs.lemmas.List.{take_all, take_more_set, map-append, drop_more, drop_all}
@@ -28,7 +29,8 @@ right_table =
 unfoldable pub chosen : List ℕ → ℕ → ℕ → ℕ
 chosen table k v = word_picked 28 table (v * 2 ^ k)
 
-pub choice_at : (t table : List ℕ) (k x : ℕ) → t ≡ map (chosen table k) (range_with_len 0 128) → slice_index t (bit_and x 127) ≡ word_picked 28 table (x % 128 * 2 ^ k)
+pub choice_at : (t table : List ℕ) (k x : ℕ) → t ≡ map (chosen table k) (range_with_len 0 128)
+    → slice_index t (bit_and x 127) ≡ word_picked 28 table (x % 128 * 2 ^ k)
 unfolding chosen
 choice_at t table k x e =
     let below : x % 128 < 128 = omega arith in
@@ -37,7 +39,8 @@ choice_at t table k x e =
 
 -- four look-ups make the whole half
 pub four_choices : (table : List ℕ) (x : ℕ)
-    → bit_xor (bit_xor (bit_xor (word_picked 28 table (x / 2 ^ 21 % 128 * 2 ^ 21)) (word_picked 28 table (x / 2 ^ 14 % 128 * 2 ^ 14))) (word_picked 28 table (x / 2 ^ 7 % 128 * 2 ^ 7)))
+    → bit_xor (bit_xor (bit_xor (word_picked 28 table (x / 2 ^ 21 % 128 * 2 ^ 21)) (word_picked 28 table (x / 2 ^ 14 % 128 * 2 ^ 14)))
+    (word_picked 28 table (x / 2 ^ 7 % 128 * 2 ^ 7)))
     (word_picked 28 table (x % 128 * 2 ^ 0)) ≡ word_picked 28 table x
 four_choices table x =
     let f : ℕ → ℕ = word_picked 28 table in
@@ -48,8 +51,10 @@ four_choices table x =
     let l : Additive f = picked_additive 28 table in
     let last : d * 2 ^ 0 ≡ d = omega arith in
     let e1 : bit_xor (a * 2 ^ 21) (b * 2 ^ 14) ≡ (a * 128 + b) * 2 ^ 14 = xor_shifted a 21 (b * 2 ^ 14) (omega arith) ∙ omega arith in
-    let e2 : bit_xor ((a * 128 + b) * 2 ^ 14) (c * 2 ^ 7) ≡ ((a * 128 + b) * 128 + c) * 2 ^ 7 = xor_shifted (a * 128 + b) 14 (c * 2 ^ 7) (omega arith) ∙ omega arith in
-    let e3 : bit_xor (((a * 128 + b) * 128 + c) * 2 ^ 7) d ≡ ((a * 128 + b) * 128 + c) * 2 ^ 7 + d = xor_shifted ((a * 128 + b) * 128 + c) 7 d (omega arith) in
+    let e2 : bit_xor ((a * 128 + b) * 2 ^ 14) (c * 2 ^ 7) ≡ ((a * 128 + b) * 128 + c) * 2 ^ 7 = xor_shifted (a * 128 + b) 14 (c * 2 ^ 7) (omega arith)
+    ∙ omega arith in
+    let e3 : bit_xor (((a * 128 + b) * 128 + c) * 2 ^ 7) d ≡ ((a * 128 + b) * 128 + c) * 2 ^ 7 + d =
+    xor_shifted ((a * 128 + b) * 128 + c) 7 d (omega arith) in
     let whole : ((a * 128 + b) * 128 + c) * 2 ^ 7 + d ≡ x % 2 ^ 28 = omega arith in
     ap (λ y. bit_xor (bit_xor (bit_xor (f (a * 2 ^ 21)) (f (b * 2 ^ 14))) (f (c * 2 ^ 7))) (f y)) last
     ∙ ap (λ y. bit_xor (bit_xor y (f (c * 2 ^ 7))) (f d)) (sym (l.through (a * 2 ^ 21) (b * 2 ^ 14)) ∙ ap f e1)
@@ -68,10 +73,14 @@ length-right_table = refl
 table_word : (table : List ℕ) (x y : ℕ) → length table ≡ 32 → y ≡ word_picked 28 table x → (bits 32 y ≡ picked table (bits 28 x)) × (y < 2 ^ 32)
 table_word table x y len e =
     let n : length (picked table (bits 28 x)) ≡ 32 = length-picked table (bits 28 x) ∙ len in
-    let fits : number (picked table (bits 28 x)) < 2 ^ 32 = Rattle.std.proofs.Common.subst (λ k. number (picked table (bits 28 x)) < 2 ^ k) n (number-lt (picked table (bits 28 x))) in
+    let fits : number (picked table (bits 28 x)) < 2 ^ 32 =
+    Rattle.std.proofs.Common.subst (λ k. number (picked table (bits 28 x)) < 2 ^ k) n (number-lt (picked table (bits 28 x))) in
     (ap (bits 32) e ∙ bits-number 32 (picked table (bits 28 x)) n, omega arith)
 
-woven : (c d : ℕ) → picked box_places ((take 16 (picked left_table (bits 28 c)) ++ take 16 (picked right_table (bits 28 d))) ++ (drop 16 (picked left_table (bits 28 c)) ++ drop 16 (picked right_table (bits 28 d))))
+woven : (c d : ℕ)
+    → picked box_places
+    ((take 16 (picked left_table (bits 28 c)) ++ take 16 (picked right_table (bits 28 d))) ++ (drop 16 (picked left_table (bits 28 c)) ++ drop 16
+    (picked right_table (bits 28 d))))
     ≡ picked round_key_choice (bits 28 c ++ bits 28 d)
 unfolding picked bits left_table right_table box_places round_key_choice
 woven c d = refl
@@ -118,12 +127,16 @@ field m k j x = sym (ap (take k) (drop-bits m (k + j) x) ∙ take-bits k j x)
 masked : (k x : ℕ) → bits k (bit_and x (2 ^ k - 1)) ≡ bits k x
 masked k x = ap (bits k) (and_mask x k) ∙ bits_mod k x
 
-left_rows : (bs : List Bool) → ((take 8 (drop 32 (picked initial_permutation bs)) ++ take 8 (take 32 (picked initial_permutation bs))) ++ take 8 (drop 8 (drop 32 (picked initial_permutation bs))))
+left_rows : (bs : List Bool)
+    → ((take 8 (drop 32 (picked initial_permutation bs)) ++ take 8 (take 32 (picked initial_permutation bs))) ++ take 8
+    (drop 8 (drop 32 (picked initial_permutation bs))))
     ++ take 4 (drop 8 (take 32 (picked initial_permutation bs))) ≡ picked key_choice_left bs
 unfolding picked initial_permutation key_choice_left
 left_rows bs = refl
 
-right_rows : (bs : List Bool) → ((take 8 (drop 24 (drop 32 (picked initial_permutation bs))) ++ take 8 (drop 16 (take 32 (picked initial_permutation bs)))) ++ take 8 (drop 16 (drop 32 (picked initial_permutation bs))))
+right_rows : (bs : List Bool)
+    → ((take 8 (drop 24 (drop 32 (picked initial_permutation bs))) ++ take 8 (drop 16 (take 32 (picked initial_permutation bs)))) ++ take 8
+    (drop 16 (drop 32 (picked initial_permutation bs))))
     ++ take 4 (drop 12 (take 32 (picked initial_permutation bs))) ≡ picked key_choice_right bs
 unfolding picked initial_permutation key_choice_right
 right_rows bs = refl
@@ -139,7 +152,9 @@ module _ (l r p q : ℕ) (bs : List Bool) (fl : l < 2 ^ 32) (fr : r < 2 ^ 32) (f
   unfolding turned_halves halves
   q_bits = ap (bits 32) (eq ∙ or_comm (r / 2 ^ 1) (r * 2 ^ 31 % 2 ^ 32)) ∙ rotated_bits r 31 1 fr ∙ ap (λ (h : Halves). h.right) split
 
-  pub left_half : bits 28 (bit_or (bit_or (bit_or (q / 2 ^ 24 * 2 ^ 8 % 2 ^ 32) (p / 2 ^ 24) * 2 ^ 8 % 2 ^ 32) (bit_and (q / 2 ^ 16) 255) * 2 ^ 4 % 2 ^ 32) (bit_and (p / 2 ^ 20) 15))
+  pub left_half : bits 28
+      (bit_or (bit_or (bit_or (q / 2 ^ 24 * 2 ^ 8 % 2 ^ 32) (p / 2 ^ 24) * 2 ^ 8 % 2 ^ 32) (bit_and (q / 2 ^ 16) 255) * 2 ^ 4 % 2 ^ 32)
+      (bit_and (p / 2 ^ 20) 15))
       ≡ picked key_choice_left bs
   left_half =
       let x_fits : bit_and (q / 2 ^ 16) 255 < 2 ^ 8 = omega (arith, and_mask (q / 2 ^ 16) 8) in
@@ -151,7 +166,9 @@ module _ (l r p q : ℕ) (bs : List Bool) (fl : l < 2 ^ 32) (fr : r < 2 ^ 32) (f
       (masked 4 (p / 2 ^ 20) ∙ field 8 4 20 p ∙ ap (λ b. take 4 (drop 8 b)) p_bits)
       ∙ left_rows bs
 
-  pub right_half : bits 28 (bit_or (bit_or (bit_or (bit_and q 255 * 2 ^ 8 % 2 ^ 32) (bit_and (p / 2 ^ 8) 255) * 2 ^ 8 % 2 ^ 32) (bit_and (q / 2 ^ 8) 255) * 2 ^ 4 % 2 ^ 32) (bit_and (p / 2 ^ 16) 15))
+  pub right_half : bits 28
+      (bit_or (bit_or (bit_or (bit_and q 255 * 2 ^ 8 % 2 ^ 32) (bit_and (p / 2 ^ 8) 255) * 2 ^ 8 % 2 ^ 32) (bit_and (q / 2 ^ 8) 255) * 2 ^ 4 % 2 ^ 32)
+      (bit_and (p / 2 ^ 16) 15))
       ≡ picked key_choice_right bs
   right_half =
       let a_fits : bit_and q 255 < 2 ^ 8 = omega (arith, and_mask q 8) in

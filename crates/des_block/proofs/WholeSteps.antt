@@ -2,10 +2,12 @@
 use Rattle.std.proofs.Common.{◌≡◌, ℕ, ◌<◌, ◌^◌, Bool, List, ◌++◌, length, take, drop, reverse, fold, refl, sym, ap, ◌∙◌}
 use Rattle.des_block.specs.Bits.{bits, number, picked}
 use Rattle.des_block.specs.Tables.{initial_permutation, inverse_permutation}
-use Rattle.des_block.specs.Cipher.{Halves, halves, round, ciphered, round_keys, word_bytes, block_bits, block_bytes, des_encipher, des_decipher, tdes_encipher, tdes_decipher}
+use Rattle.des_block.specs.Cipher.{Halves, halves, round, ciphered, round_keys, word_bytes, block_bits, block_bytes, des_encipher, des_decipher}
+use Rattle.des_block.specs.Cipher.{tdes_encipher, tdes_decipher}
 use Rattle.des_block.specs.Keyed.{turned_halves}
 use Rattle.des_block.proofs.Digits.{length-picked}
-use Rattle.des_block.proofs.Laws.{AreHalves, AreHalves-halves, AreHalves-rounds, exchanged, halves-exchanged, length_joined, initial-inverse, length-ciphered, block_bits-block_bytes, block_bits-word_bytes}
+use Rattle.des_block.proofs.Laws.{AreHalves, AreHalves-halves, AreHalves-rounds, exchanged, halves-exchanged, length_joined, initial-inverse, length-ciphered}
+use Rattle.des_block.proofs.Laws.{block_bits-block_bytes, block_bits-word_bytes}
 
 -- what leaves the rounds, exchanged and through the inverse of IP
 abbrev pub out_of : Halves → List Bool
@@ -53,7 +55,9 @@ tripled_is k1 k2 k3 block l r l1 r1 l2 r2 l3 r3 out es e1 e2 e3 eo =
     ∙ ap number (sym (ap (ciphered k3) (ciphered_after k2 h1 w1) ∙ ciphered_after k3 h2 w2))
 
 pub word_tripled : (key : List ℕ) (block out : ℕ) → block < 2 ^ 64
-    → out ≡ number (ciphered (round_keys (block_bits (take 8 key))) (ciphered (reverse (round_keys (block_bits (drop 8 key)))) (ciphered (round_keys (block_bits (take 8 key))) (bits 64 block))))
+    → out ≡ number
+    (ciphered (round_keys (block_bits (take 8 key)))
+    (ciphered (reverse (round_keys (block_bits (drop 8 key)))) (ciphered (round_keys (block_bits (take 8 key))) (bits 64 block))))
     → word_bytes out ≡ tdes_encipher key (word_bytes block)
 unfolding tdes_encipher des_encipher des_decipher block_bytes
 word_tripled key block out h e =
@@ -61,14 +65,17 @@ word_tripled key block out h e =
     let kr : List (List Bool) = reverse (round_keys (block_bits (drop 8 key))) in
     let b : List Bool = bits 64 block in
     let first : block_bits (block_bytes (ciphered kl b)) ≡ ciphered kl b = block_bits-block_bytes (ciphered kl b) (length-ciphered kl b) in
-    let second : block_bits (block_bytes (ciphered kr (ciphered kl b))) ≡ ciphered kr (ciphered kl b) = block_bits-block_bytes (ciphered kr (ciphered kl b)) (length-ciphered kr (ciphered kl b)) in
+    let second : block_bits (block_bytes (ciphered kr (ciphered kl b))) ≡ ciphered kr (ciphered kl b) =
+    block_bits-block_bytes (ciphered kr (ciphered kl b)) (length-ciphered kr (ciphered kl b)) in
     ap word_bytes e ∙ sym (
     ap (λ x. block_bytes (ciphered kl (block_bits (block_bytes (ciphered kr (block_bits (block_bytes (ciphered kl x)))))))) (block_bits-word_bytes block h)
     ∙ ap (λ x. block_bytes (ciphered kl (block_bits (block_bytes (ciphered kr x))))) first
     ∙ ap (λ x. block_bytes (ciphered kl x)) second)
 
 pub word_tripled_back : (key : List ℕ) (block out : ℕ) → block < 2 ^ 64
-    → out ≡ number (ciphered (reverse (round_keys (block_bits (take 8 key)))) (ciphered (round_keys (block_bits (drop 8 key))) (ciphered (reverse (round_keys (block_bits (take 8 key)))) (bits 64 block))))
+    → out ≡ number
+    (ciphered (reverse (round_keys (block_bits (take 8 key))))
+    (ciphered (round_keys (block_bits (drop 8 key))) (ciphered (reverse (round_keys (block_bits (take 8 key)))) (bits 64 block))))
     → word_bytes out ≡ tdes_decipher key (word_bytes block)
 unfolding tdes_decipher des_encipher des_decipher block_bytes
 word_tripled_back key block out h e =
@@ -76,7 +83,8 @@ word_tripled_back key block out h e =
     let kr : List (List Bool) = round_keys (block_bits (drop 8 key)) in
     let b : List Bool = bits 64 block in
     let first : block_bits (block_bytes (ciphered kl b)) ≡ ciphered kl b = block_bits-block_bytes (ciphered kl b) (length-ciphered kl b) in
-    let second : block_bits (block_bytes (ciphered kr (ciphered kl b))) ≡ ciphered kr (ciphered kl b) = block_bits-block_bytes (ciphered kr (ciphered kl b)) (length-ciphered kr (ciphered kl b)) in
+    let second : block_bits (block_bytes (ciphered kr (ciphered kl b))) ≡ ciphered kr (ciphered kl b) =
+    block_bits-block_bytes (ciphered kr (ciphered kl b)) (length-ciphered kr (ciphered kl b)) in
     ap word_bytes e ∙ sym (
     ap (λ x. block_bytes (ciphered kl (block_bits (block_bytes (ciphered kr (block_bits (block_bytes (ciphered kl x)))))))) (block_bits-word_bytes block h)
     ∙ ap (λ x. block_bytes (ciphered kl (block_bits (block_bytes (ciphered kr x))))) first

@@ -1,5 +1,6 @@
 -- Halves of a block in words: rotations, and IP by exchanges of bits.
-use Rattle.std.proofs.Common.{◌≡◌, ℕ, ◌+◌, ◌*◌, ◌/◌, ◌%◌, ◌^◌, ◌<◌, Bool, List, ◌++◌, length, take, drop, bit_xor, bit_and, bit_or, refl, sym, ap, ap₂, ◌∙◌, arith, pow_pos, mod-lt, add_comm, take_at, drop_at, take-append-drop, length-drop}
+use Rattle.std.proofs.Common.{◌≡◌, ℕ, ◌+◌, ◌*◌, ◌/◌, ◌%◌, ◌^◌, ◌<◌, Bool, List, ◌++◌, length, take, drop, bit_xor, bit_and, bit_or, refl, sym, ap, ap₂, ◌∙◌}
+use Rattle.std.proofs.Common.{arith, pow_pos, mod-lt, add_comm, take_at, drop_at, take-append-drop, length-drop}
 use Rattle.std.proofs.lemmas.Nat.{shr_split, shr_below, shl_below, pow-add, mod_low, or_shifted, or_comm, and_mask}
 use Rattle.des_block.specs.Bits.{bits, number, picked}
 use Rattle.des_block.specs.Tables.{initial_permutation, inverse_permutation}
@@ -7,7 +8,8 @@ use Rattle.des_block.specs.Cipher.{halves, turned}
 use Rattle.des_block.specs.Keyed.{turned_halves}
 use Rattle.des_block.proofs.Digits.{length-bits, length-picked, bits-number, number-append, bits_mod, take-bits, drop-bits}
 use Rattle.des_block.proofs.PlainSteps.{bits-append}
-use Rattle.des_block.proofs.Linear.{Additive, shr_additive, low_additive, shl_additive, mask_additive, xor_additive, after_additive, picked_additive, word_picked, same_additive}
+use Rattle.des_block.proofs.Linear.{Additive, shr_additive, low_additive, shl_additive, mask_additive, xor_additive, after_additive, picked_additive}
+use Rattle.des_block.proofs.Linear.{word_picked, same_additive}
 
 -- a rotation of a word turns its bits
 pub rotated_bits : (n k m : ℕ) → n < 2 ^ (k + m) → bits (k + m) (bit_or (n * 2 ^ k % 2 ^ (k + m)) (n / 2 ^ m)) ≡ turned k (bits (k + m) n)
@@ -141,21 +143,25 @@ split_b5_additive = lowered_additive 1 1431655765 split_a4 split_b4 split_a4_add
 
 split_a_picked : (x : ℕ) → x < 2 ^ 64 → split_a5 x ≡ word_picked 64 (take 32 initial_permutation) x
 unfolding split_a0 split_b0 split_a1 split_b1 split_a2 split_b2 split_a3 split_b3 split_a4 split_b4 split_a5 split_b5 bits number picked initial_permutation
-split_a_picked x h = same_additive split_a5 (word_picked 64 (take 32 initial_permutation)) split_a5_additive (picked_additive 64 (take 32 initial_permutation)) 64 refl x h
+split_a_picked x h =
+    same_additive split_a5 (word_picked 64 (take 32 initial_permutation)) split_a5_additive (picked_additive 64 (take 32 initial_permutation)) 64 refl x h
 
 split_a_bits : (x : ℕ) → x < 2 ^ 64 → bits 32 (split_a5 x) ≡ take 32 (picked initial_permutation (bits 64 x))
 unfolding picked initial_permutation
 split_a_bits x h =
-    ap (bits 32) (split_a_picked x h) ∙ bits-number 32 (picked (take 32 initial_permutation) (bits 64 x)) (length-picked (take 32 initial_permutation) (bits 64 x))
+    ap (bits 32) (split_a_picked x h)
+    ∙ bits-number 32 (picked (take 32 initial_permutation) (bits 64 x)) (length-picked (take 32 initial_permutation) (bits 64 x))
 
 split_b_picked : (x : ℕ) → x < 2 ^ 64 → split_b5 x ≡ word_picked 64 (drop 32 initial_permutation) x
 unfolding split_a0 split_b0 split_a1 split_b1 split_a2 split_b2 split_a3 split_b3 split_a4 split_b4 split_a5 split_b5 bits number picked initial_permutation
-split_b_picked x h = same_additive split_b5 (word_picked 64 (drop 32 initial_permutation)) split_b5_additive (picked_additive 64 (drop 32 initial_permutation)) 64 refl x h
+split_b_picked x h =
+    same_additive split_b5 (word_picked 64 (drop 32 initial_permutation)) split_b5_additive (picked_additive 64 (drop 32 initial_permutation)) 64 refl x h
 
 split_b_bits : (x : ℕ) → x < 2 ^ 64 → bits 32 (split_b5 x) ≡ drop 32 (picked initial_permutation (bits 64 x))
 unfolding picked initial_permutation
 split_b_bits x h =
-    ap (bits 32) (split_b_picked x h) ∙ bits-number 32 (picked (drop 32 initial_permutation) (bits 64 x)) (length-picked (drop 32 initial_permutation) (bits 64 x))
+    ap (bits 32) (split_b_picked x h)
+    ∙ bits-number 32 (picked (drop 32 initial_permutation) (bits 64 x)) (length-picked (drop 32 initial_permutation) (bits 64 x))
 
 pub split_is : (block a1 b1 a2 b2 b3 a3 b4 a4 a5 b5 l r : ℕ) → block < 2 ^ 64 → a5 < 2 ^ 32 → b5 < 2 ^ 32
     → a1 ≡ raised 4 252645135 (block / 2 ^ 32) (bit_and block 4294967295)
@@ -279,7 +285,8 @@ join_b5_additive = lowered_additive 4 252645135 join_a4 join_b4 join_a4_additive
 
 join_a_picked : (x : ℕ) → x < 2 ^ 64 → join_a5 x ≡ word_picked 64 (take 32 inverse_permutation) x
 unfolding join_a0 join_b0 join_a1 join_b1 join_a2 join_b2 join_a3 join_b3 join_a4 join_b4 join_a5 join_b5 bits number picked inverse_permutation
-join_a_picked x h = same_additive join_a5 (word_picked 64 (take 32 inverse_permutation)) join_a5_additive (picked_additive 64 (take 32 inverse_permutation)) 64 refl x h
+join_a_picked x h =
+    same_additive join_a5 (word_picked 64 (take 32 inverse_permutation)) join_a5_additive (picked_additive 64 (take 32 inverse_permutation)) 64 refl x h
 
 join_a_is : (x : ℕ) → x < 2 ^ 64 → join_a5 x ≡ number (take 32 (picked inverse_permutation (bits 64 x)))
 unfolding picked inverse_permutation
@@ -287,7 +294,8 @@ join_a_is x h = join_a_picked x h
 
 join_b_picked : (x : ℕ) → x < 2 ^ 64 → join_b5 x ≡ word_picked 64 (drop 32 inverse_permutation) x
 unfolding join_a0 join_b0 join_a1 join_b1 join_a2 join_b2 join_a3 join_b3 join_a4 join_b4 join_a5 join_b5 bits number picked inverse_permutation
-join_b_picked x h = same_additive join_b5 (word_picked 64 (drop 32 inverse_permutation)) join_b5_additive (picked_additive 64 (drop 32 inverse_permutation)) 64 refl x h
+join_b_picked x h =
+    same_additive join_b5 (word_picked 64 (drop 32 inverse_permutation)) join_b5_additive (picked_additive 64 (drop 32 inverse_permutation)) 64 refl x h
 
 join_b_is : (x : ℕ) → x < 2 ^ 64 → join_b5 x ≡ number (drop 32 (picked inverse_permutation (bits 64 x)))
 unfolding picked inverse_permutation
@@ -336,5 +344,7 @@ joined_is left right p q a1 b1 b2 a2 b3 a3 a4 b4 a5 b5 out fl fr fp fq fa fb hp 
     let len : length (drop 32 word) ≡ 32 = length_low (bits 64 z) in
     let whole : a5 * 2 ^ 32 % 2 ^ 64 ≡ a5 * 2 ^ 32 = omega arith in
     let sum : number word ≡ number (take 32 word) * 2 ^ 32 + number (drop 32 word) =
-    ap number (sym (take-append-drop 32 word)) ∙ number-append (take 32 word) (drop 32 word) ∙ ap (λ w. number (take 32 word) * 2 ^ w + number (drop 32 word)) len in
-    ho ∙ ap (λ x. bit_or x b5) whole ∙ or_shifted a5 32 b5 fb ∙ ap₂ (λ x y. x * 2 ^ 32 + y) high low ∙ sym sum ∙ ap (λ b. number (picked inverse_permutation b)) both
+    ap number (sym (take-append-drop 32 word)) ∙ number-append (take 32 word) (drop 32 word)
+    ∙ ap (λ w. number (take 32 word) * 2 ^ w + number (drop 32 word)) len in
+    ho ∙ ap (λ x. bit_or x b5) whole ∙ or_shifted a5 32 b5 fb ∙ ap₂ (λ x y. x * 2 ^ 32 + y) high low ∙ sym sum
+    ∙ ap (λ b. number (picked inverse_permutation b)) both

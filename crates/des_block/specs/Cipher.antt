@@ -2,7 +2,8 @@
 use Rattle.std.specs.Prelude.{ℕ, ◌+◌, ◌*◌, Bool, List, [], ◌∷◌, ◌++◌, take, drop, reverse, fold, slice_index}
 use Rattle.std.specs.Int.{w64, from_be_bytes, to_be_bytes}
 use Rattle.des_block.specs.Bits.{bits, number, picked, xor_bits}
-use Rattle.des_block.specs.Tables.{initial_permutation, inverse_permutation, expansion, box_permutation, key_choice_left, key_choice_right, round_key_choice, rotations, s_boxes}
+use Rattle.des_block.specs.Tables.{initial_permutation, inverse_permutation, expansion, box_permutation, key_choice_left, key_choice_right, round_key_choice}
+use Rattle.des_block.specs.Tables.{rotations, s_boxes}
 
 -- what an S box gives for six bits: the first and the last are its row, the inner four its column
 unfoldable pub box_output : List ℕ → List Bool → List Bool

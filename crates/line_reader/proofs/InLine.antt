@@ -1,5 +1,6 @@
 -- In mid-line: what a call for the next line keeps while it reads on, and what each outcome makes of it.
-use Rattle.std.proofs.Common.{◌≡◌, ℕ, ◌+◌, ◌-◌, ◌<◌, ◌≤◌, inl, inr, ⊎_elim, List, [], ◌∷◌, ◌++◌, length, take, false, cond, eqb, Option, refl, sym, ap, subst, ◌∙◌, arith, append_assoc, append-nil}
+use Rattle.std.proofs.Common.{◌≡◌, ℕ, ◌+◌, ◌-◌, ◌<◌, ◌≤◌, inl, inr, ⊎_elim, List, [], ◌∷◌, ◌++◌, length, take, false, cond, eqb, Option, refl, sym, ap, subst}
+use Rattle.std.proofs.Common.{◌∙◌, arith, append_assoc, append-nil}
 use Rattle.std.specs.Io.KnownBytes.{Consumes, Keeps, IsAtEnd}
 use Rattle.std.proofs.KnownBytes.{Consumes-nil, Consumes-trans, Consumes-kept}
 use Rattle.std.proofs.lemmas.Bool.{cases_lt}
@@ -28,7 +29,8 @@ pub record IsRoom (lines bytes room : ℕ) : Type 0 where
   pub none : lines ≡ 1048576 → room ≡ 0
   pub some : lines < 1048576 → bytes + room ≡ 2147483648
 
-pub IsRoom-from_limits : (lines bytes room : ℕ) → IsWithinLimits lines bytes → room ≡ cond (eqb lines 1048576) 0 (2147483648 - bytes) → IsRoom lines bytes room
+pub IsRoom-from_limits : (lines bytes room : ℕ) → IsWithinLimits lines bytes → room ≡ cond (eqb lines 1048576) 0 (2147483648 - bytes)
+    → IsRoom lines bytes room
 IsRoom-from_limits lines bytes room within is =
     let none : lines ≡ 1048576 → room ≡ 0 = λ full. grind (arith, nat_tests) in
     let some : lines < 1048576 → bytes + room ≡ 2147483648 = λ less. grind (arith, nat_tests, within.bytes_within) in
@@ -47,7 +49,8 @@ StaysWithinLimits-from_room lines bytes room more left fits =
     })
     (cases_lt lines 1048576)
 
-pub PassesLimit-from_room : (lines bytes room : ℕ) (more : List ℕ) → IsRoom lines bytes room → IsUnbroken (take room more) → room < length more → PassesLimit lines bytes more
+pub PassesLimit-from_room : (lines bytes room : ℕ) (more : List ℕ) → IsRoom lines bytes room → IsUnbroken (take room more) → room < length more
+    → PassesLimit lines bytes more
 PassesLimit-from_room lines bytes room more left unbroken longer =
     ⊎_elim
     (λ (less : lines < 1048576).
@@ -178,24 +181,28 @@ StopsAtLimit-from was now f g old w lines bytes room size new h p same_lines sam
     record {
       given = h.given;
       consumed = h.consumed;
-      passes = PassesLimit-from_room old.lines old.bytes room (old.ahead ++ h.given) h.room_left (subst IsUnbroken (sym front) (IsUnbroken-append h.passed (take (room - size) (ahead_of w)) h.unbroken p.unbroken)) longer;
+      passes = PassesLimit-from_room old.lines old.bytes room (old.ahead ++ h.given) h.room_left
+          (subst IsUnbroken (sym front) (IsUnbroken-append h.passed (take (room - size) (ahead_of w)) h.unbroken p.unbroken)) longer;
       none_given = record { same_lines = same_lines ∙ h.same_lines; same_bytes = same_bytes ∙ h.same_bytes };
     }
 
 pub StopsAtFault-from : (was now after : Option (List ℕ)) (f g : ℕ) (old : Reading) (w : Window) (lines bytes room size : ℕ) (new : Reading)
-    → InLine was now f g old w lines bytes room size → ahead_of w ≡ [] → Keeps now after → new.lines ≡ lines → new.bytes ≡ bytes → StopsAtFault was after old new
+    → InLine was now f g old w lines bytes room size → ahead_of w ≡ [] → Keeps now after → new.lines ≡ lines → new.bytes ≡ bytes
+    → StopsAtFault was after old new
 StopsAtFault-from was now after f g old w lines bytes room size new h none keeps same_lines same_bytes =
     let seen = seen_is was now f g old w lines bytes room size h none in
     record {
       given = h.given;
       consumed = Consumes-kept was now after h.given h.consumed keeps;
       unbroken = subst IsUnbroken (sym seen) h.unbroken;
-      within = subst (StaysWithinLimits old.lines old.bytes) (sym seen) (StaysWithinLimits-from_room old.lines old.bytes room h.passed h.room_left (omega (arith, h.passed_size, h.fits)));
+      within = subst (StaysWithinLimits old.lines old.bytes) (sym seen)
+          (StaysWithinLimits-from_room old.lines old.bytes room h.passed h.room_left (omega (arith, h.passed_size, h.fits)));
       none_given = record { same_lines = same_lines ∙ h.same_lines; same_bytes = same_bytes ∙ h.same_bytes };
     }
 
 pub ReachesEnd-from : (was now : Option (List ℕ)) (f g : ℕ) (old : Reading) (w : Window) (lines bytes room size : ℕ) (new : Reading)
-    → InLine was now f g old w lines bytes room size → ahead_of w ≡ [] → IsAtEnd now → size ≡ 0 → new.ahead ≡ [] → new.lines ≡ lines → new.bytes ≡ bytes → ReachesEnd was now old new
+    → InLine was now f g old w lines bytes room size → ahead_of w ≡ [] → IsAtEnd now → size ≡ 0 → new.ahead ≡ [] → new.lines ≡ lines → new.bytes ≡ bytes
+    → ReachesEnd was now old new
 ReachesEnd-from was now f g old w lines bytes room size new h none at_end empty none_ahead same_lines same_bytes = record {
   given = h.given;
   consumed = h.consumed;

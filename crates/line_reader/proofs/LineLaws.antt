@@ -1,5 +1,6 @@
 -- Laws of the lines of a text: they are its whole lines and a last line, and they go on as the text does.
-use Rattle.std.proofs.Common.{◌≡◌, ◌≢◌, ℕ, ◌+◌, ◌<◌, ◌≤◌, List, [], ◌∷◌, ◌++◌, length, true, false, cond, eqb, refl, sym, ap, subst, ◌∙◌, arith, append_assoc, append-nil}
+use Rattle.std.proofs.Common.{◌≡◌, ◌≢◌, ℕ, ◌+◌, ◌<◌, ◌≤◌, List, [], ◌∷◌, ◌++◌, length, true, false, cond, eqb, refl, sym, ap, subst, ◌∙◌, arith, append_assoc}
+use Rattle.std.proofs.Common.{append-nil}
 use Rattle.std.specs.List.{AllByRecursion, flat_map}
 use Rattle.std.proofs.lemmas.Bool.{ne_eqb}
 use Rattle.std.proofs.lemmas.List.{length-append}
@@ -51,7 +52,8 @@ last_line-some (byte ∷ rest) some = refl
 pub BeginsWithLines-none : (text : List ℕ) → BeginsWithLines text [] text
 BeginsWithLines-none text = record { joined = refl; each = tt }
 
-pub BeginsWithLines-given : (text : List ℕ) (whole : List (List ℕ)) (ahead given : List ℕ) → BeginsWithLines text whole ahead → BeginsWithLines (text ++ given) whole (ahead ++ given)
+pub BeginsWithLines-given : (text : List ℕ) (whole : List (List ℕ)) (ahead given : List ℕ) → BeginsWithLines text whole ahead
+    → BeginsWithLines (text ++ given) whole (ahead ++ given)
 BeginsWithLines-given text whole ahead given h = record {
   joined = ap (λ l. l ++ given) h.joined ∙ append_assoc (flat_map ended whole) ahead given;
   each = h.each;
@@ -77,14 +79,16 @@ BeginsWithLines-line text whole ahead given line next h split unbroken = record 
   each = each_push whole line h.each unbroken;
 }
 
-pub length-ended_push : (whole : List (List ℕ)) (line : List ℕ) → length (flat_map ended (whole ++ line ∷ [])) ≡ length (flat_map ended whole) + (length line + 1)
+pub length-ended_push : (whole : List (List ℕ)) (line : List ℕ)
+    → length (flat_map ended (whole ++ line ∷ [])) ≡ length (flat_map ended whole) + (length line + 1)
 length-ended_push whole line =
     ap length (flat_map-ended_push whole line)
     ∙ length-append (flat_map ended whole) (ended line)
     ∙ ap (λ n. length (flat_map ended whole) + n) (length-append line (10 ∷ []))
 
 -- a text has as many bytes as its whole lines and what is ahead
-pub length-begins : (text : List ℕ) (whole : List (List ℕ)) (ahead : List ℕ) → BeginsWithLines text whole ahead → length text ≡ length (flat_map ended whole) + length ahead
+pub length-begins : (text : List ℕ) (whole : List (List ℕ)) (ahead : List ℕ) → BeginsWithLines text whole ahead
+    → length text ≡ length (flat_map ended whole) + length ahead
 length-begins text whole ahead h = ap length h.joined ∙ length-append (flat_map ended whole) ahead
 
 -- ---- one text has one such reading
@@ -107,20 +111,25 @@ same_first (a ∷ line) (b ∷ other) more rest p q e =
 regrouped : (line : List ℕ) (whole : List (List ℕ)) (rest : List ℕ) → flat_map ended (line ∷ whole) ++ rest ≡ line ++ 10 ∷ (flat_map ended whole ++ rest)
 regrouped line whole rest = append_assoc (ended line) (flat_map ended whole) rest ∙ append_assoc line (10 ∷ []) (flat_map ended whole ++ rest)
 
-same_parts : (whole others : List (List ℕ)) (rest last : List ℕ) → AllByRecursion IsUnbroken whole → AllByRecursion IsUnbroken others → IsUnbroken rest → IsUnbroken last
+same_parts : (whole others : List (List ℕ)) (rest last : List ℕ) → AllByRecursion IsUnbroken whole → AllByRecursion IsUnbroken others → IsUnbroken rest
+    → IsUnbroken last
     → flat_map ended whole ++ rest ≡ flat_map ended others ++ last → (whole ≡ others) × (rest ≡ last)
 same_parts [] [] rest last p q r s e = (refl, e)
-same_parts [] (other ∷ others) rest last p q r s e = absurd (not_unbroken other (flat_map ended others ++ last) (subst IsUnbroken (e ∙ regrouped other others last) r))
-same_parts (line ∷ whole) [] rest last p q r s e = absurd (not_unbroken line (flat_map ended whole ++ rest) (subst IsUnbroken (sym e ∙ regrouped line whole rest) s))
+same_parts [] (other ∷ others) rest last p q r s e =
+    absurd (not_unbroken other (flat_map ended others ++ last) (subst IsUnbroken (e ∙ regrouped other others last) r))
+same_parts (line ∷ whole) [] rest last p q r s e =
+    absurd (not_unbroken line (flat_map ended whole ++ rest) (subst IsUnbroken (sym e ∙ regrouped line whole rest) s))
 same_parts (line ∷ whole) (other ∷ others) rest last p q r s e =
-    let first = same_first line other (flat_map ended whole ++ rest) (flat_map ended others ++ last) p.0 q.0 (sym (regrouped line whole rest) ∙ e ∙ regrouped other others last) in
+    let first = same_first line other (flat_map ended whole ++ rest) (flat_map ended others ++ last) p.0 q.0 (sym (regrouped line whole rest) ∙ e
+    ∙ regrouped other others last) in
     let later = same_parts whole others rest last p.1 q.1 r s first.1 in
     let same_line = first.0 in
     let same_whole = later.0 in
     (cc, later.1)
 
 -- the whole lines and the rest of a text are determined
-pub IsLinesAndRest-same : (text : List ℕ) (whole others : List (List ℕ)) (rest last : List ℕ) → IsLinesAndRest text whole rest → IsLinesAndRest text others last → (whole ≡ others) × (rest ≡ last)
+pub IsLinesAndRest-same : (text : List ℕ) (whole others : List (List ℕ)) (rest last : List ℕ) → IsLinesAndRest text whole rest
+    → IsLinesAndRest text others last → (whole ≡ others) × (rest ≡ last)
 IsLinesAndRest-same text whole others rest last p q =
     same_parts whole others rest last p.begins.each q.begins.each p.unbroken q.unbroken (sym p.begins.joined ∙ q.begins.joined)
 
@@ -135,7 +144,8 @@ pub lines-some : (text : List ℕ) → text ≢ [] → 0 < length (lines text)
 unfolding lines
 lines-some [] some = absurd (some refl)
 lines-some (byte ∷ text) some =
-    elim (eqb byte 10) as (λ b. 0 < length (cond b ([] ∷ lines text) (onto_first byte (lines text)))) [ true ↦ omega arith | false ↦ onto_first-some byte (lines text) ]
+    elim (eqb byte 10) as
+    (λ b. 0 < length (cond b ([] ∷ lines text) (onto_first byte (lines text)))) [ true ↦ omega arith | false ↦ onto_first-some byte (lines text) ]
 
 onto_first-more : (byte : ℕ) (few many : List (List ℕ)) → length few ≤ length many → length (onto_first byte few) ≤ length (onto_first byte many)
 onto_first-more byte [] [] h = omega arith
@@ -149,5 +159,7 @@ unfolding lines
 length-lines_more [] more = omega arith
 length-lines_more (byte ∷ text) more =
     let rest : length (lines text) ≤ length (lines (text ++ more)) = length-lines_more text more in
-    elim (eqb byte 10) as (λ b. length (cond b ([] ∷ lines text) (onto_first byte (lines text))) ≤ length (cond b ([] ∷ lines (text ++ more)) (onto_first byte (lines (text ++ more)))))
+    elim (eqb byte 10) as
+    (λ b. length (cond b ([] ∷ lines text) (onto_first byte (lines text))) ≤ length
+    (cond b ([] ∷ lines (text ++ more)) (onto_first byte (lines (text ++ more)))))
     [ true ↦ omega arith | false ↦ onto_first-more byte (lines text) (lines (text ++ more)) rest ]

@@ -1,6 +1,8 @@
 -- Parts of a buffer: where the first newline stands, and how the line in hand grows.
-use Rattle.std.proofs.Common.{◌≡◌, ◌≢◌, ℕ, suc, ◌+◌, ◌-◌, ◌<◌, ◌≤◌, min, List, [], ◌∷◌, ◌++◌, length, get_or, take, drop, Option, None, Some, MatchOption, sym, ap, subst, ◌∙◌, ⊎_elim, arith, eq-eqb, append-nil}
-use Rattle.std.proofs.lemmas.List.{length-take, length-drop, length-append, length-take-le, drop-drop, take-take, take_all, take-append-le, take-append-drop, drop_more, get_or-take}
+use Rattle.std.proofs.Common.{◌≡◌, ◌≢◌, ℕ, suc, ◌+◌, ◌-◌, ◌<◌, ◌≤◌, min, List, [], ◌∷◌, ◌++◌, length, get_or, take, drop, Option, None, Some, MatchOption}
+use Rattle.std.proofs.Common.{sym, ap, subst, ◌∙◌, ⊎_elim, arith, eq-eqb, append-nil}
+use Rattle.std.proofs.lemmas.List.{length-take, length-drop, length-append, length-take-le, drop-drop, take-take, take_all, take-append-le, take-append-drop}
+use Rattle.std.proofs.lemmas.List.{drop_more, get_or-take}
 use Rattle.std.proofs.lemmas.Slice.{between_is}
 use Rattle.std.proofs.lemmas.Bool.{cases_lt, eqb-true}
 use Rattle.std.proofs.Math.Seq.{take-add, take-append-add}
@@ -102,13 +104,15 @@ line-grown xs i j s e count r most passed least order bound within joined in_han
     ∙ ap (λ n. take most passed ++ take (most - n) more) size
     ∙ sym (take-append most passed more)
 
-pub line-joined : (xs : List ℕ) (i j s e count r most : ℕ) (passed : List ℕ) → r ≡ min count (most - (j - i)) → i ≤ j → j ≤ length xs → e ≤ length xs → count ≤ e - s
+pub line-joined : (xs : List ℕ) (i j s e count r most : ℕ) (passed : List ℕ) → r ≡ min count (most - (j - i)) → i ≤ j → j ≤ length xs → e ≤ length xs
+    → count ≤ e - s
     → (length passed < most → j ≡ s) → between i j xs ≡ take most passed
     → length (passed ++ take count (between s e xs)) < most → j + r ≡ s + count
 line-joined xs i j s e count r most passed least order bound end within joined in_hand short =
     let size : j - i ≡ length (take most passed) = sym (length-between xs i j bound) ∙ ap length in_hand in
     let all : length (passed ++ take count (between s e xs)) ≡ length passed + count =
-    length-append passed (take count (between s e xs)) ∙ ap (λ n. length passed + n) (length-take-le count (between s e xs) (omega (arith, length-between xs s e end))) in
+    length-append passed (take count (between s e xs))
+    ∙ ap (λ n. length passed + n) (length-take-le count (between s e xs) (omega (arith, length-between xs s e end))) in
     let same : j ≡ s = joined (omega arith) in
     omega (arith, length-take most passed)
 

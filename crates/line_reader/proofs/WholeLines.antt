@@ -5,7 +5,8 @@ use Rattle.std.proofs.lemmas.List.{length-append}
 use Rattle.line_reader.specs.Lines.{lines, ended, BeginsWithLines, IsLinesAndRest}
 use Rattle.line_reader.specs.Reading.{Reading, unread, HasGivenLines, PassesLimit}
 use Rattle.line_reader.specs.NextLine.{GivesLine, GivesRest, ReachesEnd, StopsAtFault, StopsAtLimit}
-use Rattle.line_reader.proofs.LineLaws.{BeginsWithLines-none, BeginsWithLines-given, BeginsWithLines-line, last_line-some, lines-whole_and_rest, lines-begins, lines-some, length-ended_push, length-begins}
+use Rattle.line_reader.proofs.LineLaws.{BeginsWithLines-none, BeginsWithLines-given, BeginsWithLines-line, last_line-some, lines-whole_and_rest, lines-begins}
+use Rattle.line_reader.proofs.LineLaws.{lines-some, length-ended_push, length-begins}
 
 -- nothing is read yet
 pub HasGivenLines-unread : HasGivenLines unread [] []
@@ -37,7 +38,8 @@ IsLinesAndRest-rest was now old new text whole so_far h = record {
 pub lines-rest_given : (was now : Option (List ℕ)) (old new : Reading) (text : List ℕ) (whole : List (List ℕ)) → HasGivenLines old text whole
     → (h : GivesRest was now old new) → lines (text ++ h.given) ≡ whole ++ h.line ∷ []
 lines-rest_given was now old new text whole so_far h =
-    lines-whole_and_rest (text ++ h.given) whole h.line (IsLinesAndRest-rest was now old new text whole so_far h) ∙ ap (λ l. whole ++ l) (last_line-some h.line h.not_empty)
+    lines-whole_and_rest (text ++ h.given) whole h.line (IsLinesAndRest-rest was now old new text whole so_far h)
+    ∙ ap (λ l. whole ++ l) (last_line-some h.line h.not_empty)
 
 -- the end of the text
 pub IsLinesAndRest-end : (was now : Option (List ℕ)) (old new : Reading) (text : List ℕ) (whole : List (List ℕ)) → HasGivenLines old text whole
@@ -64,13 +66,15 @@ IsLinesAndRest-fault was now old new text whole so_far h = record {
 pub PassesLimit-stopped : (was now : Option (List ℕ)) (old new : Reading) (text : List ℕ) (whole : List (List ℕ)) → HasGivenLines old text whole
     → (h : StopsAtLimit was now old new) → PassesLimit (length whole) (length (flat_map ended whole)) (old.ahead ++ h.given)
 PassesLimit-stopped was now old new text whole so_far h =
-    subst (λ (n : ℕ). PassesLimit n (length (flat_map ended whole)) (old.ahead ++ h.given)) so_far.lines_counted (subst (λ (n : ℕ). PassesLimit old.lines n (old.ahead ++ h.given)) so_far.bytes_counted h.passes)
+    subst (λ (n : ℕ). PassesLimit n (length (flat_map ended whole)) (old.ahead ++ h.given)) so_far.lines_counted
+    (subst (λ (n : ℕ). PassesLimit old.lines n (old.ahead ++ h.given)) so_far.bytes_counted h.passes)
 
 -- what goes past a limit is no text within the limits
 pub PassesLimit-over : (text : List ℕ) (whole : List (List ℕ)) (ahead : List ℕ) → BeginsWithLines text whole ahead
     → PassesLimit (length whole) (length (flat_map ended whole)) ahead → (1048576 < length (lines text)) ⊎ (2147483648 < length text)
 PassesLimit-over text whole ahead h over =
     ⊎_elim
-    (λ lines_over. inl (omega (arith, lines_over.0, ap length (lines-begins text whole ahead h), length-append whole (lines ahead), lines-some ahead lines_over.1)))
+    (λ lines_over. inl
+    (omega (arith, lines_over.0, ap length (lines-begins text whole ahead h), length-append whole (lines ahead), lines-some ahead lines_over.1)))
     (λ bytes_over. inr (omega (arith, bytes_over.1, length-begins text whole ahead h)))
     over

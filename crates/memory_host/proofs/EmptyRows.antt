@@ -1,5 +1,6 @@
 -- The rows of an issuer's cards before any record: each is empty, and no shard has a record.
-use Rattle.std.proofs.Common.{◌≡◌, ℕ, zero, suc, ◌+◌, ◌%◌, List, [], ◌∷◌, ◌++◌, length, map, get_or, replicate, refl, ap, sym, ◌∙◌, subst, inl, inr, Some, arith}
+use Rattle.std.proofs.Common.{◌≡◌, ℕ, zero, suc, ◌+◌, ◌%◌, List, [], ◌∷◌, ◌++◌, length, map, get_or, replicate, refl, ap, sym, ◌∙◌, subst, inl, inr, Some}
+use Rattle.std.proofs.Common.{arith}
 use Rattle.std.proofs.lemmas.Bool.{cases_eq}
 use Rattle.std.proofs.lemmas.List.{length_push, length-replicate, get_or_push, get_or_append_left}
 use Rattle.std.proofs.lemmas.Option.{same_Some, slice_get_within, slice_get-get_or, get_or_from_slice_get}
@@ -13,7 +14,8 @@ use Rattle.memory_host.specs.Holding.{StandsFor}
 use Rattle.memory_host.specs.Deciding.{AreEmpty}
 
 -- one more empty row
-pub empty-more : (cards : List CardInfo) (count : ℕ) (rows longer : List CardRow) (card : CardInfo) (row : CardRow) → AreEmpty cards count rows → slice_get cards count ≡ Some card → RowStandsFor card row [] → longer ≡ rows ++ row ∷ [] → AreEmpty cards (count + 1) longer
+pub empty-more : (cards : List CardInfo) (count : ℕ) (rows longer : List CardRow) (card : CardInfo) (row : CardRow) → AreEmpty cards count rows
+    → slice_get cards count ≡ Some card → RowStandsFor card row [] → longer ≡ rows ++ row ∷ [] → AreEmpty cards (count + 1) longer
 empty-more cards count rows longer card row empty card_is stands longer_is =
     let long : length (rows ++ row ∷ []) ≡ length rows + 1 = length_push rows row in
     let counted : length longer ≡ count + 1 = ap length longer_is ∙ long ∙ ap (λ n. n + 1) empty.count_is in
@@ -52,7 +54,8 @@ no_records-lengths zero = refl
 no_records-lengths (suc shards) = ap (λ lengths. 0 ∷ lengths) (no_records-lengths shards)
 
 -- empty rows, and no records in any shard
-pub stands-empty : (issuer : Setup) (rows : List CardRow) (records : List ℕ) → AreEmpty issuer.cards (length issuer.cards) rows → records ≡ replicate issuer.shards 0 → StandsFor (record { issuer = issuer; rows = rows; records = records }) (no_records issuer.shards)
+pub stands-empty : (issuer : Setup) (rows : List CardRow) (records : List ℕ) → AreEmpty issuer.cards (length issuer.cards) rows
+    → records ≡ replicate issuer.shards 0 → StandsFor (record { issuer = issuer; rows = rows; records = records }) (no_records issuer.shards)
 stands-empty issuer rows records empty none = record {
   shards_are = length-replicate issuer.shards [];
   records_are = none ∙ no_records-lengths issuer.shards;

@@ -32,8 +32,10 @@ use Rattle.memory_host.specs.Deciding.{IsShardOf, IsNextOf, with_record_of, IsPl
 use Rattle.memory_host.proofs.RowsAfter.{row-there, place-at_end}
 
 -- what is answered by one way to reply is answered by another one that replies the same to this request after this history
-answers-alike : (shard : ℕ) (one other : List Entry → Request → Reply) (before : List Entry) (request : Request) (answer : Answer) (after : List Entry) → one before request ≡ other before request → Answers shard one before request answer after → Answers shard other before request answer after
-answers-alike shard one other before request (AnswerFresh at place reply) after same (unused, at_is, place_is, reply_is, after_is) = (unused, at_is, place_is, reply_is ∙ same, after_is)
+answers-alike : (shard : ℕ) (one other : List Entry → Request → Reply) (before : List Entry) (request : Request) (answer : Answer) (after : List Entry)
+    → one before request ≡ other before request → Answers shard one before request answer after → Answers shard other before request answer after
+answers-alike shard one other before request (AnswerFresh at place reply) after same (unused, at_is, place_is, reply_is, after_is) =
+    (unused, at_is, place_is, reply_is ∙ same, after_is)
 answers-alike shard one other before request (AnswerKept at place reply) after same answers = answers
 answers-alike shard one other before request (Refused (IsBelowWindow top)) after same answers = answers
 answers-alike shard one other before request (Refused (IsTaken at place)) after same answers = answers
@@ -47,7 +49,9 @@ unused-alike history request other name same named unused =
     (subst (λ (name : CardName). IsUnused (decided name history) request) (sym named) unused)
 
 -- the card and the keys that are at hand give the issuer's reply
-reply-at_hand : (issuer : Setup) (found : CheckedRequest) (card : CardInfo) (history : List Entry) → IsRequestAtHand issuer found → slice_get issuer.cards found.card ≡ Some card → name_of card ≡ card_of found.request → decided_reply card.method found.keys issuer.table (status_of (name_of card) history) found.request ≡ reply_to issuer history found.request
+reply-at_hand : (issuer : Setup) (found : CheckedRequest) (card : CardInfo) (history : List Entry) → IsRequestAtHand issuer found
+    → slice_get issuer.cards found.card ≡ Some card → name_of card ≡ card_of found.request
+    → decided_reply card.method found.keys issuer.table (status_of (name_of card) history) found.request ≡ reply_to issuer history found.request
 reply-at_hand issuer found card history at_hand card_is named =
     ap (λ (name : CardName). decided_reply card.method found.keys issuer.table (status_of name history) found.request) named
     ∙ sym (
@@ -57,34 +61,46 @@ reply-at_hand issuer found card history at_hand card_is named =
     )
 
 -- the plan of the row of the request's card, for the place after the last record of the card's shard, is the answer of this shard
-pub row-plan : (host : Holding) (found : CheckedRequest) (shard : ℕ) (row : CardRow) (place : ℕ) (outcome : Outcome) → IsRequestAtHand host.issuer found → IsShardOf host.issuer found.card shard → slice_get host.rows found.card ≡ Some row → place ≡ get_or host.records shard place → IsPlan row found.keys host.issuer.table found.request place outcome → IsPlanFor host found shard outcome
+pub row-plan : (host : Holding) (found : CheckedRequest) (shard : ℕ) (row : CardRow) (place : ℕ) (outcome : Outcome) → IsRequestAtHand host.issuer found
+    → IsShardOf host.issuer found.card shard → slice_get host.rows found.card ≡ Some row → place ≡ get_or host.records shard place
+    → IsPlan row found.keys host.issuer.table found.request place outcome → IsPlanFor host found shard outcome
 row-plan host found shard row place outcome at_hand home row_is place_is plan histories stands =
     let history : List Entry = history_for host.issuer histories found.card in
     let known = number_of-found (card_of found.request) host.issuer.cards found.card at_hand.card_is.number_is in
-    let reply_by_card : List Entry → Request → Reply = λ history request. decided_reply known.0.method found.keys host.issuer.table (status_of (name_of known.0) history) request in
+    let reply_by_card : List Entry → Request
+        → Reply = λ history request. decided_reply known.0.method found.keys host.issuer.table (status_of (name_of known.0) history) request in
     let at_end = place-at_end host histories stands found.card shard place home place_is in
     let answers = plan shard known.0 history (row-there host histories stands found.card known.0 row known.1 row_is) (sym known.2) at_end in
-    answers-alike shard reply_by_card (reply_to host.issuer) history found.request (answer_of shard outcome) (history_after history outcome) (reply-at_hand host.issuer found known.0 history at_hand known.1 known.2) answers
+    answers-alike shard reply_by_card (reply_to host.issuer) history found.request (answer_of shard outcome) (history_after history outcome)
+        (reply-at_hand host.issuer found known.0 history at_hand known.1 known.2) answers
 
-module _ (host : Holding) (found : CheckedRequest) (at_hand : IsRequestAtHand host.issuer found) (shard : ℕ) (home : IsShardOf host.issuer found.card shard) (histories : List (List Entry)) (stands : StandsFor host histories) where
+module _ (host : Holding) (found : CheckedRequest) (at_hand : IsRequestAtHand host.issuer found) (shard : ℕ) (home : IsShardOf host.issuer found.card shard)
+    (histories : List (List Entry)) (stands : StandsFor host histories) where
   -- what this shard answers is answered on its history alone
-  answered : (answer : Answer) (after : List Entry) → Answers shard (reply_to host.issuer) (history_for host.issuer histories found.card) found.request answer after → AnswersIn (rules_of host.issuer) histories found.request answer (set histories (found.card % host.issuer.shards) after)
+  answered : (answer : Answer) (after : List Entry)
+      → Answers shard (reply_to host.issuer) (history_for host.issuer histories found.card) found.request answer after
+      → AnswersIn (rules_of host.issuer) histories found.request answer (set histories (found.card % host.issuer.shards) after)
   answered answer after answers =
-      let named : found.card % host.issuer.shards ≡ shard_of host.issuer (card_of found.request) = sym (shard_of-known host.issuer (card_of found.request) found.card at_hand.card_is.number_is) in
+      let named : found.card % host.issuer.shards ≡ shard_of host.issuer (card_of found.request) =
+          sym (shard_of-known host.issuer (card_of found.request) found.card at_hand.card_is.number_is) in
       record {
         old = history_for host.issuer histories found.card;
         new = after;
         old_is =
             ap (slice_get histories) (sym named)
             ∙ slice_get-get_or histories (found.card % host.issuer.shards) [] (omega (arith, stands.shards_are));
-        answers = subst (λ (shard : ℕ). Answers shard (reply_to host.issuer) (history_for host.issuer histories found.card) found.request answer after) (home.shard_is ∙ named) answers;
+        answers = subst (λ (shard : ℕ). Answers shard (reply_to host.issuer) (history_for host.issuer histories found.card) found.request answer after)
+            (home.shard_is ∙ named) answers;
         after_is = ap (λ (shard : ℕ). set histories shard after) named;
       }
 
   -- where the history stays, the histories do
-  pub unchanged : (answer : Answer) → Answers shard (reply_to host.issuer) (history_for host.issuer histories found.card) found.request answer (history_for host.issuer histories found.card) → AnswersIn (rules_of host.issuer) histories found.request answer histories
+  pub unchanged : (answer : Answer)
+      → Answers shard (reply_to host.issuer) (history_for host.issuer histories found.card) found.request answer
+      (history_for host.issuer histories found.card) → AnswersIn (rules_of host.issuer) histories found.request answer histories
   unchanged answer answers =
-      subst (λ (after : List (List Entry)). AnswersIn (rules_of host.issuer) histories found.request answer after) (set-get_or histories (found.card % host.issuer.shards) []) (answered answer (history_for host.issuer histories found.card) answers)
+      subst (λ (after : List (List Entry)). AnswersIn (rules_of host.issuer) histories found.request answer after)
+          (set-get_or histories (found.card % host.issuer.shards) []) (answered answer (history_for host.issuer histories found.card) answers)
 
   module _ (reply : Reply) (step : Decision) (plan : IsPlanFor host found shard (Fresh reply step)) where
     -- the record of a fresh plan is the next one of the request's card
@@ -92,7 +108,8 @@ module _ (host : Holding) (found : CheckedRequest) (at_hand : IsRequestAtHand ho
     next-planned =
         let known = number_of-found (card_of found.request) host.issuer.cards found.card at_hand.card_is.number_is in
         let answers = plan histories stands in
-        let last : Decided step.request step.reply ∷ [] ≡ Decided found.request reply ∷ [] = append_cancel_left (history_for host.issuer histories found.card) _ _ answers.4 in
+        let last : Decided step.request step.reply ∷ [] ≡ Decided found.request reply ∷ [] =
+            append_cancel_left (history_for host.issuer histories found.card) _ _ answers.4 in
         let same : step.request ≡ found.request = cc in
         record {
           valid = at_hand.card_is.valid;
@@ -106,7 +123,9 @@ module _ (host : Holding) (found : CheckedRequest) (at_hand : IsRequestAtHand ho
         }
 
     -- once the record is added, the fresh answer is a turn
-    pub fresh-turn : (place : ℕ) → place ≡ step.place → AnswersIn (rules_of host.issuer) histories found.request (AnswerFresh shard place reply) (with_record_of host.issuer histories found.card step)
+    pub fresh-turn : (place : ℕ) → place ≡ step.place
+        → AnswersIn (rules_of host.issuer) histories found.request (AnswerFresh shard place reply) (with_record_of host.issuer histories found.card step)
     fresh-turn place place_is =
         let answers = plan histories stands in
-        answered (AnswerFresh shard place reply) (with_record (history_for host.issuer histories found.card) step) (answers.0, refl, place_is ∙ answers.2, answers.3, answers.4)
+        answered (AnswerFresh shard place reply) (with_record (history_for host.issuer histories found.card) step) (answers.0, refl, place_is
+            ∙ answers.2, answers.3, answers.4)

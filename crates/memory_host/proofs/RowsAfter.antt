@@ -26,7 +26,8 @@ there xs place old new old_is =
     slice_get-get_or (set xs place new) place new (omega arith) ∙ ap Some (get_or-set_same xs place new new within)
 
 -- and each other place as it was
-elsewhere : {X : Type 0} (xs : List X) (place : ℕ) (new : X) (other : ℕ) (x : X) → other ≢ place → slice_get xs other ≡ Some x → slice_get (set xs place new) other ≡ Some x
+elsewhere : {X : Type 0} (xs : List X) (place : ℕ) (new : X) (other : ℕ) (x : X) → other ≢ place → slice_get xs other ≡ Some x
+    → slice_get (set xs place new) other ≡ Some x
 elsewhere xs place new other x not_it is =
     let within = slice_get_within xs other x is in
     let long : length (set xs place new) ≡ length xs = length-set xs place new in
@@ -34,7 +35,8 @@ elsewhere xs place new other x not_it is =
     ∙ ap Some (get_or-set_other xs place other new x not_it ∙ get_or_from_slice_get xs other x x is)
 
 -- cards with different numbers have different names
-other-name : (cards : List CardInfo) (number other : ℕ) (card other_card : CardInfo) → AreCards cards → slice_get cards number ≡ Some card → slice_get cards other ≡ Some other_card → other ≢ number → name_of other_card ≢ name_of card
+other-name : (cards : List CardInfo) (number other : ℕ) (card other_card : CardInfo) → AreCards cards → slice_get cards number ≡ Some card
+    → slice_get cards other ≡ Some other_card → other ≢ number → name_of other_card ≢ name_of card
 other-name cards number other card other_card valid card_is other_is not_it same =
     let named : name_of (get_or cards number card) ≡ name_of card = ap name_of (get_or_from_slice_get cards number card card card_is) in
     let other_named : name_of (get_or cards other card) ≡ name_of other_card = ap name_of (get_or_from_slice_get cards other other_card card other_is) in
@@ -46,7 +48,8 @@ other-name cards number other card other_card valid card_is other_is not_it same
     ]
 
 -- a row stands for one record more of another card
-stands-other : (card : CardInfo) (row : CardRow) (history : List Entry) (step : Decision) → name_of card ≢ card_of step.request → RowStandsFor card row history → RowStandsFor card row (with_record history step)
+stands-other : (card : CardInfo) (row : CardRow) (history : List Entry) (step : Decision) → name_of card ≢ card_of step.request
+    → RowStandsFor card row history → RowStandsFor card row (with_record history step)
 stands-other card row history step other stands =
     let same = decided-other (name_of card) history step.request step.reply (is_of-other (name_of card) step.request other) in
     record {
@@ -59,46 +62,65 @@ stands-other card row history step other stands =
 
 module _ (host : Holding) (histories : List (List Entry)) (stands : StandsFor host histories) where
   -- the row that was found at a card's number stands for the history of the card's shard
-  pub row-there : (number : ℕ) (card : CardInfo) (row : CardRow) → slice_get host.issuer.cards number ≡ Some card → slice_get host.rows number ≡ Some row → RowStandsFor card row (history_for host.issuer histories number)
+  pub row-there : (number : ℕ) (card : CardInfo) (row : CardRow) → slice_get host.issuer.cards number ≡ Some card → slice_get host.rows number ≡ Some row
+      → RowStandsFor card row (history_for host.issuer histories number)
   row-there number card row card_is row_is =
       let found = stands.rows_stand number card card_is in
-      subst (λ (row : CardRow). RowStandsFor card row (history_for host.issuer histories number)) (same_Some found.row row (sym found.row_is ∙ row_is)) found.stands
+      subst (λ (row : CardRow). RowStandsFor card row (history_for host.issuer histories number)) (same_Some found.row row (sym found.row_is
+          ∙ row_is)) found.stands
 
   -- the number of records that was found for a card's shard is the place after the last record of its history
-  pub place-at_end : (number shard place : ℕ) → IsShardOf host.issuer number shard → place ≡ get_or host.records shard place → place ≡ length (history_for host.issuer histories number)
+  pub place-at_end : (number shard place : ℕ) → IsShardOf host.issuer number shard → place ≡ get_or host.records shard place
+      → place ≡ length (history_for host.issuer histories number)
   place-at_end number shard place home place_is =
       place_is
       ∙ ap (λ records. get_or records shard place) stands.records_are
       ∙ get_or-map length histories shard [] place (omega (arith, home.within, stands.shards_are))
       ∙ ap (λ shard. length (get_or histories shard [])) home.shard_is
 
-module _ (host : Holding) (number shard : ℕ) (step : Decision) (home : IsShardOf host.issuer number shard) (histories : List (List Entry)) (stands : StandsFor host histories) (next : IsNextOf host.issuer histories number step) where
+module _ (host : Holding) (number shard : ℕ) (step : Decision) (home : IsShardOf host.issuer number shard) (histories : List (List Entry))
+    (stands : StandsFor host histories) (next : IsNextOf host.issuer histories number step) where
   -- the history of this card's shard has the record
-  history-here : history_for host.issuer (with_record_of host.issuer histories number step) number ≡ with_record (history_for host.issuer histories number) step
-  history-here = get_or-set_same histories (number % host.issuer.shards) (with_record (history_for host.issuer histories number) step) [] (omega (arith, stands.shards_are))
+  history-here : history_for host.issuer (with_record_of host.issuer histories number step) number
+      ≡ with_record (history_for host.issuer histories number) step
+  history-here =
+      get_or-set_same histories (number % host.issuer.shards) (with_record (history_for host.issuer histories number) step) []
+      (omega (arith, stands.shards_are))
 
   -- the row of each other card, of the same shard or of another, stands for the histories with the record
-  stands-elsewhere : (other : ℕ) (card : CardInfo) (row : CardRow) → other ≢ number → slice_get host.issuer.cards other ≡ Some card → RowStandsFor card row (history_for host.issuer histories other) → RowStandsFor card row (history_for host.issuer (with_record_of host.issuer histories number step) other)
+  stands-elsewhere : (other : ℕ) (card : CardInfo) (row : CardRow) → other ≢ number → slice_get host.issuer.cards other ≡ Some card
+      → RowStandsFor card row (history_for host.issuer histories other)
+      → RowStandsFor card row (history_for host.issuer (with_record_of host.issuer histories number step) other)
   stands-elsewhere other card row not_it card_is before =
       elim (cases_eq (other % host.issuer.shards) (number % host.issuer.shards)) [
         | inl same ↦
             let its = other-name host.issuer.cards number other next.card card next.valid next.card_is card_is not_it in
             let named : name_of card ≢ card_of step.request = λ same. its (same ∙ next.next.of_card) in
-            let more = stands-other card row (history_for host.issuer histories number) step named (subst (λ (shard : ℕ). RowStandsFor card row (get_or histories shard [])) same before) in
-            subst (λ (shard : ℕ). RowStandsFor card row (get_or (with_record_of host.issuer histories number step) shard [])) (sym same) (subst (λ (history : List Entry). RowStandsFor card row history) (sym history-here) more)
-        | inr different ↦ subst (λ (history : List Entry). RowStandsFor card row history) (sym (get_or-set_other histories (number % host.issuer.shards) (other % host.issuer.shards) (with_record (history_for host.issuer histories number) step) [] different)) before
+            let more = stands-other card row (history_for host.issuer histories number) step named
+                (subst (λ (shard : ℕ). RowStandsFor card row (get_or histories shard [])) same before) in
+            subst (λ (shard : ℕ). RowStandsFor card row (get_or (with_record_of host.issuer histories number step) shard [])) (sym same)
+                (subst (λ (history : List Entry). RowStandsFor card row history) (sym history-here) more)
+        | inr different ↦ subst (λ (history : List Entry). RowStandsFor card row history)
+            (sym (get_or-set_other histories (number % host.issuer.shards) (other % host.issuer.shards)
+            (with_record (history_for host.issuer histories number) step) [] different)) before
       ]
 
   -- the numbers of records are the lengths of the histories with the record
-  records-more : (place : ℕ) → place ≡ length (history_for host.issuer histories number) → set host.records shard (place + 1) ≡ map length (with_record_of host.issuer histories number step)
+  records-more : (place : ℕ) → place ≡ length (history_for host.issuer histories number)
+      → set host.records shard (place + 1) ≡ map length (with_record_of host.issuer histories number step)
   records-more place at_end =
       ap (λ records. set records shard (place + 1)) stands.records_are
       ∙ ap (λ shard. set (map length histories) shard (place + 1)) home.shard_is
-      ∙ ap (λ count. set (map length histories) (number % host.issuer.shards) count) (ap (λ n. n + 1) at_end ∙ sym (length_push (history_for host.issuer histories number) (Decided step.request step.reply)))
+      ∙ ap (λ count. set (map length histories) (number % host.issuer.shards) count) (ap (λ n. n + 1) at_end
+      ∙ sym (length_push (history_for host.issuer histories number) (Decided step.request step.reply)))
       ∙ sym (map-set length histories (number % host.issuer.shards) (with_record (history_for host.issuer histories number) step))
 
   -- the host stands for the histories with the record where that row does
-  stands-more : (old new : CardRow) (place : ℕ) → slice_get host.rows number ≡ Some old → ((card : CardInfo) (history : List Entry) → RowStandsFor card old history → IsNext card history step → RowStandsFor card new (with_record history step)) → place ≡ length (history_for host.issuer histories number) → StandsFor (record { issuer = host.issuer; rows = set host.rows number new; records = set host.records shard (place + 1) }) (with_record_of host.issuer histories number step)
+  stands-more : (old new : CardRow) (place : ℕ) → slice_get host.rows number ≡ Some old
+      → ((card : CardInfo) (history : List Entry) → RowStandsFor card old history → IsNext card history step
+      → RowStandsFor card new (with_record history step)) → place ≡ length (history_for host.issuer histories number)
+      → StandsFor (record { issuer = host.issuer; rows = set host.rows number new; records = set host.records shard (place + 1) })
+      (with_record_of host.issuer histories number step)
   stands-more old new place old_is gains at_end =
       let after : Holding = record { issuer = host.issuer; rows = set host.rows number new; records = set host.records shard (place + 1) } in
       record {
@@ -108,12 +130,16 @@ module _ (host : Holding) (number shard : ℕ) (step : Decision) (home : IsShard
             elim (cases_eq other number) [
               | inl same ↦ subst (λ (other : ℕ). RowStands after (with_record_of host.issuer histories number step) other card) (sym same) (
                   let its : next.card ≡ card = same_Some next.card card (sym next.card_is ∙ ap (slice_get host.issuer.cards) (sym same) ∙ card_is) in
-                  let gained = gains next.card (history_for host.issuer histories number) (row-there host histories stands number next.card old next.card_is old_is) next.next in
+                  let gained =
+                      gains next.card (history_for host.issuer histories number)
+                      (row-there host histories stands number next.card old next.card_is old_is) next.next in
                   let here = subst (λ (history : List Entry). RowStandsFor next.card new history) (sym history-here) gained in
                   record {
                     row = new;
                     row_is = there host.rows number old new old_is;
-                    stands = subst (λ (card : CardInfo). RowStandsFor card new (history_for host.issuer (with_record_of host.issuer histories number step) number)) its here;
+                    stands = subst
+                        (λ (card : CardInfo). RowStandsFor card new (history_for host.issuer (with_record_of host.issuer histories number step) number))
+                        its here;
                   })
               | inr not_it ↦
                   let found = stands.rows_stand other card card_is in
@@ -126,7 +152,11 @@ module _ (host : Holding) (number shard : ℕ) (step : Decision) (home : IsShard
       }
 
 -- where its row stands for the record besides, and its shard's number of records rose, the host stands for the histories with the record
-pub recorded : (host : Holding) (number shard : ℕ) (step : Decision) (old new : CardRow) (place : ℕ) → IsShardOf host.issuer number shard → slice_get host.rows number ≡ Some old → place ≡ get_or host.records shard place → ((card : CardInfo) (history : List Entry) → RowStandsFor card old history → IsNext card history step → RowStandsFor card new (with_record history step)) → IsRecorded host number step (record { issuer = host.issuer; rows = set host.rows number new; records = set host.records shard (place + 1) }) place
+pub recorded : (host : Holding) (number shard : ℕ) (step : Decision) (old new : CardRow) (place : ℕ) → IsShardOf host.issuer number shard
+    → slice_get host.rows number ≡ Some old → place ≡ get_or host.records shard place
+    → ((card : CardInfo) (history : List Entry) → RowStandsFor card old history → IsNext card history step
+    → RowStandsFor card new (with_record history step))
+    → IsRecorded host number step (record { issuer = host.issuer; rows = set host.rows number new; records = set host.records shard (place + 1) }) place
 recorded host number shard step old new place home old_is place_is gains histories stands next =
     let at_end = place-at_end host histories stands number shard place home place_is in
     (at_end ∙ sym next.next.at_end, stands-more host number shard step home histories stands next old new place old_is gains at_end)

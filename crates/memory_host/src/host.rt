@@ -1,3 +1,4 @@
+//! The host: its issuer, its rows, and the numbers of its records.
 ghost use Rattle.std.specs.Prelude.{◌≡◌, ◌↔◌, ℕ, ◌+◌, ◌<◌, List, length, replicate, IfOk, IsTrue};
 ghost use Rattle.issuer_base.specs.declared.entry.Entry.{Entry};
 ghost use Rattle.card_history.specs.Turns.{Turn, AnswersIn, no_records};

@@ -1,3 +1,4 @@
+//! The law of whole seats.
 ghost use Rattle.std.specs.Prelude.{◌≡◌, ◌≢◌, ℕ, List, []};
 ghost use mathlib.Core.Option.{some};
 ghost use lib.ListN.{get_elem?};

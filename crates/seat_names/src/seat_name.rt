@@ -1,3 +1,4 @@
+//! The name of a seat.
 use std::collections::LinkedList;
 
 /// A name that a seat holds. It exists in proofs alone: no value of it is made.

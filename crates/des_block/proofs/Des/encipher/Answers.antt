@@ -10,6 +10,7 @@ returns-clause-enciphered c = λ key held.
 
 pub returns-clause-undone : goal.returns-clause-undone
 returns-clause-undone c = λ key held.
-    ap (des_decipher key) (on_bytes (des_encipher key) c.args.block c.from_be_bytes.result c.encipher_word.result c.to_be_bytes.result (search rules) (search rules)
+    ap (des_decipher key)
+    (on_bytes (des_encipher key) c.args.block c.from_be_bytes.result c.encipher_word.result c.to_be_bytes.result (search rules) (search rules)
     c.from_be_bytes.ensures (c.encipher_word.ensures.enciphered key held) c.to_be_bytes.ensures)
     ∙ des_decipher-des_encipher key c.args.block (search rules) (search rules)

@@ -10,9 +10,12 @@ pub returns-clause-enciphered : goal.returns-clause-enciphered
 unfolding HasKey
 returns-clause-enciphered c = λ key held.
     word_enciphered key c.args.block c.joined.result (omega arith)
-    (ciphered_is ((map key_bits c.args.self.now.keys)) c.args.block c.split-left.result.0 c.split-left.result.1 c.rounds-left.result.0 c.rounds-left.result.1 c.joined.result c.split-left.ensures c.rounds-left.ensures c.joined.ensures
+    (ciphered_is
+    ((map key_bits c.args.self.now.keys)) c.args.block c.split-left.result.0 c.split-left.result.1 c.rounds-left.result.0 c.rounds-left.result.1
+    c.joined.result c.split-left.ensures c.rounds-left.ensures c.joined.ensures
     ∙ ap (λ ks. number (ciphered ks (bits 64 c.args.block))) (held))
 
 pub returns-clause-undone : goal.returns-clause-undone
 returns-clause-undone c = λ key held.
-    ap (des_decipher key) (returns-clause-enciphered c key held) ∙ des_decipher-des_encipher key (word_bytes c.args.block) (length-word_bytes c.args.block) (word_bytes_small c.args.block)
+    ap (des_decipher key) (returns-clause-enciphered c key held)
+    ∙ des_decipher-des_encipher key (word_bytes c.args.block) (length-word_bytes c.args.block) (word_bytes_small c.args.block)

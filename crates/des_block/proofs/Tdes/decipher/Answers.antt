@@ -10,6 +10,7 @@ returns-clause-deciphered c = λ key held.
 
 pub returns-clause-undone : goal.returns-clause-undone
 returns-clause-undone c = λ key held.
-    ap (tdes_encipher key) (on_bytes (tdes_decipher key) c.args.block c.from_be_bytes.result c.decipher_word.result c.to_be_bytes.result (search rules) (search rules)
+    ap (tdes_encipher key)
+    (on_bytes (tdes_decipher key) c.args.block c.from_be_bytes.result c.decipher_word.result c.to_be_bytes.result (search rules) (search rules)
     c.from_be_bytes.ensures (c.decipher_word.ensures.deciphered key held) c.to_be_bytes.ensures)
     ∙ tdes_encipher-tdes_decipher key c.args.block (search rules) (search rules)

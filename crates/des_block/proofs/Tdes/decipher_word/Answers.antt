@@ -10,11 +10,14 @@ pub returns-clause-deciphered : goal.returns-clause-deciphered
 unfolding HasKey
 returns-clause-deciphered c = λ key held.
     word_tripled_back key c.args.block c.joined.result (omega arith)
-    (tripled_is (reverse (map key_bits c.args.self.now.left.keys)) (map key_bits c.args.self.now.right.keys) (reverse (map key_bits c.args.self.now.left.keys))
-    c.args.block c.split-left1.result.0 c.split-left1.result.1 c.rounds_back-left2.result.0 c.rounds_back-left2.result.1 c.rounds-right3.result.1 c.rounds-right3.result.0 c.rounds_back-left4.result.0 c.rounds_back-left4.result.1
+    (tripled_is (reverse (map key_bits c.args.self.now.left.keys)) (map key_bits c.args.self.now.right.keys)
+    (reverse (map key_bits c.args.self.now.left.keys))
+    c.args.block c.split-left1.result.0 c.split-left1.result.1 c.rounds_back-left2.result.0 c.rounds_back-left2.result.1 c.rounds-right3.result.1
+    c.rounds-right3.result.0 c.rounds_back-left4.result.0 c.rounds_back-left4.result.1
     c.joined.result c.split-left1.ensures c.rounds_back-left2.ensures c.rounds-right3.ensures c.rounds_back-left4.ensures c.joined.ensures
     ∙ ap₂ (λ l r. number (ciphered l (ciphered r (ciphered l (bits 64 c.args.block))))) (ap reverse held.left) held.right)
 
 pub returns-clause-undone : goal.returns-clause-undone
 returns-clause-undone c = λ key held.
-    ap (tdes_encipher key) (returns-clause-deciphered c key held) ∙ tdes_encipher-tdes_decipher key (word_bytes c.args.block) (length-word_bytes c.args.block) (word_bytes_small c.args.block)
+    ap (tdes_encipher key) (returns-clause-deciphered c key held)
+    ∙ tdes_encipher-tdes_decipher key (word_bytes c.args.block) (length-word_bytes c.args.block) (word_bytes_small c.args.block)

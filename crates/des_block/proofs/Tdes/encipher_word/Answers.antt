@@ -11,10 +11,12 @@ unfolding HasKey
 returns-clause-enciphered c = λ key held.
     word_tripled key c.args.block c.joined.result (omega arith)
     (tripled_is (map key_bits c.args.self.now.left.keys) (reverse (map key_bits c.args.self.now.right.keys)) (map key_bits c.args.self.now.left.keys)
-    c.args.block c.split-left1.result.0 c.split-left1.result.1 c.rounds-left2.result.0 c.rounds-left2.result.1 c.rounds_back-right3.result.1 c.rounds_back-right3.result.0 c.rounds-left4.result.0 c.rounds-left4.result.1
+    c.args.block c.split-left1.result.0 c.split-left1.result.1 c.rounds-left2.result.0 c.rounds-left2.result.1 c.rounds_back-right3.result.1
+    c.rounds_back-right3.result.0 c.rounds-left4.result.0 c.rounds-left4.result.1
     c.joined.result c.split-left1.ensures c.rounds-left2.ensures c.rounds_back-right3.ensures c.rounds-left4.ensures c.joined.ensures
     ∙ ap₂ (λ l r. number (ciphered l (ciphered r (ciphered l (bits 64 c.args.block))))) held.left (ap reverse held.right))
 
 pub returns-clause-undone : goal.returns-clause-undone
 returns-clause-undone c = λ key held.
-    ap (tdes_decipher key) (returns-clause-enciphered c key held) ∙ tdes_decipher-tdes_encipher key (word_bytes c.args.block) (length-word_bytes c.args.block) (word_bytes_small c.args.block)
+    ap (tdes_decipher key) (returns-clause-enciphered c key held)
+    ∙ tdes_decipher-tdes_encipher key (word_bytes c.args.block) (length-word_bytes c.args.block) (word_bytes_small c.args.block)

@@ -10,5 +10,6 @@ unfolding des_decipher word_bytes block_bits block_bytes
 returns c =
     c.to_be_bytes.ensures ∙ ap (to_be_bytes w64) (c.ciphered.ensures
     ∙ ap₂ (λ ks n. number (ciphered ks (bits 64 n)))
-    (ap (map (bits 48)) c.reverse.ensures.after ∙ map-reverse (bits 48) c.round_keys-keys.result ∙ ap reverse (c.round_keys-keys.ensures ∙ ap (λ n. round_keys (bits 64 n)) c.from_be_bytes.ensures))
+    (ap (map (bits 48)) c.reverse.ensures.after ∙ map-reverse (bits 48) c.round_keys-keys.result
+    ∙ ap reverse (c.round_keys-keys.ensures ∙ ap (λ n. round_keys (bits 64 n)) c.from_be_bytes.ensures))
     c.from_be_bytes-2.ensures)

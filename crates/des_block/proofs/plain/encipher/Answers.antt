@@ -8,4 +8,5 @@ pub returns : goal.returns
 unfolding des_encipher word_bytes block_bits block_bytes
 returns c =
     c.to_be_bytes.ensures ∙ ap (to_be_bytes w64) (c.ciphered.ensures
-    ∙ ap₂ (λ ks n. number (ciphered ks (bits 64 n))) (c.round_keys-keys.ensures ∙ ap (λ n. round_keys (bits 64 n)) c.from_be_bytes.ensures) c.from_be_bytes-2.ensures)
+    ∙ ap₂ (λ ks n. number (ciphered ks (bits 64 n))) (c.round_keys-keys.ensures
+    ∙ ap (λ n. round_keys (bits 64 n)) c.from_be_bytes.ensures) c.from_be_bytes-2.ensures)

@@ -15,4 +15,5 @@ pub returns : goal.returns
 unfolding s_boxes
 returns c =
     let done : c.loop-i.i ≡ 8 = omega arith in
-    Substitutes_all s_boxes c.args.word c.loop-i.out (Rattle.std.proofs.Common.subst (λ (i : ℕ). Substitutes s_boxes c.args.word i c.loop-i.out) done c.loop-i.invariant) refl
+    Substitutes_all s_boxes c.args.word c.loop-i.out
+    (Rattle.std.proofs.Common.subst (λ (i : ℕ). Substitutes s_boxes c.args.word i c.loop-i.out) done c.loop-i.invariant) refl

@@ -10,7 +10,8 @@ loop-key-init c = Runs_none (map key_bits c.args.keys.now) c.args.left c.args.ri
 pub loop-key-preserved : goal.loop-key-preserved
 loop-key-preserved c =
     let len : length (map key_bits c.args.keys.now) ≡ length c.args.keys.now = length-map c.args.keys.now key_bits in
-    Runs_more (map key_bits c.args.keys.now) c.args.left c.args.right c.loop-key.key-index c.loop-key.left c.loop-key.right c.mixed.result _ c.loop-key.invariant
+    Runs_more (map key_bits c.args.keys.now) c.args.left c.args.right c.loop-key.key-index c.loop-key.left c.loop-key.right c.mixed.result _
+    c.loop-key.invariant
     (omega arith) (sym (get_or-map key_bits c.args.keys.now c.loop-key.key-index _ _ (omega arith))) c.mixed.ensures
 
 pub returns : goal.returns

@@ -10,8 +10,12 @@ returns c =
     let x : ℕ = c.args.c in
     let y : ℕ = c.args.d in
     round_key_is x y _ _ _ _
-    (ap₂ bit_xor (ap₂ bit_xor (ap₂ bit_xor (choice_at _ left_table 21 (x / 2 ^ 21) left_1) (choice_at _ left_table 14 (x / 2 ^ 14) left_2)) (choice_at _ left_table 7 (x / 2 ^ 7) left_3)) (choice_at _ left_table 0 x left_4)
+    (ap₂ bit_xor
+    (ap₂ bit_xor (ap₂ bit_xor (choice_at _ left_table 21 (x / 2 ^ 21) left_1) (choice_at _ left_table 14 (x / 2 ^ 14) left_2))
+    (choice_at _ left_table 7 (x / 2 ^ 7) left_3)) (choice_at _ left_table 0 x left_4)
     ∙ four_choices left_table x)
-    (ap₂ bit_xor (ap₂ bit_xor (ap₂ bit_xor (choice_at _ right_table 21 (y / 2 ^ 21) right_1) (choice_at _ right_table 14 (y / 2 ^ 14) right_2)) (choice_at _ right_table 7 (y / 2 ^ 7) right_3)) (choice_at _ right_table 0 y right_4)
+    (ap₂ bit_xor
+    (ap₂ bit_xor (ap₂ bit_xor (choice_at _ right_table 21 (y / 2 ^ 21) right_1) (choice_at _ right_table 14 (y / 2 ^ 14) right_2))
+    (choice_at _ right_table 7 (y / 2 ^ 7) right_3)) (choice_at _ right_table 0 y right_4)
     ∙ four_choices right_table y)
     refl refl

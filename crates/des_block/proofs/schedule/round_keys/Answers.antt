@@ -5,7 +5,8 @@ use Rattle.des_block.proofs.ScheduleSteps.{Lays_none, Lays_more, Lays_all}
 use Rattle.des_block.proofs.schedule.round_keys.Goals as goal
 
 pub loop-i-init : goal.loop-i-init
-loop-i-init c = Lays_none key_bits c.args.key c.key_halves-left.result.0 c.key_halves-left.result.1 _ refl c.key_halves-left.ensures.left c.key_halves-left.ensures.right
+loop-i-init c =
+    Lays_none key_bits c.args.key c.key_halves-left.result.0 c.key_halves-left.result.1 _ refl c.key_halves-left.ensures.left c.key_halves-left.ensures.right
 
 pub loop-i-preserved : goal.loop-i-preserved
 unfolding rotations

@@ -9,4 +9,5 @@ returns-then-room-bytes c = IsFirstNewline-from_search _ _ c.memchr.ensures
 
 pub returns-else-room-bytes : goal.returns-else-room-bytes
 returns-else-room-bytes c =
-    subst (λ (bytes : List ℕ). MatchOption c.memchr-else-room-bytes.result (IsUnbroken bytes) (IsFirstNewline bytes)) (sym (take_all c.args.room c.args.bytes.now (omega arith))) (IsFirstNewline-from_search _ _ c.memchr-else-room-bytes.ensures)
+    subst (λ (bytes : List ℕ). MatchOption c.memchr-else-room-bytes.result (IsUnbroken bytes) (IsFirstNewline bytes))
+    (sym (take_all c.args.room c.args.bytes.now (omega arith))) (IsFirstNewline-from_search _ _ c.memchr-else-room-bytes.ensures)

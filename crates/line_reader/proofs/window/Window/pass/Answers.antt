@@ -7,7 +7,8 @@ use Rattle.line_reader.specs.Window.{ahead_of}
 use Rattle.line_reader.proofs.Pieces.{FoundNewline, FoundNewline-from_front, drop-between, length-between}
 use Rattle.line_reader.proofs.window.Window.pass.Goals as goal
 
-FoundNewline-ahead : (w : Window) (room place : ℕ) (bytes : List ℕ) → bytes ≡ w.bytes.items → IsFirstNewline (take room (between w.start w.end bytes)) place → FoundNewline (ahead_of w) room place
+FoundNewline-ahead : (w : Window) (room place : ℕ) (bytes : List ℕ) → bytes ≡ w.bytes.items → IsFirstNewline (take room (between w.start w.end bytes)) place
+    → FoundNewline (ahead_of w) room place
 FoundNewline-ahead w room place bytes same first =
     FoundNewline-from_front (ahead_of w) room place (subst (λ (l : List ℕ). IsFirstNewline (take room (between w.start w.end l)) place) same first)
 

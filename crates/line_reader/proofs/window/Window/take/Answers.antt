@@ -12,6 +12,8 @@ returns-clause-passed c = λ passed h.
     let bound : w.end ≤ length bytes = omega (arith, w.bytes.ok.0) in
     let within : c.args.count ≤ w.end - w.start = omega (arith, length-between bytes w.start w.end bound) in
     record {
-      in_hand = line-grown bytes w.line_start w.line_end w.start w.end c.args.count c.min.result 2051 passed c.min.ensures w.line_in_order (omega arith) within h.joined h.in_hand;
-      joined = line-joined bytes w.line_start w.line_end w.start w.end c.args.count c.min.result 2051 passed c.min.ensures w.line_in_order (omega arith) bound within h.joined h.in_hand;
+      in_hand = line-grown bytes w.line_start w.line_end w.start w.end c.args.count c.min.result 2051 passed c.min.ensures w.line_in_order
+          (omega arith) within h.joined h.in_hand;
+      joined = line-joined bytes w.line_start w.line_end w.start w.end c.args.count c.min.result 2051 passed c.min.ensures w.line_in_order
+          (omega arith) bound within h.joined h.in_hand;
     }

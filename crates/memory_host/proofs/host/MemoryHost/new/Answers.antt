@@ -3,4 +3,5 @@ use Rattle.memory_host.proofs.EmptyRows.{stands-empty}
 use Rattle.memory_host.proofs.host.MemoryHost.new.Goals as goal
 
 pub returns-clause-empty : goal.returns-clause-empty
-returns-clause-empty c = stands-empty c.args.issuer c.in_ok-rows.rows.items c.in_ok-records.records.items c.in_ok-rows.ensures (c.in_ok-records.ensures ∙ ap (λ shards. replicate shards 0) c.shards.ensures.count)
+returns-clause-empty c = stands-empty c.args.issuer c.in_ok-rows.rows.items c.in_ok-records.records.items c.in_ok-rows.ensures (c.in_ok-records.ensures
+    ∙ ap (λ shards. replicate shards 0) c.shards.ensures.count)

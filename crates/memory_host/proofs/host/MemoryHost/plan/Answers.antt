@@ -12,7 +12,8 @@ use Rattle.memory_host.proofs.host.MemoryHost.plan.Goals as goal
 pub returns : goal.returns
 returns c =
     let cards = ap (λ (host : Holding). length host.issuer.cards) c.self.view_is in
-    let known = number-within c.args.self.now.issuer.cards (card_of c.args.checked.now.request) c.args.checked.now.card c.requires.at_hand.card_is.number_is in
+    let known =
+        number-within c.args.self.now.issuer.cards (card_of c.args.checked.now.request) c.args.checked.now.card c.requires.at_hand.card_is.number_is in
     let within : c.args.checked.now.card < length c.self.inside.rows.items = omega (arith, c.self.invariant, cards, known) in
     let row_is : slice_get c.args.self.now.rows c.args.checked.now.card ≡ Some c.index-row.result.now =
     ap (λ (host : Holding). slice_get host.rows c.args.checked.now.card) (sym c.self.view_is)
@@ -22,5 +23,8 @@ returns c =
     ∙ ap (λ shard. get_or c.self.inside.records.items shard c.index-place.result.now) c.from.ensures
     ∙ ap (λ (host : Holding). get_or host.records c.args.shard c.index-place.result.now) c.self.view_is in
     let table_is = c.table.ensures ∙ ap (λ (host : Holding). host.issuer.table) c.self.view_is in
-    let plan = subst (λ (table : List TableRow). IsPlan c.index-row.result.now c.args.checked.now.keys table c.args.checked.now.request c.index-place.result.now c.plan.result) table_is c.plan.ensures in
-    row-plan c.args.self.now c.args.checked.now c.args.shard c.index-row.result.now c.index-place.result.now c.plan.result c.requires.at_hand c.requires.shard row_is place_is plan
+    let plan = subst
+        (λ (table : List TableRow). IsPlan c.index-row.result.now c.args.checked.now.keys table c.args.checked.now.request c.index-place.result.now
+        c.plan.result) table_is c.plan.ensures in
+    row-plan c.args.self.now c.args.checked.now c.args.shard c.index-row.result.now c.index-place.result.now c.plan.result c.requires.at_hand
+        c.requires.shard row_is place_is plan
