@@ -33,7 +33,7 @@ use Rattle.claim_words.proofs.ClaimCounts
 abbrev names_of : ClaimView → List SeatName
 names_of view = view.names
 
-module _ {S : Type 0} (first : List ℕ) (s : State S ClaimView) (kept : AreClaims first s) where
+module _ {S : Type 0} (first : List ℕ) (s : State S ClaimView) where
   pub kept_live_places : (card counter : ℕ) → places is_kept first s.views card counter ≤ places is_live first s.views card counter
   kept_live_places card counter =
       omega (arith, total-le _ _ (λ (view : ClaimView). ClaimCounts.kept_le_live card counter view.claims) s.views)
@@ -187,7 +187,7 @@ module _ {S : Type 0} (first : List ℕ) (s : State S ClaimView) (rule : AreClai
         elim (ClaimCounts.pair_cases other_card other card counter) [
           | inl same ↦
               let P : ℕ → ℕ → Type 0 = λ c k. 0 < places is_any first s.views c k in
-              let here : P card counter = omega (arith, found, rule.bits card counter small, live_any_places first s rule card counter) in
+              let here : P card counter = omega (arith, found, rule.bits card counter small, live_any_places first s card counter) in
               inr (subst (λ (c : ℕ). P c other) (sym same.0) (subst (λ (k : ℕ). P card k) (sym same.1) here))
           | inr apart ↦ inl (omega (arith, ClaimCounts.times-cons_other card counter other_card other view.found apart))
         ];
@@ -200,7 +200,7 @@ module _ {S : Type 0} (first : List ℕ) (s : State S ClaimView) (rule : AreClai
         | inl told ↦
             let some_told = part_le (λ (v : ClaimView). times card counter v.tops) s.views id view here in
             let standing = rule.told card counter (omega arith) in
-            absurd (omega (arith, standing, kept_live_places first s rule card counter, rule.bits card counter small))
+            absurd (omega (arith, standing, kept_live_places first s card counter, rule.bits card counter small))
         | inr untold ↦ omega arith
       ]
 

@@ -9,7 +9,7 @@ use Rattle.claim_words.specs.declared.view.ClaimView.{ClaimView}
 abbrev pub wins_of : ℕ → List ℕ → ℕ
 wins_of counter won = how_many (λ x. x == counter) won
 
--- the list has the claims of the view, all of them open, and each counter below this number was won or found set
+-- the list has the claims of the view, none of them given back, and each counter below this number was won or found set
 pub record HasTried (tried : ℕ) (won : List ℕ) (view : ClaimView) : Type 0 where
   pub live : (counter : ℕ) → claims_on is_live 0 counter view.claims ≡ wins_of counter won
   pub any : (counter : ℕ) → claims_on is_any 0 counter view.claims ≡ wins_of counter won

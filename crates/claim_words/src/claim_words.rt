@@ -1,6 +1,7 @@
 //! The words that callers share, and the seats that they claim with.
 ghost use Rattle.std.specs.Prelude.{◌≡◌, ℕ, ◌+◌, ◌*◌, ◌<◌, ◌≤◌, All, IfOk, length};
-ghost use Rattle.claim_words.specs.ClaimViews.{times, claims_on, is_live, is_kept, is_any, newcomer, after_claim, after_top, settled, HasOpen, IsNew, parent_view, child_view, joined};
+ghost use Rattle.claim_words.specs.ClaimViews.{times, claims_on, is_live, is_kept, is_any, HasOpen, IsNew};
+ghost use Rattle.claim_words.specs.ClaimViews.{newcomer, after_claim, after_top, settled, parent_view, child_view, joined};
 ghost use Rattle.claim_words.specs.declared.layout.TheConstants.{CARD_WORDS};
 ghost use Rattle.seat_names.specs.SeatNames.{first_names, IsWhole};
 
@@ -27,7 +28,8 @@ pub enum Claim {
 pub struct ClaimWords {
     table: Table<(), ClaimView, Opening, ClaimRule, Global>,
     ghost some_card: { 0 < table.shared.key.cards },
-    ghost sized: { (table.shared.table_id.words ≡ CARD_WORDS * table.shared.key.cards) × (length table.shared.key.words.value.items ≡ CARD_WORDS * table.shared.key.cards) },
+    ghost sized: { table.shared.table_id.words ≡ CARD_WORDS * table.shared.key.cards },
+    ghost first_sized: { length table.shared.key.words.value.items ≡ CARD_WORDS * table.shared.key.cards },
     ghost slotless: { table.shared.table_id.slots ≡ 0 },
 }
 
@@ -123,11 +125,11 @@ impl ClaimWords {
         ensures view { view_of seat.new ≡ after_top card result (view_of seat.old) }
         ensures top { IsTopFor (view_of seat.old) card result }
     {
-        told(
-            self.table
-                .shared
-                .load::<Tops>(&mut seat.seat, top_word(card)),
-        )
+        let found = self
+            .table
+            .shared
+            .load::<Tops>(&mut seat.seat, top_word(card));
+        told(found)
     }
 
     /// A second seat, which has no claims and was told nothing.

@@ -75,7 +75,8 @@ fn seat_all(
     requires lists { All (λ list. (list.items ≡ []) × (COUNTERS ≤ vec_capacity list)) lists.items }
     requires room { (callers.old.items ≡ []) × (vec_len lists ≤ vec_capacity callers.old) }
     ensures seat { IsOf seat.new words.now × HaveTried [] (view_of seat.new) }
-    ensures callers { All (λ caller. IsOf caller.seat words.now × HasTried 0 caller.won.items (view_of caller.seat) × (caller.won.items ≡ []) × (COUNTERS ≤ vec_capacity caller.won)) callers.new.items }
+    ensures callers { All (λ caller. IsOf caller.seat words.now × HasTried 0 caller.won.items (view_of caller.seat)
+        × (caller.won.items ≡ []) × (COUNTERS ≤ vec_capacity caller.won)) callers.new.items }
     ensures count { vec_len callers.new ≡ vec_len lists }
     ensures whole { IsWhole ((view_of seat.new).names ++ flat_map (λ caller. (view_of caller.seat).names) callers.new.items) }
 {
@@ -90,8 +91,10 @@ fn seat_all(
 /// Lets all callers claim at once, each in a thread of its own.
 fn claim_at_once<R: Threads + Sync>(rt: &R, words: &ClaimWords, callers: &mut [Caller])
     requires card { (cards_of words.now ≡ 1) × (0 < length callers.old) }
-    requires ready { All (λ caller. IsOf caller.seat words.now × HasTried 0 caller.won.items (view_of caller.seat) × (caller.won.items ≡ []) × (COUNTERS ≤ vec_capacity caller.won)) callers.old }
-    ensures names { (i : ℕ) (d : _) → i < length callers.old → (view_of (slice_index_or callers.new i d).seat).names ≡ (view_of (slice_index_or callers.old i d).seat).names }
+    requires ready { All (λ caller. IsOf caller.seat words.now × HasTried 0 caller.won.items (view_of caller.seat)
+        × (caller.won.items ≡ []) × (COUNTERS ≤ vec_capacity caller.won)) callers.old }
+    ensures names { (i : ℕ) (d : _) → i < length callers.old
+        → (view_of (slice_index_or callers.new i d).seat).names ≡ (view_of (slice_index_or callers.old i d).seat).names }
     ensures done { All (λ caller. IsOf caller.seat words.now × HasTried COUNTERS caller.won.items (view_of caller.seat)) callers.new }
 {
     let count = callers.len();

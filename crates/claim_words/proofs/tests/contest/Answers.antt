@@ -3,9 +3,10 @@ use Rattle.std.proofs.lemmas.List.{length-map}
 use Rattle.std.specs.List.{flat_map}
 use Rattle.seat_names.specs.SeatNames.{IsWhole}
 use Rattle.seat_names.specs.declared.seat_name.SeatName.{SeatName}
+use Rattle.seat_names.proofs.ManySeats.{flat_map-kept, lent_whole}
 use Rattle.claim_words.specs.declared.tests.Caller.{Caller}
 use Rattle.claim_words.specs.Seats.{view_of, recorded_in}
-use Rattle.claim_words.proofs.ContestLemmas.{flat_map-kept, put_back, each_won_once}
+use Rattle.claim_words.proofs.ContestLemmas.{each_won_once}
 use Rattle.claim_words.proofs.tests.contest.Goals as goal
 
 pub join_all-requires-clause-whole : goal.join_all-requires-clause-whole
@@ -15,7 +16,8 @@ join_all-requires-clause-whole g c =
     let new : List Caller = c.claim_at_once.new.callers in
     let lent : c.as_mut_slice.result.now ≡ old = c.as_mut_slice.ensures.value in
     let long : length new ≡ length old = omega (arith, ap length lent) in
-    let back : take c.seat_all.new.callers.len (new ++ drop (length new) old) ≡ new = put_back c.seat_all.new.callers.len new old (omega arith) (omega arith) in
+    let back : take c.seat_all.new.callers.len (new ++ drop (length new) old) ≡ new =
+    lent_whole c.seat_all.new.callers.len new old (omega arith) (omega arith) in
     let same : flat_map names_of new ≡ flat_map names_of old = flat_map-kept names_of old new long (λ i d below.
     subst (λ (callers : List Caller). i < length callers → names_of (get_or new i d) ≡ names_of (get_or callers i d)) lent
     (c.claim_at_once.ensures.names i d) below) in

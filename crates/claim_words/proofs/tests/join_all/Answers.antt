@@ -8,7 +8,8 @@ use Rattle.claim_words.specs.declared.layout.TheConstants.{COUNTERS}
 use Rattle.claim_words.specs.declared.tests.Caller.{Caller}
 use Rattle.claim_words.specs.Seats.{view_of, IsOf}
 use Rattle.claim_words.specs.Contest.{HasTried}
-use Rattle.claim_words.proofs.ContestLemmas.{have_tried_joined, flat_map-snoc, whole_joined}
+use Rattle.claim_words.proofs.ContestLemmas.{have_tried_joined}
+use Rattle.seat_names.proofs.ManySeats.{flat_map-snoc, whole_joined}
 use Rattle.claim_words.proofs.tests.join_all.Goals as goal
 
 pub loop-caller-preserved : goal.loop-caller-preserved
@@ -29,5 +30,5 @@ loop-caller-preserved c =
       callers = popped.0;
       count = search rules;
       room = search rules;
-      whole = rw c.join.ensures.1 (whole_joined (view_of c.loop-caller.seat) (view_of last.seat) (flat_map names_of c.pop.new.self.items) whole);
+      whole = rw c.join.ensures.1 (whole_joined (view_of c.loop-caller.seat).names (view_of last.seat).names (flat_map names_of c.pop.new.self.items) whole);
     }

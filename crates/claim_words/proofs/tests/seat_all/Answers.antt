@@ -5,7 +5,8 @@ use Rattle.claim_words.specs.declared.layout.TheConstants.{COUNTERS}
 use Rattle.claim_words.specs.declared.tests.Caller.{Caller}
 use Rattle.claim_words.specs.Seats.{view_of, IsOf}
 use Rattle.claim_words.specs.Contest.{HasTried}
-use Rattle.claim_words.proofs.ContestLemmas.{tried_none, have_tried_parent, flat_map-snoc, whole_seated}
+use Rattle.claim_words.proofs.ContestLemmas.{tried_none, have_tried_parent}
+use Rattle.seat_names.proofs.ManySeats.{flat_map-snoc, whole_seated}
 use Rattle.claim_words.proofs.tests.seat_all.Goals as goal
 
 pub loop-won-preserved : goal.loop-won-preserved
@@ -26,5 +27,5 @@ loop-won-preserved c =
       count = search rules;
       room = search rules;
       whole = rw (c.push_reserved.ensures.items, flat_map-snoc, c.split.ensures.seat.1, c.split.ensures.new.1)
-          (whole_seated (view_of c.loop-won.seat) _ c.loop-won.seat.named c.loop-won.invariant.whole);
+          (whole_seated (view_of c.loop-won.seat).names _ c.loop-won.seat.named c.loop-won.invariant.whole);
     }

@@ -1,0 +1,55 @@
+-- The names of a seat and of a list of callers' seats, through splits and joins.
+use Rattle.std.proofs.Common.{◌≡◌, ℕ, suc, ◌<◌, List, [], ◌∷◌, ◌++◌, length, take, drop, get_or, leb, ◌&&◌, refl, sym, ap, ap₂, ◌∙◌, append-nil}
+use Rattle.std.proofs.Common.{append_assoc, arith}
+use Rattle.std.proofs.lemmas.List.{take_all, drop_all}
+use Rattle.std.specs.List.{flat_map}
+use Rattle.seat_names.specs.Totals.{total, one_if}
+use Rattle.seat_names.specs.SeatNames.{is_path, after_split, split_off, IsWhole}
+use Rattle.seat_names.specs.declared.seat_name.SeatName.{SeatName}
+use Rattle.seat_names.proofs.Totals.{total-append}
+use Rattle.seat_names.proofs.SeatNameLemmas.{whole_split, whole_alike}
+
+abbrev with_path : List ℕ → SeatName → ℕ
+with_path path name = one_if (is_path path name.path)
+
+abbrev with_splits : List ℕ → ℕ → SeatName → ℕ
+with_splits path k name = one_if (is_path path name.path && leb k name.splits)
+
+-- the names of a seat that was split are whole with the rest and the new seat's
+pub whole_seated : (names rest : List SeatName) → 0 < length names → IsWhole (names ++ rest) → IsWhole (after_split names ++ (rest ++ split_off names))
+whole_seated names rest named whole =
+    let after : List SeatName = after_split names in
+    let off : List SeatName = split_off names in
+    whole_split names rest (after ++ (rest ++ off)) named whole
+    (λ path. omega (arith, total-append (with_path path) after (rest ++ off), total-append (with_path path) rest off))
+    (λ path k. omega (arith, total-append (with_splits path k) after (rest ++ off), total-append (with_splits path k) rest off))
+
+-- the names of two seats that were joined are whole with the rest
+pub whole_joined : (names others rest : List SeatName) → IsWhole (names ++ (rest ++ others)) → IsWhole ((names ++ others) ++ rest)
+whole_joined names others rest whole =
+    let same : (f : SeatName → ℕ) → total f ((names ++ others) ++ rest) ≡ total f (names ++ (rest ++ others)) = λ f. omega (
+      arith,
+      total-append f (names ++ others) rest,
+      total-append f names others,
+      total-append f names (rest ++ others),
+      total-append f rest others,
+    ) in
+    whole_alike (names ++ (rest ++ others)) ((names ++ others) ++ rest) (λ path. same (with_path path)) (λ path k. same (with_splits path k)) whole
+
+pub flat_map-snoc : {A B : Type 0} (f : A → List B) (xs : List A) (x : A) → flat_map f (xs ++ x ∷ []) ≡ flat_map f xs ++ f x
+flat_map-snoc f [] x = append-nil (f x)
+flat_map-snoc f (y ∷ ys) x = ap (λ (zs : List _). f y ++ zs) (flat_map-snoc f ys x) ∙ sym (append_assoc (f y) (flat_map f ys) (f x))
+
+-- callers whose seats keep their names
+pub flat_map-kept : {A B : Type 0} (f : A → List B) (xs ys : List A) → length ys ≡ length xs
+    → ((i : ℕ) (d : A) → i < length xs → f (get_or ys i d) ≡ f (get_or xs i d)) → flat_map f ys ≡ flat_map f xs
+flat_map-kept f [] [] long same = refl
+flat_map-kept f [] (y ∷ ys) long same = absurd (omega arith)
+flat_map-kept f (x ∷ xs) [] long same = absurd (omega arith)
+flat_map-kept f (x ∷ xs) (y ∷ ys) long same =
+    ap₂ (λ a b. a ++ b) (same 0 x (omega arith)) (flat_map-kept f xs ys (omega arith) (λ i d below. same (suc i) d (omega arith)))
+
+-- a list that was lent as a slice comes back whole
+pub lent_whole : {A : Type 0} (n : ℕ) (part whole : List A) → length part ≡ n → length whole ≡ n → take n (part ++ drop (length part) whole) ≡ part
+lent_whole n part whole long also =
+    ap (λ rest. take n (part ++ rest)) (drop_all (length part) whole (omega arith)) ∙ ap (take n) (append-nil part) ∙ take_all n part (omega arith)
