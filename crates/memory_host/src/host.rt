@@ -127,7 +127,13 @@ impl MemoryHost {
     {
         let place = self.records[usize::from(shard)];
         let row = &self.rows[checked.card as usize];
-        row.plan(&checked.keys, self.issuer.table(), &checked.request, place)
+        row.plan_under(
+            &checked.session,
+            &checked.keys,
+            self.issuer.table(),
+            &checked.request,
+            place,
+        )
     }
 
     /// Adds the record of a decision to the row of this card and to its shard, and gives the record's place.
