@@ -19,10 +19,9 @@ use Rattle.card_history.proofs.Runs.{run_more}
 use Rattle.card_history.proofs.ConsistentRuns.{run-consistent}
 use Rattle.issuer_setup.specs.IssuerSetup.{Setup}
 use Rattle.answer_text.specs.AnswerText.{printed}
-use Rattle.memory_host.specs.Holding.{Holding, StandsFor}
-use Rattle.memory_host.specs.Reading.{reading}
+use Rattle.memory_host.specs.Holding.{Holding, StandsFor, HasAtMost}
 use Rattle.memory_host.specs.Answering.{rules_of}
-use Rattle.memory_host.proofs.KeptLines.{reading-kept}
+use Rattle.line_checks.proofs.KeptLines.{reading-kept}
 use Rattle.issuer_base.specs.Tells.{Tells}
 use Rattle.issuer_top.specs.Answered.{AreAnswered, WasRead, AllAnswered, WholeAnswered, FrontAnswered, PassedAnswered}
 use Rattle.issuer_top.specs.Serving.{ServesLines}
@@ -58,16 +57,16 @@ texts-more answers answer = sym (flat_map_more printed [] answers answer)
 -- what one turn of a host does
 abbrev pub Turns : Holding → Holding → List ℕ → Answer → Type 0
 Turns old new line answer = (before : List (List Entry)) → StandsFor old before → (after : List (List Entry)) × StandsFor new after
-    × Turn (rules_of old.issuer) before (reading old.issuer line) answer after
+    × Turn (rules_of old.issuer) before ((rules_of old.issuer).read line) answer after
 
 -- a turn on a line as far as it is kept is a turn on the line
 turn-kept : (issuer other : Setup) (before : List (List Entry)) (line hand : List ℕ) (answer : Answer) (after : List (List Entry))
     → other ≡ issuer → hand ≡ kept line
-    → Turn (rules_of other) before (reading other hand) answer after → Turn (rules_of issuer) before (reading issuer line) answer after
+    → Turn (rules_of other) before ((rules_of other).read hand) answer after → Turn (rules_of issuer) before ((rules_of issuer).read line) answer after
 turn-kept issuer other before line hand answer after same cut turn =
-    let at : Turn (rules_of issuer) before (reading issuer hand) answer after =
-    subst (λ (i : Setup). Turn (rules_of i) before (reading i hand) answer after) same turn in
-    subst (λ r. Turn (rules_of issuer) before r answer after) (ap (reading issuer) cut ∙ reading-kept issuer line) at
+    let at : Turn (rules_of issuer) before ((rules_of issuer).read hand) answer after =
+    subst (λ (i : Setup). Turn (rules_of i) before ((rules_of i).read hand) answer after) same turn in
+    subst (λ r. Turn (rules_of issuer) before r answer after) (ap (rules_of issuer).read cut ∙ reading-kept issuer line) at
 
 -- the line after those served is answered
 run-line : (issuer : Setup) (host next : Holding) (whole : List (List ℕ)) (answers : List Answer) (histories : List (List Entry))
@@ -91,14 +90,15 @@ pub record HasServed (issuer : Setup) (was now held_before held_after : Option (
   pub given : HasGivenLines reader read whole
   pub issuer_is : host.issuer ≡ issuer
   pub stands : StandsFor host histories
+  pub few : HasAtMost reader.lines host
   pub run : Run (rules_of issuer) (no_records issuer.shards) whole answers histories
   pub written : Appends held_before held_after (flat_map printed answers)
 
 -- nothing is served yet
 pub HasServed-none : (issuer : Setup) (was held : Option (List ℕ)) (host : Holding) (reader : Reading)
-    → host.issuer ≡ issuer → StandsFor host (no_records issuer.shards) → reader ≡ unread
+    → host.issuer ≡ issuer → StandsFor host (no_records issuer.shards) → HasAtMost 0 host → reader ≡ unread
     → HasServed issuer was was held held host reader
-HasServed-none issuer was held host reader same stands first = record {
+HasServed-none issuer was held host reader same stands none first = record {
   read = [];
   whole = [];
   answers = [];
@@ -107,6 +107,7 @@ HasServed-none issuer was held host reader same stands first = record {
   given = subst (λ r. HasGivenLines r [] []) (sym first) HasGivenLines-unread;
   issuer_is = same;
   stands = stands;
+  few = subst (λ (n : ℕ). HasAtMost n host) (ap (λ r. r.lines) (sym first)) none;
   run = refl;
   written = Appends-nil held;
 }
@@ -246,9 +247,10 @@ module _ (issuer : Setup) (was mid now first held next : Option (List ℕ)) (hos
       are_answered issuer (so_far.whole ++ line ∷ []) (lines text) (so_far.answers ++ answer ∷ []) more.0 lines_are more.2
 
   -- one line more is served
-  pub HasServed-line : GivesLine mid now reader new → after.issuer ≡ host.issuer → Appends held next (printed answer)
+  pub HasServed-line : GivesLine mid now reader new → after.issuer ≡ host.issuer → ((most : ℕ) → HasAtMost most host → HasAtMost (most + 1) after)
+      → Appends held next (printed answer)
       → HasServed issuer was now first next after new
-  HasServed-line gives same prints =
+  HasServed-line gives same one_more prints =
       let more = run-with gives.line gives.counted.in_hand in
       record {
         read = so_far.read ++ gives.given;
@@ -259,6 +261,7 @@ module _ (issuer : Setup) (was mid now first held next : Option (List ℕ)) (hos
         given = HasGivenLines-line mid now reader new so_far.read so_far.whole so_far.given gives;
         issuer_is = same ∙ so_far.issuer_is;
         stands = more.1;
+        few = subst (λ (n : ℕ). HasAtMost n after) (sym gives.counted.one_more) (one_more reader.lines so_far.few);
         run = more.2;
         written = whole-written prints;
       }

@@ -1,5 +1,5 @@
 -- What serving a file of request lines does, from its first line on.
-use Rattle.std.specs.Prelude.{◌≡◌, ℕ, Bool, true, false, List, Option, Result}
+use Rattle.std.specs.Prelude.{◌≡◌, ℕ, ◌+◌, Bool, true, false, List, Option, Result}
 use Rattle.std.specs.Io.KnownBytes.{Appends}
 use Rattle.issuer_base.specs.declared.answer.Answer.{Answer}
 use Rattle.issuer_base.specs.declared.entry.Entry.{Entry}
@@ -9,8 +9,7 @@ use Rattle.line_reader.specs.Reading.{unread}
 use Rattle.card_history.specs.Turns.{Turn, no_records}
 use Rattle.issuer_setup.specs.IssuerSetup.{Setup}
 use Rattle.answer_text.specs.AnswerText.{printed}
-use Rattle.memory_host.specs.Holding.{StandsFor}
-use Rattle.memory_host.specs.Reading.{reading}
+use Rattle.memory_host.specs.Holding.{StandsFor, HasAtMost}
 use Rattle.memory_host.specs.Answering.{rules_of}
 use Rattle.issuer_top.specs.declared.serve.Server.{Server}
 use Rattle.issuer_top.specs.declared.serve.Served.{Served}
@@ -22,14 +21,16 @@ use Rattle.issuer_top.specs.Answered.{WasRead, AllAnswered, WholeAnswered, Passe
 pub record IsNew (server : Server) (issuer : Setup) : Type 0 where
   pub issuer_is : server.host.issuer ≡ issuer
   pub stands : StandsFor server.host (no_records issuer.shards)
+  pub none_recorded : HasAtMost 0 server.host
   pub reads_first : server.reader ≡ unread
 
--- the line in hand was answered, and its answer was written, all of it or a front
+-- the line in hand was answered, with one record more at most, and its answer was written, all of it or a front
 pub record AnswersLine (old new : Server) (held_before held_after : Option (List ℕ)) (written : Result (Unit {0}) WriteFault) : Type 0 where
   pub answer : Answer
   pub turn : (before : List (List Entry)) → StandsFor old.host before → (after : List (List Entry)) × StandsFor new.host after
-      × Turn (rules_of old.host.issuer) before (reading old.host.issuer old.reader.line) answer after
+      × Turn (rules_of old.host.issuer) before ((rules_of old.host.issuer).read old.reader.line) answer after
   pub prints : WritesAll held_before held_after written (printed answer)
+  pub one_more : (most : ℕ) → HasAtMost most old.host → HasAtMost (most + 1) new.host
   pub same_issuer : new.host.issuer ≡ old.host.issuer
   pub same_reader : new.reader ≡ old.reader
 

@@ -34,9 +34,10 @@ pub(crate) enum Served {
 }
 
 impl Server {
+    ghost use Rattle.memory_host.specs.Holding.{HasRoom};
     ghost use Rattle.issuer_top.specs.Serving.{IsNew, Serves, AnswersLine, read_failed, write_failed};
 
-    /// All the memory that serving takes, but for the records.
+    /// All the memory that serving takes.
     pub(crate) fn new(alloc: Global, issuer: Issuer) -> Result<Self, NoMemory>
         ensures { IfOk result (λ server. IsNew server issuer) }
     {
@@ -79,6 +80,7 @@ impl Server {
 
     /// Answers the line in hand.
     fn answer_line<W: Sink>(&mut self, out: &mut W) -> Result<(), WriteFault>
+        requires { HasRoom self.old.host }
         ensures answered { AnswersLine self.old self.new (W.held out.old) (W.held out.new) result }
         ensures count { CountsFaults (W.faults out.old) (W.faults out.new) (is_err result) }
     {

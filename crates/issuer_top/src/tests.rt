@@ -158,8 +158,13 @@ fn answers_the_least_and_the_greatest_counter(rt: HostRuntime) -> Result<(), Fai
 fn refuses_by_the_first_cause(rt: HostRuntime) -> Result<(), Fail> {
     check(
         &rt,
-        "\nX\nA 9F3\nQ 1\n",
-        "refused 1 0\nrefused 1 0\nrefused 1 0\nrefused 1 0\n",
+        "\nX\nA\nA 9F3\nA 9G\nQ 4000000000000002 0 84160000\n",
+        "refused 1 1\nrefused 1 1\nrefused 1 2\nrefused 1 6\nrefused 1 4\nrefused 1 21\n",
+    )?;
+    check(
+        &rt,
+        "S 4000000000000002 00 1\nS 4000000000000028 00 1\nQ 4000000000000028 00 00\nQ 4000000000000002 00 00\n",
+        "refused 1 1\nrefused 6\nrefused 6\nrefused 14\n",
     )?;
     check(
         &rt,
@@ -209,8 +214,8 @@ fn drops_what_is_past_the_longest_line(rt: HostRuntime) -> Result<(), Fail> {
     let seven = line(alloc, 7, AC)?;
     for (count, answer) in [
         (1_024, "refused 3 5a\n"),
-        (1_025, "refused 1 0\n"),
-        (2_500, "refused 1 0\n"),
+        (1_025, "refused 1 2051\n"),
+        (2_500, "refused 1 2051\n"),
     ] {
         let mut text = String::from_str(alloc, "A ")?;
         for _ in 0..count {
@@ -264,12 +269,12 @@ fn takes_words_in_any_order_each_once(rt: HostRuntime) -> Result<(), Fail> {
         (
             "serve --config config --requests requests",
             0,
-            "refused 1 0\n",
+            "refused 1 1\n",
         ),
         (
             "serve --requests requests --config config",
             0,
-            "refused 1 0\n",
+            "refused 1 1\n",
         ),
         ("serve --config config --config config", 1, "stop 1\n"),
         (
@@ -372,7 +377,7 @@ impl Desk for SippingDesk {
 /// The status of a run whose request file gives one byte a read and fails at one call, and what it writes.
 fn run_sipping<R: AllocGlobal>(rt: &R, fails_at: u64) -> Result<(u8, String), Fail> {
     let desk = SippingDesk {
-        requests: "X\nAB\n\nC",
+        requests: "X\nXY\n\nZ",
         fails_at,
         alloc: rt.alloc(),
     };
@@ -389,7 +394,7 @@ fn answers_the_lines_read_whole_before_a_fault(rt: HostRuntime) -> Result<(), Fa
         let (status, text) = run_sipping(&rt, fails_at as u64)?;
         let mut expected = String::new(rt.alloc());
         for _ in 0..*lines {
-            expected.push_str("refused 1 0\n")?;
+            expected.push_str("refused 1 1\n")?;
         }
         expected.push_str("stop 3\n")?;
         assert_eq!(rt; status, 3, "at {fails_at}");
@@ -399,7 +404,7 @@ fn answers_the_lines_read_whole_before_a_fault(rt: HostRuntime) -> Result<(), Fa
     assert_eq!(rt; status, 0);
     assert_eq!(rt;
         text.as_str(),
-        "refused 1 0\nrefused 1 0\nrefused 1 0\nrefused 1 0\n"
+        "refused 1 1\nrefused 1 1\nrefused 1 1\nrefused 1 1\n"
     );
     Ok(())
 }
@@ -430,7 +435,7 @@ impl Sink for SippingSink {
 #[test]
 fn stops_where_the_sink_fails(rt: HostRuntime) -> Result<(), Fail> {
     for (words, text, status) in [
-        (COMMAND.as_slice(), "refused 1 0\n", 0),
+        (COMMAND.as_slice(), "refused 1 1\n", 0),
         (["serve"].as_slice(), "stop 1\n", 1),
     ] {
         for fails_after in 0..=text.len() {
@@ -521,7 +526,7 @@ fn stops_at_a_line_too_many(rt: HostRuntime) -> Result<(), Fail> {
     let desk = LongDesk { lines: 1_048_577 };
     let status = status_of(issue(&rt, &words_of(rt.alloc(), &COMMAND)?, desk, &mut out));
     assert_eq!(rt; status, 8);
-    // 1,048,576 times `refused 1 0`, and `stop 8 1048577`.
+    // 1,048,576 times `refused 1 1`, and `stop 8 1048577`.
     assert_eq!(rt; out.bytes, 12 * 1_048_576 + 15);
     Ok(())
 }

@@ -147,7 +147,7 @@ fn stop_at(fault: DeskFault) -> Stop
     }
 }
 
-/// A server of the issuer that the configuration says, with all the memory that it needs, but for records.
+/// A server of the issuer that the configuration says, with all the memory that it needs.
 fn set_up<S: Source>(alloc: Global, config: &mut S) -> Result<Server, Stop>
     ensures new { IfOk result (λ server. IsNew server server.host.issuer) }
     ensures says { IfOk result (λ server. Says (S.left config.old) server.host.issuer) }

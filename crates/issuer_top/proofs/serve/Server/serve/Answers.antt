@@ -6,7 +6,7 @@ use Rattle.issuer_top.proofs.serve.Server.serve.Goals as goal
 
 pub loop-self-init : goal.loop-self-init
 loop-self-init g c = record {
-  served = HasServed-none _ _ _ _ _ c.requires.issuer_is c.requires.stands c.requires.reads_first;
+  served = HasServed-none _ _ _ _ _ c.requires.issuer_is c.requires.stands c.requires.none_recorded c.requires.reads_first;
   source_stood = refl;
   sink_stood = refl;
 }
@@ -20,7 +20,7 @@ loop-self-preserved g c =
           (g.W.Sink.held c.args.out.now) (g.W.Sink.held c.answer_line.new.out) c.answer_line.new.self.host r)
           (sym answered.same_reader)
           (HasServed-line _ _ _ _ _ _ _ _ _ _ _ answered.answer c.loop-self.invariant.served answered.turn (c.in-Line.ensures.line refl)
-          answered.same_issuer answered.prints);
+          answered.same_issuer answered.one_more answered.prints);
       source_stood = c.in-Line.ensures.count.counted ∙ c.loop-self.invariant.source_stood;
       sink_stood = c.in-Ok.ensures.count.counted ∙ c.loop-self.invariant.sink_stood;
     }
