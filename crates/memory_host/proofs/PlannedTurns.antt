@@ -68,11 +68,11 @@ row-plan host found shard row place outcome at_hand home row_is place_is plan hi
     let history : List Entry = history_for host.issuer histories found.card in
     let known = number_of-found (card_of found.request) host.issuer.cards found.card at_hand.card_is.number_is in
     let reply_by_card : List Entry → Request
-        → Reply = λ history request. decided_reply known.0.method found.keys host.issuer.table (status_of (name_of known.0) history) request in
+    → Reply = λ history request. decided_reply known.0.method found.keys host.issuer.table (status_of (name_of known.0) history) request in
     let at_end = place-at_end host histories stands found.card shard place home place_is in
     let answers = plan shard known.0 history (row-there host histories stands found.card known.0 row known.1 row_is) (sym known.2) at_end in
     answers-alike shard reply_by_card (reply_to host.issuer) history found.request (answer_of shard outcome) (history_after history outcome)
-        (reply-at_hand host.issuer found known.0 history at_hand known.1 known.2) answers
+    (reply-at_hand host.issuer found known.0 history at_hand known.1 known.2) answers
 
 module _ (host : Holding) (found : CheckedRequest) (at_hand : IsRequestAtHand host.issuer found) (shard : ℕ) (home : IsShardOf host.issuer found.card shard)
     (histories : List (List Entry)) (stands : StandsFor host histories) where
@@ -82,7 +82,7 @@ module _ (host : Holding) (found : CheckedRequest) (at_hand : IsRequestAtHand ho
       → AnswersIn (rules_of host.issuer) histories found.request answer (set histories (found.card % host.issuer.shards) after)
   answered answer after answers =
       let named : found.card % host.issuer.shards ≡ shard_of host.issuer (card_of found.request) =
-          sym (shard_of-known host.issuer (card_of found.request) found.card at_hand.card_is.number_is) in
+      sym (shard_of-known host.issuer (card_of found.request) found.card at_hand.card_is.number_is) in
       record {
         old = history_for host.issuer histories found.card;
         new = after;
@@ -100,7 +100,7 @@ module _ (host : Holding) (found : CheckedRequest) (at_hand : IsRequestAtHand ho
       (history_for host.issuer histories found.card) → AnswersIn (rules_of host.issuer) histories found.request answer histories
   unchanged answer answers =
       subst (λ (after : List (List Entry)). AnswersIn (rules_of host.issuer) histories found.request answer after)
-          (set-get_or histories (found.card % host.issuer.shards) []) (answered answer (history_for host.issuer histories found.card) answers)
+      (set-get_or histories (found.card % host.issuer.shards) []) (answered answer (history_for host.issuer histories found.card) answers)
 
   module _ (reply : Reply) (step : Decision) (plan : IsPlanFor host found shard (Fresh reply step)) where
     -- the record of a fresh plan is the next one of the request's card
@@ -109,7 +109,7 @@ module _ (host : Holding) (found : CheckedRequest) (at_hand : IsRequestAtHand ho
         let known = number_of-found (card_of found.request) host.issuer.cards found.card at_hand.card_is.number_is in
         let answers = plan histories stands in
         let last : Decided step.request step.reply ∷ [] ≡ Decided found.request reply ∷ [] =
-            append_cancel_left (history_for host.issuer histories found.card) _ _ answers.4 in
+        append_cancel_left (history_for host.issuer histories found.card) _ _ answers.4 in
         let same : step.request ≡ found.request = cc in
         record {
           valid = at_hand.card_is.valid;
@@ -127,5 +127,11 @@ module _ (host : Holding) (found : CheckedRequest) (at_hand : IsRequestAtHand ho
         → AnswersIn (rules_of host.issuer) histories found.request (AnswerFresh shard place reply) (with_record_of host.issuer histories found.card step)
     fresh-turn place place_is =
         let answers = plan histories stands in
-        answered (AnswerFresh shard place reply) (with_record (history_for host.issuer histories found.card) step) (answers.0, refl, place_is
-            ∙ answers.2, answers.3, answers.4)
+        answered (AnswerFresh shard place reply) (with_record (history_for host.issuer histories found.card) step) (
+          answers.0,
+          refl,
+          place_is
+              ∙ answers.2,
+          answers.3,
+          answers.4,
+        )

@@ -67,7 +67,7 @@ module _ (host : Holding) (histories : List (List Entry)) (stands : StandsFor ho
   row-there number card row card_is row_is =
       let found = stands.rows_stand number card card_is in
       subst (λ (row : CardRow). RowStandsFor card row (history_for host.issuer histories number)) (same_Some found.row row (sym found.row_is
-          ∙ row_is)) found.stands
+      ∙ row_is)) found.stands
 
   -- the number of records that was found for a card's shard is the place after the last record of its history
   pub place-at_end : (number shard place : ℕ) → IsShardOf host.issuer number shard → place ≡ get_or host.records shard place
@@ -97,9 +97,9 @@ module _ (host : Holding) (number shard : ℕ) (step : Decision) (home : IsShard
             let its = other-name host.issuer.cards number other next.card card next.valid next.card_is card_is not_it in
             let named : name_of card ≢ card_of step.request = λ same. its (same ∙ next.next.of_card) in
             let more = stands-other card row (history_for host.issuer histories number) step named
-                (subst (λ (shard : ℕ). RowStandsFor card row (get_or histories shard [])) same before) in
+            (subst (λ (shard : ℕ). RowStandsFor card row (get_or histories shard [])) same before) in
             subst (λ (shard : ℕ). RowStandsFor card row (get_or (with_record_of host.issuer histories number step) shard [])) (sym same)
-                (subst (λ (history : List Entry). RowStandsFor card row history) (sym history-here) more)
+            (subst (λ (history : List Entry). RowStandsFor card row history) (sym history-here) more)
         | inr different ↦ subst (λ (history : List Entry). RowStandsFor card row history)
             (sym (get_or-set_other histories (number % host.issuer.shards) (other % host.issuer.shards)
             (with_record (history_for host.issuer histories number) step) [] different)) before
@@ -131,8 +131,8 @@ module _ (host : Holding) (number shard : ℕ) (step : Decision) (home : IsShard
               | inl same ↦ subst (λ (other : ℕ). RowStands after (with_record_of host.issuer histories number step) other card) (sym same) (
                   let its : next.card ≡ card = same_Some next.card card (sym next.card_is ∙ ap (slice_get host.issuer.cards) (sym same) ∙ card_is) in
                   let gained =
-                      gains next.card (history_for host.issuer histories number)
-                      (row-there host histories stands number next.card old next.card_is old_is) next.next in
+                  gains next.card (history_for host.issuer histories number)
+                  (row-there host histories stands number next.card old next.card_is old_is) next.next in
                   let here = subst (λ (history : List Entry). RowStandsFor next.card new history) (sym history-here) gained in
                   record {
                     row = new;

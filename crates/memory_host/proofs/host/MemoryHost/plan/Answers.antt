@@ -13,7 +13,7 @@ pub returns : goal.returns
 returns c =
     let cards = ap (λ (host : Holding). length host.issuer.cards) c.self.view_is in
     let known =
-        number-within c.args.self.now.issuer.cards (card_of c.args.checked.now.request) c.args.checked.now.card c.requires.at_hand.card_is.number_is in
+    number-within c.args.self.now.issuer.cards (card_of c.args.checked.now.request) c.args.checked.now.card c.requires.at_hand.card_is.number_is in
     let within : c.args.checked.now.card < length c.self.inside.rows.items = omega (arith, c.self.invariant, cards, known) in
     let row_is : slice_get c.args.self.now.rows c.args.checked.now.card ≡ Some c.index-row.result.now =
     ap (λ (host : Holding). slice_get host.rows c.args.checked.now.card) (sym c.self.view_is)
@@ -24,7 +24,7 @@ returns c =
     ∙ ap (λ (host : Holding). get_or host.records c.args.shard c.index-place.result.now) c.self.view_is in
     let table_is = c.table.ensures ∙ ap (λ (host : Holding). host.issuer.table) c.self.view_is in
     let plan = subst
-        (λ (table : List TableRow). IsPlan c.index-row.result.now c.args.checked.now.keys table c.args.checked.now.request c.index-place.result.now
-        c.plan_under.result) table_is c.plan_under.ensures in
+    (λ (table : List TableRow). IsPlan c.index-row.result.now c.args.checked.now.keys table c.args.checked.now.request c.index-place.result.now
+    c.plan_under.result) table_is c.plan_under.ensures in
     row-plan c.args.self.now c.args.checked.now c.args.shard c.index-row.result.now c.index-place.result.now c.plan_under.result c.requires.at_hand
-        c.requires.shard row_is place_is plan
+    c.requires.shard row_is place_is plan
