@@ -18,10 +18,12 @@ use Rattle.issuer_base.specs.declared.command.Command.{Command}
 use Rattle.issuer_base.specs.declared.answer.Reply.{Reply}
 use Rattle.issuer_base.specs.declared.entry.Entry.{Entry}
 use Rattle.issuer_base.specs.declared.entry.Entry.TheVariants.{Decided, Queued, Status}
+use Rattle.secure_msg.specs.Commands.{command_of, AreBytesOf}
+use Rattle.secure_msg.proofs.Forms.{command_of-Some, command_of-AreBytesOf}
 use Rattle.journal_rec.specs.declared.limits.TheConstants.{COMMAND_BYTES}
 use Rattle.journal_rec.specs.RecordText.{pan_bytes, request_bytes, space, words_of}
 use Rattle.journal_rec.specs.Record.{IsCommand, IsRecord, IsReply, IsRequest, is_record}
-use Rattle.journal_rec.specs.Reading.{Reader, ◌>>=◌, ◌>>◌, approval_at, bytes_at, card_at, command_of, decided_at, end_at, entry_at, given}
+use Rattle.journal_rec.specs.Reading.{Reader, ◌>>=◌, ◌>>◌, approval_at, bytes_at, card_at, decided_at, end_at, entry_at, given}
 use Rattle.journal_rec.specs.Reading.{mark_at, next_at, pan_at, psn_at, queued_at, reply_at, request_at, rest_at, status_at}
 use Rattle.journal_rec.proofs.Exact.{Exact, anything, nothing, exact_behind, exact_map, exact_same, exact_then, then_some, map_some}
 use Rattle.journal_rec.proofs.Parts.{exact_request}
@@ -117,28 +119,6 @@ exact_card =
     (λ unit card valid made.
     let back = sym (same_Some _ _ made) in
     ((((tt, ap (λ (c : List ℕ × ℕ). c.0) back), ap (λ (c : List ℕ × ℕ). c.1) back), tt), refl))))))
-
--- ---- a command
-
-command_of-again : (command : Command) → IsTrue (is_command command) → length command.body.items ≤ MAX_BODY_BYTES
-    → command_of (command_bytes command) ≡ Some command
-unfolding command_of
-command_of-again command form few = cond-true _ _ _ (and_from _ _ form (le-leb _ _ few))
-
-command_of-takes : (bytes : List ℕ) (command : Command) → command_of bytes ≡ Some command
-    → IsTrue (is_command command) × (length command.body.items ≤ MAX_BODY_BYTES) × (command_bytes command ≡ bytes)
-unfolding command_of
-command_of-takes [] command made = absurd cc
-command_of-takes (cla ∷ []) command made = absurd cc
-command_of-takes (cla ∷ ins ∷ []) command made = absurd cc
-command_of-takes (cla ∷ ins ∷ p1 ∷ []) command made = absurd cc
-command_of-takes (cla ∷ ins ∷ p1 ∷ p2 ∷ body) command made =
-    let tested = cond_some _ _ _ made in
-    let parts = and_parts _ _ tested.0 in (
-      subst (λ (c : Command). IsTrue (is_command c)) tested.1 parts.0,
-      subst (λ (c : Command). length c.body.items ≤ MAX_BODY_BYTES) tested.1 (leb-true _ _ parts.1),
-      ap command_bytes (sym tested.1),
-    )
 
 -- ---- the parts of an entry, and something where it has none
 
@@ -236,19 +216,20 @@ exact_queued =
     exact_map (rest_at COMMAND_BYTES) _ _ _ nothing _ (λ entry. command_bytes (command_part entry)) (exact_rest COMMAND_BYTES)
     (λ entry holds.
     let command : Command = command_part entry in
-    let few : length command.body.items ≤ MAX_BODY_BYTES = holds.1.1.1.size in (
+    let few : length command.body.items ≤ MAX_BODY_BYTES = holds.1.1.1.size in
+    let is : AreBytesOf (command_bytes command) command = record { form = holds.1.1.0; room = few; spelled = refl } in (
       (omega arith, holds.1.1.1.bytes),
-      ap (option_map (λ (c : Command). Queued card.0 card.1 c)) (command_of-again command holds.1.1.0 few)
+      ap (option_map (λ (c : Command). Queued card.0 card.1 c)) (command_of-AreBytesOf (command_bytes command) command is)
           ∙ ap Some (queued_again entry card holds.0.1 holds.1.0),
     ))
     (λ bytes entry valid made.
     let read = map_some (command_of bytes) (λ (c : Command). Queued card.0 card.1 c) entry made in
     let back = sym read.2 in
     let is_command_part : command_part entry ≡ read.0 = ap command_part back in
-    let taken = command_of-takes bytes read.0 read.1 in
-    let held : IsCommand read.0 = record { size = taken.1; bytes = subst IsBytes (sym taken.2) valid.1 } in (
-      ((tt, ap card_part back), (ap letter_of back, subst IsReadCommand (sym is_command_part) (taken.0, held))),
-      ap command_bytes is_command_part ∙ taken.2,
+    let taken : AreBytesOf bytes read.0 = command_of-Some bytes read.0 read.1 in
+    let held : IsCommand read.0 = record { size = taken.room; bytes = subst IsBytes taken.spelled valid.1 } in (
+      ((tt, ap card_part back), (ap letter_of back, subst IsReadCommand (sym is_command_part) (taken.form, held))),
+      ap command_bytes is_command_part ∙ sym taken.spelled,
     )))
 
 -- ---- a status

@@ -1,5 +1,5 @@
 -- How a line is read, one part after another.
-use Rattle.std.specs.Prelude.{ℕ, ◌+◌, ◌-◌, ◌*◌, Bool, true, false, ◌&&◌, ◌==◌, nat_le, if◌then◌else◌, List, [], ◌∷◌, length, take, drop}
+use Rattle.std.specs.Prelude.{ℕ, ◌+◌, ◌-◌, ◌*◌, Bool, true, false, ◌==◌, nat_le, if◌then◌else◌, List, [], ◌∷◌, length, take, drop}
 use Rattle.std.specs.Prelude.{map, position, take_while, slice_index, Option, Some, None, option_and_then, option_map}
 use Rattle.std.specs.Char.{is_ascii_digit}
 use Rattle.std.specs.Int.{w16, from_be_bytes}
@@ -7,13 +7,12 @@ use Rattle.std.specs.List.{list_all}
 use Rattle.hex.specs.Hex.{lower_digits}
 use Rattle.issuer_base.specs.CardNumber.{pan_from}
 use Rattle.issuer_base.specs.ChipData.{is_bcd, request_from}
-use Rattle.issuer_base.specs.ScriptCommand.{is_command}
-use Rattle.issuer_base.specs.declared.limits.TheConstants.{MAX_BODY_BYTES, MAX_REPLY_BYTES}
+use Rattle.issuer_base.specs.declared.limits.TheConstants.{MAX_REPLY_BYTES}
 use Rattle.issuer_base.specs.declared.request.Parts.{Parts}
-use Rattle.issuer_base.specs.declared.command.Command.{Command}
 use Rattle.issuer_base.specs.declared.answer.Reply.{Reply}
 use Rattle.issuer_base.specs.declared.entry.Entry.{Entry}
 use Rattle.issuer_base.specs.declared.entry.Entry.TheVariants.{Decided, Queued, Status}
+use Rattle.secure_msg.specs.Commands.{command_of}
 use Rattle.journal_rec.specs.declared.limits.TheConstants.{COMMAND_BYTES, PAN_DIGITS}
 use Rattle.journal_rec.specs.RecordText.{space}
 
@@ -187,13 +186,6 @@ card_at = do
   psn ← psn_at
   mark_at space
   given (Some (pan, psn))
-
--- a command of the host: class, instruction, two parameters and the data
-unfoldable pub command_of : List ℕ → Option Command
-command_of (cla ∷ ins ∷ p1 ∷ p2 ∷ body) =
-    let command : Command = record { cla = cla; ins = ins; p1 = p1; p2 = p2; body = record { items = body } } in
-    if is_command command && nat_le (length body) MAX_BODY_BYTES then Some command else None
-command_of _ = None
 
 -- a queued command, behind its letter
 unfoldable pub queued_at : Reader Entry

@@ -2,7 +2,6 @@
 //! or as none. No call takes memory.
 #![tactic(auto)]
 
-mod command;
 mod digits;
 mod laws;
 mod limits;

@@ -1,14 +1,13 @@
 //! Reading a record from its line.
 ghost use Rattle.std.specs.Prelude.{◌≡◌, ◌↔◌, option_map};
 ghost use Rattle.issuer_base.specs.declared.entry.Entry.{Entry};
-ghost use Rattle.issuer_base.specs.ChipData.{is_bcd};
 ghost use Rattle.journal_rec.specs.Record.{IsLineOf};
 ghost use Rattle.journal_rec.specs.Reading.{approval_at, behind_letter, card_at, decided_at, entry_at, parts_at, psn_at, queued_at, reply_at, status_at};
 
-use crate::command::read_command;
 use crate::limits::COMMAND_BYTES;
 use crate::line::Line;
-use issuer_base::{Entry, NotEntry, Pan, Parts, Reply, Request};
+use issuer_base::{Entry, NotEntry, Pan, Parts, Reply, Request, is_decimal};
+use secure_msg::read_command;
 
 /// The record of a line, which is given without its newline. `NotEntry` where the line is that of no record.
 pub fn read_entry(line: &[u8]) -> Result<Entry, NotEntry>
@@ -111,7 +110,7 @@ fn queued(line: &mut Line) -> Option<Entry>
 {
     let (pan, psn) = card(line)?;
     let bytes = line.rest::<COMMAND_BYTES>()?;
-    let command = read_command(bytes.as_slice())?;
+    let command = read_command(bytes.as_slice()).ok()?;
     Some(Entry::Queued { pan, psn, command })
 }
 
@@ -153,11 +152,4 @@ fn sequence_number(line: &mut Line) -> Option<u8>
         return None;
     }
     Some(psn)
-}
-
-#[tactic(auto, unfolding(issuer_base::specs::ChipData::is_bcd))]
-fn is_decimal(byte: u8) -> bool
-    ensures { result ≡ is_bcd byte }
-{
-    byte / 16 <= 9 && byte % 16 <= 9
 }
