@@ -22,7 +22,7 @@ use Rattle.secure_msg.specs.Commands.{command_of, AreBytesOf}
 use Rattle.secure_msg.proofs.Forms.{command_of-Some, command_of-AreBytesOf}
 use Rattle.journal_rec.specs.declared.limits.TheConstants.{COMMAND_BYTES}
 use Rattle.journal_rec.specs.RecordText.{pan_bytes, request_bytes, space, words_of}
-use Rattle.journal_rec.specs.Record.{IsCommand, IsRecord, IsReply, IsRequest, is_record}
+use Rattle.journal_rec.specs.Record.{IsCommand, IsRecord, IsReply, IsRequest}
 use Rattle.journal_rec.specs.Reading.{Reader, ◌>>=◌, ◌>>◌, approval_at, bytes_at, card_at, decided_at, end_at, entry_at, given}
 use Rattle.journal_rec.specs.Reading.{mark_at, next_at, pan_at, psn_at, queued_at, reply_at, request_at, rest_at, status_at}
 use Rattle.journal_rec.proofs.Exact.{Exact, anything, nothing, exact_behind, exact_map, exact_same, exact_then, then_some, map_some}
@@ -309,7 +309,6 @@ IsLettered letter entry = (Unit {0} × (letter_of entry ≡ letter)) × IsRecord
 
 module _ (letter : ℕ) where
   decided_to : letter ≡ 100 → (entry : Entry) → IsLettered letter entry → IsReadDecided entry
-  unfolding is_record
   decided_to is (Decided request reply) (known, is_one) =
       let held = is_one.held.1 in
       let arc : IsField 2 reply.arc = record { size = held.arc_size; bytes = held.arc } in
@@ -318,7 +317,6 @@ module _ (letter : ℕ) where
   decided_to is (Status pan psn status) (known, is_one) = absurd (omega (arith, known.1))
 
   decided_from : letter ≡ 100 → (entry : Entry) → IsReadDecided entry → IsLettered letter entry
-  unfolding is_record
   decided_from is (Decided request reply) (start, (request_is, (is_d, (begin, (arc, (approve, (some, (few, bytes)))))))) =
       let held : IsReply reply = record { arc_size = arc.size; arc = arc.bytes; size = few; bytes = bytes } in
       ((tt, sym is), record { held = (request_is, held); may_stand = le-leb _ _ some })
@@ -331,7 +329,6 @@ module _ (letter : ℕ) where
   decided_same is (Status pan psn status) (known, is_one) = absurd (omega (arith, known.1))
 
   queued_to : letter ≡ 113 → (entry : Entry) → IsLettered letter entry → IsReadQueued entry
-  unfolding is_record
   queued_to is (Decided request reply) (known, is_one) = absurd (omega (arith, known.1))
   queued_to is (Queued pan psn command) (known, is_one) =
       let form = and_parts _ _ is_one.may_stand in
@@ -339,7 +336,6 @@ module _ (letter : ℕ) where
   queued_to is (Status pan psn status) (known, is_one) = absurd (omega (arith, known.1))
 
   queued_from : letter ≡ 113 → (entry : Entry) → IsReadQueued entry → IsLettered letter entry
-  unfolding is_record
   queued_from is (Decided request reply) (start, (card, (is_q, command_is))) = absurd (omega (arith, is_q))
   queued_from is (Queued pan psn command) (start, ((begin, (pan_is, ((below, decimal_psn), end))), (is_q, (form, held)))) =
       ((tt, sym is), record { held = (pan_is, below, held); may_stand = and_from _ _ decimal_psn form })
@@ -351,7 +347,6 @@ module _ (letter : ℕ) where
   queued_same is (Status pan psn status) (known, is_one) = absurd (omega (arith, known.1))
 
   status_to : letter ≡ 115 → (entry : Entry) → IsLettered letter entry → IsReadStatus entry
-  unfolding is_record
   status_to is (Decided request reply) (known, is_one) = absurd (omega (arith, known.1))
   status_to is (Queued pan psn command) (known, is_one) = absurd (omega (arith, known.1))
   status_to is (Status pan psn status) (known, is_one) =
@@ -359,7 +354,6 @@ module _ (letter : ℕ) where
       (tt, ((tt, (is_one.held.0, ((is_one.held.1, form.0), tt))), (refl, leb-true _ _ form.1)))
 
   status_from : letter ≡ 115 → (entry : Entry) → IsReadStatus entry → IsLettered letter entry
-  unfolding is_record
   status_from is (Decided request reply) (start, (card, (is_s, small))) = absurd (omega (arith, is_s))
   status_from is (Queued pan psn command) (start, (card, (is_s, small))) = absurd (omega (arith, is_s))
   status_from is (Status pan psn status) (start, ((begin, (pan_is, ((below, decimal_psn), end))), (is_s, small))) =
@@ -412,7 +406,6 @@ card_line : (letter : ℕ) (pan : List ℕ) (psn : ℕ) (last : List ℕ)
 card_line letter pan psn last = ap (λ (text : List ℕ). letter ∷ text) (regroup (encode_lower (pan_bytes pan)) (encode_lower (psn ∷ [])) last)
 
 line_same : (entry : Entry) → IsRecord entry → letter_of entry ∷ behind_text entry ≡ line_of entry
-unfolding is_record
 line_same (Decided request reply) is_one = refl
 line_same (Queued pan psn command) is_one = card_line 113 pan psn (encode_lower (command_bytes command))
 line_same (Status pan psn status) is_one =

@@ -18,7 +18,7 @@ use Rattle.issuer_base.specs.declared.entry.Entry.{Entry}
 use Rattle.issuer_base.specs.declared.entry.Entry.TheVariants.{Decided, Queued, Status}
 use Rattle.issuer_base.specs.declared.request.Parts.{Parts}
 use Rattle.journal_rec.specs.RecordText.{IsLine, IsUnbroken, newline, pan_bytes, request_bytes, request_fields, space, text_of, texts_of, words_of}
-use Rattle.journal_rec.specs.Record.{IsRecord, is_record, request_sizes}
+use Rattle.journal_rec.specs.Record.{IsRecord, request_sizes}
 use Rattle.journal_rec.specs.Reading.{entry_at}
 use Rattle.journal_rec.specs.declared.limits.TheConstants.{LEAST_RECORD_BYTES, MOST_RECORD_BYTES}
 use Rattle.journal_rec.proofs.PanText.{length-pan_bytes}
@@ -64,7 +64,6 @@ join-inner (word ∷ next ∷ words) inner =
     list_all-append is_inner word (space ∷ join_with_byte space (next ∷ words)) ∙ and_from _ _ parts.0 (join-inner (next ∷ words) parts.1)
 
 words-inner : (entry : Entry) → IsRecord entry → list_all has_no_newline (words_of entry) ≡ true
-unfolding is_record
 words-inner (Decided request reply) record_is =
     rw (encode_lower-inner (request_bytes request), encode_lower-inner reply.arc, approval-inner reply.approve, encode_lower-inner reply.bytes.items) refl
 words-inner (Queued pan psn command) record_is =
@@ -195,7 +194,7 @@ length-four letter a b c = simp length-append (omega arith)
 
 -- the text of a record has 28 bytes at least and 501 at most
 pub length-text_of : (entry : Entry) → IsRecord entry → (LEAST_RECORD_BYTES ≤ length (text_of entry)) × (length (text_of entry) ≤ MOST_RECORD_BYTES)
-unfolding is_record text_of
+unfolding text_of
 length-text_of (Decided request reply) record_is =
     let whole = length-five (encode_lower (request_bytes request)) (encode_lower reply.arc) (approval_text reply.approve) (encode_lower reply.bytes.items) in
     let held = record_is.held in

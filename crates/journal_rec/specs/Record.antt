@@ -1,4 +1,4 @@
--- Which entries are records.
+-- Which entries are records, and which line is a record's.
 use Rattle.std.specs.Prelude.{◌≡◌, ℕ, ◌^◌, ◌<◌, ◌≤◌, Bool, ◌&&◌, nat_le, IsTrue, List, [], ◌∷◌, ◌++◌, length, map}
 use Rattle.hex.specs.Hex.{IsBytes}
 use Rattle.issuer_base.specs.CardNumber.{is_pan}
@@ -13,8 +13,8 @@ use Rattle.issuer_base.specs.declared.entry.Entry.TheVariants.{Decided, Queued, 
 use Rattle.journal_rec.specs.declared.limits.TheConstants.{PAN_BYTES}
 use Rattle.journal_rec.specs.RecordText.{newline, request_bytes, request_fields, text_of}
 
--- an entry is a record where its reply has a byte, its sequence number is decimal, its command is the host's, its status is one digit
-unfoldable pub is_record : Entry → Bool
+-- an entry may be written where its reply has a byte, its sequence number is decimal, its command is the host's, its status is one digit
+abbrev pub is_record : Entry → Bool
 is_record (Decided request reply) = nat_le 1 (length reply.bytes.items)
 is_record (Queued pan psn command) = is_bcd psn && is_command command
 is_record (Status pan psn status) = is_bcd psn && nat_le status 9
@@ -23,7 +23,8 @@ is_record (Status pan psn status) = is_bcd psn && nat_le status 9
 abbrev pub request_sizes : List ℕ
 request_sizes = PAN_BYTES ∷ 1 ∷ 2 ∷ 2 ∷ 5 ∷ 3 ∷ 1 ∷ 6 ∷ 6 ∷ 2 ∷ 2 ∷ 4 ∷ 1 ∷ 32 ∷ 8 ∷ []
 
--- a request as the host holds it
+-- a request as the program holds it; a law over all entries ranges over lists of any length and numbers of any size, and so
+-- says which of them are values of the program
 pub record IsRequest (parts : Parts) : Type 0 where
   pub has_form : IsTrue (is_request parts)
   pub pan : IsTrue (is_pan parts.pan)
@@ -31,25 +32,25 @@ pub record IsRequest (parts : Parts) : Type 0 where
   pub sizes : map length (request_fields parts) ≡ request_sizes
   pub bytes : IsBytes (request_bytes parts)
 
--- a reply as the host holds it
+-- a reply as the program holds it
 pub record IsReply (reply : Reply) : Type 0 where
   pub arc_size : length reply.arc ≡ 2
   pub arc : IsBytes reply.arc
   pub size : length reply.bytes.items ≤ MAX_REPLY_BYTES
   pub bytes : IsBytes reply.bytes.items
 
--- a command as the host holds it
+-- a command as the program holds it
 pub record IsCommand (command : Command) : Type 0 where
   pub size : length command.body.items ≤ MAX_BODY_BYTES
   pub bytes : IsBytes (command_bytes command)
 
--- an entry as the host holds it: each field has its size
+-- an entry as the program holds it
 abbrev pub IsEntry : Entry → Type 0
 IsEntry (Decided request reply) = IsRequest request × IsReply reply
 IsEntry (Queued pan psn command) = IsTrue (is_pan pan) × (psn < 256) × IsCommand command
 IsEntry (Status pan psn status) = IsTrue (is_pan pan) × (psn < 256)
 
--- a record
+-- a record: an entry that the program holds, and that may be written
 pub record IsRecord (entry : Entry) : Type 0 where
   pub held : IsEntry entry
   pub may_stand : IsTrue (is_record entry)

@@ -29,7 +29,7 @@ fn writes_what_it_reads(rt: HostRuntime) {
 }
 
 #[test]
-#[tactic(auto, unfolding(crate::specs::Record::is_record, issuer_base::specs::ChipData::is_bcd, issuer_base::specs::ScriptCommand::is_command))]
+#[tactic(auto, unfolding(issuer_base::specs::ChipData::is_bcd, issuer_base::specs::ScriptCommand::is_command))]
 fn writes_commands_and_statuses(rt: HostRuntime) -> Result<(), Fail> {
     let pan = Pan::new(&DIGITS).ok_or("an account number")?;
     let status = Entry::Status {

@@ -1,3 +1,4 @@
+-- What the loop over pairs of digits keeps.
 use Rattle.std.proofs.Common.{◌≡◌, ◌*◌, take, drop}
 use Rattle.journal_rec.specs.Reading.{spelled}
 use Rattle.journal_rec.proofs.Spelling.{behind}

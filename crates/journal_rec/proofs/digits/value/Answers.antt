@@ -1,3 +1,4 @@
+-- The table has the value of a digit.
 use Rattle.std.proofs.Common.{arith}
 use Rattle.journal_rec.proofs.DigitTable.{VALUES-at, VALUES-bounded}
 use Rattle.journal_rec.proofs.digits.value.Goals as goal

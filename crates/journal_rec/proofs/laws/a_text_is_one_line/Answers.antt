@@ -1,3 +1,4 @@
+-- The text of a record is one line, within its bounds.
 use Rattle.journal_rec.proofs.TextLaws.{length-text_of, text_of-IsLine}
 use Rattle.journal_rec.proofs.laws.a_text_is_one_line.Goals as goal
 

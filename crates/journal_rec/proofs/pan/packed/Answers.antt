@@ -1,3 +1,4 @@
+-- Each pair of nibbles is packed into one byte more.
 use Rattle.std.proofs.Common.{◌+◌, ◌*◌, ◌++◌, drop, refl, ap, ◌∙◌, arith}
 use Rattle.journal_rec.specs.RecordText.{packed}
 use Rattle.journal_rec.proofs.PanLemmas.{packed_more, packed_done}

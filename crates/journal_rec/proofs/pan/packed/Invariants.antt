@@ -1,3 +1,4 @@
+-- What the loop over pairs of nibbles keeps.
 use Rattle.std.proofs.Common.{◌≡◌, ◌*◌, ◌++◌, length, drop}
 use Rattle.journal_rec.specs.RecordText.{packed}
 use Rattle.journal_rec.proofs.pan.packed.Given as goal

@@ -1,3 +1,4 @@
+-- What the loop over decimal digits keeps.
 use Rattle.std.proofs.Common.{◌≡◌, ◌-◌, map, take}
 use Rattle.journal_rec.proofs.pan.values.Given as goal
 

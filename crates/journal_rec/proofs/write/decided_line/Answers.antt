@@ -1,3 +1,4 @@
+-- A request that is written is one.
 use Rattle.std.proofs.Common.{IsTrue, sym, ◌∙◌, subst}
 use Rattle.hex.specs.Hex.{IsBytes}
 use Rattle.issuer_base.specs.ChipData.{is_request}

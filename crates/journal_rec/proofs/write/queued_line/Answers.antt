@@ -1,3 +1,4 @@
+-- A command that is written is one.
 use Rattle.std.proofs.Common.{◌∙◌, subst}
 use Rattle.hex.specs.Hex.{IsBytes}
 use Rattle.journal_rec.proofs.write.queued_line.Goals as goal

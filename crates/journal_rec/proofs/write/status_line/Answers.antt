@@ -1,3 +1,4 @@
+-- The line of a status is its text.
 use Rattle.std.proofs.Common.{arith}
 use Rattle.journal_rec.proofs.Joined.{text_of-Status}
 use Rattle.journal_rec.proofs.write.status_line.Goals as goal
