@@ -1,0 +1,1 @@
+//! Each step once.
