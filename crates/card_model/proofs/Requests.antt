@@ -1,5 +1,5 @@
 -- The requests of a card have the form of a request, and their cryptogram is over what else they say.
-use Rattle.std.proofs.Common.{◌≡◌, ℕ, ◌/◌, ◌%◌, true, List, [], ◌∷◌, ◌++◌, replicate, length, Option, Some, IsTrue, refl, ap, ap₂, sym, ◌∙◌}
+use Rattle.std.proofs.Common.{◌≡◌, ℕ, ◌/◌, ◌%◌, true, List, [], ◌∷◌, ◌++◌, replicate, Some, IsTrue, refl, ap, ap₂, sym, ◌∙◌}
 use Rattle.std.proofs.lemmas.Bool.{and_from}
 use Rattle.std.specs.List.{list_all}
 use Rattle.issuer_base.specs.ChipData.{is_bcd, is_request, has_profile, request_from}

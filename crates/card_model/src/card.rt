@@ -1,6 +1,6 @@
 //! A card, and its three steps.
 
-ghost use Rattle.std.specs.Prelude.{◌≡◌, ◌<◌, ◌↔◌, ◌&&◌, nat_le, length, take, drop, IsNone, IsTrue, IfNone, IfOk, IfSome, OnErr};
+ghost use Rattle.std.specs.Prelude.{◌≡◌, ◌<◌, ◌↔◌, ◌&&◌, nat_le, length, take, drop, IsNone, IsTrue, IfNone, IfOk, IfSome, OnErr, OnSome};
 ghost use Rattle.std.specs.Bool.{OnFalse};
 ghost use Rattle.std.specs.List.{list_all};
 ghost use Rattle.std.specs.Str.{bytes_eq};
@@ -262,7 +262,8 @@ fn opened_within(
     chain: &[u8; 8],
     bytes: &[u8],
 ) -> Option<(Command, [u8; 8])>
-    ensures { result ≡ opened_within count key.now.0 chain.now bytes.now }
+    ensures exact { result ≡ opened_within count key.now.0 chain.now bytes.now }
+    ensures counted { OnSome result (count < MOST_COUNTED) }
 {
     if count >= MOST_COUNTED {
         return None;

@@ -1,4 +1,4 @@
-use Rattle.std.proofs.Common.{◌≡◌, ◌/◌, ◌%◌, get_or, ap, ◌∙◌, arith}
+use Rattle.std.proofs.Common.{◌/◌, ◌%◌, get_or, ap, ◌∙◌, arith}
 use Rattle.cryptogram_in.proofs.Pieces.{to_be_bytes-counter}
 use Rattle.card_model.specs.Application.{CardState}
 use Rattle.card_model.proofs.Requests.{application_data-bytes}

@@ -1,7 +1,7 @@
-use Rattle.std.proofs.Common.{◌≡◌, is_some, IsTrue, ap, sym, ◌∙◌}
+use Rattle.std.proofs.Common.{is_some, IsTrue, ap, sym, ◌∙◌}
 use Rattle.issuer_base.specs.ChipData.{is_bcd, request_from}
 use Rattle.cryptogram_in.specs.Cryptogram.{application_cryptogram}
-use Rattle.card_model.specs.Application.{CardState, next_request}
+use Rattle.card_model.specs.Application.{CardState}
 use Rattle.card_model.proofs.Requests.{request_from-fields, next_request-made, next_request-genuine}
 use Rattle.card_model.proofs.card.Card.next_request.Goals as goal
 
