@@ -226,8 +226,8 @@ impl Card {
         let results = self.script_results();
         let [high, low] = self.register.to_be_bytes();
         [
-            0x0F, 0xA5, self.dki, 0xA0, 0, 0, results, 0, 0, 0, 0, 0, 0, 0, 0, 0, 0x0F, high, low, 0,
-            0, 0, 0, 0, 0, 0, 0, 0, 0, 0, 0, 0,
+            0x0F, 0xA5, self.dki, 0xA0, 0, 0, results, 0, 0, 0, 0, 0, 0, 0, 0, 0, 0x0F, high, low,
+            0, 0, 0, 0, 0, 0, 0, 0, 0, 0, 0, 0, 0,
         ]
     }
 
