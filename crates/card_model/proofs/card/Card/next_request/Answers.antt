@@ -1,0 +1,26 @@
+use Rattle.std.proofs.Common.{is_some, IsTrue, ap, sym, ◌∙◌}
+use Rattle.issuer_base.specs.ChipData.{is_bcd, request_from}
+use Rattle.cryptogram_in.specs.Cryptogram.{application_cryptogram}
+use Rattle.card_model.specs.Application.{CardState}
+use Rattle.card_model.proofs.Requests.{request_from-fields, next_request-made, next_request-genuine}
+use Rattle.card_model.proofs.card.Card.next_request.Goals as goal
+
+pub unwrap-unsigned-requires : goal.unwrap-unsigned-requires
+unwrap-unsigned-requires c =
+    let psn : IsTrue (is_bcd c.args.self.now.psn) = ap (λ (card : CardState). is_bcd card.psn) (sym c.self.view_is) ∙ c.self.invariant.0 in
+    ap is_some (c.new.ensures ∙ ap request_from c.copy.ensures
+    ∙ request_from-fields _ c.args.terminal.now _ _ psn c.requires.decimal c.next_fields-parts.ensures)
+
+pub unwrap-requires : goal.unwrap-requires
+unwrap-requires c =
+    let psn : IsTrue (is_bcd c.args.self.now.psn) = ap (λ (card : CardState). is_bcd card.psn) (sym c.self.view_is) ∙ c.self.invariant.0 in
+    ap is_some (c.new-2.ensures ∙ request_from-fields _ c.args.terminal.now _ _ psn c.requires.decimal c.next_fields-parts.ensures)
+
+pub returns-clause-exact : goal.returns-clause-exact
+returns-clause-exact c =
+    let first = sym (c.new.ensures ∙ ap request_from c.copy.ensures) ∙ c.unwrap-unsigned.ensures in
+    let signed = c.expected-parts.ensures ∙ ap (λ (card : CardState). application_cryptogram card.keys.ac.0 c.unwrap-unsigned.result) c.self.view_is in
+    next_request-made c.args.self.now c.args.terminal.now _ _ _ _ c.next_fields-parts.ensures first signed (sym c.new-2.ensures ∙ c.unwrap.ensures)
+
+pub returns-clause-genuine : goal.returns-clause-genuine
+returns-clause-genuine c = rw (returns-clause-exact c) (next_request-genuine c.args.self.now c.args.terminal.now)
