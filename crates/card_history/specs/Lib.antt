@@ -1,3 +1,5 @@
 pub mod Records
+pub mod Scripts
+pub mod ScriptOrder
 pub mod Turns
 pub mod OneReply

@@ -15,9 +15,13 @@ pub record CardName : Type 0 where
   pub pan : List ℕ
   pub psn : ℕ
 
+-- the card with these numbers
+abbrev pub named : List ℕ → ℕ → CardName
+named pan psn = record { pan = pan; psn = psn }
+
 -- the card that a request is of
 abbrev pub card_of : Request → CardName
-card_of request = record { pan = request.pan; psn = request.psn }
+card_of request = named request.pan request.psn
 
 -- whether the request is of this card
 unfoldable pub is_of : CardName → Request → Bool

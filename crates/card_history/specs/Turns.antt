@@ -4,15 +4,18 @@ use Rattle.issuer_base.specs.declared.limits.TheConstants.{WINDOW}
 use Rattle.issuer_base.specs.declared.request.Request.{Request}
 use Rattle.issuer_base.specs.declared.answer.Reply.{Reply}
 use Rattle.issuer_base.specs.declared.answer.Answer.{Answer}
-use Rattle.issuer_base.specs.declared.answer.Answer.TheVariants.{Fresh, Kept, Refused}
+use Rattle.issuer_base.specs.declared.answer.Answer.TheVariants.{Fresh, Kept, Queued, Set, Refused}
 use Rattle.issuer_base.specs.declared.answer.Refusal.{Refusal}
-use Rattle.issuer_base.specs.declared.answer.Refusal.TheVariants.{BadLine, Below, Taken}
+use Rattle.issuer_base.specs.declared.answer.Refusal.TheVariants.{Below, Taken, QueueFull}
 use Rattle.issuer_base.specs.declared.entry.Entry.{Entry}
-use Rattle.issuer_base.specs.declared.entry.Entry.TheVariants.{Decided}
+use Rattle.issuer_base.specs.declared.command.Command.{Command}
+use Rattle.issuer_base.specs.declared.entry.Entry.TheVariants.{Decided, Queued as IsQueued, Status as IsStatus}
 use Rattle.card_history.specs.declared.decision.Asked.{Asked}
 use Rattle.card_history.specs.declared.decision.Asked.TheVariants.{Decide, Queue, Status}
 use Rattle.card_history.specs.declared.decision.Decision.{Decision}
-use Rattle.card_history.specs.Records.{CardName, decided, card_of, greatest, IsBelow}
+use Rattle.script_queue.specs.CommandQueue.{TakesOneMore}
+use Rattle.card_history.specs.Records.{CardName, named, decided, card_of, greatest, IsBelow}
+use Rattle.card_history.specs.Scripts.{waiting, scripts_of}
 
 -- the counter of the request is in the window of these decisions, and none of them is on it
 pub record IsUnused (decisions : List Decision) (request : Request) : Type 0 where
@@ -53,6 +56,24 @@ Answers shard reply_to before request (Refused (Taken at place)) after =
 -- no other answer is possible
 Answers shard reply_to before request _ after = ⊥
 
+-- what shard number `shard` may answer to a command for this card, and its history afterwards
+abbrev pub AnswersCommand : ℕ → List Entry → CardName → Command → Answer → List Entry → Type 0
+-- a command that the card's queue takes waits for the card, and its record stands at the place after the last
+AnswersCommand shard before card command (Queued at place) after =
+    TakesOneMore (waiting (scripts_of card before)) × (at ≡ shard) × (place ≡ length before)
+    × (after ≡ before ++ IsQueued card.pan card.psn command ∷ [])
+-- one that it doesn't take is refused
+AnswersCommand shard before card command (Refused QueueFull) after =
+    (TakesOneMore (waiting (scripts_of card before)) → ⊥) × (after ≡ before)
+-- no other answer is possible
+AnswersCommand shard before card command _ after = ⊥
+
+-- what shard number `shard` may answer to a status for this card, and its history afterwards: the card has it
+abbrev pub AnswersStatus : ℕ → List Entry → CardName → ℕ → Answer → List Entry → Type 0
+AnswersStatus shard before card status (Set at place) after =
+    (at ≡ shard) × (place ≡ length before) × (after ≡ before ++ IsStatus card.pan card.psn status ∷ [])
+AnswersStatus shard before card status _ after = ⊥
+
 -- how a host answers: what a line asks of it, or why it is refused, the shard of a card, and its reply to a request that it
 -- decides after the history of that shard
 pub record Rules : Type 0 where
@@ -60,29 +81,29 @@ pub record Rules : Type 0 where
   pub shard_of : CardName → ℕ
   pub reply_to : List Entry → Request → Reply
 
--- a request is answered on the history of its card's shard, and the histories of the other shards stay
-pub record AnswersIn (rules : Rules) (before : List (List Entry)) (request : Request) (answer : Answer) (after : List (List Entry)) : Type 0 where
+-- a line is answered on the history of its card's shard, and the histories of the other shards stay
+pub record AnswersIn (rules : Rules) (before : List (List Entry)) (card : CardName) (Changes : ℕ → List Entry → List Entry → Type 0)
+    (after : List (List Entry)) : Type 0 where
   pub old : List Entry
   pub new : List Entry
-  pub old_is : slice_get before (rules.shard_of (card_of request)) ≡ Some old
-  pub answers : Answers (rules.shard_of (card_of request)) rules.reply_to old request answer new
-  pub after_is : after ≡ slice_set before (rules.shard_of (card_of request)) new
+  pub old_is : slice_get before (rules.shard_of card) ≡ Some old
+  pub changes : Changes (rules.shard_of card) old new
+  pub after_is : after ≡ slice_set before (rules.shard_of card) new
 
 -- a line is refused for this, and the histories stay
 abbrev pub IsRefused : List (List Entry) → Refusal → Answer → List (List Entry) → Type 0
 IsRefused before refusal answer after = (answer ≡ Refused refusal) × (after ≡ before)
 
--- why a host doesn't take a command or a status, of any card: no form of line that it answers has their first letter
-abbrev pub not_taken : Refusal
-not_taken = BadLine 1
-
--- one turn, on one history per shard: a line that is refused as it is read leaves them; a request is answered; a command or a
--- status isn't taken
+-- one turn, on one history per shard: a line that is refused as it is read leaves them; a request, a command and a status are
+-- answered in the shard of their card
 abbrev pub Turn : Rules → List (List Entry) → Result Asked Refusal → Answer → List (List Entry) → Type 0
 Turn rules before (Err refusal) answer after = IsRefused before refusal answer after
-Turn rules before (Ok (Decide request)) answer after = AnswersIn rules before request answer after
-Turn rules before (Ok (Queue pan psn command)) answer after = IsRefused before not_taken answer after
-Turn rules before (Ok (Status pan psn status)) answer after = IsRefused before not_taken answer after
+Turn rules before (Ok (Decide request)) answer after =
+    AnswersIn rules before (card_of request) (λ shard old new. Answers shard rules.reply_to old request answer new) after
+Turn rules before (Ok (Queue pan psn command)) answer after =
+    AnswersIn rules before (named pan psn) (λ shard old new. AnswersCommand shard old (named pan psn) command answer new) after
+Turn rules before (Ok (Status pan psn status)) answer after =
+    AnswersIn rules before (named pan psn) (λ shard old new. AnswersStatus shard old (named pan psn) status answer new) after
 
 -- a run of turns: these answers to these lines, one after another
 abbrev pub Run : Rules → List (List Entry) → List (List ℕ) → List Answer → List (List Entry) → Type 0

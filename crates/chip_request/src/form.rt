@@ -1,11 +1,11 @@
 //! The forms of the fields' values.
 ghost use Rattle.std.specs.Prelude.{◌≡◌, ◌==◌, ◌≤◌, length, nat_le, take_while};
 ghost use Rattle.std.specs.List.{list_all, flat_map};
-ghost use Rattle.issuer_base.specs.ChipData.{is_bcd, digits_of};
+ghost use Rattle.issuer_base.specs.ChipData.{digits_of};
 ghost use Rattle.chip_request.specs.Forms.{fits, account_number_in};
 
 use arrayvec::ArrayVec;
-use issuer_base::{Pan, has_profile, is_decimal};
+use issuer_base::{Pan, are_decimal, has_profile};
 
 /// What the value of a field has to be.
 #[derive(Clone, Copy, Debug, PartialEq, Eq)]
@@ -32,12 +32,6 @@ impl Form {
             Form::ApplicationData => value.len() == 32 && has_profile(value),
         }
     }
-}
-
-fn are_decimal(value: &[u8]) -> bool
-    ensures { result ≡ list_all is_bcd value.now }
-{
-    value.iter().all(|byte| is_decimal(*byte))
 }
 
 /// The account number in a value of that form.

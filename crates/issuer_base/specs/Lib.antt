@@ -2,6 +2,7 @@
 pub mod CardNumber
 pub mod ChipData
 pub mod ScriptCommand
+pub mod ScriptTemplate
 pub mod Tells
 pub mod OutsideFaults
 pub mod Sink

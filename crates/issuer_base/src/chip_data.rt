@@ -1,5 +1,6 @@
 //! The forms of the bytes that a request's fields are made of: EMV 4.3 Book 3, Annex A.
 ghost use Rattle.std.specs.Prelude.{◌≡◌};
+ghost use Rattle.std.specs.List.{list_all};
 ghost use Rattle.issuer_base.specs.ChipData.{is_bcd, has_profile};
 
 /// Whether both nibbles of the byte are decimal digits: EMV 4.3 Book 3, section 4.3, format n.
@@ -8,6 +9,13 @@ pub fn is_decimal(byte: u8) -> bool
     ensures { result ≡ is_bcd byte }
 {
     byte / 16 <= 9 && byte % 16 <= 9
+}
+
+/// Whether all nibbles of the bytes are decimal digits.
+pub fn are_decimal(bytes: &[u8]) -> bool
+    ensures { result ≡ list_all is_bcd bytes.now }
+{
+    bytes.iter().all(|byte| is_decimal(*byte))
 }
 
 /// Whether issuer application data have the profile's form: 0F first, then the common core identifier A5, and 0F

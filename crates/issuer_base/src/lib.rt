@@ -13,15 +13,16 @@ mod request;
 mod words;
 
 pub use answer::{Answer, MasterOption, Method, Refusal, Reply};
-pub use chip_data::{has_profile, is_decimal};
+pub use chip_data::{are_decimal, has_profile, is_decimal};
 pub use command::Command;
 pub use entry::Entry;
 pub use faults::{
     BadCommand, Full, NoMemory, NotEntry, QueueFull, ReadFault, StoreFail, WriteFault,
 };
 pub use limits::{
-    MAX_BODY_BYTES, MAX_CARDS, MAX_CHIP_BYTES, MAX_KEY_SETS, MAX_PAN_DIGITS, MAX_REPLY_BYTES,
-    MAX_SHARDS, MAX_TABLE_ROWS, MAX_TEMPLATE_BYTES, MAX_UNDONE, MIN_PAN_DIGITS, WINDOW,
+    BARE_COMMAND_BYTES, BARE_TEMPLATE_BYTES, KEPT_BYTES, MAX_BODY_BYTES, MAX_CARDS, MAX_CHIP_BYTES,
+    MAX_KEY_SETS, MAX_PAN_DIGITS, MAX_QUEUED, MAX_REPLY_BYTES, MAX_SHARDS, MAX_STATUS,
+    MAX_TABLE_ROWS, MAX_TEMPLATE_BYTES, MAX_UNDONE, MIN_PAN_DIGITS, WINDOW,
 };
 pub use outside::{Desk, DeskFault, MemoryDesk, MemorySink, MemorySource, Sink, Source, write_all};
 pub use pan::Pan;

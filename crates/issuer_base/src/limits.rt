@@ -15,6 +15,12 @@ pub const MAX_TABLE_ROWS: usize = 64;
 /// How many bytes the chip data of a request line have at most.
 pub const MAX_CHIP_BYTES: usize = 1_024;
 
+/// How many bytes of a line are kept: no line of any form is longer, and what stands after them changes no answer.
+pub const KEPT_BYTES: usize = 2 * MAX_CHIP_BYTES + 3;
+
+/// The greatest status of a card; 0 is the status of a card that was given none.
+pub const MAX_STATUS: u8 = 9;
+
 /// How far below a card's greatest transaction counter its window ends: a counter that far below is too old.
 pub const WINDOW: u16 = 64;
 
@@ -35,3 +41,14 @@ pub const MAX_BODY_BYTES: usize = 64;
 
 /// How many bytes a script template has at most, tag and length counted in.
 pub const MAX_TEMPLATE_BYTES: usize = 128;
+
+/// How many commands may ever be queued for a card: their numbers have four bytes, and end before the last such number.
+pub const MAX_QUEUED: u32 = 4_294_967_295;
+
+/// How many bytes a script template takes beside its commands: tag 72 and its length, tag 9F18 and its length, and a number
+/// of four bytes.
+pub const BARE_TEMPLATE_BYTES: usize = 2 + 3 + 4;
+
+/// How many bytes a sealed command takes in a template beside its data: tag 86 and its length, a head of four bytes, Lc, and
+/// a MAC of eight bytes.
+pub const BARE_COMMAND_BYTES: usize = 2 + 4 + 1 + 8;

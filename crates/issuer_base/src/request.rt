@@ -3,7 +3,7 @@ ghost use Rattle.std.specs.Prelude.{◌≡◌, ◌<◌, ◌↔◌, IsTrue, true}
 ghost use Rattle.std.specs.List.{list_all, flat_map};
 ghost use Rattle.issuer_base.specs.ChipData.{is_request, request_from, is_arqc, cvr, dki, script_count, last_online, amount_value, is_bcd, decimal, digits_of};
 
-use crate::chip_data::{has_profile, is_decimal};
+use crate::chip_data::{are_decimal, has_profile, is_decimal};
 use crate::pan::Pan;
 use std::marker::Model;
 
@@ -190,12 +190,6 @@ fn has_form(parts: &Parts) -> bool
     ensures { result ≡ is_request parts.now }
 {
     is_decimal(parts.psn) && are_decimal(&parts.amount) && has_profile(&parts.iad)
-}
-
-fn are_decimal(bytes: &[u8]) -> bool
-    ensures { result ≡ list_all is_bcd bytes.now }
-{
-    bytes.iter().all(|byte| is_decimal(*byte))
 }
 
 /// The number that the decimal digits of these bytes write.

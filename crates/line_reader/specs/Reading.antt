@@ -1,7 +1,8 @@
 -- What a reader of lines has given and has in memory, and the limits of an input of lines.
 use Rattle.std.specs.Prelude.{◌≡◌, ◌≢◌, ℕ, ◌+◌, ◌-◌, ◌<◌, ◌≤◌, ◌⊎◌, List, [], length, take}
 use Rattle.std.specs.List.{flat_map}
-use Rattle.line_reader.specs.declared.limits.TheConstants.{MAX_LINES, MAX_BYTES, KEPT_BYTES}
+use Rattle.issuer_base.specs.declared.limits.TheConstants.{KEPT_BYTES}
+use Rattle.line_reader.specs.declared.limits.TheConstants.{MAX_LINES, MAX_BYTES}
 use Rattle.line_reader.specs.Lines.{IsUnbroken, BeginsWithLines, ended}
 
 -- a reader of lines, as its callers see it

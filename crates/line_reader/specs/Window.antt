@@ -1,7 +1,8 @@
 -- The part of an input that is in memory: the line in hand, as far as it is kept, and the bytes ahead of it.
 use Rattle.std.specs.Prelude.{◌≡◌, ℕ, ◌<◌, ◌≤◌, List, [], ◌∷◌, ◌++◌, length, take, slice_range, Option}
 use Rattle.std.specs.Io.KnownBytes.{Consumes, IsAtEnd}
-use Rattle.line_reader.specs.declared.limits.TheConstants.{NEWLINE, KEPT_BYTES}
+use Rattle.issuer_base.specs.declared.limits.TheConstants.{KEPT_BYTES}
+use Rattle.line_reader.specs.declared.limits.TheConstants.{NEWLINE}
 use Rattle.line_reader.specs.declared.window.Window.{Window}
 use Rattle.line_reader.specs.declared.window.Passed.{Passed}
 use Rattle.line_reader.specs.declared.window.Passed.TheVariants.{ToNewline, All, NoRoom}

@@ -9,8 +9,5 @@ pub const MAX_LINES: u32 = 1_048_576;
 /// How many bytes an input may have.
 pub const MAX_BYTES: u64 = 2_147_483_648;
 
-/// How many bytes of a line are kept; those after them are read and dropped.
-pub const KEPT_BYTES: usize = 2_051;
-
 /// How many bytes of the input are in memory at most.
 pub const BUFFER_BYTES: usize = 65_536;

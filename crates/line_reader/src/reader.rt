@@ -64,7 +64,7 @@ impl LineReader {
         })
     }
 
-    /// The bytes of the line in hand without its newline, of which [`KEPT_BYTES`](crate::KEPT_BYTES) at most are kept.
+    /// The bytes of the line in hand without its newline, of which [`KEPT_BYTES`](issuer_base::KEPT_BYTES) at most are kept.
     pub fn line(&self) -> &[u8]
         ensures { result.now ≡ self.now.line }
     {

@@ -2,11 +2,12 @@
 ghost use Rattle.std.specs.Prelude.{◌≡◌, ℕ, ◌+◌, ◌-◌, ◌<◌, ◌≤◌, List, [], ◌∷◌, ◌++◌, length, take, drop, vec_len, is_err, IfOk, MatchOption, MatchResult};
 ghost use Rattle.std.specs.Io.KnownBytes.{Keeps};
 ghost use Rattle.issuer_base.specs.OutsideFaults.{CountsFaults};
-ghost use Rattle.line_reader.specs.declared.limits.TheConstants.{BUFFER_BYTES, KEPT_BYTES, NEWLINE};
+ghost use Rattle.issuer_base.specs.declared.limits.TheConstants.{KEPT_BYTES};
+ghost use Rattle.line_reader.specs.declared.limits.TheConstants.{BUFFER_BYTES, NEWLINE};
 ghost use Rattle.line_reader.specs.Lines.{IsUnbroken, IsFirstNewline};
 
-use crate::limits::{BUFFER_BYTES, KEPT_BYTES, NEWLINE};
-use issuer_base::{ReadFault, Source};
+use crate::limits::{BUFFER_BYTES, NEWLINE};
+use issuer_base::{KEPT_BYTES, ReadFault, Source};
 use memchr::memchr;
 use std::alloc::{AllocError, Global};
 

@@ -7,7 +7,8 @@ use Rattle.std.proofs.lemmas.Bool.{leb-true, leb-false, le-leb, lt-leb, cases_Bo
 use Rattle.std.proofs.lemmas.List.Sums.{sum_by-cons}
 use Rattle.issuer_base.specs.declared.command.Command.{Command}
 use Rattle.issuer_base.specs.declared.limits.TheConstants.{MAX_TEMPLATE_BYTES}
-use Rattle.script_queue.specs.ScriptTemplate.{sealed_size, template_size, fronts, fitting_front}
+use Rattle.issuer_base.specs.ScriptTemplate.{sealed_size, template_size}
+use Rattle.script_queue.specs.ScriptTemplate.{fronts, fitting_front}
 
 -- the room of an empty template
 abbrev pub whole_room : ℕ

@@ -1,8 +1,7 @@
 -- What a contract sees of the script commands of a card: EMV 4.3 Book 3, section 10.10.
 use Rattle.std.specs.Prelude.{ℕ, ◌<◌, List, [], length}
 use Rattle.issuer_base.specs.declared.command.Command.{Command}
-use Rattle.issuer_base.specs.declared.limits.TheConstants.{MAX_UNDONE}
-use Rattle.script_queue.specs.declared.queue.TheConstants.{MAX_QUEUED}
+use Rattle.issuer_base.specs.declared.limits.TheConstants.{MAX_UNDONE, MAX_QUEUED}
 
 -- how many commands were ever queued for a card, and those of them that aren't done yet, the oldest first
 pub record CommandQueue : Type 0 where

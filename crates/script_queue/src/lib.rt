@@ -5,7 +5,7 @@
 
 mod queue;
 
-pub use queue::{MAX_QUEUED, Queue};
+pub use queue::Queue;
 
 #[cfg(test)]
 mod tests;

@@ -4,20 +4,12 @@ ghost use Rattle.script_queue.specs.CommandQueue.{no_commands, TakesOneMore};
 ghost use Rattle.script_queue.specs.ScriptTemplate.{fitting_front};
 
 use circular_buffer::HeapCircularBuffer;
-use issuer_base::{Command, MAX_TEMPLATE_BYTES, MAX_UNDONE, NoMemory, QueueFull};
+use issuer_base::{
+    BARE_COMMAND_BYTES, BARE_TEMPLATE_BYTES, Command, MAX_QUEUED, MAX_TEMPLATE_BYTES, MAX_UNDONE,
+    NoMemory, QueueFull,
+};
 use std::alloc::Global;
 use std::marker::Model;
-
-/// How many commands may ever be queued for a card: their numbers have four bytes, and end before the last such number.
-pub const MAX_QUEUED: u32 = 4_294_967_295;
-
-/// What a command takes in a template beside its data, in bytes: tag 86 and its length, a head of four bytes, Lc, and a MAC of
-/// eight bytes.
-const COMMAND_BYTES: usize = 2 + 4 + 1 + 8;
-
-/// What a template takes beside its commands, in bytes: tag 72 and its length, tag 9F18 and its length, and a number of four
-/// bytes.
-const HEAD_BYTES: usize = 2 + 3 + 4;
 
 /// The script commands of a card: those that aren't done yet, the oldest first, and how many were ever queued.
 #[derive(Drop)]
@@ -119,10 +111,10 @@ impl Queue {
         ensures within { result ≤ length self.now.undone }
         ensures front { take result self.now.undone ≡ fitting_front self.now.undone }
     {
-        let mut room = MAX_TEMPLATE_BYTES - HEAD_BYTES;
+        let mut room = MAX_TEMPLATE_BYTES - BARE_TEMPLATE_BYTES;
         let mut count = 0;
         for command in self.commands.iter() {
-            let size = COMMAND_BYTES + command.body.len();
+            let size = BARE_COMMAND_BYTES + command.body.len();
             if size > room {
                 break;
             }

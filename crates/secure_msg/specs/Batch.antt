@@ -1,10 +1,11 @@
 -- The commands of a batch, sealed one after another, and the script template that carries them: EMV 4.3 Book 3, section 10.10.
-use Rattle.std.specs.Prelude.{◌<◌, ◌≤◌, ℕ, ◌+◌, List, [], ◌∷◌, ◌++◌, length, sum_by, All, IsTrue}
+use Rattle.std.specs.Prelude.{◌<◌, ◌≤◌, ℕ, List, [], ◌∷◌, ◌++◌, length, All, IsTrue}
 use Rattle.std.specs.List.{flat_map}
 use Rattle.std.specs.Int.{w32, to_be_bytes}
 use Rattle.issuer_base.specs.declared.command.Command.{Command}
 use Rattle.issuer_base.specs.declared.limits.TheConstants.{MAX_TEMPLATE_BYTES}
 use Rattle.issuer_base.specs.ScriptCommand.{is_command}
+use Rattle.issuer_base.specs.ScriptTemplate.{template_size}
 use Rattle.tlv_objects.specs.Writing.{object_text}
 use Rattle.secure_msg.specs.Sealing.{command_mac, sealed_command}
 
@@ -14,16 +15,11 @@ unfoldable pub sealed_commands : List ℕ → List ℕ → List Command → List
 sealed_commands key chain [] = []
 sealed_commands key chain (command ∷ later) = sealed_command key chain command ∷ sealed_commands key (command_mac key chain command) later
 
--- how many bytes a command takes in a template: tag and length, five before its data, the data, and the MAC
-abbrev pub command_room : Command → ℕ
-command_room command = 15 + length command.body.items
-
--- commands that one template carries: there is one, each is a command of the host, and all fit behind the nine bytes that the
--- template's own tag and length and the object with the first number take
+-- commands that one template carries: there is one, each is a command of the host, and their template isn't too long
 pub record IsBatch (commands : List Command) : Type 0 where
   pub some : 0 < length commands
   pub form : All (λ command. IsTrue (is_command command)) commands
-  pub fit : 9 + sum_by command_room commands ≤ MAX_TEMPLATE_BYTES
+  pub fit : template_size commands ≤ MAX_TEMPLATE_BYTES
 
 -- the template: tag 72 holds 9F18 with the number of the batch's first command in the card's queue, in four bytes, and an
 -- object 86 for each sealed command

@@ -4,14 +4,15 @@ ghost use Rattle.std.specs.Prelude.{◌≡◌, ℕ, ◌+◌, ◌≤◌, ◌↔�
 ghost use Rattle.std.specs.List.{flat_map};
 ghost use Rattle.retail_mac.specs.Run.{IsRun};
 ghost use Rattle.tlv_objects.specs.Writing.{is_tag_number, object_text};
+ghost use Rattle.issuer_base.specs.ScriptTemplate.{sealed_size};
 ghost use Rattle.secure_msg.specs.Sealing.{command_mac};
-ghost use Rattle.secure_msg.specs.Batch.{sealed_commands, command_room, IsBatch, template_bytes};
+ghost use Rattle.secure_msg.specs.Batch.{sealed_commands, IsBatch, template_bytes};
 
 use crate::reading::is_command;
 use crate::sealing::seal_in;
 use arrayvec::ArrayVec;
 use des_block::Key16;
-use issuer_base::{Command, MAX_TEMPLATE_BYTES};
+use issuer_base::{BARE_COMMAND_BYTES, BARE_TEMPLATE_BYTES, Command, MAX_TEMPLATE_BYTES};
 use retail_mac::MacRun;
 use tlv_objects::{ROOM, put};
 
@@ -23,12 +24,6 @@ const SCRIPT_IDENTIFIER: u32 = 0x9F18;
 
 /// The tag of a script command.
 const SCRIPT_COMMAND: u32 = 0x86;
-
-/// How many bytes a template takes beside its commands: its tag and length, and the object with the first number.
-const BARE_TEMPLATE_BYTES: usize = 9;
-
-/// How many bytes a command takes in a template beside its data: tag and length, five before the data, and the MAC.
-const BARE_COMMAND_BYTES: usize = 15;
 
 /// The bytes of a script template.
 pub type Template = ArrayVec<u8, MAX_TEMPLATE_BYTES>;
@@ -87,12 +82,12 @@ fn write_sealed(
     mut chain: [u8; 8],
     commands: &[Command],
 ) -> [u8; 8]
-    requires { length value.old.items + sum_by command_room commands.now ≤ ROOM }
+    requires { length value.old.items + sum_by sealed_size commands.now ≤ ROOM }
     ensures written { (key : List ℕ) → IsRun run.old key [] → value.new.items
         ≡ value.old.items ++ flat_map (object_text 0x86) (sealed_commands key chain commands.now) }
     ensures chain { (key : List ℕ) → IsRun run.old key [] → result ≡ fold (command_mac key) chain commands.now }
     ensures again { (key : List ℕ) → IsRun run.old key [] → IsRun run.new key [] }
-    ensures len { length value.new.items ≡ length value.old.items + sum_by command_room commands.now }
+    ensures len { length value.new.items ≡ length value.old.items + sum_by sealed_size commands.now }
 {
     for command in commands {
         let (sealed, next) = seal_in(run, &chain, command);

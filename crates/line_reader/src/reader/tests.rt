@@ -2,7 +2,7 @@
 ghost use Rattle.std.specs.Prelude.{ℕ, List, Option, None};
 
 use super::*;
-use crate::limits::KEPT_BYTES;
+use issuer_base::KEPT_BYTES;
 use std::alloc::AllocError;
 
 /// A text that is read in pieces of at most `step` bytes, and that fails where it ends, if `breaks`.

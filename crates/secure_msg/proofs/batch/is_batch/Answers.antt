@@ -4,7 +4,7 @@ use Rattle.std.proofs.lemmas.List.Elements.{All-more}
 use Rattle.std.proofs.lemmas.List.Sums.{sum_by_more}
 use Rattle.issuer_base.specs.declared.command.Command.{Command}
 use Rattle.issuer_base.specs.ScriptCommand.{is_command}
-use Rattle.secure_msg.specs.Batch.{command_room}
+use Rattle.issuer_base.specs.ScriptTemplate.{sealed_size}
 use Rattle.secure_msg.proofs.batch.is_batch.Goals as goal
 
 pub loop-command-preserved : goal.loop-command-preserved
@@ -13,10 +13,10 @@ loop-command-preserved c =
     let i : ℕ = c.loop-command.command-index in
     let command : Command = c.command-item.result in
     let below : i < length commands = omega arith in
-    let room : command_room command ≡ command_room (get_or commands i command) = ap command_room c.command-item.is in
+    let room : sealed_size command ≡ sealed_size (get_or commands i command) = ap sealed_size c.command-item.is in
     let form : is_command (get_or commands i command) ≡ is_command command = ap is_command (sym c.command-item.is) in
     record {
-      room = omega (arith, sum_by_more command_room commands i command below, room);
+      room = omega (arith, sum_by_more sealed_size commands i command below, room);
       fit = omega arith;
       form = All-more (λ command. IsTrue (is_command command)) commands i command below c.loop-command.invariant.form
           (form ∙ sym c.is_command.ensures ∙ c.if-not-is_command.false);

@@ -2,12 +2,12 @@ use Rattle.std.proofs.Common.{◌≡◌, ◌+◌, ◌≤◌, take, sum_by}
 use Rattle.std.specs.Prelude.{All, IsTrue}
 use Rattle.issuer_base.specs.ScriptCommand.{is_command}
 use Rattle.issuer_base.specs.declared.limits.TheConstants.{MAX_TEMPLATE_BYTES}
-use Rattle.secure_msg.specs.Batch.{command_room}
+use Rattle.issuer_base.specs.ScriptTemplate.{sealed_size}
 use Rattle.secure_msg.proofs.batch.is_batch.Given as goal
 
 abbrev pub invariant-loop-command : goal.invariant-loop-command
 invariant-loop-command l = record {
-  room : l.room ≡ 9 + sum_by command_room (take l.command-index l.commands);
+  room : l.room ≡ BARE_TEMPLATE_BYTES + sum_by sealed_size (take l.command-index l.commands);
   fit : l.room ≤ MAX_TEMPLATE_BYTES;
   form : All (λ command. IsTrue (is_command command)) (take l.command-index l.commands);
 }

@@ -3,7 +3,7 @@ use Rattle.std.proofs.lemmas.List.{drop_more}
 use Rattle.std.proofs.lemmas.List.Sums.{sum_by-cons}
 use Rattle.issuer_base.specs.declared.command.Command.{Command}
 use Rattle.tlv_objects.specs.Writing.{object_text}
-use Rattle.secure_msg.specs.Batch.{command_room}
+use Rattle.issuer_base.specs.ScriptTemplate.{sealed_size}
 use Rattle.secure_msg.proofs.Batches.{batch_objects, Writes-more, Writes-all, object-86}
 use Rattle.secure_msg.proofs.batch.write_sealed.Goals as goal
 
@@ -17,8 +17,8 @@ loop-command-preserved c =
     drop_more commands i command (omega arith) ∙ ap (λ first. first ∷ drop (i + 1) commands) (sym c.command-item.is) in
     let size : length sealed ≡ 13 + length command.body.items = ap length c.as_slice.ensures.value ∙ c.seal_in-sealed.ensures.len in
     let object : length (object_text 0x86 sealed) ≡ 2 + length sealed = ap length (object-86 sealed (omega arith)) ∙ omega arith in
-    let rest : sum_by command_room (drop i commands) ≡ command_room command + sum_by command_room (drop (i + 1) commands) =
-    ap (sum_by command_room) left ∙ sum_by-cons command_room command (drop (i + 1) commands) in
+    let rest : sum_by sealed_size (drop i commands) ≡ sealed_size command + sum_by sealed_size (drop (i + 1) commands) =
+    ap (sum_by sealed_size) left ∙ sum_by-cons sealed_size command (drop (i + 1) commands) in
     record {
       len = omega (arith, ap length c.write.ensures, length-append c.loop-command.value.items (object_text 0x86 sealed), c.loop-command.invariant.len);
       again = λ key is. c.seal_in-sealed.ensures.again key (c.loop-command.invariant.again key is);

@@ -2,7 +2,7 @@
 use Rattle.std.proofs.Common.{◌≡◌, ℕ, ◌<◌, ◌≤◌, List, [], ◌∷◌, length, ap, sym, ◌∙◌, subst, arith}
 use Rattle.std.proofs.lemmas.Bool.{cond-false, lt-leb}
 use Rattle.issuer_base.specs.declared.command.Command.{Command}
-use Rattle.script_queue.specs.ScriptTemplate.{sealed_size}
+use Rattle.issuer_base.specs.ScriptTemplate.{sealed_size}
 use Rattle.script_queue.proofs.FittingFronts.{whole_room, fit, FitsSoFar, fit-front, fit-within}
 use Rattle.script_queue.proofs.queue.Queue.fitting.Goals as goal
 
