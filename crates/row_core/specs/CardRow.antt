@@ -1,24 +1,37 @@
 -- What a row keeps of a card, and the history that it stands for.
-use Rattle.std.specs.Prelude.{◌≡◌, ℕ, List, length, Contains, Option, Some}
+use Rattle.std.specs.Prelude.{◌≡◌, ℕ, Bool, List, length, Contains, Option, Some}
 use Rattle.issuer_base.specs.declared.answer.Method.{Method}
-use Rattle.issuer_base.specs.declared.command.Command.{Command}
 use Rattle.issuer_base.specs.declared.entry.Entry.{Entry}
 use Rattle.issuer_base.specs.declared.limits.TheConstants.{WINDOW}
 use Rattle.card_history.specs.declared.decision.Decision.{Decision}
-use Rattle.card_history.specs.Records.{decided, greatest, IsBelow, queue, status_of}
+use Rattle.card_history.specs.Records.{decided, greatest, IsBelow, status_of}
+use Rattle.card_history.specs.Scripts.{Scripts, waiting, scripts_of}
+use Rattle.cvr_settle.specs.declared.settlement.Flight.{Flight}
 use Rattle.reply_keep.specs.ReplySlots.{slot_of, in_slot}
 use Rattle.script_queue.specs.CommandQueue.{CommandQueue}
 use Rattle.issuer_setup.specs.declared.card.CardInfo.{CardInfo}
 use Rattle.issuer_setup.specs.CardList.{name_of}
 
+-- what a row keeps of a card's script commands: those that wait, how many are done, what is in flight, and whether the scripts are
+-- halted
+pub record KeptScripts : Type 0 where
+  pub commands : CommandQueue
+  pub done : ℕ
+  pub flight : Option Flight
+  pub halted : Bool
+
+-- that of these scripts
+abbrev pub kept_of : Scripts → KeptScripts
+kept_of scripts = record { commands = waiting scripts; done = scripts.done; flight = scripts.flight; halted = scripts.halted }
+
 -- what a row keeps: how the card's cryptogram is made, the greatest decided counter, the card's status, its decisions with
--- their replies in one slot for each residue of the counter, and the script commands queued for it
+-- their replies in one slot for each residue of the counter, and its script commands
 pub record CardRow : Type 0 where
   pub method : Method
   pub hi : Option ℕ
   pub status : ℕ
   pub slots : List (Option Decision)
-  pub commands : CommandQueue
+  pub scripts : KeptScripts
 
 -- the slots keep these decisions as far as their window goes: there is a slot for each counter of the window; a decision whose
 -- counter isn't below the window is in its counter's slot; and what is in a slot is one of the decisions, in its counter's slot
@@ -29,14 +42,10 @@ pub record KeepsWindow (slots : List (Option Decision)) (decisions : List Decisi
   pub decided : (slot : ℕ) (decision : Decision) → in_slot slot slots ≡ Some decision
       → Contains decisions decision × (slot_of decision.request.atc ≡ slot)
 
--- these are all commands that were ever queued, and none of them is done
-abbrev pub none_done : List Command → CommandQueue
-none_done commands = record { queued = length commands; undone = commands }
-
 -- a row stands for a shard's history where each of its parts is what the history says of the card
 pub record StandsFor (card : CardInfo) (row : CardRow) (history : List Entry) : Type 0 where
   pub method_is : row.method ≡ card.method
   pub hi_is : row.hi ≡ greatest (decided (name_of card) history)
   pub status_is : row.status ≡ status_of (name_of card) history
   pub window_is : KeepsWindow row.slots (decided (name_of card) history)
-  pub commands_are : row.commands ≡ none_done (queue (name_of card) history)
+  pub scripts_are : row.scripts ≡ kept_of (scripts_of (name_of card) history)

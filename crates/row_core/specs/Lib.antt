@@ -3,6 +3,7 @@ pub use Rattle.issuer_setup.specs.KeyList
 pub use Rattle.issuer_setup.specs.CardList
 pub use Rattle.issuer_setup.specs.IssuerSetup
 pub mod CardRow
+pub mod Launching
 pub mod Known
 pub mod Replying
 pub mod Plan

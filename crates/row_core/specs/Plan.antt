@@ -5,16 +5,17 @@ use Rattle.issuer_base.specs.declared.answer.Answer.{Answer}
 use Rattle.issuer_base.specs.declared.answer.Answer.TheVariants.{Fresh as AnswerFresh, Kept as AnswerKept, Refused}
 use Rattle.issuer_base.specs.declared.answer.Refusal.TheVariants.{Below as IsBelowWindow, Taken as IsTaken}
 use Rattle.issuer_base.specs.declared.entry.Entry.{Entry}
-use Rattle.issuer_base.specs.declared.entry.Entry.TheVariants.{Decided}
+use Rattle.issuer_base.specs.declared.command.Command.{Command}
+use Rattle.issuer_base.specs.declared.entry.Entry.TheVariants.{Decided, Queued, Status}
 use Rattle.card_history.specs.declared.decision.Decision.{Decision}
-use Rattle.card_history.specs.Records.{card_of, decided, status_of}
+use Rattle.card_history.specs.Records.{card_of, decided}
 use Rattle.card_history.specs.Turns.{IsUnused, Answers}
 use Rattle.key_derive.specs.declared.card.CardKeys.{CardKeys}
 use Rattle.decision_table.specs.declared.row.TableRow.{TableRow}
 use Rattle.issuer_setup.specs.declared.card.CardInfo.{CardInfo}
 use Rattle.issuer_setup.specs.CardList.{name_of}
 use Rattle.row_core.specs.CardRow.{CardRow, StandsFor}
-use Rattle.row_core.specs.Replying.{decided_reply}
+use Rattle.row_core.specs.Replying.{reply_after}
 use Rattle.row_core.specs.declared.row.Outcome.{Outcome}
 use Rattle.row_core.specs.declared.row.Outcome.TheVariants.{Fresh, Kept, Below, Taken}
 
@@ -24,6 +25,14 @@ answer_of shard (Fresh reply step) = AnswerFresh shard step.place reply
 answer_of shard (Kept reply place) = AnswerKept shard place reply
 answer_of shard (Below top) = Refused (IsBelowWindow top)
 answer_of shard (Taken place) = Refused (IsTaken shard place)
+
+-- a history with a command for this card
+abbrev pub with_command_for : List Entry → CardInfo → Command → List Entry
+with_command_for history card command = history ++ Queued card.pan card.psn command ∷ []
+
+-- a history with a status for this card
+abbrev pub with_status_for : List Entry → CardInfo → ℕ → List Entry
+with_status_for history card status = history ++ Status card.pan card.psn status ∷ []
 
 -- a history with the record of this decision
 abbrev pub with_record : List Entry → Decision → List Entry
@@ -40,8 +49,7 @@ abbrev pub IsPlan : CardRow → CardKeys → List TableRow → Request → ℕ �
 IsPlan row keys table request place outcome =
     (shard : ℕ) (card : CardInfo) (history : List Entry)
     → StandsFor card row history → card_of request ≡ name_of card → place ≡ length history
-    → Answers shard (λ history request. decided_reply card.method keys table (status_of (name_of card) history) request)
-    history request (answer_of shard outcome) (history_after history outcome)
+    → Answers shard (reply_after card.method keys table) history request (answer_of shard outcome) (history_after history outcome)
 
 -- the decision is the next one of the row's card after this history: it is of the card, it stands at the place after the last, and
 -- its counter is in the window and unused

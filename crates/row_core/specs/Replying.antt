@@ -2,13 +2,16 @@
 use Rattle.std.specs.Prelude.{ℕ, false, List, [], ◌∷◌, ◌++◌, Option, None, Some, slice_get}
 use Rattle.std.specs.Option.{option_map_or}
 use Rattle.issuer_base.specs.declared.request.Request.{Request}
+use Rattle.issuer_base.specs.declared.command.Command.{Command}
 use Rattle.issuer_base.specs.declared.answer.Reply.{Reply}
 use Rattle.issuer_base.specs.declared.answer.Method.{Method}
 use Rattle.issuer_base.specs.declared.entry.Entry.{Entry}
 use Rattle.card_history.specs.Records.{card_of, status_of}
+use Rattle.card_history.specs.Scripts.{Scripts, scripts_of, batch_of, first_of}
 use Rattle.tlv_objects.specs.Writing.{object_text}
 use Rattle.key_derive.specs.declared.card.CardKeys.{CardKeys}
-use Rattle.key_derive.specs.SessionKey.{session_ac}
+use Rattle.key_derive.specs.SessionKey.{session_ac, session_sm}
+use Rattle.secure_msg.specs.Batch.{template_bytes}
 use Rattle.arpc_methods.specs.Arpc.{value91}
 use Rattle.decision_table.specs.declared.row.TableRow.{TableRow}
 use Rattle.decision_table.specs.Fitting.{decision}
@@ -16,28 +19,47 @@ use Rattle.issuer_setup.specs.declared.card.CardInfo.{CardInfo}
 use Rattle.issuer_setup.specs.CardList.{number_of}
 use Rattle.issuer_setup.specs.IssuerSetup.{Setup, keys_of}
 
--- the reply by a row of the table, under the session key for cryptograms: the row's response code and approval; tag 8A has
--- the response code, and tag 91 the issuer's cryptogram of the response code or of the status update
-abbrev pub reply_by_row : Method → List ℕ → Request → TableRow → Reply
-reply_by_row method session_key request row = record {
+-- the script template of a batch for the card that made this application cryptogram, under the session key for secure messaging; its
+-- first command has this number. There is none where the batch is empty: EMV 4.3 Book 3, section 10.10
+abbrev pub script_bytes : List ℕ → List ℕ → ℕ → List Command → List ℕ
+script_bytes master_key ac first [] = []
+script_bytes master_key ac first (command ∷ commands) =
+    template_bytes (session_sm master_key ac) ac first (command ∷ commands)
+
+-- what goes to the card: tag 8A has the response code, tag 91 the issuer's cryptogram of the response code or of the status update,
+-- under the session key for cryptograms, and behind them the batch of the card's script commands
+abbrev pub reply_bytes : Method → CardKeys → Scripts → Request → List ℕ → List ℕ → List ℕ
+reply_bytes method keys scripts request arc csu =
+    object_text 0x8A arc
+    ++ object_text 0x91 (value91 method (session_ac keys.ac.0 request.atc) request.ac arc csu)
+    ++ script_bytes keys.smi.0 request.ac (first_of request scripts) (batch_of request scripts)
+
+-- the reply by a row of the table: its response code and approval
+abbrev pub reply_by_row : Method → CardKeys → Scripts → Request → TableRow → Reply
+reply_by_row method keys scripts request row = record {
   arc = row.arc;
   approve = row.approve;
-  bytes = record { items = object_text 0x8A row.arc ++ object_text 0x91 (value91 method session_key request.ac row.arc row.csu) };
+  bytes = record { items = reply_bytes method keys scripts request row.arc row.csu };
 }
 
 -- no reply: nothing for the card, and no approval
 abbrev pub no_reply : Reply
 no_reply = record { arc = 0 ∷ 0 ∷ []; approve = false; bytes = record { items = [] } }
 
--- the reply to a request of a card of this method, these master keys and this status: that by the first row of the table that fits
-abbrev pub decided_reply : Method → CardKeys → List TableRow → ℕ → Request → Reply
-decided_reply method keys table status request =
-    option_map_or (reply_by_row method (session_ac keys.ac.0 request.atc) request) (decision table status request) no_reply
+-- the reply to a request of a card of this method and these master keys, with these scripts and this status: that by the first row
+-- of the table that fits
+abbrev pub decided_reply : Method → CardKeys → List TableRow → Scripts → ℕ → Request → Reply
+decided_reply method keys table scripts status request =
+    option_map_or (reply_by_row method keys scripts request) (decision table status request) no_reply
+
+-- the reply after a history of the card's shard
+abbrev pub reply_after : Method → CardKeys → List TableRow → List Entry → Request → Reply
+reply_after method keys table history request =
+    decided_reply method keys table (scripts_of (card_of request) history) (status_of (card_of request) history) request
 
 -- where there are the card and its keys
 abbrev pub reply_by : Option CardInfo → Option CardKeys → List TableRow → List Entry → Request → Reply
-reply_by (Some card) (Some keys) table history request =
-    decided_reply card.method keys table (status_of (card_of request) history) request
+reply_by (Some card) (Some keys) table history request = reply_after card.method keys table history request
 reply_by _ _ table history request = no_reply
 
 -- to a request of the card with this number

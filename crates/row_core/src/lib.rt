@@ -3,6 +3,7 @@
 
 mod reply;
 mod row;
+mod scripts;
 
 pub use issuer_setup::{CardInfo, Cards, CardsFault, Issuer, IssuerFault, KeySets, ShardCount};
 pub use row::{Outcome, Row, Step};

@@ -63,3 +63,24 @@ fn write(bytes: &mut ArrayVec<u8, ROOM>, tag: u32, value: &[u8])
 {
     put(bytes, tag, value).unwrap();
 }
+
+/// Writes the script template of a batch, which lies in two parts, behind the bytes of a reply: nothing where the batch is empty.
+/// `master_key` is the card's master key for secure messaging, and `first` the number of the batch's first command.
+pub(crate) fn write_scripts(
+    bytes: &mut ArrayVec<u8, ROOM>,
+    master_key: &Key16,
+    application_cryptogram: &[u8; 8],
+    first: u32,
+    front: &[Command],
+    back: &[Command],
+)
+    // requires: each is a command of the host, their template isn't too long, and the bytes leave room for it
+    ensures { bytes.new.items ≡ bytes.old.items ++ script_bytes master_key.now.0 application_cryptogram.now first (front.now ++ back.now) }
+{
+    if front.is_empty() && back.is_empty() {
+        return;
+    }
+    let key = session_sm(master_key, application_cryptogram);
+    let template = template_of(&key, application_cryptogram, first, front, back);
+    bytes.try_extend_from_slice(template.as_slice()).unwrap();
+}

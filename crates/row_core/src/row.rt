@@ -68,8 +68,8 @@ pub struct Row {
     /// The card's decisions, as far as the window goes.
     kept: Kept,
 
-    /// The commands queued for the card.
-    queue: Queue,
+    /// The card's script commands.
+    scripts: CardScripts,
 }
 
 impl Model for Row {
@@ -82,7 +82,7 @@ impl Model for Row {
       hi = row.hi;
       status = row.status;
       slots = row.kept;
-      commands = row.queue;
+      scripts = row.scripts;
     } };
 }
 
@@ -92,13 +92,13 @@ impl Row {
         ensures { IfOk result (λ row. (card : CardInfo) → method ≡ card.method → StandsFor card row []) }
     {
         let kept = Kept::new(alloc)?;
-        let queue = Queue::new(alloc)?;
+        let scripts = CardScripts::new(alloc)?;
         Ok(Row {
             method,
             hi: None,
             status: 0,
             kept,
-            queue,
+            scripts,
         })
     }
 
@@ -116,11 +116,32 @@ impl Row {
         self.status
     }
 
-    /// The script commands of the card.
+    /// The script commands that wait for the card.
     pub fn queue(&self) -> &Queue
-        ensures { result.now ≡ self.now.commands }
+        ensures { result.now ≡ self.now.scripts.commands }
     {
-        &self.queue
+        self.scripts.queue()
+    }
+
+    /// How many script commands are done: the card ran them, the first that were queued.
+    pub fn done(&self) -> u32
+        ensures { result ≡ self.now.scripts.done }
+    {
+        self.scripts.done()
+    }
+
+    /// The script commands that the last reply on a newest counter carried: none before the first, and where scripts are halted.
+    pub fn flight(&self) -> Option<Flight>
+        ensures { result ≡ self.now.scripts.flight }
+    {
+        self.scripts.flight()
+    }
+
+    /// Whether no script command is sent to the card any more.
+    pub fn halted(&self) -> bool
+        ensures { result ≡ self.now.scripts.halted }
+    {
+        self.scripts.halted()
     }
 
     /// What is to be done with a request of the row's card: one turn's answer to it.
@@ -134,7 +155,7 @@ impl Row {
             return outcome;
         }
         let session = SessionKey::for_cryptograms(&keys.ac, request.parts().atc);
-        self.decide(&session, table, request, place)
+        self.decide(&session, keys, table, request, place)
     }
 
     /// As `plan`, under the session key for the cryptograms of the request's transaction, which is set up already.
@@ -152,32 +173,72 @@ impl Row {
         if let Some(outcome) = self.known(request) {
             return outcome;
         }
-        self.decide(session, table, request, place)
+        self.decide(session, keys, table, request, place)
     }
 
-    /// Keeps the decision of a plan on this row as it is.
+    /// Keeps the decision of a plan on this row as it is, and goes on to the flight that its reply begins.
     pub fn apply(&mut self, step: Step)
         ensures { (card : CardInfo) (history : List Entry) → StandsFor card self.old history → IsNext card history step
             → StandsFor card self.new (with_record history step) }
     {
-        let counter = step.decision.request.parts().atc;
-        self.hi = Some(greater(self.hi, counter));
+        let request = &step.decision.request;
+        let counter = request.parts().atc;
+        if is_newest(counter, self.hi) {
+            let launch = self.scripts.launch(request);
+            self.scripts.apply(counter, launch);
+            self.hi = Some(counter);
+        }
         self.kept.keep(step.decision);
     }
 
+    /// Queues a command for the card, and gives its number in the card's queue, from 0.
+    pub fn push(&mut self, command: Command) -> Result<u32, QueueFull>
+        requires { IsTrue (is_command command) }
+        ensures taken { IsOk result ↔ TakesOneMore self.old.scripts.commands }
+        ensures number { IfOk result (λ number. number ≡ self.old.scripts.commands.queued) }
+        ensures queued { IfOk result (λ number. (card : CardInfo) (history : List Entry) → StandsFor card self.old history
+            → StandsFor card self.new (with_command_for history card command)) }
+        ensures unchanged { OnErr result (self.new ≡ self.old) }
+    {
+        self.scripts.push(command)
+    }
+
+    /// Gives the card a status, 0 to 9.
+    pub fn set_status(&mut self, status: u8)
+        requires { status ≤ MAX_STATUS }
+        ensures { (card : CardInfo) (history : List Entry) → StandsFor card self.old history
+            → StandsFor card self.new (with_status_for history card status) }
+    {
+        self.status = status;
+    }
+
     /// The plan for a request on an unused counter.
-    fn decide(&self, session: &SessionKey, table: &Table, request: &Request, place: u64) -> Outcome
-        ensures { (keys : CardKeys) → session.now ≡ session_ac keys.ac.0 request.now.atc
-            → let reply = decided_reply self.now.method keys table.now self.now.status request.now in
+    fn decide(&self, session: &SessionKey, keys: &CardKeys, table: &Table, request: &Request, place: u64) -> Outcome
+        requires { session.now ≡ session_ac keys.now.ac.0 request.now.atc }
+        ensures { (scripts : Scripts) → self.now.hi ≡ scripts.hi → self.now.scripts ≡ kept_of scripts → scripts.done ≤ length scripts.queue
+            → let reply = decided_reply self.now.method keys.now table.now scripts self.now.status request.now in
             result ≡ Outcome.Fresh reply (record { request = request.now; reply = reply; place = place }) }
     {
-        let reply = decided_reply(self.method, session, table, self.status, request);
+        let mut reply = decided_reply(self.method, session, table, self.status, request);
+        if is_newest(request.parts().atc, self.hi) {
+            self.add_batch(&mut reply, keys, request);
+        }
         let decision = KeptEntry {
             request: request.copy(),
             reply: reply.copy(),
             place,
         };
         Outcome::Fresh(reply, Step { decision })
+    }
+
+    /// Adds the batch of the card's script commands to the reply to a request on the newest counter.
+    fn add_batch(&self, reply: &mut Reply, keys: &CardKeys, request: &Request)
+        // to be stated: reply.new is reply.old with script_bytes keys.smi.0 request.ac (first_of ..) (in_flight (with_newest ..)) behind its bytes
+    {
+        let launch = self.scripts.launch(request);
+        let (front, back) = self.scripts.batch(launch);
+        let first = self.scripts.done() + u32::from(launch.ran);
+        write_scripts(&mut reply.bytes, &keys.smi, &request.parts().ac, first, front, back);
     }
 
     /// What the decisions of the window say of a request; `None` where its counter is in the window and unused.
@@ -204,11 +265,9 @@ fn top_above(top: Option<u16>, counter: u16) -> Option<u16>
     top.filter(|top| u32::from(counter) + u32::from(WINDOW) <= u32::from(*top))
 }
 
-fn greater(top: Option<u16>, counter: u16) -> u16
-    ensures { result ≡ option_map_or (λ top. max top counter) top counter }
+/// Whether a counter is above the greatest one, or the first.
+fn is_newest(counter: u16, top: Option<u16>) -> bool
+    ensures { result ≡ is_newest counter top }
 {
-    match top {
-        None => counter,
-        Some(top) => top.max(counter),
-    }
+    top.is_none_or(|top| top < counter)
 }

@@ -84,17 +84,13 @@ impl Queue {
         self.commands.get(usize::from(index)).unwrap()
     }
 
-    /// The first `count` undone commands, in two parts, as they lie in memory.
-    pub fn front(&self, count: u8) -> (&[Command], &[Command])
-        requires { count ≤ length self.now.undone }
-        ensures { result.0.now ++ result.1.now ≡ take count self.now.undone }
+    /// `count` undone commands after the first `skip`, in two parts, as they lie in memory.
+    pub fn part(&self, skip: u8, count: u8) -> (&[Command], &[Command])
+        requires { skip + count ≤ length self.now.undone }
+        ensures { result.0.now ++ result.1.now ≡ take count (drop skip self.now.undone) }
     {
-        let count = usize::from(count);
         let (first, second) = self.commands.as_slices();
-        if count <= first.len() {
-            return (&first[..count], &second[..0]);
-        }
-        (first, &second[..count - first.len()])
+        between(first, second, usize::from(skip), usize::from(count))
     }
 
     /// Takes away the first `count` undone commands, which are done now.
@@ -111,10 +107,19 @@ impl Queue {
         ensures within { result ≤ length self.now.undone }
         ensures front { take result self.now.undone ≡ fitting_front self.now.undone }
     {
+        self.fitting_after(0)
+    }
+
+    /// How many of the undone commands after the first `skip` fit into one template, as in `fitting`.
+    pub fn fitting_after(&self, skip: u8) -> u8
+        requires { skip ≤ length self.now.undone }
+        ensures within { skip + result ≤ length self.now.undone }
+        ensures front { take result (drop skip self.now.undone) ≡ fitting_front (drop skip self.now.undone) }
+    {
         let mut room = MAX_TEMPLATE_BYTES - BARE_TEMPLATE_BYTES;
         let mut count = 0;
-        for command in self.commands.iter() {
-            let size = BARE_COMMAND_BYTES + command.body.len();
+        for index in skip..self.undone() {
+            let size = BARE_COMMAND_BYTES + self.at(index).body.len();
             if size > room {
                 break;
             }
@@ -123,4 +128,25 @@ impl Queue {
         }
         count
     }
+}
+
+/// The items from `skip` on, `count` of them, of a list that lies in two parts.
+fn between<'a>(
+    first: &'a [Command],
+    second: &'a [Command],
+    skip: usize,
+    count: usize,
+) -> (&'a [Command], &'a [Command])
+    requires { skip + count ≤ length first.now + length second.now }
+    ensures { result.0.now ++ result.1.now ≡ take count (drop skip (first.now ++ second.now)) }
+{
+    if skip >= first.len() {
+        let start = skip - first.len();
+        return (&first[..0], &second[start..start + count]);
+    }
+    let first = &first[skip..];
+    if count <= first.len() {
+        return (&first[..count], &second[..0]);
+    }
+    (first, &second[..count - first.len()])
 }

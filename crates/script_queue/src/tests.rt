@@ -37,7 +37,7 @@ fn takes_sixty_four_and_goes_on_where_some_are_done(rt: HostRuntime) -> Result<(
     assert_eq!(rt; queue.queued(), 65);
     assert_eq!(rt; queue.undone(), 3);
     assert!(rt; queue.at(2).is_same(&command(64, 0)?));
-    let (first, second) = queue.front(2);
+    let (first, second) = queue.part(0, 2);
     assert!(rt;
         first
             .iter()

@@ -1,0 +1,28 @@
+-- What the decision of a request on the newest counter makes of what a row keeps of its card's scripts.
+use Rattle.std.specs.Prelude.{◌≡◌, ℕ, ◌+◌, ◌≤◌, if◌then◌else◌, List, length, take, drop, Some, None}
+use Rattle.issuer_base.specs.declared.command.Command.{Command}
+use Rattle.issuer_base.specs.declared.request.Request.{Request}
+use Rattle.card_history.specs.Scripts.{Scripts, in_flight, with_newest}
+use Rattle.row_core.specs.CardRow.{KeptScripts, kept_of}
+use Rattle.row_core.specs.declared.scripts.Launch.{Launch}
+
+-- what is kept once the reply on this counter took off
+abbrev pub launched_from : KeptScripts → ℕ → Launch → KeptScripts
+launched_from kept counter launch = record {
+  commands = record { queued = kept.commands.queued; undone = drop launch.ran kept.commands.undone };
+  done = kept.done + launch.ran;
+  flight = if launch.halted then None else Some (record { counter = counter; size = launch.size });
+  halted = launch.halted;
+}
+
+-- the commands that the reply carries
+abbrev pub carried : KeptScripts → Launch → List Command
+carried kept launch = take launch.size (drop launch.ran kept.commands.undone)
+
+-- the launch is settlement and the new flight of each card's scripts of which this is kept
+pub record IsLaunch (kept : KeptScripts) (request : Request) (launch : Launch) : Type 0 where
+  pub within : launch.ran + launch.size ≤ length kept.commands.undone
+  pub after : (scripts : Scripts) → kept ≡ kept_of scripts → scripts.done ≤ length scripts.queue
+      → kept_of (with_newest request scripts) ≡ launched_from kept request.atc launch
+  pub batch : (scripts : Scripts) → kept ≡ kept_of scripts → scripts.done ≤ length scripts.queue
+      → in_flight (with_newest request scripts) ≡ carried kept launch

@@ -1,0 +1,147 @@
+//! The script commands of a card: those that wait, those in flight, and whether the card's scripts are halted.
+ghost use Rattle.std.specs.Prelude.{◌≡◌, ◌+◌, ◌≤◌, ◌++◌, ◌↔◌, ◌∷◌, [], length, take, drop, All, IfOk, IsOk, OnErr, IsTrue};
+ghost use Rattle.issuer_base.specs.ScriptCommand.{is_command};
+ghost use Rattle.card_history.specs.Scripts.{Scripts, no_scripts, with_command, with_newest, in_flight};
+ghost use Rattle.script_queue.specs.CommandQueue.{TakesOneMore};
+ghost use Rattle.row_core.specs.CardRow.{kept_of};
+ghost use Rattle.row_core.specs.Launching.{IsLaunch, launched_from};
+
+use cvr_settle::{Flight, Settled, settle};
+use issuer_base::{Command, NoMemory, QueueFull, Request};
+use script_queue::Queue;
+use std::alloc::Global;
+use std::marker::Model;
+
+/// What the decision of a request on the newest counter makes of a card's script commands.
+#[derive(Clone, Copy)]
+pub(crate) struct Launch {
+    /// How many of the first undone commands the card ran.
+    pub(crate) ran: u8,
+
+    /// How many commands the reply carries, the first after those.
+    pub(crate) size: u8,
+
+    /// Whether the card's scripts are halted from now on.
+    pub(crate) halted: bool,
+}
+
+/// The script commands of a card.
+#[derive(Drop)]
+pub(crate) struct CardScripts {
+    queue: Queue,
+
+    /// What the last reply on a newest counter carried.
+    flight: Option<Flight>,
+
+    /// Whether no command is sent any more.
+    halted: bool,
+}
+
+impl Model for CardScripts {
+    ghost use Rattle.std.specs.Prelude.{◌≡◌, ◌-◌, ◌≤◌, length, All, IsTrue};
+    ghost use Rattle.std.specs.Option.{option_map_or};
+    ghost use Rattle.issuer_base.specs.ScriptCommand.{is_command};
+    ghost use Rattle.row_core.specs.CardRow.{KeptScripts};
+
+    ghost Value = { KeptScripts };
+
+    ghost view = { λ scripts. record {
+      commands = scripts.queue;
+      done = scripts.queue.queued - length scripts.queue.undone;
+      flight = scripts.flight;
+      halted = scripts.halted;
+    } };
+
+    ghost invariant = { λ scripts. All (λ command. IsTrue (is_command command)) scripts.queue.undone
+        × (option_map_or (λ flight. flight.size) scripts.flight 0 ≤ length scripts.queue.undone) };
+}
+
+impl CardScripts {
+    /// No commands. No other call takes memory.
+    pub(crate) fn new(alloc: Global) -> Result<CardScripts, NoMemory>
+        ensures { IfOk result (λ scripts. scripts ≡ kept_of no_scripts) }
+    {
+        let queue = Queue::new(alloc)?;
+        Ok(CardScripts {
+            queue,
+            flight: None,
+            halted: false,
+        })
+    }
+
+    /// The commands that aren't done, and the count of all.
+    pub(crate) fn queue(&self) -> &Queue
+        ensures { result.now ≡ self.now.commands }
+    {
+        &self.queue
+    }
+
+    /// How many commands are done.
+    pub(crate) fn done(&self) -> u32
+        ensures { result ≡ self.now.done }
+    {
+        self.queue.queued() - u32::from(self.queue.undone())
+    }
+
+    /// What is in flight.
+    pub(crate) fn flight(&self) -> Option<Flight>
+        ensures { result ≡ self.now.flight }
+    {
+        self.flight
+    }
+
+    /// Whether no command is sent any more.
+    pub(crate) fn halted(&self) -> bool
+        ensures { result ≡ self.now.halted }
+    {
+        self.halted
+    }
+
+    /// What a request on the newest counter makes of them, when it is decided.
+    pub(crate) fn launch(&self, request: &Request) -> Launch
+        ensures { IsLaunch self.now request.now result }
+    {
+        let (ran, halted) = match settle(self.flight, request.last_online(), request.script_count())
+        {
+            Settled::Ran(count) => (count, self.halted),
+            Settled::Nothing => (0, self.halted),
+            Settled::Halt => (0, true),
+        };
+        let size = if halted { 0 } else { self.queue.fitting_after(ran) };
+        Launch { ran, size, halted }
+    }
+
+    /// The commands that go with the reply, in two parts, as they lie in memory.
+    pub(crate) fn batch(&self, launch: Launch) -> (&[Command], &[Command])
+        requires { launch.ran + launch.size ≤ length self.now.commands.undone }
+        ensures batch { result.0.now ++ result.1.now ≡ take launch.size (drop launch.ran self.now.commands.undone) }
+        ensures form { All (λ command. IsTrue (is_command command)) (result.0.now ++ result.1.now) }
+    {
+        self.queue.part(launch.ran, launch.size)
+    }
+
+    /// Goes on to the flight of the reply on this counter.
+    pub(crate) fn apply(&mut self, counter: u16, launch: Launch)
+        requires { launch.ran + launch.size ≤ length self.old.commands.undone }
+        ensures { self.new ≡ launched_from self.old counter launch }
+    {
+        self.queue.advance(launch.ran);
+        self.halted = launch.halted;
+        self.flight = (!launch.halted).then_some(Flight {
+            counter,
+            size: launch.size,
+        });
+    }
+
+    /// Queues a command behind the others, and gives its number.
+    pub(crate) fn push(&mut self, command: Command) -> Result<u32, QueueFull>
+        requires { IsTrue (is_command command) }
+        ensures taken { IsOk result ↔ TakesOneMore self.old.commands }
+        ensures number { IfOk result (λ number. number ≡ self.old.commands.queued) }
+        ensures queued { IfOk result (λ number. (scripts : Scripts) → self.old ≡ kept_of scripts
+            → scripts.done ≤ length scripts.queue → self.new ≡ kept_of (with_command command scripts)) }
+        ensures unchanged { OnErr result (self.new ≡ self.old) }
+    {
+        self.queue.push(command)
+    }
+}
