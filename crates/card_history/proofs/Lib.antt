@@ -2,6 +2,9 @@ pub mod CardNames
 pub mod OneMoreRecord
 pub mod OtherRecords
 pub mod RecordPlaces
+pub mod LongerHistories
+pub mod ScriptSteps
+pub mod Batches
 pub mod Runs
 pub mod ShardTurns
 pub mod ConsistentRuns
