@@ -5,6 +5,7 @@ pub mod RecordPlaces
 pub mod LongerHistories
 pub mod ScriptSteps
 pub mod Batches
+pub mod CommandsInOrder
 pub mod Runs
 pub mod ShardTurns
 pub mod ConsistentRuns
