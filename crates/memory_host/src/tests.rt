@@ -1,5 +1,7 @@
 //! What is answered to request lines. The cryptograms are those of another program, which works with OpenSSL.
 
+mod cards;
+
 use super::*;
 use arrayvec::ArrayVec;
 use decision_table::{Table, TableRow};
@@ -201,8 +203,9 @@ fn told(alloc: Global, answer: Answer) -> Result<String, AllocError> {
             place,
             reply,
         } => { format!(in alloc; "kept {shard} {place} {}", told_reply(alloc, &reply)?) }
+        Answer::Queued { shard, place } => format!(in alloc; "queued {shard} {place}"),
+        Answer::Set { shard, place } => format!(in alloc; "set {shard} {place}"),
         Answer::Refused(refusal) => format!(in alloc; "refused {refusal:?}"),
-        _ => format!(in alloc; "another answer"),
     }
 }
 
@@ -245,12 +248,15 @@ fn decides_by_the_table(rt: HostRuntime) -> Result<(), Fail> {
 }
 
 #[test]
-fn refuses_other_lines(rt: HostRuntime) -> Result<(), Fail> {
+fn answers_other_lines(rt: HostRuntime) -> Result<(), Fail> {
     let mut host = host(rt.alloc())?;
     for (line, expected) in [
         ("X", "refused BadLine(1)"),
         ("A 9F36020007", "refused Missing(90)"),
-        ("S 4000000000000010 00 3", "refused BadLine(1)"),
+        ("Q 4000000000000028 00 84160000", "refused UnknownCard"),
+        ("Q 4000000000000010 00 84160000", "queued 1 0"),
+        ("S 4000000000000010 00 3", "set 1 1"),
+        ("S 4000000000000002 00 3", "set 0 0"),
     ] {
         let answer = answer(rt.alloc(), &mut host, line.as_bytes())?;
         assert_eq!(rt; answer.as_str(), expected, "{line}");
