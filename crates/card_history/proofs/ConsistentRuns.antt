@@ -3,7 +3,7 @@ use Rattle.std.proofs.Common.{◌≡◌, ℕ, zero, suc, List, [], ◌∷◌, le
 use Rattle.std.proofs.Common.{get_or-set_same, get_or-set_other}
 use Rattle.std.proofs.lemmas.Bool.{cases_eq}
 use Rattle.std.proofs.lemmas.Option.{same_Some, none-some, slice_get_within, get_or_from_slice_get}
-use Rattle.std.specs.List.{slice_index_or, slice_set}
+use Rattle.std.specs.List.{slice_get, slice_index_or, slice_set}
 use Rattle.issuer_base.specs.declared.request.Request.{Request}
 use Rattle.issuer_base.specs.declared.answer.Reply.{Reply}
 use Rattle.issuer_base.specs.declared.answer.Answer.{Answer}
@@ -13,10 +13,10 @@ use Rattle.issuer_base.specs.declared.entry.Entry.{Entry}
 use Rattle.issuer_base.specs.declared.entry.Entry.TheVariants.{Decided}
 use Rattle.card_history.specs.declared.decision.Asked.{Asked}
 use Rattle.card_history.specs.declared.decision.Asked.TheVariants.{Decide, Queue, Status}
-use Rattle.card_history.specs.Records.{card_of}
-use Rattle.card_history.specs.Turns.{Rules, AnswersIn, IsRefused, Turn, Run, no_records}
+use Rattle.card_history.specs.Records.{CardName, named, card_of}
+use Rattle.card_history.specs.Turns.{Rules, IsRefused, Turn, Run, no_records}
 use Rattle.card_history.specs.OneReply.{record_at, IsOncePerCounter, AreLegal, IsOfItsRecord, IsAnswered, IsConsistent, reply_in}
-use Rattle.card_history.proofs.ShardTurns.{IsSound, Stays, answers-keep}
+use Rattle.card_history.proofs.ShardTurns.{IsSound, Stays, StaysSound, answers-keep, command-keeps, status-keeps}
 
 -- what holds of each shard's history, and of a new one, holds of each once the new one is written
 each-shard : (Holds : ℕ → List Entry → Type 0) (histories : List (List Entry)) (home : ℕ) (new : List Entry) → home < length histories → Holds home new
@@ -101,22 +101,26 @@ module _ (rules : Rules) where
     stays : (shard : ℕ) → Stays (slice_index_or before shard []) (slice_index_or after shard [])
     recorded : (request : Request) → reading ≡ Ok (Decide request) → IsOfItsRecord after request answer
 
-  answers_in-keep : (before : List (List Entry)) (request : Request) (answer : Answer) (after : List (List Entry))
-      → (line : List ℕ) × (rules.read line ≡ Ok (Decide request)) → AreSound before → AnswersIn rules before request answer after
-      → TurnKeeps before (Ok (Decide request)) answer after
+  -- a line that is answered in one shard keeps them, where this shard stays sound with each of its records
+  in_shard-keeps : (before : List (List Entry)) (card : CardName) (old new : List Entry) (reading : Result Asked Refusal) (answer : Answer)
+      (after : List (List Entry))
+      → slice_get before (rules.shard_of card) ≡ Some old → after ≡ slice_set before (rules.shard_of card) new → AreSound before
+      → (IsSound rules (rules.shard_of card) old → StaysSound rules (rules.shard_of card) old new)
+      → ((histories : List (List Entry)) → slice_index_or histories (rules.shard_of card) [] ≡ new
+      → (request : Request) → reading ≡ Ok (Decide request) → IsOfItsRecord histories request answer)
+      → TurnKeeps before reading answer after
   unfolding AreSound
-  answers_in-keep before request answer after asked sound turn =
-      let home = rules.shard_of (card_of request) in
-      let within : home < length before = slice_get_within before home turn.old turn.old_is in
-      let old : slice_index_or before home [] ≡ turn.old = get_or_from_slice_get before home turn.old [] turn.old_is in
-      let new : slice_index_or (slice_set before home turn.new) home [] ≡ turn.new = get_or-set_same before home turn.new [] within in
-      let kept = answers-keep rules turn.old request answer turn.new asked (subst (IsSound rules home) old (sound home)) turn.answers in
-      let stay : Stays (slice_index_or before home []) turn.new = subst (λ (history : List Entry). Stays history turn.new) (sym old) kept.stays in
-      subst (λ (after : List (List Entry)). TurnKeeps before (Ok (Decide request)) answer after) (sym turn.after_is) (record {
-        sound = each-shard (IsSound rules) before home turn.new within kept.sound sound;
-        stays = each-shard (λ shard history. Stays (slice_index_or before shard []) history) before home turn.new within stay (λ shard place entry is. is);
-        recorded = λ other is. subst (λ (r : Request). IsOfItsRecord (slice_set before home turn.new) r answer) (let e : request ≡ other =
-            cc in e) (kept.recorded (slice_set before home turn.new) new);
+  in_shard-keeps before card old new reading answer after old_is after_is sound keeps recorded =
+      let home = rules.shard_of card in
+      let within : home < length before = slice_get_within before home old old_is in
+      let was : slice_index_or before home [] ≡ old = get_or_from_slice_get before home old [] old_is in
+      let now : slice_index_or (slice_set before home new) home [] ≡ new = get_or-set_same before home new [] within in
+      let kept = keeps (subst (IsSound rules home) was (sound home)) in
+      let stay : Stays (slice_index_or before home []) new = subst (λ (history : List Entry). Stays history new) (sym was) kept.stays in
+      subst (λ (after : List (List Entry)). TurnKeeps before reading answer after) (sym after_is) (record {
+        sound = each-shard (IsSound rules) before home new within kept.sound sound;
+        stays = each-shard (λ shard history. Stays (slice_index_or before shard []) history) before home new within stay (λ shard place entry is. is);
+        recorded = recorded (slice_set before home new) now;
       })
 
   -- a line that is refused keeps all, since it asks no request
@@ -129,11 +133,23 @@ module _ (rules : Rules) where
 
   turn-keeps : (before : List (List Entry)) (line : List ℕ) (reading : Result Asked Refusal) (answer : Answer) (after : List (List Entry))
       → rules.read line ≡ reading → AreSound before → Turn rules before reading answer after → TurnKeeps before reading answer after
-  turn-keeps before line (Ok (Decide request)) answer after read sound turn = answers_in-keep before request answer after (line, read) sound turn
+  unfolding AreSound
+  turn-keeps before line (Ok (Decide request)) answer after read sound turn =
+      let home = rules.shard_of (card_of request) in
+      let was : slice_index_or before home [] ≡ turn.old = get_or_from_slice_get before home turn.old [] turn.old_is in
+      let kept = answers-keep rules turn.old request answer turn.new (line, read) (subst (IsSound rules home) was (sound home)) turn.changes in
+      in_shard-keeps before (card_of request) turn.old turn.new (Ok (Decide request)) answer after turn.old_is turn.after_is sound
+      (λ old_sound. record { sound = kept.sound; stays = kept.stays })
+      (λ histories here other is. let same : request ≡ other = cc in
+      subst (λ (request : Request). IsOfItsRecord histories request answer) same (kept.recorded histories here))
   turn-keeps before line (Ok (Queue pan psn command)) answer after read sound turn =
-      refused-keeps before (Ok (Queue pan psn command)) _ answer after (λ request is. cc) sound turn
+      in_shard-keeps before (named pan psn) turn.old turn.new (Ok (Queue pan psn command)) answer after turn.old_is turn.after_is sound
+      (λ old_sound. command-keeps rules (rules.shard_of (named pan psn)) turn.old (named pan psn) command answer turn.new old_sound turn.changes)
+      (λ histories here request is. absurd (cc))
   turn-keeps before line (Ok (Status pan psn status)) answer after read sound turn =
-      refused-keeps before (Ok (Status pan psn status)) _ answer after (λ request is. cc) sound turn
+      in_shard-keeps before (named pan psn) turn.old turn.new (Ok (Status pan psn status)) answer after turn.old_is turn.after_is sound
+      (λ old_sound. status-keeps rules (rules.shard_of (named pan psn)) turn.old (named pan psn) status answer turn.new old_sound turn.changes)
+      (λ histories here request is. absurd (cc))
   turn-keeps before line (Err refusal) answer after read sound turn = refused-keeps before (Err refusal) refusal answer after (λ request is. cc) sound turn
 
   -- what a run keeps

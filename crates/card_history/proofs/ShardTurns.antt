@@ -7,14 +7,15 @@ use Rattle.std.specs.List.{slice_get, slice_index_or}
 use Rattle.issuer_base.specs.declared.request.Request.{Request}
 use Rattle.issuer_base.specs.declared.answer.Reply.{Reply}
 use Rattle.issuer_base.specs.declared.answer.Answer.{Answer}
-use Rattle.issuer_base.specs.declared.answer.Answer.TheVariants.{Fresh, Kept, Refused}
-use Rattle.issuer_base.specs.declared.answer.Refusal.TheVariants.{Below, Taken}
+use Rattle.issuer_base.specs.declared.answer.Answer.TheVariants.{Fresh, Kept, Queued, Set, Refused}
+use Rattle.issuer_base.specs.declared.answer.Refusal.TheVariants.{Below, Taken, QueueFull}
+use Rattle.issuer_base.specs.declared.command.Command.{Command}
 use Rattle.issuer_base.specs.declared.entry.Entry.{Entry}
-use Rattle.issuer_base.specs.declared.entry.Entry.TheVariants.{Decided}
+use Rattle.issuer_base.specs.declared.entry.Entry.TheVariants.{Decided, Queued as IsQueued, Status as IsStatus}
 use Rattle.card_history.specs.declared.decision.Asked.TheVariants.{Decide}
 use Rattle.card_history.specs.declared.decision.Decision.{Decision}
-use Rattle.card_history.specs.Records.{card_of}
-use Rattle.card_history.specs.Turns.{IsUnused, decided_for, Answers, Rules}
+use Rattle.card_history.specs.Records.{CardName, card_of}
+use Rattle.card_history.specs.Turns.{IsUnused, decided_for, Answers, AnswersCommand, AnswersStatus, Rules}
 use Rattle.card_history.specs.OneReply.{record_at, IsLegalNext, IsOfItsRecord}
 use Rattle.card_history.proofs.CardNames.{is_of-same}
 use Rattle.card_history.proofs.RecordPlaces.{decided-recorded, recorded-decided}
@@ -102,6 +103,19 @@ once-more history request reply unused once first second asked other given other
           ]
     ]
 
+-- a record that decides nothing
+abbrev pub IsUndecided : Entry → Type 0
+IsUndecided entry = (request : Request) (reply : Reply) → entry ≡ Decided request reply → ⊥
+
+-- a decided record was there before a record that decides nothing
+decided-before : (history : List Entry) (entry : Entry) → IsUndecided entry → (place : ℕ) (request : Request) (reply : Reply)
+    → slice_get (history ++ entry ∷ []) place ≡ Some (Decided request reply) → slice_get history place ≡ Some (Decided request reply)
+decided-before history entry undecided place request reply is =
+    elim (slice_get-push_cases history entry place (Decided request reply) is) [
+      | inl before ↦ before
+      | inr last ↦ absurd (undecided request reply last.1)
+    ]
+
 module _ (rules : Rules) where
   -- and a request of one of the shard's cards keeps its decisions of these cards only
   home-more : (history : List Entry) (request : Request) (reply : Reply) → IsHomeOf rules (rules.shard_of (card_of request)) history
@@ -137,6 +151,48 @@ module _ (rules : Rules) where
             (subst (λ (q : Request). IsLegalNext rules shard history q reply) asked next) in
             subst (λ (records : List Entry). IsLegalNext rules shard records other given) (sym whole) here
       ]
+
+  -- what a record that decides nothing keeps: a sound history, and each record
+  pub record StaysSound (shard : ℕ) (before after : List Entry) : Type 0 where
+    pub sound : IsSound rules shard after
+    pub stays : Stays before after
+
+  same-sound : (shard : ℕ) (before after : List Entry) → IsSound rules shard before → after ≡ before → StaysSound shard before after
+  same-sound shard before after sound same =
+      subst (λ (after : List Entry). StaysSound shard before after) (sym same) (record { sound = sound; stays = λ place entry is. is })
+
+  more-sound : (shard : ℕ) (before : List Entry) (entry : Entry) (after : List Entry) → IsUndecided entry → IsSound rules shard before
+      → after ≡ before ++ entry ∷ [] → StaysSound shard before after
+  more-sound shard before entry after undecided sound grown =
+      subst (λ (after : List Entry). StaysSound shard before after) (sym grown) (record {
+        sound = record {
+          once = λ first second request other reply other_reply first_is second_is.
+              sound.once first second request other reply other_reply (decided-before before entry undecided first request reply first_is)
+              (decided-before before entry undecided second other other_reply second_is);
+          home = λ place request reply is. sound.home place request reply (decided-before before entry undecided place request reply is);
+          legal = λ place request reply is.
+              let was = decided-before before entry undecided place request reply is in
+              let within : place ≤ length before = let below = slice_get_within before place (Decided request reply) was in omega (arith, below) in
+              subst (λ (records : List Entry). IsLegalNext rules shard records request reply)
+              (sym (take-append-le place before (entry ∷ []) within)) (sound.legal place request reply was);
+        };
+        stays = stays-push before entry;
+      })
+
+  -- a command that is queued or refused keeps them
+  pub command-keeps : (shard : ℕ) (before : List Entry) (card : CardName) (command : Command) (answer : Answer) (after : List Entry)
+      → IsSound rules shard before → AnswersCommand shard before card command answer after → StaysSound shard before after
+  command-keeps shard before card command (Queued at place) after sound (takes, at_is, place_is, after_is) =
+      more-sound shard before (IsQueued card.pan card.psn command) after (λ request reply is. cc) sound after_is
+  command-keeps shard before card command (Refused QueueFull) after sound (full, after_is) = same-sound shard before after sound after_is
+  command-keeps shard before card command _ after sound turn = absurd turn
+
+  -- and so does a status
+  pub status-keeps : (shard : ℕ) (before : List Entry) (card : CardName) (status : ℕ) (answer : Answer) (after : List Entry)
+      → IsSound rules shard before → AnswersStatus shard before card status answer after → StaysSound shard before after
+  status-keeps shard before card status (Set at place) after sound (at_is, place_is, after_is) =
+      more-sound shard before (IsStatus card.pan card.psn status) after (λ request reply is. cc) sound after_is
+  status-keeps shard before card status _ after sound turn = absurd turn
 
   -- what an answer keeps: a sound history, each record, and the answer is of its record wherever the shard has this history
   pub record Keeps (before : List Entry) (request : Request) (answer : Answer) (after : List Entry) : Type 0 where
