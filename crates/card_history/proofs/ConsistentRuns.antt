@@ -16,7 +16,8 @@ use Rattle.card_history.specs.declared.decision.Asked.TheVariants.{Decide, Queue
 use Rattle.card_history.specs.Records.{CardName, named, card_of}
 use Rattle.card_history.specs.Turns.{Rules, IsRefused, Turn, Run, no_records}
 use Rattle.card_history.specs.OneReply.{record_at, IsOncePerCounter, AreLegal, IsOfItsRecord, IsAnswered, IsConsistent, reply_in}
-use Rattle.card_history.proofs.ShardTurns.{IsSound, Stays, StaysSound, answers-keep, command-keeps, status-keeps}
+use Rattle.card_history.proofs.LongerHistories.{Stays}
+use Rattle.card_history.proofs.ShardTurns.{IsSound, StaysSound, answers-keep, command-keeps, status-keeps}
 
 -- what holds of each shard's history, and of a new one, holds of each once the new one is written
 each-shard : (Holds : ℕ → List Entry → Type 0) (histories : List (List Entry)) (home : ℕ) (new : List Entry) → home < length histories → Holds home new

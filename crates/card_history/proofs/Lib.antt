@@ -2,6 +2,10 @@ pub mod CardNames
 pub mod OneMoreRecord
 pub mod OtherRecords
 pub mod RecordPlaces
+pub mod LongerHistories
+pub mod ScriptSteps
+pub mod Batches
+pub mod CommandsInOrder
 pub mod Runs
 pub mod ShardTurns
 pub mod ConsistentRuns

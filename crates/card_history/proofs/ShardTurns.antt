@@ -1,8 +1,6 @@
 -- What an answer keeps of its shard's history: one decision a counter, decisions of its own cards only, each record at its place.
-use Rattle.std.proofs.Common.{◌≡◌, ℕ, ◌≤◌, zero, suc, List, [], ◌∷◌, ◌++◌, length, take, Some, Ok, refl, arith, ap, sym, ◌∙◌, subst, inl, inr, ◌⊎◌}
-use Rattle.std.proofs.lemmas.List.{take-append-le, take_all}
+use Rattle.std.proofs.Common.{◌≡◌, ℕ, List, [], ◌∷◌, ◌++◌, take, Some, Ok, refl, ap, sym, ◌∙◌, subst, inl, inr}
 use Rattle.std.proofs.lemmas.List.Elements.{All-contains}
-use Rattle.std.proofs.lemmas.Option.{slice_get_within}
 use Rattle.std.specs.List.{slice_get, slice_index_or}
 use Rattle.issuer_base.specs.declared.request.Request.{Request}
 use Rattle.issuer_base.specs.declared.answer.Reply.{Reply}
@@ -18,6 +16,7 @@ use Rattle.card_history.specs.Records.{CardName, card_of}
 use Rattle.card_history.specs.Turns.{IsUnused, decided_for, Answers, AnswersCommand, AnswersStatus, Rules}
 use Rattle.card_history.specs.OneReply.{record_at, IsLegalNext, IsOfItsRecord}
 use Rattle.card_history.proofs.CardNames.{is_of-same}
+use Rattle.card_history.proofs.LongerHistories.{Stays, stays-push, slice_get-push, slice_get-push_cases, before-push, before-last}
 use Rattle.card_history.proofs.RecordPlaces.{decided-recorded, recorded-decided}
 
 -- no two decided records of this history are of the same card and counter
@@ -44,33 +43,6 @@ pub record IsSound (rules : Rules) (shard : ℕ) (history : List Entry) : Type 0
   pub once : IsOnceIn history
   pub home : IsHomeOf rules shard history
   pub legal : IsLegalIn rules shard history
-
--- each record stays at its place
-abbrev pub Stays : List Entry → List Entry → Type 0
-Stays before after = (place : ℕ) (entry : Entry) → slice_get before place ≡ Some entry → slice_get after place ≡ Some entry
-
--- a record stays where one is added
-stays-push : (history : List Entry) (entry : Entry) → Stays history (history ++ entry ∷ [])
-stays-push [] entry place other is = absurd (cc)
-stays-push (first ∷ history) entry zero other is = is
-stays-push (first ∷ history) entry (suc place) other is = stays-push history entry place other is
-
--- the record that was added stands after the last
-slice_get-push : (history : List Entry) (entry : Entry) → slice_get (history ++ entry ∷ []) (length history) ≡ Some entry
-slice_get-push [] entry = refl
-slice_get-push (first ∷ history) entry = slice_get-push history entry
-
--- and each other record was there before
-slice_get-push_cases : (history : List Entry) (entry : Entry) (place : ℕ) (other : Entry) → slice_get (history ++ entry ∷ []) place ≡ Some other
-    → (slice_get history place ≡ Some other) ⊎ ((place ≡ length history) × (entry ≡ other))
-slice_get-push_cases [] entry zero other is = inr (refl, cc)
-slice_get-push_cases [] entry (suc place) other is = absurd (cc)
-slice_get-push_cases (first ∷ history) entry zero other is = inl is
-slice_get-push_cases (first ∷ history) entry (suc place) other is =
-    elim (slice_get-push_cases history entry place other is) [
-      | inl before ↦ inl before
-      | inr last ↦ inr (ap suc last.0, last.1)
-    ]
 
 -- a request on an unused counter has no record on it
 unused-unrecorded : (history : List Entry) (request : Request) → IsUnused (decided_for request history) request
@@ -134,18 +106,14 @@ module _ (rules : Rules) where
   legal-more shard history request reply next legal place other given is =
       elim (slice_get-push_cases history (Decided request reply) place (Decided other given) is) [
         | inl before ↦
-            let within : place ≤ length history = let below = slice_get_within history place (Decided other given) before in omega (arith, below) in
             subst (λ (records : List Entry). IsLegalNext rules shard records other given)
-            (sym (take-append-le place history (Decided request reply ∷ []) within)) (legal place other given before)
+            (sym (before-push history (Decided request reply) place (Decided other given) before)) (legal place other given before)
         | inr last ↦
             let same : Decided request reply ≡ Decided other given = last.1 in
             let asked : request ≡ other = cc in
             let gave : reply ≡ given = cc in
             let whole : take place (history ++ Decided request reply ∷ []) ≡ history =
-            ap (λ (n : ℕ). take n (history ++ Decided request reply ∷ [])) last.0
-            ∙ take-append-le (length history) history (Decided request reply ∷ []) (omega arith)
-            ∙ take_all (length history) history (omega arith)
-            in
+            ap (λ (n : ℕ). take n (history ++ Decided request reply ∷ [])) last.0 ∙ before-last history (Decided request reply) in
             let here : IsLegalNext rules shard history other given =
             subst (λ (r : Reply). IsLegalNext rules shard history other r) gave
             (subst (λ (q : Request). IsLegalNext rules shard history q reply) asked next) in
@@ -172,9 +140,8 @@ module _ (rules : Rules) where
           home = λ place request reply is. sound.home place request reply (decided-before before entry undecided place request reply is);
           legal = λ place request reply is.
               let was = decided-before before entry undecided place request reply is in
-              let within : place ≤ length before = let below = slice_get_within before place (Decided request reply) was in omega (arith, below) in
               subst (λ (records : List Entry). IsLegalNext rules shard records request reply)
-              (sym (take-append-le place before (entry ∷ []) within)) (sound.legal place request reply was);
+              (sym (before-push before entry place (Decided request reply) was)) (sound.legal place request reply was);
         };
         stays = stays-push before entry;
       })

@@ -23,6 +23,12 @@ named pan psn = record { pan = pan; psn = psn }
 abbrev pub card_of : Request → CardName
 card_of request = named request.pan request.psn
 
+-- the card that a record is of
+abbrev pub card_in : Entry → CardName
+card_in (Decided request reply) = card_of request
+card_in (Queued pan psn command) = named pan psn
+card_in (Status pan psn status) = named pan psn
+
 -- whether the request is of this card
 unfoldable pub is_of : CardName → Request → Bool
 is_of card request = pointwise nat_eq request.pan card.pan && request.psn == card.psn

@@ -1,14 +1,18 @@
 -- What was found and derived when a line was checked.
-use Rattle.std.specs.Prelude.{◌≡◌, ℕ, Some}
+use Rattle.std.specs.Prelude.{◌≡◌, ◌≤◌, ℕ, Some, IsTrue}
+use Rattle.issuer_base.specs.declared.limits.TheConstants.{MAX_STATUS}
+use Rattle.issuer_base.specs.ScriptCommand.{is_command}
 use Rattle.card_history.specs.declared.decision.Asked.{Asked}
 use Rattle.card_history.specs.declared.decision.Asked.TheVariants.{Decide as AsksDecision, Queue as AsksQueue, Status as AsksStatus}
-use Rattle.card_history.specs.Records.{CardName, card_of}
+use Rattle.card_history.specs.Records.{CardName, named, card_of}
 use Rattle.key_derive.specs.SessionKey.{session_ac}
 use Rattle.issuer_setup.specs.CardList.{number_of, AreCards}
 use Rattle.issuer_setup.specs.IssuerSetup.{Setup, keys_of}
 use Rattle.line_checks.specs.declared.checked.Checked.{Checked}
 use Rattle.line_checks.specs.declared.checked.Checked.TheVariants.{Decide, Queue, Status}
 use Rattle.line_checks.specs.declared.checked.CheckedRequest.{CheckedRequest}
+use Rattle.line_checks.specs.declared.checked.CheckedCommand.{CheckedCommand}
+use Rattle.line_checks.specs.declared.checked.CheckedStatus.{CheckedStatus}
 
 -- what the line asks
 abbrev pub asked_of : Checked → Asked
@@ -28,8 +32,18 @@ pub record IsRequestAtHand (issuer : Setup) (found : CheckedRequest) : Type 0 wh
   pub keys_are : keys_of issuer found.card found.request ≡ Some found.keys
   pub session_is : found.session ≡ session_ac found.keys.ac.0 found.request.atc
 
+-- the command is one that the host sends
+pub record IsCommandAtHand (issuer : Setup) (found : CheckedCommand) : Type 0 where
+  pub card_is : IsCardAtHand issuer (named found.pan found.psn) found.card
+  pub form_is : IsTrue (is_command found.command)
+
+-- the status is one that a card can have
+pub record IsStatusAtHand (issuer : Setup) (found : CheckedStatus) : Type 0 where
+  pub card_is : IsCardAtHand issuer (named found.pan found.psn) found.card
+  pub within : found.status ≤ MAX_STATUS
+
 -- what a line asks is at hand with the number of its card, and a request with its keys
 abbrev pub IsAtHand : Setup → Checked → Type 0
 IsAtHand issuer (Decide found) = IsRequestAtHand issuer found
-IsAtHand issuer (Queue found) = IsCardAtHand issuer (record { pan = found.pan; psn = found.psn }) found.card
-IsAtHand issuer (Status found) = IsCardAtHand issuer (record { pan = found.pan; psn = found.psn }) found.card
+IsAtHand issuer (Queue found) = IsCommandAtHand issuer found
+IsAtHand issuer (Status found) = IsStatusAtHand issuer found

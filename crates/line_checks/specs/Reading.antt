@@ -9,7 +9,7 @@ use Rattle.issuer_base.specs.declared.answer.Refusal.TheVariants.{UnknownCard, N
 use Rattle.issuer_base.specs.ChipData.{dki, is_arqc}
 use Rattle.card_history.specs.declared.decision.Asked.{Asked}
 use Rattle.card_history.specs.declared.decision.Asked.TheVariants.{Decide, Queue, Status}
-use Rattle.card_history.specs.Records.{CardName, card_of}
+use Rattle.card_history.specs.Records.{CardName, named, card_of}
 use Rattle.chip_request.specs.declared.reading.RequestFault.{RequestFault}
 use Rattle.chip_request.specs.declared.reading.RequestFault.TheVariants.{BadTlv as IsTorn, Missing as Lacks}
 use Rattle.chip_request.specs.declared.reading.RequestFault.TheVariants.{BadField as HasBadField, Repeated as Repeats}
@@ -70,9 +70,9 @@ abbrev pub said_by : Setup → Result LineKind ℕ → Result Asked Refusal
 said_by issuer (Err column) = Err (BadLine column)
 said_by issuer (Ok (Ask bytes)) = checked_data issuer (request_of bytes.items)
 said_by issuer (Ok (IsQueue pan psn bytes)) =
-    let name : CardName = record { pan = pan; psn = psn } in command_for name (number_of name issuer.cards) (command_of bytes.items)
+    command_for (named pan psn) (number_of (named pan psn) issuer.cards) (command_of bytes.items)
 said_by issuer (Ok (IsSet pan psn status)) =
-    let name : CardName = record { pan = pan; psn = psn } in status_for name (number_of name issuer.cards) status
+    status_for (named pan psn) (number_of (named pan psn) issuer.cards) status
 
 -- what a line says to this issuer
 abbrev pub reading : Setup → List ℕ → Result Asked Refusal

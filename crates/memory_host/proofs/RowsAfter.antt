@@ -1,22 +1,17 @@
 -- The rows of an issuer's cards after one more record: only the row of the record's card is longer.
-use Rattle.std.proofs.Common.{◌≡◌, ◌≢◌, ℕ, ◌+◌, ◌%◌, List, [], length, map, get_or, set, ap, sym, ◌∙◌, subst, inl, inr, Some, arith, length-set}
+use Rattle.std.proofs.Common.{◌≡◌, ◌≢◌, ℕ, ◌+◌, ◌%◌, List, [], ◌∷◌, ◌++◌, length, map, get_or, set, ap, sym, ◌∙◌, subst, inl, inr, Some, arith, length-set}
 use Rattle.std.proofs.lemmas.Bool.{cases_eq, cases_lt}
 use Rattle.std.proofs.lemmas.List.{length_push, map-set, get_or-map, get_or-set_same, get_or-set_other}
 use Rattle.std.proofs.lemmas.Option.{same_Some, slice_get_within, slice_get-get_or, get_or_from_slice_get}
 use Rattle.std.specs.List.{slice_get}
 use Rattle.issuer_base.specs.declared.entry.Entry.{Entry}
-use Rattle.issuer_base.specs.declared.entry.Entry.TheVariants.{Decided}
-use Rattle.card_history.specs.declared.decision.Decision.{Decision}
-use Rattle.card_history.specs.Records.{card_of, greatest}
-use Rattle.card_history.proofs.CardNames.{is_of-other}
-use Rattle.card_history.proofs.OneMoreRecord.{decided-other}
-use Rattle.card_history.proofs.OtherRecords.{queue-decided, status_of-decided}
+use Rattle.card_history.specs.Records.{card_in}
 use Rattle.issuer_setup.specs.declared.card.CardInfo.{CardInfo}
 use Rattle.issuer_setup.specs.CardList.{name_of, AreCards}
-use Rattle.row_core.specs.CardRow.{CardRow, KeepsWindow, none_done, StandsFor as RowStandsFor}
-use Rattle.row_core.specs.Plan.{IsNext, with_record}
+use Rattle.row_core.specs.CardRow.{CardRow, StandsFor as RowStandsFor}
+use Rattle.row_core.proofs.OtherCards.{stands-other}
 use Rattle.memory_host.specs.Holding.{Holding, history_for, RowStands, StandsFor}
-use Rattle.memory_host.specs.Deciding.{IsShardOf, IsNextOf, with_record_of, IsRecorded}
+use Rattle.memory_host.specs.Deciding.{IsShardOf, IsCardOf, with_entry_of, IsAdded}
 
 -- what was written is read again
 there : {X : Type 0} (xs : List X) (place : ℕ) (old new : X) → slice_get xs place ≡ Some old → slice_get (set xs place new) place ≡ Some new
@@ -47,19 +42,6 @@ other-name cards number other card other_card valid card_is other_is not_it same
       | inr higher ↦ valid.distinct number other card (omega arith) other_within (named ∙ sym same ∙ sym other_named)
     ]
 
--- a row stands for one record more of another card
-stands-other : (card : CardInfo) (row : CardRow) (history : List Entry) (step : Decision) → name_of card ≢ card_of step.request
-    → RowStandsFor card row history → RowStandsFor card row (with_record history step)
-stands-other card row history step other stands =
-    let same = decided-other (name_of card) history step.request step.reply (is_of-other (name_of card) step.request other) in
-    record {
-      method_is = stands.method_is;
-      hi_is = stands.hi_is ∙ ap greatest (sym same);
-      status_is = stands.status_is ∙ sym (status_of-decided (name_of card) history step.request step.reply);
-      window_is = subst (λ (decisions : List Decision). KeepsWindow row.slots decisions) (sym same) stands.window_is;
-      commands_are = stands.commands_are ∙ ap none_done (sym (queue-decided (name_of card) history step.request step.reply));
-    }
-
 module _ (host : Holding) (histories : List (List Entry)) (stands : StandsFor host histories) where
   -- the row that was found at a card's number stands for the history of the card's shard
   pub row-there : (number : ℕ) (card : CardInfo) (row : CardRow) → slice_get host.issuer.cards number ≡ Some card → slice_get host.rows number ≡ Some row
@@ -78,85 +60,87 @@ module _ (host : Holding) (histories : List (List Entry)) (stands : StandsFor ho
       ∙ get_or-map length histories shard [] place (omega (arith, home.within, stands.shards_are))
       ∙ ap (λ shard. length (get_or histories shard [])) home.shard_is
 
-module _ (host : Holding) (number shard : ℕ) (step : Decision) (home : IsShardOf host.issuer number shard) (histories : List (List Entry))
-    (stands : StandsFor host histories) (next : IsNextOf host.issuer histories number step) where
-  -- the history of this card's shard has the record
-  history-here : history_for host.issuer (with_record_of host.issuer histories number step) number
-      ≡ with_record (history_for host.issuer histories number) step
-  history-here =
-      get_or-set_same histories (number % host.issuer.shards) (with_record (history_for host.issuer histories number) step) []
-      (omega (arith, stands.shards_are))
+module _ (host : Holding) (number shard : ℕ) (card : CardInfo) (entry : Entry) (home : IsShardOf host.issuer number shard)
+    (known : IsCardOf host.issuer number card) (its : card_in entry ≡ name_of card) (histories : List (List Entry)) (stands : StandsFor host histories)
+  where
+    -- the histories with the record
+    longer : List (List Entry)
+    longer = with_entry_of host.issuer histories number entry
 
-  -- the row of each other card, of the same shard or of another, stands for the histories with the record
-  stands-elsewhere : (other : ℕ) (card : CardInfo) (row : CardRow) → other ≢ number → slice_get host.issuer.cards other ≡ Some card
-      → RowStandsFor card row (history_for host.issuer histories other)
-      → RowStandsFor card row (history_for host.issuer (with_record_of host.issuer histories number step) other)
-  stands-elsewhere other card row not_it card_is before =
-      elim (cases_eq (other % host.issuer.shards) (number % host.issuer.shards)) [
-        | inl same ↦
-            let its = other-name host.issuer.cards number other next.card card next.valid next.card_is card_is not_it in
-            let named : name_of card ≢ card_of step.request = λ same. its (same ∙ next.next.of_card) in
-            let more = stands-other card row (history_for host.issuer histories number) step named
-            (subst (λ (shard : ℕ). RowStandsFor card row (get_or histories shard [])) same before) in
-            subst (λ (shard : ℕ). RowStandsFor card row (get_or (with_record_of host.issuer histories number step) shard [])) (sym same)
-            (subst (λ (history : List Entry). RowStandsFor card row history) (sym history-here) more)
-        | inr different ↦ subst (λ (history : List Entry). RowStandsFor card row history)
-            (sym (get_or-set_other histories (number % host.issuer.shards) (other % host.issuer.shards)
-            (with_record (history_for host.issuer histories number) step) [] different)) before
-      ]
+    -- the history of this card's shard has the record
+    history-here : history_for host.issuer longer number ≡ history_for host.issuer histories number ++ entry ∷ []
+    unfolding longer
+    history-here =
+        get_or-set_same histories (number % host.issuer.shards) (history_for host.issuer histories number ++ entry ∷ []) []
+        (omega (arith, stands.shards_are))
 
-  -- the numbers of records are the lengths of the histories with the record
-  records-more : (place : ℕ) → place ≡ length (history_for host.issuer histories number)
-      → set host.records shard (place + 1) ≡ map length (with_record_of host.issuer histories number step)
-  records-more place at_end =
-      ap (λ records. set records shard (place + 1)) stands.records_are
-      ∙ ap (λ shard. set (map length histories) shard (place + 1)) home.shard_is
-      ∙ ap (λ count. set (map length histories) (number % host.issuer.shards) count) (ap (λ n. n + 1) at_end
-      ∙ sym (length_push (history_for host.issuer histories number) (Decided step.request step.reply)))
-      ∙ sym (map-set length histories (number % host.issuer.shards) (with_record (history_for host.issuer histories number) step))
+    -- the row of each other card, of the same shard or of another, stands for the histories with the record
+    stands-elsewhere : (other : ℕ) (other_card : CardInfo) (row : CardRow) → other ≢ number → slice_get host.issuer.cards other ≡ Some other_card
+        → RowStandsFor other_card row (history_for host.issuer histories other) → RowStandsFor other_card row (history_for host.issuer longer other)
+    unfolding longer
+    stands-elsewhere other other_card row not_it card_is before =
+        elim (cases_eq (other % host.issuer.shards) (number % host.issuer.shards)) [
+          | inl same ↦
+              let named : name_of other_card ≢ card_in entry =
+              λ same. other-name host.issuer.cards number other card other_card known.valid known.card_is card_is not_it (same ∙ its) in
+              let more = stands-other other_card row (history_for host.issuer histories number) entry named
+              (subst (λ (shard : ℕ). RowStandsFor other_card row (get_or histories shard [])) same before) in
+              subst (λ (shard : ℕ). RowStandsFor other_card row (get_or longer shard [])) (sym same)
+              (subst (λ (history : List Entry). RowStandsFor other_card row history) (sym history-here) more)
+          | inr different ↦ subst (λ (history : List Entry). RowStandsFor other_card row history)
+              (sym (get_or-set_other histories (number % host.issuer.shards) (other % host.issuer.shards)
+              (history_for host.issuer histories number ++ entry ∷ []) [] different)) before
+        ]
 
-  -- the host stands for the histories with the record where that row does
-  stands-more : (old new : CardRow) (place : ℕ) → slice_get host.rows number ≡ Some old
-      → ((card : CardInfo) (history : List Entry) → RowStandsFor card old history → IsNext card history step
-      → RowStandsFor card new (with_record history step)) → place ≡ length (history_for host.issuer histories number)
-      → StandsFor (record { issuer = host.issuer; rows = set host.rows number new; records = set host.records shard (place + 1) })
-      (with_record_of host.issuer histories number step)
-  stands-more old new place old_is gains at_end =
-      let after : Holding = record { issuer = host.issuer; rows = set host.rows number new; records = set host.records shard (place + 1) } in
-      record {
-        shards_are = length-set histories (number % host.issuer.shards) (with_record (history_for host.issuer histories number) step) ∙ stands.shards_are;
-        records_are = records-more place at_end;
-        rows_stand = λ other card card_is.
-            elim (cases_eq other number) [
-              | inl same ↦ subst (λ (other : ℕ). RowStands after (with_record_of host.issuer histories number step) other card) (sym same) (
-                  let its : next.card ≡ card = same_Some next.card card (sym next.card_is ∙ ap (slice_get host.issuer.cards) (sym same) ∙ card_is) in
-                  let gained =
-                  gains next.card (history_for host.issuer histories number)
-                  (row-there host histories stands number next.card old next.card_is old_is) next.next in
-                  let here = subst (λ (history : List Entry). RowStandsFor next.card new history) (sym history-here) gained in
-                  record {
-                    row = new;
-                    row_is = there host.rows number old new old_is;
-                    stands = subst
-                        (λ (card : CardInfo). RowStandsFor card new (history_for host.issuer (with_record_of host.issuer histories number step) number))
-                        its here;
-                  })
-              | inr not_it ↦
-                  let found = stands.rows_stand other card card_is in
-                  record {
-                    row = found.row;
-                    row_is = elsewhere host.rows number new other found.row not_it found.row_is;
-                    stands = stands-elsewhere other card found.row not_it card_is found.stands;
-                  }
-            ];
-      }
+    -- the numbers of records are the lengths of the histories with the record
+    records-more : (place : ℕ) → place ≡ length (history_for host.issuer histories number) → set host.records shard (place + 1) ≡ map length longer
+    unfolding longer
+    records-more place at_end =
+        ap (λ records. set records shard (place + 1)) stands.records_are
+        ∙ ap (λ shard. set (map length histories) shard (place + 1)) home.shard_is
+        ∙ ap (λ count. set (map length histories) (number % host.issuer.shards) count) (ap (λ n. n + 1) at_end
+        ∙ sym (length_push (history_for host.issuer histories number) entry))
+        ∙ sym (map-set length histories (number % host.issuer.shards) (history_for host.issuer histories number ++ entry ∷ []))
 
--- where its row stands for the record besides, and its shard's number of records rose, the host stands for the histories with the record
-pub recorded : (host : Holding) (number shard : ℕ) (step : Decision) (old new : CardRow) (place : ℕ) → IsShardOf host.issuer number shard
-    → slice_get host.rows number ≡ Some old → place ≡ get_or host.records shard place
-    → ((card : CardInfo) (history : List Entry) → RowStandsFor card old history → IsNext card history step
-    → RowStandsFor card new (with_record history step))
-    → IsRecorded host number step (record { issuer = host.issuer; rows = set host.rows number new; records = set host.records shard (place + 1) }) place
-recorded host number shard step old new place home old_is place_is gains histories stands next =
-    let at_end = place-at_end host histories stands number shard place home place_is in
-    (at_end ∙ sym next.next.at_end, stands-more host number shard step home histories stands next old new place old_is gains at_end)
+    -- the host stands for the histories with the record where that row does
+    stands-more : (old new : CardRow) (place : ℕ) → slice_get host.rows number ≡ Some old
+        → (RowStandsFor card old (history_for host.issuer histories number)
+        → RowStandsFor card new (history_for host.issuer histories number ++ entry ∷ [])) → place ≡ length (history_for host.issuer histories number)
+        → StandsFor (record { issuer = host.issuer; rows = set host.rows number new; records = set host.records shard (place + 1) }) longer
+    unfolding longer
+    stands-more old new place old_is gains at_end =
+        let after : Holding = record { issuer = host.issuer; rows = set host.rows number new; records = set host.records shard (place + 1) } in
+        record {
+          shards_are = length-set histories (number % host.issuer.shards) (history_for host.issuer histories number ++ entry ∷ []) ∙ stands.shards_are;
+          records_are = records-more place at_end;
+          rows_stand = λ other other_card card_is.
+              elim (cases_eq other number) [
+                | inl same ↦ subst (λ (other : ℕ). RowStands after longer other other_card) (sym same) (
+                    let its : card ≡ other_card = same_Some card other_card (sym known.card_is ∙ ap (slice_get host.issuer.cards) (sym same) ∙ card_is) in
+                    let gained = gains (row-there host histories stands number card old known.card_is old_is) in
+                    let here = subst (λ (history : List Entry). RowStandsFor card new history) (sym history-here) gained in
+                    record {
+                      row = new;
+                      row_is = there host.rows number old new old_is;
+                      stands = subst (λ (card : CardInfo). RowStandsFor card new (history_for host.issuer longer number)) its here;
+                    })
+                | inr not_it ↦
+                    let found = stands.rows_stand other other_card card_is in
+                    record {
+                      row = found.row;
+                      row_is = elsewhere host.rows number new other found.row not_it found.row_is;
+                      stands = stands-elsewhere other other_card found.row not_it card_is found.stands;
+                    }
+              ];
+        }
+
+    -- where its row stands for the record besides, and its shard's number of records rose, the record is added
+    pub added : (old new : CardRow) (place : ℕ) → slice_get host.rows number ≡ Some old → place ≡ get_or host.records shard place
+        → (RowStandsFor card old (history_for host.issuer histories number)
+        → RowStandsFor card new (history_for host.issuer histories number ++ entry ∷ []))
+        → IsAdded host histories number entry
+        (record { issuer = host.issuer; rows = set host.rows number new; records = set host.records shard (place + 1) }) place
+    unfolding longer
+    added old new place old_is place_is gains =
+        let at_end = place-at_end host histories stands number shard place home place_is in
+        record { place_is = at_end; stands = stands-more old new place old_is gains at_end }

@@ -1,22 +1,21 @@
 //! The host: its issuer, its rows, and the numbers of its records.
-ghost use Rattle.std.specs.Prelude.{◌≡◌, ◌↔◌, ℕ, ◌+◌, ◌<◌, List, length, replicate, IfOk, IsTrue};
+ghost use Rattle.std.specs.Prelude.{◌≡◌, ◌↔◌, ℕ, ◌+◌, ◌^◌, ◌<◌, ◌≤◌, List, length, replicate, slice_index_or, slice_set, All, Ok, IfOk, IsErr, IsTrue};
 ghost use Rattle.issuer_base.specs.declared.entry.Entry.{Entry};
-ghost use Rattle.card_history.specs.Turns.{Turn, AnswersIn, no_records};
+ghost use Rattle.issuer_base.specs.ScriptCommand.{is_command};
+ghost use Rattle.card_history.specs.declared.decision.Asked.TheVariants.{Decide, Queue, Status};
+ghost use Rattle.card_history.specs.Turns.{Turn, no_records};
 ghost use Rattle.line_checks.specs.Reading.{reading};
-ghost use Rattle.line_checks.specs.AtHand.{IsRequestAtHand};
+ghost use Rattle.line_checks.specs.AtHand.{IsRequestAtHand, IsCommandAtHand, IsStatusAtHand};
 ghost use Rattle.memory_host.specs.Answering.{rules_of};
 ghost use Rattle.memory_host.specs.Holding.{StandsFor, HasAtMost, HasRoom};
-ghost use Rattle.memory_host.specs.Deciding.{AreEmpty, IsShardOf, IsPlanFor, IsRecorded};
+ghost use Rattle.memory_host.specs.Deciding.{AreEmpty, IsShardOf, IsPlanFor, IsRecorded, IsQueued, IsFull, IsSet};
 
-use issuer_base::{Answer, NoMemory, Refusal};
+use issuer_base::{Answer, Command, MAX_STATUS, NoMemory, QueueFull, Refusal};
 use issuer_setup::Issuer;
-use line_checks::{Checked, CheckedRequest, check_line};
+use line_checks::{Checked, CheckedCommand, CheckedRequest, CheckedStatus, check_line};
 use row_core::{Outcome, Row, Step};
 use std::alloc::Global;
 use std::marker::Model;
-
-/// What is answered to a command or a status: the host takes none.
-const NOT_TAKEN: Answer = Answer::Refused(Refusal::BadLine(1));
 
 /// The host of one caller: it answers line after line, and keeps what it decided in memory.
 ///
@@ -79,7 +78,8 @@ impl MemoryHost {
     {
         match check_line(&self.issuer, line) {
             Ok(Checked::Decide(found)) => self.decide(found),
-            Ok(Checked::Queue(_)) | Ok(Checked::Status(_)) => NOT_TAKEN,
+            Ok(Checked::Queue(found)) => self.queue(found),
+            Ok(Checked::Status(found)) => self.set_status(found),
             Err(refusal) => Answer::Refused(refusal),
         }
     }
@@ -90,7 +90,7 @@ impl MemoryHost {
         requires room { HasRoom self.old }
         ensures turn { (histories : List (List Entry)) → StandsFor self.old histories
             → (after : List (List Entry)) × StandsFor self.new after
-            × AnswersIn (rules_of self.old.issuer) histories checked.request result after }
+            × Turn (rules_of self.old.issuer) histories (Ok (Decide checked.request)) result after }
         ensures issuer { self.new.issuer ≡ self.old.issuer }
         ensures count { (most : ℕ) → HasAtMost most self.old → HasAtMost (most + 1) self.new }
     {
@@ -99,7 +99,7 @@ impl MemoryHost {
         match self.plan(&checked, shard) {
             Outcome::Fresh(reply, step) => Answer::Fresh {
                 shard,
-                place: self.record(card, shard, step),
+                place: self.add_decision(card, shard, step),
                 reply,
             },
             Outcome::Kept(reply, place) => Answer::Kept {
@@ -110,6 +110,38 @@ impl MemoryHost {
             Outcome::Below(top) => Answer::Refused(Refusal::Below(top)),
             Outcome::Taken(place) => Answer::Refused(Refusal::Taken { shard, place }),
         }
+    }
+
+    /// The answer to a command that was checked.
+    fn queue(&mut self, checked: CheckedCommand) -> Answer
+        requires at_hand { IsCommandAtHand self.old.issuer checked }
+        requires room { HasRoom self.old }
+        ensures turn { (histories : List (List Entry)) → StandsFor self.old histories
+            → (after : List (List Entry)) × StandsFor self.new after
+            × Turn (rules_of self.old.issuer) histories (Ok (Queue checked.pan checked.psn checked.command)) result after }
+        ensures issuer { self.new.issuer ≡ self.old.issuer }
+        ensures count { (most : ℕ) → HasAtMost most self.old → HasAtMost (most + 1) self.new }
+    {
+        let shard = self.shard_of(checked.card);
+        match self.add_command(checked.card, shard, checked.command) {
+            Ok(place) => Answer::Queued { shard, place },
+            Err(QueueFull) => Answer::Refused(Refusal::QueueFull),
+        }
+    }
+
+    /// The answer to a status that was checked.
+    fn set_status(&mut self, checked: CheckedStatus) -> Answer
+        requires at_hand { IsStatusAtHand self.old.issuer checked }
+        requires room { HasRoom self.old }
+        ensures turn { (histories : List (List Entry)) → StandsFor self.old histories
+            → (after : List (List Entry)) × StandsFor self.new after
+            × Turn (rules_of self.old.issuer) histories (Ok (Status checked.pan checked.psn checked.status)) result after }
+        ensures issuer { self.new.issuer ≡ self.old.issuer }
+        ensures count { (most : ℕ) → HasAtMost most self.old → HasAtMost (most + 1) self.new }
+    {
+        let shard = self.shard_of(checked.card);
+        let place = self.add_status(checked.card, shard, checked.status);
+        Answer::Set { shard, place }
     }
 
     /// The shard of the card with this number.
@@ -137,7 +169,7 @@ impl MemoryHost {
     }
 
     /// Adds the record of a decision to the row of this card and to its shard, and gives the record's place.
-    fn record(&mut self, card: u32, shard: u8, step: Step) -> u64
+    fn add_decision(&mut self, card: u32, shard: u8, step: Step) -> u64
         requires card { card < length self.old.issuer.cards }
         requires shard { IsShardOf self.old.issuer card shard }
         requires room { HasRoom self.old }
@@ -145,12 +177,52 @@ impl MemoryHost {
         ensures issuer { self.new.issuer ≡ self.old.issuer }
         ensures count { (most : ℕ) → HasAtMost most self.old → HasAtMost (most + 1) self.new }
     {
-        let shard = usize::from(shard);
-        let place = self.records[shard];
         self.rows[card as usize].apply(step);
-        self.records[shard] = place + 1;
-        place
+        next_place(&mut self.records, shard)
     }
+
+    /// Queues a command for this card and adds the record to its shard, and gives the record's place.
+    fn add_command(&mut self, card: u32, shard: u8, command: Command) -> Result<u64, QueueFull>
+        requires card { card < length self.old.issuer.cards }
+        requires shard { IsShardOf self.old.issuer card shard }
+        requires room { HasRoom self.old }
+        requires form { IsTrue (is_command command) }
+        ensures queued { IfOk result (IsQueued self.old card command self.new) }
+        ensures full { IsErr result → IsFull self.old card }
+        ensures unchanged { IsErr result → self.new ≡ self.old }
+        ensures issuer { self.new.issuer ≡ self.old.issuer }
+        ensures count { (most : ℕ) → HasAtMost most self.old → HasAtMost (most + 1) self.new }
+    {
+        self.rows[card as usize].push(command)?;
+        Ok(next_place(&mut self.records, shard))
+    }
+
+    /// Gives this card a status and adds the record to its shard, and gives the record's place.
+    fn add_status(&mut self, card: u32, shard: u8, status: u8) -> u64
+        requires card { card < length self.old.issuer.cards }
+        requires shard { IsShardOf self.old.issuer card shard }
+        requires room { HasRoom self.old }
+        requires within { status ≤ MAX_STATUS }
+        ensures set { IsSet self.old card status self.new result }
+        ensures issuer { self.new.issuer ≡ self.old.issuer }
+        ensures count { (most : ℕ) → HasAtMost most self.old → HasAtMost (most + 1) self.new }
+    {
+        self.rows[card as usize].set_status(status);
+        next_place(&mut self.records, shard)
+    }
+}
+
+/// Counts one record more of this shard, and gives its place.
+fn next_place(records: &mut [u64], shard: u8) -> u64
+    requires shard { shard < length records.old }
+    requires room { All (λ count. count + 1 < 2 ^ 64) records.old }
+    ensures place { result ≡ slice_index_or records.old shard result }
+    ensures counted { records.new ≡ slice_set records.old shard (result + 1) }
+{
+    let shard = usize::from(shard);
+    let place = records[shard];
+    records[shard] = place + 1;
+    place
 }
 
 /// A row without records for each card.

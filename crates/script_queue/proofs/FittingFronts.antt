@@ -4,6 +4,7 @@ use Rattle.std.proofs.Common.{List, [], ◌∷◌, length, take, map, filter, su
 use Rattle.std.specs.List.{last_or}
 use Rattle.std.specs.Option.{unwrap_or}
 use Rattle.std.proofs.lemmas.Bool.{leb-true, leb-false, le-leb, lt-leb, cases_Bool, cond_both}
+use Rattle.std.proofs.lemmas.List.{length-take-le}
 use Rattle.std.proofs.lemmas.List.Sums.{sum_by-cons}
 use Rattle.issuer_base.specs.declared.command.Command.{Command}
 use Rattle.issuer_base.specs.declared.limits.TheConstants.{MAX_TEMPLATE_BYTES}
@@ -139,6 +140,12 @@ fitting_front-take commands = ap (λ found. unwrap_or found []) (longest_fits co
 -- as many commands as fit are the longest front that fits
 pub fit-front : (commands : List Command) (count : ℕ) → count ≡ fit whole_room commands → take count commands ≡ fitting_front commands
 fit-front commands count taken = ap (λ n. take n commands) taken ∙ sym (fitting_front-take commands)
+
+-- the front is one: as many of the first commands as it has are the front
+pub fitting_front-front : (commands : List Command) → take (length (fitting_front commands)) commands ≡ fitting_front commands
+fitting_front-front commands =
+    fit-front commands (length (fitting_front commands))
+    (ap (λ (front : List Command). length front) (fitting_front-take commands) ∙ length-take-le (fit whole_room commands) commands (fit-within whole_room commands))
 
 -- there are as many commands as the front has
 pub fitting_front-within : (commands : List Command) → length (fitting_front commands) ≤ length commands

@@ -1,7 +1,7 @@
 use Rattle.std.proofs.Common.{◌≡◌, ◌+◌, ◌≤◌, take, sum_by}
 use Rattle.std.specs.Prelude.{All, IsTrue}
 use Rattle.issuer_base.specs.ScriptCommand.{is_command}
-use Rattle.issuer_base.specs.declared.limits.TheConstants.{MAX_TEMPLATE_BYTES}
+use Rattle.issuer_base.specs.declared.limits.TheConstants.{BARE_TEMPLATE_BYTES, MAX_TEMPLATE_BYTES}
 use Rattle.issuer_base.specs.ScriptTemplate.{sealed_size}
 use Rattle.secure_msg.proofs.batch.is_batch.Given as goal
 
