@@ -1,3 +1,4 @@
 pub mod WindowLemmas
+pub mod LaunchLemmas
 pub mod RowLemmas
 pub mod PlanLemmas

@@ -1,5 +1,5 @@
 -- What a row keeps of a card, and the history that it stands for.
-use Rattle.std.specs.Prelude.{◌≡◌, ℕ, Bool, List, length, Contains, Option, Some}
+use Rattle.std.specs.Prelude.{◌≡◌, ◌≤◌, ℕ, Bool, List, length, Contains, Option, Some}
 use Rattle.issuer_base.specs.declared.answer.Method.{Method}
 use Rattle.issuer_base.specs.declared.entry.Entry.{Entry}
 use Rattle.issuer_base.specs.declared.limits.TheConstants.{WINDOW}
@@ -32,6 +32,12 @@ pub record CardRow : Type 0 where
   pub status : ℕ
   pub slots : List (Option Decision)
   pub scripts : KeptScripts
+
+-- a row keeps these scripts, of which no more commands are done than were queued
+pub record KeepsScripts (row : CardRow) (scripts : Scripts) : Type 0 where
+  pub hi_is : row.hi ≡ scripts.hi
+  pub kept_is : row.scripts ≡ kept_of scripts
+  pub within : scripts.done ≤ length scripts.queue
 
 -- the slots keep these decisions as far as their window goes: there is a slot for each counter of the window; a decision whose
 -- counter isn't below the window is in its counter's slot; and what is in a slot is one of the decisions, in its counter's slot

@@ -1,9 +1,11 @@
 -- What the decision of a request on the newest counter makes of what a row keeps of its card's scripts.
 use Rattle.std.specs.Prelude.{◌≡◌, ℕ, ◌+◌, ◌≤◌, if◌then◌else◌, List, length, take, drop, Some, None}
+use Rattle.issuer_base.specs.ScriptTemplate.{template_size}
+use Rattle.issuer_base.specs.declared.limits.TheConstants.{MAX_TEMPLATE_BYTES}
 use Rattle.issuer_base.specs.declared.command.Command.{Command}
 use Rattle.issuer_base.specs.declared.request.Request.{Request}
-use Rattle.card_history.specs.Scripts.{Scripts, in_flight, with_newest}
-use Rattle.row_core.specs.CardRow.{KeptScripts, kept_of}
+use Rattle.card_history.specs.Scripts.{Scripts, in_flight, with_newest, with_decision}
+use Rattle.row_core.specs.CardRow.{CardRow, KeptScripts, kept_of, KeepsScripts}
 use Rattle.row_core.specs.declared.scripts.Launch.{Launch}
 
 -- what is kept once the reply on this counter took off
@@ -22,7 +24,16 @@ carried kept launch = take launch.size (drop launch.ran kept.commands.undone)
 -- the launch is settlement and the new flight of each card's scripts of which this is kept
 pub record IsLaunch (kept : KeptScripts) (request : Request) (launch : Launch) : Type 0 where
   pub within : launch.ran + launch.size ≤ length kept.commands.undone
+  pub fit : template_size (carried kept launch) ≤ MAX_TEMPLATE_BYTES
   pub after : (scripts : Scripts) → kept ≡ kept_of scripts → scripts.done ≤ length scripts.queue
       → kept_of (with_newest request scripts) ≡ launched_from kept request.atc launch
   pub batch : (scripts : Scripts) → kept ≡ kept_of scripts → scripts.done ≤ length scripts.queue
       → in_flight (with_newest request scripts) ≡ carried kept launch
+
+-- what a row keeps goes on by the decision of this request, all but its decisions
+pub record TakesOff (before after : CardRow) (request : Request) : Type 0 where
+  pub method_is : after.method ≡ before.method
+  pub status_is : after.status ≡ before.status
+  pub slots_are : after.slots ≡ before.slots
+  pub hi_is : (scripts : Scripts) → KeepsScripts before scripts → after.hi ≡ (with_decision request scripts).hi
+  pub scripts_are : (scripts : Scripts) → KeepsScripts before scripts → after.scripts ≡ kept_of (with_decision request scripts)

@@ -26,6 +26,11 @@ script_bytes master_key ac first [] = []
 script_bytes master_key ac first (command ∷ commands) =
     template_bytes (session_sm master_key ac) ac first (command ∷ commands)
 
+-- what goes to the card without scripts: tag 8A has the response code, tag 91 the issuer's cryptogram under this session key
+abbrev pub answer_bytes : Method → List ℕ → Request → List ℕ → List ℕ → List ℕ
+answer_bytes method session request arc csu =
+    object_text 0x8A arc ++ object_text 0x91 (value91 method session request.ac arc csu)
+
 -- what goes to the card: tag 8A has the response code, tag 91 the issuer's cryptogram of the response code or of the status update,
 -- under the session key for cryptograms, and behind them the batch of the card's script commands
 abbrev pub reply_bytes : Method → CardKeys → Scripts → Request → List ℕ → List ℕ → List ℕ

@@ -1,15 +1,17 @@
-//! The reply that the issuer's decision table gives to a request.
-ghost use Rattle.std.specs.Prelude.{◌≡◌, ◌+◌, ◌≤◌, ◌++◌, length, IsTrue};
-ghost use Rattle.key_derive.specs.declared.card.CardKeys.{CardKeys};
-ghost use Rattle.key_derive.specs.SessionKey.{session_ac};
+//! The bytes that go to the card: the response code, the issuer's cryptogram, and the batch of the card's script commands.
+ghost use Rattle.std.specs.Prelude.{◌≡◌, ◌+◌, ◌≤◌, ◌++◌, length, All, IsTrue};
+ghost use Rattle.issuer_base.specs.ScriptCommand.{is_command};
+ghost use Rattle.issuer_base.specs.ScriptTemplate.{template_size};
 ghost use Rattle.tlv_objects.specs.Writing.{is_tag_number, object_text};
-ghost use Rattle.row_core.specs.Replying.{reply_by_row, decided_reply};
+ghost use Rattle.row_core.specs.Replying.{answer_bytes, script_bytes};
 
 use arpc_methods::value91_under;
 use arrayvec::ArrayVec;
-use decision_table::{Table, TableRow, decide};
-use issuer_base::{Method, Reply, Request};
-use key_derive::SessionKey;
+use decision_table::TableRow;
+use des_block::Key16;
+use issuer_base::{Command, MAX_TEMPLATE_BYTES, Method, Request};
+use key_derive::{SessionKey, session_sm};
+use secure_msg::template_of;
 use tlv_objects::{ROOM, put};
 
 /// The tag of the authorisation response code.
@@ -18,24 +20,16 @@ const RESPONSE_CODE: u32 = 0x8A;
 /// The tag of the issuer authentication data.
 const AUTHENTICATION_DATA: u32 = 0x91;
 
-/// The reply to a request of a card of this method and this status: that by the first row of the table that fits.
-/// `session` is the session key for the cryptograms of the request's transaction.
-pub(crate) fn decided_reply(
+/// The response code and the issuer's cryptogram of a reply by a row of the table, under the session key for cryptograms of
+/// the request's transaction.
+pub(crate) fn answer_bytes(
     method: Method,
     session: &SessionKey,
-    table: &Table,
-    status: u8,
     request: &Request,
-) -> Reply
-    ensures { (keys : CardKeys) → session.now ≡ session_ac keys.ac.0 request.now.atc
-        → result ≡ decided_reply method keys table.now status request.now }
-{
-    reply_by_row(method, session, request, decide(table, status, request))
-}
-
-/// The reply by a row of the table.
-fn reply_by_row(method: Method, session: &SessionKey, request: &Request, row: &TableRow) -> Reply
-    ensures { result ≡ reply_by_row method session.now request.now row.now }
+    row: &TableRow,
+) -> ArrayVec<u8, ROOM>
+    ensures exact { result.items ≡ answer_bytes method session.now request.now row.now.arc row.now.csu }
+    ensures room { length result.items + MAX_TEMPLATE_BYTES ≤ ROOM }
 {
     let application_cryptogram = &request.parts().ac;
     let value = value91_under(
@@ -48,17 +42,13 @@ fn reply_by_row(method: Method, session: &SessionKey, request: &Request, row: &T
     let mut bytes = ArrayVec::new();
     write(&mut bytes, RESPONSE_CODE, &row.arc);
     write(&mut bytes, AUTHENTICATION_DATA, value.as_slice());
-    Reply {
-        arc: row.arc,
-        approve: row.approve,
-        bytes,
-    }
+    bytes
 }
 
 /// Writes an object behind bytes that leave room for it.
 fn write(bytes: &mut ArrayVec<u8, ROOM>, tag: u32, value: &[u8])
     requires tag { IsTrue (is_tag_number tag) }
-    requires room { length bytes.old.items + length (object_text tag value.now) ≤ 160 }
+    requires room { length bytes.old.items + length (object_text tag value.now) ≤ ROOM }
     ensures { bytes.new.items ≡ bytes.old.items ++ object_text tag value.now }
 {
     put(bytes, tag, value).unwrap();
@@ -74,7 +64,9 @@ pub(crate) fn write_scripts(
     front: &[Command],
     back: &[Command],
 )
-    // requires: each is a command of the host, their template isn't too long, and the bytes leave room for it
+    requires form { All (λ command. IsTrue (is_command command)) (front.now ++ back.now) }
+    requires fit { template_size (front.now ++ back.now) ≤ MAX_TEMPLATE_BYTES }
+    requires room { length bytes.old.items + MAX_TEMPLATE_BYTES ≤ ROOM }
     ensures { bytes.new.items ≡ bytes.old.items ++ script_bytes master_key.now.0 application_cryptogram.now first (front.now ++ back.now) }
 {
     if front.is_empty() && back.is_empty() {

@@ -1,20 +1,29 @@
 //! The row of a card: what is to be done with a request, and the decisions of the card's window.
-ghost use Rattle.std.specs.Prelude.{◌≡◌, ◌↔◌, List, [], max, Some, MatchOption, IfOk, IsTrue};
-ghost use Rattle.std.specs.Option.{option_map_or};
+ghost use Rattle.std.specs.Prelude.{◌≡◌, ◌↔◌, ◌+◌, ◌≤◌, ◌++◌, List, [], length, Some, MatchOption, IfOk, IsOk, OnErr, IsTrue};
 ghost use Rattle.issuer_base.specs.declared.entry.Entry.{Entry};
+ghost use Rattle.issuer_base.specs.ScriptCommand.{is_command};
 ghost use Rattle.card_history.specs.declared.decision.Decision.{Decision};
 ghost use Rattle.card_history.specs.Records.{greatest, IsBelow};
+ghost use Rattle.card_history.specs.Scripts.{Scripts, with_newest, in_flight, first_of, is_newest};
 ghost use Rattle.card_history.specs.Turns.{IsUnused};
+ghost use Rattle.script_queue.specs.CommandQueue.{TakesOneMore};
 ghost use Rattle.key_derive.specs.SessionKey.{session_ac};
 ghost use Rattle.issuer_setup.specs.declared.card.CardInfo.{CardInfo};
-ghost use Rattle.row_core.specs.CardRow.{KeepsWindow, StandsFor};
+ghost use Rattle.row_core.specs.CardRow.{KeepsWindow, KeepsScripts, StandsFor};
 ghost use Rattle.row_core.specs.Known.{IsKnown};
-ghost use Rattle.row_core.specs.Replying.{decided_reply};
-ghost use Rattle.row_core.specs.Plan.{IsPlan, IsNext, with_record};
+ghost use Rattle.row_core.specs.Launching.{TakesOff};
+ghost use Rattle.row_core.specs.Replying.{script_bytes, reply_bytes, decided_reply};
+ghost use Rattle.row_core.specs.Plan.{IsPlan, IsNext, with_record, with_command_for, with_status_for};
 
-use crate::reply::decided_reply;
-use decision_table::Table;
-use issuer_base::{Method, NoMemory, Reply, Request, WINDOW};
+use crate::reply::{answer_bytes, write_scripts};
+use crate::scripts::CardScripts;
+use arrayvec::ArrayVec;
+use cvr_settle::Flight;
+use decision_table::{Table, TableRow, decide};
+use issuer_base::{
+    Command, MAX_REPLY_BYTES, MAX_STATUS, MAX_TEMPLATE_BYTES, Method, NoMemory, QueueFull, Reply,
+    Request, WINDOW,
+};
 use key_derive::{CardKeys, SessionKey};
 use reply_keep::{Kept, KeptEntry};
 use script_queue::Queue;
@@ -181,13 +190,7 @@ impl Row {
         ensures { (card : CardInfo) (history : List Entry) → StandsFor card self.old history → IsNext card history step
             → StandsFor card self.new (with_record history step) }
     {
-        let request = &step.decision.request;
-        let counter = request.parts().atc;
-        if is_newest(counter, self.hi) {
-            let launch = self.scripts.launch(request);
-            self.scripts.apply(counter, launch);
-            self.hi = Some(counter);
-        }
+        self.take_off(&step.decision.request);
         self.kept.keep(step.decision);
     }
 
@@ -212,17 +215,39 @@ impl Row {
         self.status = status;
     }
 
+    /// Goes on to the flight of the reply to a decided request, where its counter is the newest.
+    fn take_off(&mut self, request: &Request)
+        ensures { TakesOff self.old self.new request.now }
+    {
+        let counter = request.parts().atc;
+        if !is_newest(counter, self.hi) {
+            return;
+        }
+        let launch = self.scripts.launch(request);
+        self.scripts.apply(counter, launch);
+        self.hi = Some(counter);
+    }
+
     /// The plan for a request on an unused counter.
-    fn decide(&self, session: &SessionKey, keys: &CardKeys, table: &Table, request: &Request, place: u64) -> Outcome
+    fn decide(
+        &self,
+        session: &SessionKey,
+        keys: &CardKeys,
+        table: &Table,
+        request: &Request,
+        place: u64,
+    ) -> Outcome
         requires { session.now ≡ session_ac keys.now.ac.0 request.now.atc }
-        ensures { (scripts : Scripts) → self.now.hi ≡ scripts.hi → self.now.scripts ≡ kept_of scripts → scripts.done ≤ length scripts.queue
+        ensures { (scripts : Scripts) → KeepsScripts self.now scripts
             → let reply = decided_reply self.now.method keys.now table.now scripts self.now.status request.now in
             result ≡ Outcome.Fresh reply (record { request = request.now; reply = reply; place = place }) }
     {
-        let mut reply = decided_reply(self.method, session, table, self.status, request);
-        if is_newest(request.parts().atc, self.hi) {
-            self.add_batch(&mut reply, keys, request);
-        }
+        let row = decide(table, self.status, request);
+        let reply = Reply {
+            arc: row.arc,
+            approve: row.approve,
+            bytes: self.reply_bytes(session, keys, request, row),
+        };
         let decision = KeptEntry {
             request: request.copy(),
             reply: reply.copy(),
@@ -231,14 +256,41 @@ impl Row {
         Outcome::Fresh(reply, Step { decision })
     }
 
-    /// Adds the batch of the card's script commands to the reply to a request on the newest counter.
-    fn add_batch(&self, reply: &mut Reply, keys: &CardKeys, request: &Request)
-        // to be stated: reply.new is reply.old with script_bytes keys.smi.0 request.ac (first_of ..) (in_flight (with_newest ..)) behind its bytes
+    /// What goes to the card where this row of the table decides.
+    fn reply_bytes(
+        &self,
+        session: &SessionKey,
+        keys: &CardKeys,
+        request: &Request,
+        row: &TableRow,
+    ) -> ArrayVec<u8, MAX_REPLY_BYTES>
+        requires { session.now ≡ session_ac keys.now.ac.0 request.now.atc }
+        ensures { (scripts : Scripts) → KeepsScripts self.now scripts
+            → result.items ≡ reply_bytes self.now.method keys.now scripts request.now row.now.arc row.now.csu }
+    {
+        let mut bytes = answer_bytes(self.method, session, request, row);
+        if is_newest(request.parts().atc, self.hi) {
+            self.write_batch(&mut bytes, keys, request);
+        }
+        bytes
+    }
+
+    /// Writes the batch that goes with the reply to a request on the newest counter behind the bytes of the reply.
+    fn write_batch(
+        &self,
+        bytes: &mut ArrayVec<u8, MAX_REPLY_BYTES>,
+        keys: &CardKeys,
+        request: &Request,
+    )
+        requires { length bytes.old.items + MAX_TEMPLATE_BYTES ≤ MAX_REPLY_BYTES }
+        ensures { (scripts : Scripts) → KeepsScripts self.now scripts
+            → let batch = in_flight (with_newest request.now scripts) in
+            bytes.new.items ≡ bytes.old.items ++ script_bytes keys.now.smi.0 request.now.ac (first_of request.now scripts) batch }
     {
         let launch = self.scripts.launch(request);
+        let first = self.scripts.first_number(launch);
         let (front, back) = self.scripts.batch(launch);
-        let first = self.scripts.done() + u32::from(launch.ran);
-        write_scripts(&mut reply.bytes, &keys.smi, &request.parts().ac, first, front, back);
+        write_scripts(bytes, &keys.smi, &request.parts().ac, first, front, back);
     }
 
     /// What the decisions of the window say of a request; `None` where its counter is in the window and unused.

@@ -1,10 +1,10 @@
 //! The script commands of a card: those that wait, those in flight, and whether the card's scripts are halted.
-ghost use Rattle.std.specs.Prelude.{◌≡◌, ◌+◌, ◌≤◌, ◌++◌, ◌↔◌, ◌∷◌, [], length, take, drop, All, IfOk, IsOk, OnErr, IsTrue};
+ghost use Rattle.std.specs.Prelude.{◌≡◌, ◌+◌, ◌≤◌, ◌++◌, ◌↔◌, length, All, IfOk, IsOk, OnErr, IsTrue};
 ghost use Rattle.issuer_base.specs.ScriptCommand.{is_command};
-ghost use Rattle.card_history.specs.Scripts.{Scripts, no_scripts, with_command, with_newest, in_flight};
+ghost use Rattle.card_history.specs.Scripts.{Scripts, no_scripts, with_command};
 ghost use Rattle.script_queue.specs.CommandQueue.{TakesOneMore};
 ghost use Rattle.row_core.specs.CardRow.{kept_of};
-ghost use Rattle.row_core.specs.Launching.{IsLaunch, launched_from};
+ghost use Rattle.row_core.specs.Launching.{IsLaunch, launched_from, carried};
 
 use cvr_settle::{Flight, Settled, settle};
 use issuer_base::{Command, NoMemory, QueueFull, Request};
@@ -38,7 +38,7 @@ pub(crate) struct CardScripts {
 }
 
 impl Model for CardScripts {
-    ghost use Rattle.std.specs.Prelude.{◌≡◌, ◌-◌, ◌≤◌, length, All, IsTrue};
+    ghost use Rattle.std.specs.Prelude.{◌-◌, ◌≤◌, length, All, IsTrue};
     ghost use Rattle.std.specs.Option.{option_map_or};
     ghost use Rattle.issuer_base.specs.ScriptCommand.{is_command};
     ghost use Rattle.row_core.specs.CardRow.{KeptScripts};
@@ -52,8 +52,9 @@ impl Model for CardScripts {
       halted = scripts.halted;
     } };
 
-    ghost invariant = { λ scripts. All (λ command. IsTrue (is_command command)) scripts.queue.undone
-        × (option_map_or (λ flight. flight.size) scripts.flight 0 ≤ length scripts.queue.undone) };
+    ghost invariant = { λ scripts. let undone = length scripts.queue.undone in
+        All (λ command. IsTrue (is_command command)) scripts.queue.undone × (undone ≤ scripts.queue.queued)
+        × (option_map_or (λ flight. flight.size) scripts.flight 0 ≤ undone) };
 }
 
 impl CardScripts {
@@ -101,23 +102,38 @@ impl CardScripts {
     pub(crate) fn launch(&self, request: &Request) -> Launch
         ensures { IsLaunch self.now request.now result }
     {
-        let (ran, halted) = match settle(self.flight, request.last_online(), request.script_count())
-        {
+        let (ran, halted) = match settle(
+            self.flight,
+            request.last_online(),
+            request.script_count(),
+        ) {
             Settled::Ran(count) => (count, self.halted),
             Settled::Nothing => (0, self.halted),
             Settled::Halt => (0, true),
         };
-        let size = if halted { 0 } else { self.queue.fitting_after(ran) };
+        let size = if halted {
+            0
+        } else {
+            self.queue.fitting_after(ran)
+        };
         Launch { ran, size, halted }
     }
 
     /// The commands that go with the reply, in two parts, as they lie in memory.
     pub(crate) fn batch(&self, launch: Launch) -> (&[Command], &[Command])
         requires { launch.ran + launch.size ≤ length self.now.commands.undone }
-        ensures batch { result.0.now ++ result.1.now ≡ take launch.size (drop launch.ran self.now.commands.undone) }
+        ensures batch { result.0.now ++ result.1.now ≡ carried self.now launch }
         ensures form { All (λ command. IsTrue (is_command command)) (result.0.now ++ result.1.now) }
     {
         self.queue.part(launch.ran, launch.size)
+    }
+
+    /// The number of the first command of the batch, from 0.
+    pub(crate) fn first_number(&self, launch: Launch) -> u32
+        requires { launch.ran + launch.size ≤ length self.now.commands.undone }
+        ensures { result ≡ self.now.done + launch.ran }
+    {
+        self.queue.queued() - u32::from(self.queue.undone()) + u32::from(launch.ran)
     }
 
     /// Goes on to the flight of the reply on this counter.
