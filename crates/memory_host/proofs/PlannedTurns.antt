@@ -172,7 +172,7 @@ module _ (host : Holding) (shard : ℕ) (histories : List (List Entry)) (stands 
         with_entry_of host.issuer histories found.card (Queued known.0.pan known.0.psn found.command),
         done.1.stands,
         answered host name found.card at_hand.card_is.number_is shard home histories stands
-            (λ shard old new. AnswersCommand shard old name found.command (AnswerQueued shard place) new)
+            (λ here old new. AnswersCommand here old name found.command (AnswerQueued shard place) new)
             (history ++ Queued known.0.pan known.0.psn found.command ∷ []) (
               subst (λ (name : CardName). TakesOneMore (waiting (scripts_of name history))) known.2 done.0,
               refl,
@@ -189,7 +189,7 @@ module _ (host : Holding) (shard : ℕ) (histories : List (List Entry)) (stands 
       let known = card-at_hand host.issuer name found.card at_hand.card_is in
       let history = history_for host.issuer histories found.card in
       unchanged host name found.card at_hand.card_is.number_is shard home histories stands
-      (λ shard old new. AnswersCommand shard old name found.command (Refused QueueFull) new) (
+      (λ here old new. AnswersCommand here old name found.command (Refused QueueFull) new) (
         λ takes. full histories known.0 stands known.1
             (subst (λ (name : CardName). TakesOneMore (waiting (scripts_of name history))) (sym known.2) takes),
         refl,
@@ -210,7 +210,7 @@ module _ (host : Holding) (shard : ℕ) (histories : List (List Entry)) (stands 
         with_entry_of host.issuer histories found.card (IsStatus known.0.pan known.0.psn found.status),
         done.stands,
         answered host name found.card at_hand.card_is.number_is shard home histories stands
-            (λ shard old new. AnswersStatus shard old name found.status (AnswerSet shard place) new)
+            (λ here old new. AnswersStatus here old name found.status (AnswerSet shard place) new)
             (history ++ IsStatus known.0.pan known.0.psn found.status ∷ [])
             (refl, done.place_is, ap (λ (entry : Entry). history ++ entry ∷ []) entry_is),
       )

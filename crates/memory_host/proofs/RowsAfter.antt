@@ -8,7 +8,8 @@ use Rattle.issuer_base.specs.declared.entry.Entry.{Entry}
 use Rattle.card_history.specs.Records.{card_in}
 use Rattle.issuer_setup.specs.declared.card.CardInfo.{CardInfo}
 use Rattle.issuer_setup.specs.CardList.{name_of, AreCards}
-use Rattle.row_core.specs.CardRow.{CardRow, StandsFor as RowStandsFor}
+use Rattle.card_history.specs.Scripts.{waiting, scripts_of}
+use Rattle.row_core.specs.CardRow.{CardRow, KeptScripts, StandsFor as RowStandsFor}
 use Rattle.row_core.proofs.OtherCards.{stands-other}
 use Rattle.memory_host.specs.Holding.{Holding, history_for, RowStands, StandsFor}
 use Rattle.memory_host.specs.Deciding.{IsShardOf, IsCardOf, with_entry_of, IsAdded}
@@ -144,3 +145,32 @@ module _ (host : Holding) (number shard : ℕ) (card : CardInfo) (entry : Entry)
     added old new place old_is place_is gains =
         let at_end = place-at_end host histories stands number shard place home place_is in
         record { place_is = at_end; stands = stands-more old new place old_is gains at_end }
+
+-- one row of a host changes, and its shard counts one record more
+pub record IsStep (host : Holding) (number shard : ℕ) (old : CardRow) (records : List ℕ) (place : ℕ) : Type 0 where
+  pub home : IsShardOf host.issuer number shard
+  pub row_is : slice_get host.rows number ≡ Some old
+  pub place_is : place ≡ get_or host.records shard place
+  pub counted : records ≡ set host.records shard (place + 1)
+
+-- the host once it is done
+abbrev pub after_step : Holding → ℕ → CardRow → List ℕ → Holding
+after_step host number new records = record { issuer = host.issuer; rows = set host.rows number new; records = records }
+
+-- so the record is added, where the row stands for it
+pub step-added : (host : Holding) (number shard : ℕ) (old new : CardRow) (records : List ℕ) (place : ℕ) → IsStep host number shard old records place
+    → (histories : List (List Entry)) (card : CardInfo) (entry : Entry) → StandsFor host histories → IsCardOf host.issuer number card
+    → card_in entry ≡ name_of card
+    → (RowStandsFor card old (history_for host.issuer histories number)
+    → RowStandsFor card new (history_for host.issuer histories number ++ entry ∷ []))
+    → IsAdded host histories number entry (after_step host number new records) place
+step-added host number shard old new records place step histories card entry stands known its gains =
+    subst (λ (records : List ℕ). IsAdded host histories number entry (after_step host number new records) place) (sym step.counted)
+    (added host number shard card entry step.home known its histories stands old new place step.row_is step.place_is gains)
+
+-- and a card's queue has a place where its row's queue does
+pub place-there : (host : Holding) (number : ℕ) (old : CardRow) → slice_get host.rows number ≡ Some old
+    → (histories : List (List Entry)) (card : CardInfo) → StandsFor host histories → IsCardOf host.issuer number card
+    → old.scripts.commands ≡ waiting (scripts_of (name_of card) (history_for host.issuer histories number))
+place-there host number old row_is histories card stands known =
+    ap (λ (scripts : KeptScripts). scripts.commands) (row-there host histories stands number card old known.card_is row_is).scripts_are

@@ -213,11 +213,11 @@ impl MemoryHost {
 }
 
 /// Counts one record more of this shard, and gives its place.
-fn next_place(records: &mut [u64], shard: u8) -> u64
-    requires shard { shard < length records.old }
-    requires room { All (λ count. count + 1 < 2 ^ 64) records.old }
-    ensures place { result ≡ slice_index_or records.old shard result }
-    ensures counted { records.new ≡ slice_set records.old shard (result + 1) }
+fn next_place(records: &mut Vec<u64>, shard: u8) -> u64
+    requires shard { shard < length records.old.items }
+    requires room { All (λ count. count + 1 < 2 ^ 64) records.old.items }
+    ensures place { result ≡ slice_index_or records.old.items shard result }
+    ensures counted { records.new.items ≡ slice_set records.old.items shard (result + 1) }
 {
     let shard = usize::from(shard);
     let place = records[shard];

@@ -5,6 +5,7 @@ ghost use Rattle.std.specs.List.{list_all};
 ghost use Rattle.issuer_base.specs.ChipData.{is_bcd};
 
 use super::{answer, hex, host};
+use crate::MemoryHost;
 use arrayvec::ArrayVec;
 use card_model::{Card, Terminal};
 use des_block::Key16;
@@ -13,8 +14,6 @@ use key_derive::{KeySet, card_keys};
 use std::alloc::{AllocError, Global};
 use std::test::Fail;
 use tlv_objects::Objects;
-
-use crate::MemoryHost;
 
 /// A purchase over 123.45.
 #[tactic(auto, unfolding(issuer_base::specs::ChipData::is_bcd))]
@@ -135,7 +134,10 @@ fn a_card_runs_what_the_host_sends(rt: HostRuntime) -> Result<(), Fail> {
     }
     let reply = transact(alloc, &mut card, &mut host)?;
     let commands = commands_of(&reply);
-    assert!(rt; !runs(&mut card, commands.as_slice(), 0)?, "before the answer");
+    assert!(rt;
+        !runs(&mut card, commands.as_slice(), 0)?,
+        "before the answer"
+    );
     assert!(rt; takes(&mut card, &reply)?);
     for (name, index, expected) in [
         ("out of order", 1, false),
@@ -144,12 +146,19 @@ fn a_card_runs_what_the_host_sends(rt: HostRuntime) -> Result<(), Fail> {
         ("the second", 1, true),
         ("the third", 2, true),
     ] {
-        assert_eq!(rt; runs(&mut card, commands.as_slice(), index)?, expected, "{name}");
+        assert_eq!(rt;
+            runs(&mut card, commands.as_slice(), index)?,
+            expected,
+            "{name}"
+        );
     }
     let later = transact(alloc, &mut card, &mut host)?;
     assert!(rt; takes(&mut card, &later)?);
     assert!(rt; commands_of(&later).is_empty(), "all are done");
-    assert!(rt; !runs(&mut card, commands.as_slice(), 0)?, "under another chain");
+    assert!(rt;
+        !runs(&mut card, commands.as_slice(), 0)?,
+        "under another chain"
+    );
     let ran = card.ran();
     assert!(rt; ran.iter().map(|command| command.ins).eq([0x16, 0xDA, 0xDC]));
     Ok(())
