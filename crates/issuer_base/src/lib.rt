@@ -21,9 +21,13 @@ pub use faults::{
 };
 pub use limits::{
     MAX_BODY_BYTES, MAX_CARDS, MAX_CHIP_BYTES, MAX_KEY_SETS, MAX_PAN_DIGITS, MAX_REPLY_BYTES,
-    MAX_SHARDS, MAX_TABLE_ROWS, MAX_TEMPLATE_BYTES, MAX_UNDONE, MIN_PAN_DIGITS, WINDOW,
+    MAX_SHARDS, MAX_STORE_BYTES, MAX_TABLE_ROWS, MAX_TEMPLATE_BYTES, MAX_UNDONE, MIN_PAN_DIGITS,
+    WINDOW,
 };
-pub use outside::{Desk, DeskFault, MemoryDesk, MemorySink, MemorySource, Sink, Source, write_all};
+pub use outside::{
+    Desk, DeskFault, FailingCalls, MemoryDesk, MemorySink, MemorySource, Sink, Source, Store,
+    write_all,
+};
 pub use pan::Pan;
 pub use request::{Parts, Request};
 pub use words::Words;

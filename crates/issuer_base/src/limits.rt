@@ -35,3 +35,6 @@ pub const MAX_BODY_BYTES: usize = 64;
 
 /// How many bytes a script template has at most, tag and length counted in.
 pub const MAX_TEMPLATE_BYTES: usize = 128;
+
+/// How many bytes a store takes at most.
+pub const MAX_STORE_BYTES: u64 = 1 << 62;
