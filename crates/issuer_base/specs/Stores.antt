@@ -29,15 +29,24 @@ pub record MayLeave (moment : Moment) (image : List ℕ) : Type 0 where
 abbrev pub MayLeaveSince : ℕ → Disk → List ℕ → Type 0
 MayLeaveSince number disk image = (moment : Moment) × Contains (drop number (timeline disk)) moment × MayLeave moment image
 
--- whatever a crash since the present moment of old may leave of new has P
-pub record LeavesOnly (P : List ℕ → Type 0) (old new : Disk) : Type 0 where
-  pub image : (left : List ℕ) → MayLeaveSince (present old) new left → P left
+-- whatever a crash since the moment of this number may leave has P
+pub record LeavesSince (P : List ℕ → Type 0) (number : ℕ) (disk : Disk) : Type 0 where
+  pub each : (image : List ℕ) → MayLeaveSince number disk image → P image
 
--- new is old after some more moments, maybe none: each of these has P, and so has the present one
-pub record Passes (P : Moment → Type 0) (old new : Disk) : Type 0 where
+-- new is old after some more moments, maybe none
+pub record GoesOn (old new : Disk) : Type 0 where
   pub added : List Moment
   pub grown : timeline new ≡ timeline old ++ added
-  pub each : All P added
+
+-- new is old after some more moments, and whatever a crash since the present moment of old may leave has P
+pub record LeavesOnly (P : List ℕ → Type 0) (old new : Disk) : Type 0 where
+  pub goes_on : GoesOn old new
+  pub leaves : LeavesSince P (present old) new
+
+-- new is old after some more moments: each of these has P, and so has the present one
+pub record Passes (P : Moment → Type 0) (old new : Disk) : Type 0 where
+  pub goes_on : GoesOn old new
+  pub each : All P goes_on.added
   pub last : P new.now
 
 -- a moment with these bytes, of which at least so many are safe, and no more than there are
