@@ -1,6 +1,6 @@
 -- Laws of the moments of a store: of many calls in a row, and of what a crash may leave.
 use Rattle.std.proofs.Common.{◌≡◌, ◌⊎◌, ℕ, ◌+◌, ◌-◌, ◌≤◌, List, [], ◌∷◌, ◌++◌, length, take, drop, sym, ap, subst, ◌∙◌}
-use Rattle.std.proofs.Common.{inl, inr, ⊎_elim, All, Contains, arith, append_assoc, append-nil, length-append}
+use Rattle.std.proofs.Common.{inl, inr, ⊎_elim, All, Contains, arith, append_assoc, append-nil, length-append, length-take}
 use Rattle.std.proofs.Math.Seq.{drop-append_seam, take-append-add}
 use Rattle.std.proofs.lemmas.List.{drop-append-le, length_push, take_all}
 use Rattle.std.proofs.lemmas.List.Elements.{All-nil, All-cons, All-append, All-weaker, All-contains}
@@ -129,12 +129,23 @@ MayLeave-all_safe moment image safe left =
     let enough : length moment.bytes ≤ length image = let has = left.has_safe in omega arith in
     left.is_front ∙ take_all (length image) moment.bytes enough
 
+-- an image is no longer than the bytes
+pub MayLeave-length : (moment : Moment) (image : List ℕ) → MayLeave moment image → length image ≤ length moment.bytes
+MayLeave-length moment image left =
+    let long = ap length left.is_front in
+    let most = length-take (length image) moment.bytes in
+    omega arith
+
 -- where a text is safe a crash leaves it, and a front of what stands behind it
 pub MayLeave-behind : (moment : Moment) (text tail image : List ℕ) → moment.bytes ≡ text ++ tail → length text ≤ moment.safe → MayLeave moment image
-    → (kept : ℕ) × (image ≡ text ++ take kept tail)
+    → (kept : ℕ) × (kept ≤ length tail) × (image ≡ text ++ take kept tail)
 MayLeave-behind moment text tail image is safe left =
     let has = left.has_safe in
+    let long = MayLeave-length moment image left in
+    let whole = ap length is in
+    let parts = length-append text tail in
     let split : length image ≡ length text + (length image - length text) = omega arith in (
       length image - length text,
+      omega arith,
       left.is_front ∙ ap (take (length image)) is ∙ ap (λ n. take n (text ++ tail)) split ∙ take-append-add text tail (length image - length text),
     )

@@ -55,12 +55,14 @@ impl KeptDisk {
         })
     }
 
+    /// The bytes that are there at present.
     pub(crate) fn bytes(&self) -> &[u8]
         ensures { result.now ≡ self.now.now.bytes }
     {
         &self.bytes
     }
 
+    /// How many of them are safe.
     pub(crate) fn safe(&self) -> usize
         ensures safe { result ≡ self.now.now.safe }
         ensures within { self.now.now.safe ≤ length self.now.now.bytes }
@@ -68,6 +70,7 @@ impl KeptDisk {
         self.safe
     }
 
+    /// Puts a piece behind the bytes.
     pub(crate) fn append(&mut self, piece: &[u8]) -> Result<(), AllocError>
         ensures ok { OnOk result (self.new ≡ goes_to self.old (appended piece.now self.old.now)) }
         ensures err { OnErr result (self.new ≡ self.old) }
@@ -79,23 +82,26 @@ impl KeptDisk {
         Ok(())
     }
 
+    /// Cuts the bytes to a length, and makes them safe.
     pub(crate) fn cut(&mut self, len: usize) -> Result<(), AllocError>
         requires { len ≤ length self.old.now.bytes }
         ensures ok { OnOk result (self.new ≡ goes_to self.old (cut_to len self.old.now)) }
         ensures err { OnErr result (self.new ≡ self.old) }
     {
         self.changes.push(Change::Cut(len))?;
-        self.bytes.truncate(len);
         self.safe = len;
+        self.bytes.truncate(len);
         Ok(())
     }
 
+    /// Makes all bytes safe.
     pub(crate) fn sync(&mut self) -> Result<(), AllocError>
         ensures ok { OnOk result (self.new ≡ goes_to self.old (all_safe self.old.now.bytes)) }
         ensures err { OnErr result (self.new ≡ self.old) }
     {
+        let whole = self.bytes.len();
         self.changes.push(Change::Synced)?;
-        self.safe = self.bytes.len();
+        self.safe = whole;
         Ok(())
     }
 }

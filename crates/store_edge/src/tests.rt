@@ -6,7 +6,7 @@ use std::fs::File;
 use std::test::Fail;
 
 // The bytes from a place on, at most four, as numbers and how many there are.
-fn read<S: Store>(store: &mut S, at: u64) -> Result<(usize, [u8; 4]), StoreFail> {
+fn read<S: Store + Send>(store: &mut S, at: u64) -> Result<(usize, [u8; 4]), StoreFail> {
     let mut into = [0; 4];
     let count = store.read_at(at, &mut into)?;
     Ok((count, into))
@@ -70,6 +70,7 @@ fn a_file_store_keeps_what_it_was_given(rt: HostRuntime) -> Result<(), Fail> {
     fs::write(&rt, path, "ab")?;
     let mut store = FileStore::over(File::options().read(true).write(true).open(&rt, path)?)?;
     assert_eq!(rt; store.append(b"cde"), Ok(()));
+    assert_eq!(rt; store.len(), 5);
     assert_eq!(rt; store.cut(4), Ok(()));
     assert_eq!(rt; store.sync(), Ok(()));
     assert_eq!(rt; read(&mut store, 1), Ok((3, *b"bcd\0")));
