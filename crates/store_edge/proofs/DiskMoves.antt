@@ -1,8 +1,10 @@
 -- A disk that goes on to another moment, and what this tells of a call.
-use Rattle.std.proofs.Common.{◌≤◌, ℕ, Bool, true, false, List, [], ◌∷◌, ◌++◌, length, take, refl, sym, ap, inl, inr, arith, if◌then◌else◌, append-nil, length-append, length-take}
+use Rattle.std.proofs.Common.{◌≤◌, ℕ, Bool, true, false, List, [], ◌∷◌, ◌++◌, length, take, refl, sym, ap, inl, inr, arith, if◌then◌else◌}
+use Rattle.std.proofs.Common.{append-nil, length-append, length-take}
 use Rattle.std.proofs.lemmas.List.{take_all}
 use Rattle.std.proofs.lemmas.List.Elements.{All-nil, All-cons}
-use Rattle.issuer_base.specs.Stores.{Moment, Disk, Passes, HasSafe, WhileAppended, WhileCut, WhileKept, AppendsToBytes, AppendsToDisk, CutsDisk, KeepsDisk, SyncsDisk}
+use Rattle.issuer_base.specs.Stores.{Moment, Disk, Passes, HasSafe, WhileAppended, WhileCut, WhileKept}
+use Rattle.issuer_base.specs.Stores.{AppendsToBytes, AppendsToDisk, CutsDisk, KeepsDisk, SyncsDisk}
 use Rattle.issuer_base.proofs.Moments.{Passes-no_call}
 use Rattle.store_edge.specs.KeptDisk.{all_safe, appended, cut_to, goes_to}
 
