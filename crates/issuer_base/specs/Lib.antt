@@ -7,4 +7,5 @@ pub mod Tells
 pub mod OutsideFaults
 pub mod Sink
 pub mod Desk
+pub mod Stores
 pub mod OutsideMemory

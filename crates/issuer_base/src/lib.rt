@@ -22,9 +22,12 @@ pub use faults::{
 pub use limits::{
     BARE_COMMAND_BYTES, BARE_TEMPLATE_BYTES, KEPT_BYTES, MAX_BODY_BYTES, MAX_CARDS, MAX_CHIP_BYTES,
     MAX_KEY_SETS, MAX_PAN_DIGITS, MAX_QUEUED, MAX_REPLY_BYTES, MAX_SHARDS, MAX_STATUS,
-    MAX_TABLE_ROWS, MAX_TEMPLATE_BYTES, MAX_UNDONE, MIN_PAN_DIGITS, WINDOW,
+    MAX_STORE_BYTES, MAX_TABLE_ROWS, MAX_TEMPLATE_BYTES, MAX_UNDONE, MIN_PAN_DIGITS, WINDOW,
 };
-pub use outside::{Desk, DeskFault, MemoryDesk, MemorySink, MemorySource, Sink, Source, write_all};
+pub use outside::{
+    Desk, DeskFault, FailingCalls, MemoryDesk, MemorySink, MemorySource, Sink, Source, Store,
+    write_all,
+};
 pub use pan::Pan;
 pub use request::{Parts, Request};
 pub use words::Words;

@@ -52,3 +52,6 @@ pub const BARE_TEMPLATE_BYTES: usize = 2 + 3 + 4;
 /// How many bytes a sealed command takes in a template beside its data: tag 86 and its length, a head of four bytes, Lc, and
 /// a MAC of eight bytes.
 pub const BARE_COMMAND_BYTES: usize = 2 + 4 + 1 + 8;
+
+/// How many bytes a store takes at most.
+pub const MAX_STORE_BYTES: u64 = 1 << 62;

@@ -12,14 +12,17 @@ mod failing_calls;
 mod memory_desk;
 mod memory_sink;
 mod memory_source;
+mod store;
 #[cfg(test)]
 mod tests;
 
 use crate::faults::{ReadFault, WriteFault};
+pub use failing_calls::FailingCalls;
 pub use memory_desk::MemoryDesk;
 pub use memory_sink::MemorySink;
 pub use memory_source::MemorySource;
 use std::alloc::AllocError;
+pub use store::Store;
 
 /// Bytes that are read from front to end.
 ///

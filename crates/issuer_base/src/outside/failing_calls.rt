@@ -9,7 +9,7 @@ use std::marker::Model;
 ///
 /// Both counts stop at 2^64 - 1.
 #[derive(Drop)]
-pub(crate) struct FailingCalls {
+pub struct FailingCalls {
     listed: Vec<u64>,
     made: u64,
     faults: u64,
@@ -24,7 +24,8 @@ impl Model for FailingCalls {
 }
 
 impl FailingCalls {
-    pub(crate) fn new(listed: Vec<u64>) -> FailingCalls
+    /// No call was made yet, and the listed ones will fail, counted from 0.
+    pub fn new(listed: Vec<u64>) -> FailingCalls
         ensures { result ≡ no_calls listed.items }
     {
         FailingCalls {
@@ -35,14 +36,14 @@ impl FailingCalls {
     }
 
     /// Whether the call that comes next is one of those that fail.
-    pub(crate) fn is_next_listed(&self) -> bool
+    pub fn is_next_listed(&self) -> bool
         ensures { result ≡ is_next_listed self.now }
     {
         self.listed.contains(&self.made)
     }
 
     /// Counts a call, and says whether it is one of those that fail.
-    pub(crate) fn count_call(&mut self) -> bool
+    pub fn count_call(&mut self) -> bool
         ensures listed { result ≡ is_next_listed self.old }
         ensures counted { self.new ≡ record self.old { made = one_more self.old.made } }
     {
@@ -51,7 +52,8 @@ impl FailingCalls {
         listed
     }
 
-    pub(crate) fn count_fault(&mut self)
+    /// Counts a fault.
+    pub fn count_fault(&mut self)
         ensures counted { self.new ≡ record self.old { faults = one_more self.old.faults } }
         ensures count { CountsFaults self.old.faults self.new.faults true }
     {

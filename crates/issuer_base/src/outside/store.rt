@@ -1,0 +1,78 @@
+//! The trait of what keeps a shard's records: bytes that grow at their end, and of which a crash leaves the safe ones.
+ghost use Rattle.std.specs.Prelude.{◌≡◌, ◌⊎◌, ℕ, ◌+◌, ◌<◌, ◌≤◌, List, length, take, drop, Option, None, Some, is_err, IfOk, IfSome, OnErr, OnOk};
+ghost use Rattle.std.specs.Io.{ReadsAtMost};
+ghost use Rattle.issuer_base.specs.OutsideFaults.{CountsFaults};
+ghost use Rattle.issuer_base.specs.Stores.{AppendsToBytes, AppendsToDisk, BothTold, CutsBytes, CutsDisk, Disk, KeepsDisk, SyncsDisk};
+
+use crate::faults::StoreFail;
+use crate::limits::MAX_STORE_BYTES;
+
+/// Bytes that outlive the program: they are read anywhere, and change at their end alone.
+///
+/// A crash leaves a front of the bytes that has at least the safe ones; a sync makes all of them
+/// safe. An implementor tells its disk, its bytes alone or neither, and counts its faults: the
+/// count never falls, and a call answers its fault only where the count rose.
+pub trait Store {
+    // How many bytes it has.
+    ghost size: { Self → ℕ };
+
+    // Its bytes, where the store tells.
+    ghost bytes: { Self → Option (List ℕ) } = { λ _. None };
+
+    // The moments that it was through and the present one, where the store tells: what a crash may leave.
+    ghost disk: { Self → Option Disk } = { λ _. None };
+
+    // How many of its calls failed, counted up to 2^64 - 1.
+    ghost faults: { Self → ℕ };
+
+    /// How many bytes it has.
+    fn len(&self) -> u64
+        ensures { result ≡ size self.now };
+
+    /// Gives the bytes that stand from `at` on, as many as it answers, in the front of `into`.
+    ///
+    /// At least one is given where `at` is below the length, and none where it isn't.
+    fn read_at(&mut self, at: u64, into: &mut [u8]) -> Result<usize, StoreFail>
+        requires { 0 < length into.old }
+        ensures bound { ReadsAtMost result into.new }
+        ensures some { at < size self.old → IfOk result (λ n. 0 < n) }
+        ensures none { size self.old ≤ at → IfOk result (λ n. n ≡ 0) }
+        ensures given { IfOk result (λ n. IfSome (bytes self.old) (λ told. take n into.new ≡ take n (drop at told))) }
+        ensures size { size self.new ≡ size self.old }
+        ensures bytes { bytes self.new ≡ bytes self.old }
+        ensures disk { BothTold KeepsDisk (disk self.old) (disk self.new) }
+        ensures count { CountsFaults (faults self.old) (faults self.new) (is_err result) };
+
+    /// Puts a piece behind the bytes. A fault may leave a front of it there.
+    ///
+    /// A piece that would go past [`MAX_STORE_BYTES`] is a fault.
+    fn append(&mut self, piece: &[u8]) -> Result<(), StoreFail>
+        ensures limit { OnOk result (size self.new ≤ MAX_STORE_BYTES) }
+        ensures size { OnOk result (size self.new ≡ size self.old + length piece.now) }
+        ensures size_err { OnErr result (size self.old ≤ size self.new) }
+        ensures bytes { BothTold (AppendsToBytes piece.now (is_err result)) (bytes self.old) (bytes self.new) }
+        ensures disk { BothTold (AppendsToDisk piece.now (is_err result)) (disk self.old) (disk self.new) }
+        ensures count { CountsFaults (faults self.old) (faults self.new) (is_err result) };
+
+    /// Cuts the bytes to a length, and makes them safe. A fault may leave them cut or not.
+    fn cut(&mut self, len: u64) -> Result<(), StoreFail>
+        requires { len ≤ size self.old }
+        ensures size { OnOk result (size self.new ≡ len) }
+        ensures size_err { OnErr result ((size self.new ≡ size self.old) ⊎ (size self.new ≡ len)) }
+        ensures bytes { BothTold (CutsBytes len (is_err result)) (bytes self.old) (bytes self.new) }
+        ensures disk { BothTold (CutsDisk len (is_err result)) (disk self.old) (disk self.new) }
+        ensures count { CountsFaults (faults self.old) (faults self.new) (is_err result) };
+
+    /// Makes all bytes safe.
+    fn sync(&mut self) -> Result<(), StoreFail>
+        ensures size { size self.new ≡ size self.old }
+        ensures bytes { bytes self.new ≡ bytes self.old }
+        ensures disk { BothTold (SyncsDisk (is_err result)) (disk self.old) (disk self.new) }
+        ensures count { CountsFaults (faults self.old) (faults self.new) (is_err result) };
+
+    // Told bytes are as many as the size says.
+    ghost told_size: { (store : Self) → IfSome (bytes store) (λ told. size store ≡ length told) };
+
+    // Where the disk is told, so are the bytes, and they are those of the present moment.
+    ghost told_bytes: { (store : Self) → IfSome (disk store) (λ told. bytes store ≡ Some told.now.bytes) };
+}

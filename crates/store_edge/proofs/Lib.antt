@@ -1,0 +1,4 @@
+-- The laws of this crate.
+pub mod DiskMoves
+pub mod KeptChanges
+pub mod StoreCalls

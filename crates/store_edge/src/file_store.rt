@@ -1,0 +1,118 @@
+//! A store over a file.
+ghost use Rattle.std.specs.Prelude.{◌≡◌, ◌⊎◌, ◌+◌, ◌≤◌, true, length, IfOk, OnOk};
+ghost use Rattle.issuer_base.specs.OutsideFaults.{CountsFaults};
+
+use issuer_base::{MAX_STORE_BYTES, Store, StoreFail};
+use std::fs::File;
+use std::io;
+use std::io::ErrorKind;
+use std::os::unix::fs::FileExt;
+
+/// A file as a store. It tells nothing of its bytes, and counts its faults.
+///
+/// It keeps its length as a number: the file's at first, and then what its own writes and cuts made of it.
+#[derive(Drop)]
+pub struct FileStore {
+    file: File,
+    len: u64,
+    faults: u64,
+}
+
+impl FileStore {
+    /// A store over a file that is open for reading and writing.
+    pub(crate) fn over(file: File) -> io::Result<FileStore>
+        ensures { IfOk result (λ store. store.faults ≡ 0) }
+    {
+        let len = file.metadata()?.len();
+        Ok(FileStore {
+            file,
+            len,
+            faults: 0,
+        })
+    }
+
+    // Counts a fault, which is the answer then.
+    fn fault(&mut self) -> StoreFail
+        ensures len { self.new.len ≡ self.old.len }
+        ensures count { CountsFaults self.old.faults self.new.faults true }
+    {
+        self.faults = self.faults.saturating_add(1);
+        StoreFail
+    }
+}
+
+impl Store for FileStore {
+    ghost size = { λ s. s.len };
+
+    ghost faults = { λ s. s.faults };
+
+    ghost told_size = { λ s. tt };
+
+    ghost told_bytes = { λ s. tt };
+
+    fn len(&self) -> u64 {
+        self.len
+    }
+
+    fn read_at(&mut self, at: u64, into: &mut [u8]) -> Result<usize, StoreFail> {
+        if at >= self.len {
+            return Ok(0);
+        }
+        match self.file.read_at(into, at) {
+            Ok(count) if count > 0 => Ok(count),
+            _ => Err(self.fault()),
+        }
+    }
+
+    fn append(&mut self, piece: &[u8]) -> Result<(), StoreFail> {
+        match write_behind(&self.file, &mut self.len, piece) {
+            Ok(()) => Ok(()),
+            Err(_) => Err(self.fault()),
+        }
+    }
+
+    fn cut(&mut self, len: u64) -> Result<(), StoreFail> {
+        match cut_to(&self.file, &mut self.len, len) {
+            Ok(()) => Ok(()),
+            Err(_) => Err(self.fault()),
+        }
+    }
+
+    fn sync(&mut self) -> Result<(), StoreFail> {
+        match self.file.sync_all() {
+            Ok(()) => Ok(()),
+            Err(_) => Err(self.fault()),
+        }
+    }
+}
+
+// Writes a piece at the end, and counts into the length what was taken of it.
+fn write_behind(file: &File, len: &mut u64, piece: &[u8]) -> io::Result<()>
+    ensures limit { OnOk result (len.new ≤ MAX_STORE_BYTES) }
+    ensures ok { OnOk result (len.new ≡ len.old + length piece.now) }
+    ensures err { len.old ≤ len.new }
+{
+    if *len > MAX_STORE_BYTES || piece.len() as u64 > MAX_STORE_BYTES - *len {
+        return Err(ErrorKind::FileTooLarge.into());
+    }
+    let mut written = 0;
+    while written < piece.len() {
+        let count = file.write_at(&piece[written..], *len)?;
+        if count == 0 {
+            return Err(ErrorKind::WriteZero.into());
+        }
+        written += count;
+        *len += count as u64;
+    }
+    Ok(())
+}
+
+// Sets the length of a file, and waits until it stands on the disk.
+fn cut_to(file: &File, len: &mut u64, new_len: u64) -> io::Result<()>
+    ensures ok { OnOk result (len.new ≡ new_len) }
+    ensures err { (len.new ≡ len.old) ⊎ (len.new ≡ new_len) }
+{
+    file.set_len(new_len)?;
+    *len = new_len;
+    file.sync_all()
+}

@@ -1,0 +1,84 @@
+//! The stores through the trait, with the faults that they were told to have.
+use super::*;
+use issuer_base::{Store, StoreFail};
+use std::fs;
+use std::fs::File;
+use std::test::Fail;
+
+// The bytes from a place on, at most four, as numbers and how many there are.
+fn read<S: Store + Send>(store: &mut S, at: u64) -> Result<(usize, [u8; 4]), StoreFail> {
+    let mut into = [0; 4];
+    let count = store.read_at(at, &mut into)?;
+    Ok((count, into))
+}
+
+#[test]
+fn an_append_without_a_sync_may_be_lost(rt: HostRuntime) -> Result<(), Fail> {
+    let bytes = vec![in rt.alloc(); b'a', b'b']?;
+    let mut store = MemoryStore::new(rt.alloc(), bytes, 8, vec![in rt.alloc()]?)?;
+    assert_eq!(rt; store.append(b"cd"), Ok(()));
+    let images: [Option<&[u8]>; 6] = [None, None, Some(b"ab"), Some(b"abc"), Some(b"abcd"), None];
+    for (len, image) in images.iter().enumerate() {
+        let left = store.image(len as u64)?;
+        assert_eq!(rt; left.as_deref(), *image, "{len}");
+    }
+    assert_eq!(rt; store.sync(), Ok(()));
+    assert_eq!(rt; store.image(3)?.is_none(), true);
+    assert_eq!(rt; store.cut(1), Ok(()));
+    assert_eq!(rt; store.image(1)?.as_deref(), Some(b"a".as_slice()));
+    assert_eq!(rt; store.len(), 1);
+    assert_eq!(rt; store.starved(), 0);
+    Ok(())
+}
+
+#[test]
+fn a_failed_append_leaves_a_front_of_the_piece(rt: HostRuntime) -> Result<(), Fail> {
+    let mut store = MemoryStore::new(
+        rt.alloc(),
+        Vec::new(rt.alloc()),
+        4,
+        vec![in rt.alloc(); 0, 2, 4, 6]?,
+    )?;
+    assert_eq!(rt; store.append(b"abcd"), Err(StoreFail));
+    assert_eq!(rt; read(&mut store, 0), Ok((2, *b"ab\0\0")));
+    assert_eq!(rt; store.sync(), Err(StoreFail));
+    assert_eq!(rt; store.image(0)?.is_some(), true);
+    assert_eq!(rt; store.append(b"cde"), Err(StoreFail));
+    assert_eq!(rt; store.cut(0), Err(StoreFail));
+    assert_eq!(rt; read(&mut store, 1), Ok((2, *b"bc\0\0")));
+    assert_eq!(rt; read(&mut store, 3), Err(StoreFail));
+    assert_eq!(rt; read(&mut store, 3), Ok((0, [0; 4])));
+    Ok(())
+}
+
+#[test]
+fn a_room_store_fails_past_its_room(rt: HostRuntime) -> Result<(), Fail> {
+    let mut store = RoomStore::new(rt.alloc(), 4)?;
+    assert_eq!(rt; store.append(b"abc"), Ok(()));
+    assert_eq!(rt; store.append(b"de"), Err(StoreFail));
+    assert_eq!(rt; store.append(b"d"), Ok(()));
+    assert_eq!(rt; store.cut(2), Ok(()));
+    assert_eq!(rt; store.sync(), Ok(()));
+    assert_eq!(rt; read(&mut store, 1), Ok((1, *b"b\0\0\0")));
+    assert_eq!(rt; store.len(), 2);
+    Ok(())
+}
+
+#[test]
+fn a_file_store_keeps_what_it_was_given(rt: HostRuntime) -> Result<(), Fail> {
+    let path = "store_edge.test";
+    fs::write(&rt, path, "ab")?;
+    let mut store = FileStore::over(File::options().read(true).write(true).open(&rt, path)?)?;
+    assert_eq!(rt; store.append(b"cde"), Ok(()));
+    assert_eq!(rt; store.len(), 5);
+    assert_eq!(rt; store.cut(4), Ok(()));
+    assert_eq!(rt; store.sync(), Ok(()));
+    assert_eq!(rt; read(&mut store, 1), Ok((3, *b"bcd\0")));
+    assert_eq!(rt; read(&mut store, 4), Ok((0, [0; 4])));
+    // another hand cuts the file
+    fs::write(&rt, path, "a")?;
+    assert_eq!(rt; read(&mut store, 1), Err(StoreFail));
+    assert_eq!(rt; store.len(), 4);
+    fs::remove_file(&rt, path)?;
+    Ok(())
+}
