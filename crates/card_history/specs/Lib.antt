@@ -2,4 +2,5 @@ pub mod Records
 pub mod Scripts
 pub mod ScriptOrder
 pub mod Turns
+pub mod LegalRecords
 pub mod OneReply

@@ -8,6 +8,7 @@ mod request;
 
 pub use checked::{Checked, CheckedCommand, CheckedRequest, CheckedStatus};
 pub use line::check_line;
+pub use request::check_request;
 
 #[cfg(test)]
 mod tests;

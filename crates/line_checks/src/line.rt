@@ -6,7 +6,7 @@ ghost use Rattle.line_checks.specs.AtHand.{asked_of, IsAtHand};
 
 use crate::card::{check_command, check_status};
 use crate::checked::Checked;
-use crate::request::check_request;
+use crate::request::check_data;
 use chip_request::{LineKind, read_line};
 use issuer_base::Refusal;
 use issuer_setup::Issuer;
@@ -18,7 +18,7 @@ pub fn check_line(issuer: &Issuer, line: &[u8]) -> Result<Checked, Refusal>
 {
     match read_line(line).map_err(Refusal::BadLine)? {
         LineKind::Ask(bytes) => {
-            let found = check_request(issuer, bytes.as_slice())?;
+            let found = check_data(issuer, bytes.as_slice())?;
             Ok(Checked::Decide(found))
         }
         LineKind::Queue { pan, psn, bytes } => {

@@ -14,13 +14,13 @@ use issuer_setup::Issuer;
 use key_derive::SessionKey;
 
 /// The request that these chip data say, checked by the issuer's cards and keys.
-pub(crate) fn check_request(issuer: &Issuer, bytes: &[u8]) -> Result<CheckedRequest, Refusal>
+pub(crate) fn check_data(issuer: &Issuer, bytes: &[u8]) -> Result<CheckedRequest, Refusal>
     requires { length bytes.now ≤ MAX_CHIP_BYTES }
     ensures request { result_map_both (λ found. Decide found.request) (λ refusal. refusal) result ≡ checked_data issuer.now (request_of bytes.now) }
     ensures at_hand { IfOk result (IsRequestAtHand issuer.now) }
 {
     let request = read_request(bytes).map_err(refusal_of)?;
-    check(issuer, request)
+    check_request(issuer, request)
 }
 
 fn refusal_of(fault: RequestFault) -> Refusal
@@ -34,9 +34,10 @@ fn refusal_of(fault: RequestFault) -> Refusal
     }
 }
 
-/// The request, checked by the issuer's cards and keys. Its session key is set up once.
+/// The request, checked by the issuer's cards and keys: the card is known, it asks to go online, its key set is known, and its
+/// cryptogram is right. Its session key is set up once.
 #[tactic(auto, unfolding(cryptogram_in::specs::Cryptogram::application_cryptogram))]
-fn check(issuer: &Issuer, request: Request) -> Result<CheckedRequest, Refusal>
+pub fn check_request(issuer: &Issuer, request: Request) -> Result<CheckedRequest, Refusal>
     ensures request { result_map_both (λ found. Decide found.request) (λ refusal. refusal) result ≡ checked issuer.now request }
     ensures at_hand { IfOk result (IsRequestAtHand issuer.now) }
 {

@@ -7,3 +7,4 @@ pub mod Launching
 pub mod Known
 pub mod Replying
 pub mod Plan
+pub mod Accepting

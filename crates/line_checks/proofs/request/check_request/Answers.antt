@@ -3,7 +3,7 @@ use Rattle.card_history.specs.Records.{card_of}
 use Rattle.issuer_setup.specs.CardList.{number_of}
 use Rattle.issuer_base.specs.declared.request.Parts.{Parts}
 use Rattle.line_checks.proofs.Numbers.{number-within}
-use Rattle.line_checks.proofs.request.check.Goals as goal
+use Rattle.line_checks.proofs.request.check_request.Goals as goal
 
 pub keys_of-requires : goal.keys_of-requires
 keys_of-requires c =

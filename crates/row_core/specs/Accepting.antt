@@ -1,0 +1,38 @@
+-- When a reply that was recorded is one that an issuer makes after a history, whatever its decision table was then.
+use Rattle.std.specs.Prelude.{◌≡◌, ℕ, Bool, ◌==◌, List, ◌++◌, [], ◌∷◌, length, take, drop, slice_index, bit_and, false, true}
+use Rattle.issuer_base.specs.declared.answer.Method.{Method}
+use Rattle.issuer_base.specs.declared.answer.Method.TheVariants.{Two}
+use Rattle.issuer_base.specs.declared.answer.Reply.{Reply}
+use Rattle.issuer_base.specs.declared.entry.Entry.{Entry}
+use Rattle.issuer_base.specs.declared.entry.Entry.TheVariants.{Decided}
+use Rattle.issuer_base.specs.declared.request.Request.{Request}
+use Rattle.cryptogram_in.specs.Cryptogram.{application_cryptogram}
+use Rattle.key_derive.specs.declared.card.CardKeys.{CardKeys}
+use Rattle.card_history.specs.Records.{card_of}
+use Rattle.card_history.specs.Scripts.{Scripts, scripts_of}
+use Rattle.card_history.specs.Turns.{IsUnused, decided_for}
+use Rattle.row_core.specs.Replying.{reply_bytes}
+
+-- the card status update in the bytes of a reply by method 2: behind tag 8A with its two bytes, tag 91 and its length, and the four bytes
+-- of the issuer's cryptogram
+abbrev pub told_update : List ℕ → List ℕ
+told_update bytes = take 4 (drop 10 bytes)
+
+-- whether a card status update says that the issuer approves: byte 2 bit 8, this project's profile
+abbrev pub says_approval : List ℕ → Bool
+says_approval update = bit_and (slice_index update 1) 0x80 == 0x80
+
+-- the reply's bytes are those for its response code and, by method 2, for the status update that they hold, which agrees with its approval
+pub record IsMade (method : Method) (keys : CardKeys) (scripts : Scripts) (request : Request) (reply : Reply) : Type 0 where
+  pub bytes_are : reply.bytes.items ≡ reply_bytes method keys scripts request reply.arc (told_update reply.bytes.items)
+  pub agrees : method ≡ Two → says_approval (told_update reply.bytes.items) ≡ reply.approve
+
+-- a decision with this reply may be recorded after this history: its counter is in the window and unused, and the reply is made so
+pub record MayFollow (method : Method) (keys : CardKeys) (history : List Entry) (request : Request) (reply : Reply) : Type 0 where
+  pub unused : IsUnused (decided_for request history) request
+  pub made : IsMade method keys (scripts_of (card_of request) history) request reply
+
+-- besides, the request's cryptogram is the card's
+pub record IsAccepted (method : Method) (keys : CardKeys) (history : List Entry) (request : Request) (reply : Reply) : Type 0 where
+  pub genuine : request.ac ≡ application_cryptogram keys.ac.0 request
+  pub follows : MayFollow method keys history request reply
