@@ -1,4 +1,5 @@
 pub mod WindowLemmas
 pub mod LaunchLemmas
 pub mod RowLemmas
+pub mod OtherCards
 pub mod PlanLemmas
