@@ -102,11 +102,9 @@ impl CardScripts {
     pub(crate) fn launch(&self, request: &Request) -> Launch
         ensures { IsLaunch self.now request.now result }
     {
-        let (ran, halted) = match settle(
-            self.flight,
-            request.last_online(),
-            request.script_count(),
-        ) {
+        let register = request.last_online();
+        let count = request.script_count();
+        let (ran, halted) = match settle(self.flight, register, count) {
             Settled::Ran(count) => (count, self.halted),
             Settled::Nothing => (0, self.halted),
             Settled::Halt => (0, true),

@@ -1,12 +1,14 @@
-//! What a row answers after some requests, by the rule of the window, and the replies that a table of two rows decides.
-//! Their cryptograms are those of another program, which works with OpenSSL.
+//! What a row answers after some requests, by the rule of the window, the replies that a table of two rows decides, and the
+//! script commands that they carry. Cryptograms and MACs are those of another program, which works with OpenSSL.
 
 use super::*;
 use arrayvec::ArrayVec;
+use cvr_settle::Flight;
 use decision_table::{Table, TableRow};
 use des_block::Key16;
-use issuer_base::{Method, Pan, Parts, Reply, Request};
-use key_derive::{CardKeys, SessionKey};
+use issuer_base::{MasterOption, Method, Pan, Parts, Reply, Request};
+use key_derive::{CardKeys, KeySet, SessionKey, card_keys};
+use secure_msg::read_command;
 use std::alloc::{AllocError, Global};
 use std::test::Fail;
 
@@ -80,14 +82,19 @@ fn request_for(amount: [u8; 6]) -> Option<Request> {
     Request::new(parts)
 }
 
-/// Decides a request on this counter and keeps its record at this place.
-fn keep(row: &mut Row, table: &Table, counter: u16, place: u64) -> Result<(), Fail> {
-    let asked = request(counter, 1).ok_or("a request")?;
-    let Outcome::Fresh(_, step) = row.plan(&keys(), table, &asked, place) else {
+/// Decides a request, keeps its record at this place, and gives the reply.
+fn keep(
+    row: &mut Row,
+    keys: &CardKeys,
+    table: &Table,
+    asked: &Request,
+    place: u64,
+) -> Result<Reply, Fail> {
+    let Outcome::Fresh(reply, step) = row.plan(keys, table, asked, place) else {
         return Err(Fail::from("a request that isn't fresh"));
     };
     row.apply(step);
-    Ok(())
+    Ok(reply)
 }
 
 /// The outcome in words.
@@ -117,10 +124,12 @@ fn plans_by_the_decisions(rt: HostRuntime) -> Result<(), Fail> {
     assert_eq!(rt; row.status(), 0);
     assert_eq!(rt; row.queue().undone(), 0);
     for (counter, place) in [(1, 0), (65, 4), (2, 7)] {
-        keep(&mut row, &table, counter, place)?;
+        let asked = request(counter, 1).ok_or("a request")?;
+        keep(&mut row, &keys(), &table, &asked, place)?;
     }
+    row.set_status(9);
     assert_eq!(rt; row.hi(), Some(65));
-    assert_eq!(rt; row.status(), 0);
+    assert_eq!(rt; row.status(), 9);
     for (name, counter, un, expected) in [
         ("above", 66, 1, "fresh"),
         ("in the window", 3, 1, "fresh"),
@@ -184,10 +193,7 @@ fn gives_the_kept_reply_again(rt: HostRuntime) -> Result<(), Fail> {
     let declining = table(&[OTHERWISE])?;
     let mut row = Row::new(rt.alloc(), Method::One).map_err(|_| "memory")?;
     let asked = request_for(LIMIT).ok_or("a request")?;
-    let Outcome::Fresh(given, step) = row.plan(&keys(), &approving, &asked, 3) else {
-        return Err(Fail::from("a request that isn't fresh"));
-    };
-    row.apply(step);
+    let given = keep(&mut row, &keys(), &approving, &asked, 3)?;
     for (name, table) in [
         ("the same table", &approving),
         ("another table", &declining),
@@ -201,17 +207,91 @@ fn gives_the_kept_reply_again(rt: HostRuntime) -> Result<(), Fail> {
     Ok(())
 }
 
-#[test]
-fn keeps_the_window_of_three_hundred_decisions(rt: HostRuntime) -> Result<(), Fail> {
-    let table = table(&[OTHERWISE])?;
-    let mut row = Row::new(rt.alloc(), Method::One).map_err(|_| "memory")?;
-    for counter in 0..300 {
-        keep(&mut row, &table, counter, u64::from(counter))?;
+/// The reply on counter 7 to a card for which five commands wait: it carries the first three.
+const WITH_THREE_COMMANDS: &str = "true 8a023030910a02369be26b4161bc3030\
+    72709f180400000000\
+    862184da00001c0000000000000000000000000000000000000000385ae2d8a0aac9f0\
+    862184da00001c0101010101010101010101010101010101010101a888dbfacdb153e9\
+    862184da00001c0202020202020202020202020202020202020202e27e3941b91c3eef";
+
+/// The reply on counter 9 where the card ran the first two.
+const AFTER_TWO_RAN: &str = "true 8a023030910a0e00cd522aa6de7d3030\
+    72709f180400000002\
+    862184da00001c0202020202020202020202020202020202020202d39224f7ef0200d3\
+    862184da00001c030303030303030303030303030303030303030338992183d3173ae9\
+    862184da00001c0404040404040404040404040404040404040404468f684393492633";
+
+/// The reply on counter 9 where that on 7 never reached the card.
+const AFTER_NONE_RAN: &str = "true 8a023030910aa98839ce18246b463030\
+    72709f180400000000\
+    862184da00001c000000000000000000000000000000000000000070cf017b350f1a6f\
+    862184da00001c01010101010101010101010101010101010101013482f0101fa5b515\
+    862184da00001c02020202020202020202020202020202020202024b010426dfb28ee2";
+
+/// A request whose application data have this register and this count of script commands, with its cryptogram.
+fn telling(counter: u16, register: u16, count: u8, ac: u64) -> Option<Request> {
+    let mut parts = request(counter, 1)?.parts().copy();
+    let [high, low] = register.to_be_bytes();
+    parts.iad[6] = count;
+    parts.iad[17] = high;
+    parts.iad[18] = low;
+    parts.ac = ac.to_be_bytes();
+    Request::new(parts)
+}
+
+/// The master keys that a card derives from those of its issuer.
+fn derived_keys() -> Option<CardKeys> {
+    let issuer = KeySet {
+        dki: 1,
+        option: MasterOption::A,
+        ac: keys().ac,
+        smi: keys().smi,
+    };
+    let pan = Pan::new(&[4, 0, 0, 0, 0, 0, 0, 0, 0, 0, 0, 0, 0, 0, 0, 2])?;
+    Some(card_keys(&issuer, &pan, 0x00))
+}
+
+/// Queues five commands with data of twenty bytes.
+fn queue_five(row: &mut Row) -> Result<(), Fail> {
+    for number in 0..5 {
+        let mut bytes = [number; 24];
+        bytes[..4].copy_from_slice(&[0x84, 0xDA, 0x00, 0x00]);
+        let Ok(command) = read_command(&bytes) else {
+            return Err(Fail::from("no command"));
+        };
+        if row.push(command) != Ok(u32::from(number)) {
+            return Err(Fail::from("another number"));
+        }
     }
-    for (counter, expected) in [(235, "below 299"), (236, "kept 236"), (299, "kept 299")] {
-        let asked = request(counter, 1).ok_or("a request")?;
-        let planned = told(rt.alloc(), row.plan(&keys(), &table, &asked, 300))?;
-        assert_eq!(rt; planned.as_str(), expected, "{counter}");
+    Ok(())
+}
+
+#[test]
+fn sends_commands_until_the_card_ran_them(rt: HostRuntime) -> Result<(), Fail> {
+    let table = table(&[SMALL_AMOUNTS, OTHERWISE])?;
+    let keys = derived_keys().ok_or("keys")?;
+    for (name, register, ac, done, expected) in [
+        ("two ran", 7, 0xEBA261CB_1FC8AF7D, 2, AFTER_TWO_RAN),
+        ("none ran", 5, 0x7AEEB7E0_0D9CE6BF, 0, AFTER_NONE_RAN),
+    ] {
+        let mut row = Row::new(rt.alloc(), Method::One).map_err(|_| "memory")?;
+        queue_five(&mut row)?;
+        let first = telling(7, 0, 0, 0x6317DE17_856BF19A).ok_or("a request")?;
+        let carried = shown(rt.alloc(), &keep(&mut row, &keys, &table, &first, 5)?)?;
+        assert_eq!(rt; carried.as_str(), WITH_THREE_COMMANDS, "{name}");
+        let second = telling(9, register, 0x20, ac).ok_or("a request")?;
+        let carried = shown(rt.alloc(), &keep(&mut row, &keys, &table, &second, 6)?)?;
+        assert_eq!(rt; carried.as_str(), expected, "{name}");
+        assert_eq!(rt; row.done(), done, "{name}");
+        assert!(rt;
+            row.flight()
+                == Some(Flight {
+                    counter: 9,
+                    size: 3
+                }),
+            "{name}"
+        );
+        assert!(rt; !row.halted(), "{name}");
     }
     Ok(())
 }

@@ -25,7 +25,7 @@ returns-else-halted c =
     let told_is : c.match-settle.ran ≡ told_by c.args.request.now kept =
     parts
     ∙ ap (λ outcome. told outcome c.self.inside.halted)
-    (c.settle.ensures ∙ (λ i. settled c.self.inside.flight (c.last_online.ensures i) (c.script_count.ensures i)))
+    (c.settle.ensures ∙ (λ i. settled c.self.inside.flight (c.last_online-register.ensures i) (c.script_count-count.ensures i)))
     ∙ ap (λ kept. told_by c.args.request.now kept) c.self.view_is in
     is-launch kept c.args.request.now launch
     (ap (λ (parts : ℕ × Bool). parts.0) told_is)
