@@ -1,3 +1,4 @@
+-- All characters so far are digits, and these are the digits.
 use Rattle.std.proofs.Common.{◌≡◌, true, map, take}
 use Rattle.std.specs.List.{list_all}
 use Rattle.config_read.specs.Words.{is_digit, digit}
