@@ -1,3 +1,4 @@
+-- A seat that takes over the last caller's is whole with the callers that are left.
 use Rattle.std.proofs.Common.{rules, ◌≡◌, ◌++◌, ◌∷◌, [], List, ap, subst, ◌∙◌}
 use Rattle.std.proofs.lemmas.List.Elements.{All-pop}
 use Rattle.std.specs.List.{flat_map}

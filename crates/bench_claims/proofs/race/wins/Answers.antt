@@ -1,3 +1,4 @@
+-- Claiming at once leaves each seat its names, so all seats together are still whole.
 use Rattle.std.proofs.Common.{◌≡◌, ◌<◌, ◌++◌, ◌∙◌, sym, ap, subst, List, length, get_or, drop, take, arith}
 use Rattle.std.specs.List.{flat_map}
 use Rattle.seat_names.specs.SeatNames.{IsWhole}

@@ -1,3 +1,4 @@
+-- Claiming at once leaves all seats together whole, so each counter was won just once.
 use Rattle.std.proofs.Common.{◌≡◌, ℕ, ◌<◌, ◌++◌, ◌∙◌, sym, ap, subst, List, length, map, get_or, drop, take, Vec, Global, arith}
 use Rattle.std.proofs.lemmas.List.{length-map}
 use Rattle.std.specs.List.{flat_map}

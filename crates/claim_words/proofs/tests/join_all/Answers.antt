@@ -1,3 +1,4 @@
+-- A seat that takes over the last caller's has tried what that caller tried, and is whole with those left.
 use Rattle.std.proofs.Common.{rules, ◌≡◌, ◌++◌, ◌∷◌, [], List, ap, subst, ◌∙◌}
 use Rattle.std.specs.List.{flat_map}
 use Rattle.seat_names.specs.SeatNames.{IsWhole}
