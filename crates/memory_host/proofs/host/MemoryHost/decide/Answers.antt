@@ -1,3 +1,4 @@
+-- A new decision is a turn that adds its record; any other answer is a turn that leaves the histories as they were.
 use Rattle.memory_host.proofs.PlannedTurns.{unchanged, next-planned, fresh-turn}
 use Rattle.memory_host.proofs.host.MemoryHost.decide.Goals as goal
 

@@ -1,3 +1,4 @@
+-- The step is put into the card's row and its shard's count is one more, and nothing else changes.
 use Rattle.std.proofs.Common.{◌≡◌, ◌%◌, ◌<◌, ◌+◌, length, set, Some, ap, refl, sym, subst, ◌∙◌, arith}
 use Rattle.std.proofs.lemmas.Option.{slice_get_read}
 use Rattle.std.specs.List.{slice_get}
