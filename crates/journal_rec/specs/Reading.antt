@@ -25,6 +25,7 @@ infixl 10 ◌>>=◌
 abbrev pub ◌>>=◌ : {A B : Type 0} → Reader A → (A → Reader B) → Reader B
 (read >>= next) left = option_and_then (λ found. next found.0 found.1) (read left)
 
+-- one part is read, and then another, whatever the first was
 infixl 10 ◌>>◌
 abbrev pub ◌>>◌ : {A B : Type 0} → Reader A → Reader B → Reader B
 read >> next = read >>= λ _. next
@@ -99,6 +100,7 @@ pan_of text =
     let digits = take_while is_ascii_digit text in
     if list_all (λ byte. byte == 102) (drop (length digits) text) then pan_from (map (λ digit. digit - 48) digits) else None
 
+-- an account number, as it stands in a line
 unfoldable pub pan_at : Reader (List ℕ)
 pan_at = do
   text ← piece_at PAN_DIGITS
