@@ -1,3 +1,4 @@
+-- The laws of this crate.
 pub mod Walk
 pub mod Found
 pub mod Meaning

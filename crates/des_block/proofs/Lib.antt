@@ -1,3 +1,4 @@
+-- The laws of this crate.
 pub mod Digits
 pub mod PlainSteps
 pub mod Linear

@@ -1,3 +1,4 @@
+-- The chain over the whole blocks, ended with what is left behind them, gives the retail MAC.
 use Rattle.std.proofs.Common.{◌∙◌, take, ap, fold, ◌/◌, length}
 use Rattle.std.proofs.lemmas.List.{take_rest}
 use Rattle.retail_mac.specs.Mac.{blocks, chained}

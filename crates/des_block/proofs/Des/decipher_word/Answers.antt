@@ -1,3 +1,4 @@
+-- The rounds in the opposite order, between IP and its inverse, decipher the word, and enciphering gives it again.
 use Rattle.std.proofs.Common.{ap, ◌∙◌, map, reverse, arith}
 use Rattle.des_block.specs.Bits.{bits, number}
 use Rattle.des_block.specs.Cipher.{ciphered, word_bytes, des_encipher}

@@ -1,3 +1,4 @@
+-- The sixteen rounds between IP and its inverse encipher the word, and deciphering gives it again.
 use Rattle.std.proofs.Common.{ap, ◌∙◌, map, arith}
 use Rattle.des_block.specs.Bits.{bits, number}
 use Rattle.des_block.specs.Cipher.{ciphered, word_bytes, des_decipher}

@@ -1,3 +1,4 @@
+-- Three runs of rounds between one IP and one inverse are triple DES, since the inner ones cancel.
 use Rattle.std.proofs.Common.{ap, ap₂, ◌∙◌, map, reverse, arith}
 use Rattle.des_block.specs.Bits.{bits, number}
 use Rattle.des_block.specs.Cipher.{ciphered, word_bytes, tdes_decipher}

@@ -1,3 +1,4 @@
+-- Five exchanges of bits bring two turned halves through the inverse of IP.
 use Rattle.std.proofs.Common.{◌<◌, ◌^◌, arith, refl, rules}
 use Rattle.des_block.proofs.WordSteps.{joined_is}
 use Rattle.des_block.proofs.rounds.joined.Goals as goal

@@ -1,3 +1,4 @@
+-- Eight look-ups in the merged tables, taken together by xor, are the cipher function.
 use Rattle.std.proofs.Common.{ℕ, ◌/◌, ◌^◌, bit_xor, ap₂, ◌∙◌, arith}
 use Rattle.des_block.specs.Tables.{s1, s2, s3, s4, s5, s6, s7, s8}
 use Rattle.des_block.specs.Keyed.{key_bits}

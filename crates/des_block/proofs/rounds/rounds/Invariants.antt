@@ -1,3 +1,4 @@
+-- The halves are those after as many rounds as keys so far.
 use Rattle.std.proofs.Common.{map}
 use Rattle.des_block.specs.Keyed.{key_bits}
 use Rattle.des_block.proofs.MixedSteps.{Runs}

@@ -1,3 +1,4 @@
+-- The next key from the end is the next one in the opposite order, and takes the halves one round further.
 use Rattle.std.proofs.Common.{◌≡◌, ◌-◌, length, map, reverse, get_or, [], sym, ap, ◌∙◌, arith}
 use Rattle.std.proofs.lemmas.List.{get_or-map, get_or-reverse, length-map, length-reverse}
 use Rattle.des_block.specs.Keyed.{key_bits}

@@ -1,3 +1,4 @@
+-- Five exchanges of bits and a turn bring a block through IP into two turned halves.
 use Rattle.std.proofs.Common.{◌<◌, ◌^◌, arith, rules}
 use Rattle.des_block.proofs.WordSteps.{split_is}
 use Rattle.des_block.proofs.rounds.split.Goals as goal

@@ -1,3 +1,4 @@
+-- The bytes that IP makes of the key hold PC-1's halves, which are put together from them.
 use Rattle.std.proofs.Common.{◌<◌, ◌^◌, arith, rules}
 use Rattle.des_block.specs.Bits.{bits}
 use Rattle.des_block.proofs.ScheduleSteps.{left_half, right_half}

@@ -1,3 +1,4 @@
+-- Four look-ups for each half, taken together by xor, are PC-2's choice.
 use Rattle.std.proofs.Common.{ℕ, ◌/◌, ◌^◌, bit_xor, refl, ap₂, ◌∙◌}
 use Rattle.des_block.specs.Keyed.{key_bits}
 use Rattle.des_block.proofs.ScheduleSteps.{left_table, right_table, choice_at, four_choices, round_key_is}

@@ -1,3 +1,4 @@
+-- Turning both halves and choosing from them lays out the next round key, until there are sixteen.
 use Rattle.std.proofs.Common.{refl, arith}
 use Rattle.des_block.specs.Tables.{rotations}
 use Rattle.des_block.specs.Keyed.{key_bits}

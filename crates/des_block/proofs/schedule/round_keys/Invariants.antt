@@ -1,3 +1,4 @@
+-- The keys so far are laid out, and the halves are turned as far as so many rounds turn them.
 use Rattle.des_block.specs.Keyed.{key_bits}
 use Rattle.des_block.proofs.ScheduleSteps.{Lays}
 use Rattle.des_block.proofs.schedule.round_keys.Given as goal

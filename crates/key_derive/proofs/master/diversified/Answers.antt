@@ -1,3 +1,4 @@
+-- The block and its complement, both enciphered, are the halves of the key, which is set to odd parity.
 use Rattle.std.proofs.Common.{◌++◌, map, ap, ap₂, ◌∙◌}
 use Rattle.des_block.specs.Cipher.{tdes_encipher}
 use Rattle.key_derive.specs.MasterKey.{with_odd_parity, diversified}

@@ -1,3 +1,4 @@
+-- The halves of the session key are two encipherments, told apart by their third byte.
 use Rattle.std.proofs.Common.{◌++◌, ap, ap₂, ◌∙◌}
 use Rattle.des_block.specs.Cipher.{tdes_encipher}
 use Rattle.key_derive.specs.SessionKey.{session_key}

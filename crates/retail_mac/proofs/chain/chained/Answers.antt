@@ -1,3 +1,4 @@
+-- One more block takes the chain one step further.
 use Rattle.std.proofs.Common.{refl}
 use Rattle.retail_mac.specs.Mac.{blocks}
 use Rattle.retail_mac.proofs.Pieces.{chained-more}

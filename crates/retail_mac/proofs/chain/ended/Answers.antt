@@ -1,3 +1,4 @@
+-- The chain and the padded last block, together by xor, go through triple DES.
 use Rattle.std.proofs.Common.{◌∙◌, ap}
 use Rattle.des_block.specs.Cipher.{word_bytes, tdes_encipher}
 use Rattle.retail_mac.specs.Mac.{xor_bytes}

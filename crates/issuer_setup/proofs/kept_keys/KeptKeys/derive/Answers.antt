@@ -1,3 +1,4 @@
+-- There is room for the pairs of one more card.
 use Rattle.issuer_setup.proofs.KeptKeysLemmas.{room_for-card}
 use Rattle.issuer_setup.proofs.kept_keys.KeptKeys.derive.Goals as goal
 

@@ -1,3 +1,4 @@
+-- Over no text the chain is zero and the part is empty.
 use Rattle.retail_mac.specs.Mac.{blocks}
 use Rattle.retail_mac.proofs.Blocks.{zero_word}
 use Rattle.retail_mac.proofs.run.MacRun.new.Goals as goal

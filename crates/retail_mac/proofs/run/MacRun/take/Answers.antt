@@ -1,3 +1,4 @@
+-- The MAC is that of all that was taken, and behind it nothing is taken yet.
 use Rattle.std.proofs.Common.{◌∙◌}
 use Rattle.retail_mac.specs.Mac.{blocks}
 use Rattle.retail_mac.proofs.Blocks.{zero_word}
