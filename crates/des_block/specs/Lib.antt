@@ -1,4 +1,5 @@
 pub mod Bits
 pub mod Tables
 pub mod Cipher
+pub mod Schedule
 pub mod Keyed
