@@ -1,6 +1,7 @@
 //! DES and two-key triple DES (FIPS 46-3).
 #![tactic(auto)]
 
+mod boxes;
 mod key_rows;
 pub mod plain;
 mod rounds;
