@@ -7,4 +7,4 @@ pub mod ScheduleSteps
 pub mod KeyRows
 pub mod MergedTables
 pub mod Laws
-pub mod WholeSteps
+pub mod PermutedSteps

@@ -194,7 +194,8 @@ back-picked : (x : ℕ) → turned 31 (bits 32 x) ≡ picked turn_table (bits 32
 unfolding turned bits picked turn_table
 back-picked x = refl
 
-turned-xor : (x y : ℕ) → turned 31 (bits 32 (bit_xor x y)) ≡ xor_bits (turned 31 (bits 32 x)) (turned 31 (bits 32 y))
+-- turning back goes through xor
+pub turned-xor : (x y : ℕ) → turned 31 (bits 32 (bit_xor x y)) ≡ xor_bits (turned 31 (bits 32 x)) (turned 31 (bits 32 y))
 turned-xor x y =
     back-picked (bit_xor x y) ∙ ap (picked turn_table) (bits-xor 32 x y)
     ∙ picked-xor_bits turn_table (bits 32 x) (bits 32 y) (length-bits 32 x ∙ sym (length-bits 32 y))

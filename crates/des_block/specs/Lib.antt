@@ -3,3 +3,4 @@ pub mod Tables
 pub mod Cipher
 pub mod Schedule
 pub mod Keyed
+pub mod Permuted

@@ -1,10 +1,10 @@
 //! The sixteen rounds on words, two at a time, both halves kept turned left by one place.
 
 ghost use Rattle.std.specs.Prelude.{◌≡◌, ℕ, ◌*◌, ◌/◌, ◌%◌, ◌^◌, ◌<◌, ◌++◌, bit_and, bit_xor, map, fold, reverse};
-ghost use Rattle.des_block.specs.Bits.{bits, number, picked};
-ghost use Rattle.des_block.specs.Tables.{initial_permutation, inverse_permutation};
-ghost use Rattle.des_block.specs.Cipher.{cipher_function, round, turned, halves};
+ghost use Rattle.des_block.specs.Bits.{bits, number};
+ghost use Rattle.des_block.specs.Cipher.{cipher_function, round, turned};
 ghost use Rattle.des_block.specs.Keyed.{key_bits, turned_halves};
+ghost use Rattle.des_block.specs.Permuted.{permuted_word};
 
 use crate::boxes::BOXES;
 use crate::schedule::RoundKey;
@@ -43,7 +43,7 @@ fn exchange(a: u32, b: u32, shift: u32, mask: u32) -> (u32, u32)
 /// The halves of a block after IP.
 #[inline]
 pub(crate) fn split(block: u64) -> (u32, u32)
-    ensures { turned_halves result.0 result.1 ≡ halves (picked initial_permutation (bits 64 block)) }
+    ensures { permuted_word result.0 result.1 ≡ block }
 {
     let (a1, b1) = exchange(
         (block >> 32) as u32,
@@ -58,12 +58,12 @@ pub(crate) fn split(block: u64) -> (u32, u32)
     (a5.rotate_left(1), b5.rotate_left(1))
 }
 
-/// The block of two halves, exchanged and sent through the inverse of IP.
+/// The block of two halves after IP.
 #[inline]
 pub(crate) fn joined(left: u32, right: u32) -> u64
-    ensures { result ≡ number (picked inverse_permutation ((turned_halves left right).right ++ (turned_halves left right).left)) }
+    ensures { result ≡ permuted_word left right }
 {
-    let (a1, b1) = exchange(right.rotate_right(1), left.rotate_right(1), 1, 0x5555_5555);
+    let (a1, b1) = exchange(left.rotate_right(1), right.rotate_right(1), 1, 0x5555_5555);
     let (b2, a2) = exchange(b1, a1, 8, 0x00FF_00FF);
     let (b3, a3) = exchange(b2, a2, 2, 0x3333_3333);
     let (a4, b4) = exchange(a3, b3, 16, 0x0000_FFFF);
