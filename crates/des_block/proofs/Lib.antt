@@ -5,6 +5,7 @@ pub mod Linear
 pub mod WordSteps
 pub mod MixedSteps
 pub mod ScheduleSteps
+pub mod KeyRows
 pub mod MergedTables
 pub mod Laws
-pub mod WholeSteps
+pub mod PermutedSteps

@@ -2,4 +2,6 @@
 pub mod Bits
 pub mod Tables
 pub mod Cipher
+pub mod Schedule
 pub mod Keyed
+pub mod Permuted

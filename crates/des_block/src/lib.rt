@@ -1,6 +1,9 @@
 //! DES and two-key triple DES (FIPS 46-3).
 #![tactic(auto)]
 
+mod boxes;
+mod key_rows;
+mod permuted;
 pub mod plain;
 mod rounds;
 mod schedule;
@@ -9,7 +12,8 @@ ghost use Rattle.std.specs.Prelude.{◌≡◌, ℕ, List, take, drop};
 ghost use Rattle.des_block.specs.Cipher.{word_bytes, des_encipher, des_decipher, tdes_encipher, tdes_decipher};
 ghost use Rattle.des_block.specs.Keyed.{HasKey, HasKeyPair};
 
-use rounds::{joined, rounds, rounds_back, split};
+pub use permuted::PermutedBlock;
+use rounds::{rounds, rounds_back};
 use schedule::{RoundKey, round_keys};
 
 /// A key of sixteen bytes: a left and a right half of eight bytes each.
@@ -71,9 +75,7 @@ impl Des {
         ensures enciphered { (key : List ℕ) → HasKey self.now key → word_bytes result ≡ des_encipher key (word_bytes block) }
         ensures undone { (key : List ℕ) → HasKey self.now key → des_decipher key (word_bytes result) ≡ word_bytes block }
     {
-        let (left, right) = split(block);
-        let (left, right) = rounds(&self.keys, left, right);
-        joined(left, right)
+        self.encipher_permuted(&PermutedBlock::new(block)).word()
     }
 
     /// Deciphers a block that is written as a number, its first byte the highest.
@@ -81,9 +83,29 @@ impl Des {
         ensures deciphered { (key : List ℕ) → HasKey self.now key → word_bytes result ≡ des_decipher key (word_bytes block) }
         ensures undone { (key : List ℕ) → HasKey self.now key → des_encipher key (word_bytes result) ≡ word_bytes block }
     {
-        let (left, right) = split(block);
-        let (left, right) = rounds_back(&self.keys, left, right);
-        joined(left, right)
+        self.decipher_permuted(&PermutedBlock::new(block)).word()
+    }
+
+    /// Enciphers a block in permuted halves.
+    pub fn encipher_permuted(&self, block: &PermutedBlock) -> PermutedBlock
+        ensures { (key : List ℕ) → HasKey self.now key → word_bytes result ≡ des_encipher key (word_bytes block.now) }
+    {
+        let (left, right) = rounds(&self.keys, block.left, block.right);
+        PermutedBlock {
+            left: right,
+            right: left,
+        }
+    }
+
+    /// Deciphers a block in permuted halves.
+    pub fn decipher_permuted(&self, block: &PermutedBlock) -> PermutedBlock
+        ensures { (key : List ℕ) → HasKey self.now key → word_bytes result ≡ des_decipher key (word_bytes block.now) }
+    {
+        let (left, right) = rounds_back(&self.keys, block.left, block.right);
+        PermutedBlock {
+            left: right,
+            right: left,
+        }
     }
 }
 
@@ -133,12 +155,7 @@ impl Tdes {
         ensures enciphered { (key : List ℕ) → HasKeyPair self.now key → word_bytes result ≡ tdes_encipher key (word_bytes block) }
         ensures undone { (key : List ℕ) → HasKeyPair self.now key → tdes_decipher key (word_bytes result) ≡ word_bytes block }
     {
-        // Between the three ciphers, IP undoes its inverse and the halves stay exchanged.
-        let (left1, right1) = split(block);
-        let (left2, right2) = rounds(&self.left.keys, left1, right1);
-        let (right3, left3) = rounds_back(&self.right.keys, right2, left2);
-        let (left4, right4) = rounds(&self.left.keys, left3, right3);
-        joined(left4, right4)
+        self.encipher_permuted(&PermutedBlock::new(block)).word()
     }
 
     /// Deciphers a block that is written as a number, its first byte the highest.
@@ -146,11 +163,25 @@ impl Tdes {
         ensures deciphered { (key : List ℕ) → HasKeyPair self.now key → word_bytes result ≡ tdes_decipher key (word_bytes block) }
         ensures undone { (key : List ℕ) → HasKeyPair self.now key → tdes_encipher key (word_bytes result) ≡ word_bytes block }
     {
-        let (left1, right1) = split(block);
-        let (left2, right2) = rounds_back(&self.left.keys, left1, right1);
-        let (right3, left3) = rounds(&self.right.keys, right2, left2);
-        let (left4, right4) = rounds_back(&self.left.keys, left3, right3);
-        joined(left4, right4)
+        self.decipher_permuted(&PermutedBlock::new(block)).word()
+    }
+
+    /// Enciphers a block in permuted halves.
+    pub fn encipher_permuted(&self, block: &PermutedBlock) -> PermutedBlock
+        ensures { (key : List ℕ) → HasKeyPair self.now key → word_bytes result ≡ tdes_encipher key (word_bytes block.now) }
+    {
+        let first = self.left.encipher_permuted(block);
+        let second = self.right.decipher_permuted(&first);
+        self.left.encipher_permuted(&second)
+    }
+
+    /// Deciphers a block in permuted halves.
+    pub fn decipher_permuted(&self, block: &PermutedBlock) -> PermutedBlock
+        ensures { (key : List ℕ) → HasKeyPair self.now key → word_bytes result ≡ tdes_decipher key (word_bytes block.now) }
+    {
+        let first = self.left.decipher_permuted(block);
+        let second = self.right.encipher_permuted(&first);
+        self.left.decipher_permuted(&second)
     }
 }
 
