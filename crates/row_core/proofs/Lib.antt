@@ -4,3 +4,4 @@ pub mod LaunchLemmas
 pub mod RowLemmas
 pub mod OtherCards
 pub mod PlanLemmas
+pub mod AcceptLemmas

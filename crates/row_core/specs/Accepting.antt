@@ -13,10 +13,10 @@ use Rattle.card_history.specs.Scripts.{Scripts, scripts_of}
 use Rattle.card_history.specs.Turns.{IsUnused, decided_for}
 use Rattle.row_core.specs.Replying.{reply_bytes}
 
--- the card status update in the bytes of a reply by method 2: behind tag 8A with its two bytes, tag 91 and its length, and the four bytes
--- of the issuer's cryptogram
+-- the card status update in the bytes of a reply by method 2: four bytes behind tag 8A with its two bytes, tag 91 and its length, and
+-- the four bytes of the issuer's cryptogram; 0 stands for a byte that isn't there
 abbrev pub told_update : List ℕ → List ℕ
-told_update bytes = take 4 (drop 10 bytes)
+told_update bytes = slice_index bytes 10 ∷ slice_index bytes 11 ∷ slice_index bytes 12 ∷ slice_index bytes 13 ∷ []
 
 -- whether a card status update says that the issuer approves: byte 2 bit 8, this project's profile
 abbrev pub says_approval : List ℕ → Bool

@@ -1,6 +1,7 @@
 //! The row that the host keeps for each of an issuer's cards.
 #![tactic(auto)]
 
+mod accepting;
 mod reply;
 mod row;
 mod scripts;

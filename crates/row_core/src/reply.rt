@@ -7,7 +7,6 @@ ghost use Rattle.row_core.specs.Replying.{answer_bytes, script_bytes};
 
 use arpc_methods::value91_under;
 use arrayvec::ArrayVec;
-use decision_table::TableRow;
 use des_block::Key16;
 use issuer_base::{Command, MAX_TEMPLATE_BYTES, Method, Request};
 use key_derive::{SessionKey, session_sm};
@@ -20,27 +19,22 @@ const RESPONSE_CODE: u32 = 0x8A;
 /// The tag of the issuer authentication data.
 const AUTHENTICATION_DATA: u32 = 0x91;
 
-/// The response code and the issuer's cryptogram of a reply by a row of the table, under the session key for cryptograms of
-/// the request's transaction.
+/// The response code and the issuer's cryptogram, by method 2 that of the card status update, under the session key for cryptograms
+/// of the request's transaction.
 pub(crate) fn answer_bytes(
     method: Method,
     session: &SessionKey,
     request: &Request,
-    row: &TableRow,
+    arc: [u8; 2],
+    csu: [u8; 4],
 ) -> ArrayVec<u8, ROOM>
-    ensures exact { result.items ≡ answer_bytes method session.now request.now row.now.arc row.now.csu }
+    ensures exact { result.items ≡ answer_bytes method session.now request.now arc csu }
     ensures room { length result.items + MAX_TEMPLATE_BYTES ≤ ROOM }
 {
     let application_cryptogram = &request.parts().ac;
-    let value = value91_under(
-        method,
-        session.cipher(),
-        application_cryptogram,
-        row.arc,
-        row.csu,
-    );
+    let value = value91_under(method, session.cipher(), application_cryptogram, arc, csu);
     let mut bytes = ArrayVec::new();
-    write(&mut bytes, RESPONSE_CODE, &row.arc);
+    write(&mut bytes, RESPONSE_CODE, &arc);
     write(&mut bytes, AUTHENTICATION_DATA, value.as_slice());
     bytes
 }

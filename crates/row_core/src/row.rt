@@ -19,7 +19,7 @@ use crate::reply::{answer_bytes, write_scripts};
 use crate::scripts::CardScripts;
 use arrayvec::ArrayVec;
 use cvr_settle::Flight;
-use decision_table::{Table, TableRow, decide};
+use decision_table::{Table, decide};
 use issuer_base::{
     Command, MAX_REPLY_BYTES, MAX_STATUS, MAX_TEMPLATE_BYTES, Method, NoMemory, QueueFull, Reply,
     Request, WINDOW,
@@ -34,7 +34,7 @@ use std::marker::Model;
 /// the shard's history. It comes from [`Row::plan`] alone, and goes to [`Row::apply`].
 #[derive(Drop)]
 pub struct Step {
-    decision: KeptEntry,
+    pub(crate) decision: KeptEntry,
 }
 
 impl Model for Step {
@@ -66,7 +66,7 @@ pub enum Outcome {
 /// A contract sees its parts; what they say of a shard's history is `StandsFor`.
 #[derive(Drop)]
 pub struct Row {
-    method: Method,
+    pub(crate) method: Method,
 
     /// The greatest counter among the decisions.
     hi: Option<u16>,
@@ -246,7 +246,7 @@ impl Row {
         let reply = Reply {
             arc: row.arc,
             approve: row.approve,
-            bytes: self.reply_bytes(session, keys, request, row),
+            bytes: self.reply_bytes(session, keys, request, row.arc, row.csu),
         };
         let decision = KeptEntry {
             request: request.copy(),
@@ -256,19 +256,20 @@ impl Row {
         Outcome::Fresh(reply, Step { decision })
     }
 
-    /// What goes to the card where this row of the table decides.
-    fn reply_bytes(
+    /// What goes to the card with this response code and, by method 2, this card status update.
+    pub(crate) fn reply_bytes(
         &self,
         session: &SessionKey,
         keys: &CardKeys,
         request: &Request,
-        row: &TableRow,
+        arc: [u8; 2],
+        csu: [u8; 4],
     ) -> ArrayVec<u8, MAX_REPLY_BYTES>
         requires { session.now ≡ session_ac keys.now.ac.0 request.now.atc }
         ensures { (scripts : Scripts) → KeepsScripts self.now scripts
-            → result.items ≡ reply_bytes self.now.method keys.now scripts request.now row.now.arc row.now.csu }
+            → result.items ≡ reply_bytes self.now.method keys.now scripts request.now arc csu }
     {
-        let mut bytes = answer_bytes(self.method, session, request, row);
+        let mut bytes = answer_bytes(self.method, session, request, arc, csu);
         if is_newest(request.parts().atc, self.hi) {
             self.write_batch(&mut bytes, keys, request);
         }
@@ -294,7 +295,7 @@ impl Row {
     }
 
     /// What the decisions of the window say of a request; `None` where its counter is in the window and unused.
-    fn known(&self, request: &Request) -> Option<Outcome>
+    pub(crate) fn known(&self, request: &Request) -> Option<Outcome>
         ensures { (decisions : List Decision) → self.now.hi ≡ greatest decisions → KeepsWindow self.now.slots decisions
             → MatchOption result (IsUnused decisions request.now) (IsKnown decisions request.now) }
     {

@@ -1,0 +1,25 @@
+-- Where the cryptogram holds, a reply is accepted where it may follow.
+use Rattle.std.proofs.Common.{ap, ◌∙◌}
+use Rattle.issuer_base.specs.declared.request.Request.{Request}
+use Rattle.key_derive.specs.SessionKey.{session_ac}
+use Rattle.row_core.proofs.AcceptLemmas.{accepts-following, accepts-none}
+use Rattle.row_core.proofs.row.Row.accepts.Goals as goal
+
+pub returns-then-holds_under : goal.returns-then-holds_under
+returns-then-holds_under c = record {
+  exact = λ card history stands named.
+      accepts-following card.method c.args.keys.now history c.args.request.now c.args.reply.now _ _ _
+      (c.for_cryptograms-session.ensures ∙ ap (λ (request : Request). session_ac c.args.keys.now.ac.0 request.atc) c.parts.ensures.same)
+      c.holds_under.ensures
+      c.if-holds_under.true
+      (c.accepts_under.ensures.exact card history stands named);
+}
+
+pub returns-else-holds_under : goal.returns-else-holds_under
+returns-else-holds_under c = record {
+  exact = λ card history stands named.
+      accepts-none card.method c.args.keys.now history c.args.request.now c.args.reply.now _ _
+      (c.for_cryptograms-session.ensures ∙ ap (λ (request : Request). session_ac c.args.keys.now.ac.0 request.atc) c.parts.ensures.same)
+      c.holds_under.ensures
+      c.if-holds_under.false;
+}

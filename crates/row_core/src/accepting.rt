@@ -1,0 +1,153 @@
+//! Whether a decision that was recorded is one that the issuer may have made, and how the row takes it over.
+ghost use Rattle.std.specs.Prelude.{◌≡◌, ◌↔◌, ◌++◌, List, [], ◌∷◌, length, slice_index, false, IsTrue};
+ghost use Rattle.issuer_base.specs.declared.entry.Entry.{Entry};
+ghost use Rattle.card_history.specs.declared.decision.Decision.{Decision};
+ghost use Rattle.card_history.specs.Records.{card_of, greatest};
+ghost use Rattle.card_history.specs.Scripts.{Scripts};
+ghost use Rattle.card_history.specs.Turns.{IsUnused};
+ghost use Rattle.key_derive.specs.SessionKey.{session_ac};
+ghost use Rattle.issuer_setup.specs.declared.card.CardInfo.{CardInfo};
+ghost use Rattle.issuer_setup.specs.CardList.{name_of};
+ghost use Rattle.row_core.specs.CardRow.{KeepsWindow, KeepsScripts, StandsFor};
+ghost use Rattle.row_core.specs.Accepting.{told_update, says_approval, IsMade, MayFollow, IsAccepted};
+
+use crate::row::{Row, Step};
+use cryptogram_in::holds_under;
+use issuer_base::{Method, Reply, Request};
+use key_derive::{CardKeys, SessionKey};
+use reply_keep::KeptEntry;
+
+impl Row {
+    /// Whether a decision with this reply may be recorded next: the request's cryptogram is the card's, its counter is in the window
+    /// and unused, and the reply is one that the issuer makes, whatever its decision table was.
+    ///
+    /// `keys` are the card's master keys from the key set of the request. Sets up the session key for cryptograms.
+    pub fn accepts(&self, keys: &CardKeys, request: &Request, reply: &Reply) -> bool
+        ensures exact { (card : CardInfo) (history : List Entry) → StandsFor card self.now history
+            → card_of request.now ≡ name_of card
+            → (IsTrue result ↔ IsAccepted card.method keys.now history request.now reply.now) }
+    {
+        let session = SessionKey::for_cryptograms(&keys.ac, request.parts().atc);
+        holds_under(&session, request) && self.accepts_under(&session, keys, request, reply)
+    }
+
+    /// As `accepts`, of a request whose cryptogram was checked, under the session key for cryptograms of its transaction.
+    pub fn accepts_under(
+        &self,
+        session: &SessionKey,
+        keys: &CardKeys,
+        request: &Request,
+        reply: &Reply,
+    ) -> bool
+        requires { session.now ≡ session_ac keys.now.ac.0 request.now.atc }
+        ensures exact { (card : CardInfo) (history : List Entry) → StandsFor card self.now history
+            → card_of request.now ≡ name_of card
+            → (IsTrue result ↔ MayFollow card.method keys.now history request.now reply.now) }
+    {
+        self.is_unused(request) && self.is_made(session, keys, request, reply)
+    }
+
+    /// Takes over a recorded decision, whose record stands at this place of the card's shard, where `accepts` says that it may, and
+    /// says whether it did.
+    pub fn adopt(&mut self, keys: &CardKeys, request: Request, reply: Reply, place: u64) -> bool
+        ensures exact { (card : CardInfo) (history : List Entry) → StandsFor card self.old history
+            → card_of request ≡ name_of card
+            → (IsTrue result ↔ IsAccepted card.method keys.now history request reply) }
+        ensures adopted { IsTrue result → (card : CardInfo) (history : List Entry) → StandsFor card self.old history
+            → card_of request ≡ name_of card → place ≡ length history
+            → StandsFor card self.new (history ++ Entry.Decided request reply ∷ []) }
+        ensures unchanged { result ≡ false → self.new ≡ self.old }
+    {
+        let session = SessionKey::for_cryptograms(&keys.ac, request.parts().atc);
+        holds_under(&session, &request) && self.adopt_under(&session, keys, request, reply, place)
+    }
+
+    /// As `adopt`, of a request whose cryptogram was checked, under the session key for cryptograms of its transaction.
+    pub fn adopt_under(
+        &mut self,
+        session: &SessionKey,
+        keys: &CardKeys,
+        request: Request,
+        reply: Reply,
+        place: u64,
+    ) -> bool
+        requires { session.now ≡ session_ac keys.now.ac.0 request.atc }
+        ensures exact { (card : CardInfo) (history : List Entry) → StandsFor card self.old history
+            → card_of request ≡ name_of card
+            → (IsTrue result ↔ MayFollow card.method keys.now history request reply) }
+        ensures adopted { IsTrue result → (card : CardInfo) (history : List Entry) → StandsFor card self.old history
+            → card_of request ≡ name_of card → place ≡ length history
+            → StandsFor card self.new (history ++ Entry.Decided request reply ∷ []) }
+        ensures unchanged { result ≡ false → self.new ≡ self.old }
+    {
+        if !self.accepts_under(session, keys, &request, &reply) {
+            return false;
+        }
+        self.apply(Step {
+            decision: KeptEntry {
+                request,
+                reply,
+                place,
+            },
+        });
+        true
+    }
+
+    /// Whether the request's counter is in the window and unused.
+    fn is_unused(&self, request: &Request) -> bool
+        ensures { (decisions : List Decision) → self.now.hi ≡ greatest decisions → KeepsWindow self.now.slots decisions
+            → (IsTrue result ↔ IsUnused decisions request.now) }
+    {
+        self.known(request).is_none()
+    }
+
+    /// Whether the issuer makes this reply to the request, by some row of a decision table.
+    fn is_made(
+        &self,
+        session: &SessionKey,
+        keys: &CardKeys,
+        request: &Request,
+        reply: &Reply,
+    ) -> bool
+        requires { session.now ≡ session_ac keys.now.ac.0 request.now.atc }
+        ensures { (scripts : Scripts) → KeepsScripts self.now scripts
+            → (IsTrue result ↔ IsMade self.now.method keys.now scripts request.now reply.now) }
+    {
+        let update = told_update(reply.bytes.as_slice());
+        if !agrees(self.method, update, reply.approve) {
+            return false;
+        }
+        self.reply_bytes(session, keys, request, reply.arc, update) == reply.bytes
+    }
+}
+
+/// Whether a reply's approval is what its card status update tells the card: by method 1 it has none.
+fn agrees(method: Method, update: [u8; 4], approve: bool) -> bool
+    ensures { IsTrue result ↔ (method ≡ Method.Two → says_approval update ≡ approve) }
+{
+    match method {
+        Method::One => true,
+        Method::Two => says_approval(update) == approve,
+    }
+}
+
+/// Whether the card status update says that the issuer approves.
+fn says_approval(update: [u8; 4]) -> bool
+    ensures { result ≡ says_approval update }
+{
+    update[1] & 0x80 == 0x80
+}
+
+/// The card status update in the bytes of a reply by method 2, with 0 for a byte that isn't there.
+fn told_update(bytes: &[u8]) -> [u8; 4]
+    ensures { result ≡ told_update bytes.now }
+{
+    [10, 11, 12, 13].map(|place| byte_at(bytes, place))
+}
+
+/// The byte at this place, or 0 where there is none.
+fn byte_at(bytes: &[u8], place: usize) -> u8
+    ensures { result ≡ slice_index bytes.now place }
+{
+    bytes.get(place).copied().unwrap_or(0)
+}
