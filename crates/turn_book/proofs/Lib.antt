@@ -1,0 +1,6 @@
+pub mod LogLemmas
+pub mod TurnWords
+pub mod KeepsTurns
+pub mod StepsAllowed
+pub mod SeatLemmas
+pub mod SeatParts

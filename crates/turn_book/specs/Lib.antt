@@ -1,0 +1,6 @@
+pub mod Layout
+pub mod Logs
+pub mod Seats
+pub mod TurnRule
+pub mod TurnSteps
+pub mod TurnViews

@@ -1,0 +1,199 @@
+//! The shards that callers share, and the turns that they take at them.
+ghost use Rattle.std.specs.Prelude.{◌≡◌, ◌+◌, ◌*◌, ◌<◌, ◌≤◌, ◌^◌, [], ◌∷◌, ◌++◌, length, map, IfOk, IfErr, IfSome, IfNone, vec_len, Some};
+ghost use Rattle.issuer_base.specs.declared.limits.TheConstants.{MAX_SHARDS};
+ghost use Rattle.turn_book.specs.declared.layout.TheConstants.{SHARD_WORDS};
+ghost use Rattle.turn_book.specs.declared.view.Turn.TheVariants.{Free, Inside};
+
+use crate::layout::{FREE, SHARD_WORDS, TAKEN, count_word, turn_word};
+use crate::logs::{Item, Logged};
+use crate::opening::Opening;
+use crate::rule::{Adds, Looks, Next, Parts, Releases, Retakes, Takes, TurnRule};
+use crate::seat::TurnSeat;
+use crate::values::Spare;
+use crate::view::TurnView;
+use atomic_table::Table;
+use issuer_base::MAX_SHARDS;
+use std::alloc::Global;
+use std::hint;
+use std::marker::Brand;
+use std::sync::{Mutex, Wait};
+
+/// How often a caller looks for a free turn before it sleeps.
+const TRIES: u32 = 100;
+
+/// How many items a log may have before one more is added.
+pub const MAX_ITEMS: u64 = 1 << 63;
+
+/// The shards, which callers share: each has a value that stands for its log.
+pub struct Turns<V: Logged<I, B>, I, B> {
+    pub(crate) table: Table<Option<V>, TurnView<I, B>, Opening<I, B>, TurnRule, Global>,
+
+    // Where `close` puts the values, so that it takes no memory. The lock is never taken: with it, the values need not be shared.
+    pub(crate) spare: Mutex<Spare<V>>,
+    ghost some_shard: { 0 < length table.shared.key.view },
+    ghost few: { length table.shared.key.view ≤ MAX_SHARDS },
+    ghost sized: { table.shared.table_id.words ≡ SHARD_WORDS * length table.shared.key.view },
+    ghost slots: { table.shared.table_id.slots ≡ length table.shared.key.view },
+}
+
+impl<V: Logged<I, B>, I, B> Turns<V, I, B> {
+    ghost use Rattle.turn_book.specs.Logs.{items_at, IsFront, StandsAt};
+    ghost use Rattle.turn_book.specs.TurnViews.{entered, counted, free, parent_view, child_view, joined};
+    ghost use Rattle.turn_book.specs.Seats.{shards_of, view_of, IsOf};
+
+    /// Takes the shard's turn and its value, in one step, where nobody has the turn.
+    fn try_enter(&self, seat: &mut TurnSeat<I, B>, shard: u8) -> Option<V>
+        requires seat { IsOf seat.old self.now }
+        requires free { (view_of seat.old).turn ≡ Free }
+        requires shard { shard < shards_of self.now }
+        ensures seat { IsOf seat.new self.now }
+        ensures entered { IfSome result (λ value. (view_of seat.new ≡ entered shard (items_at (view_of seat.new).seen shard) (view_of seat.old))
+            × IsFront (items_at (view_of seat.old).seen shard) (items_at (view_of seat.new).seen shard)
+            × StandsAt V.stands value (view_of seat.new).seen shard) }
+        ensures same { IfNone result (view_of seat.new ≡ view_of seat.old) }
+    {
+        let mut stepper = seat.take::<V>();
+        let found = self
+            .table
+            .shared
+            .compare_exchange::<Takes>(&mut stepper, turn_word(shard), FREE, TAKEN);
+        if found != FREE {
+            seat.put(stepper);
+            return None;
+        }
+        let value = self
+            .table
+            .shared
+            .exchange(&mut stepper, shard as usize, None);
+        self.table
+            .shared
+            .load::<Looks>(&mut stepper, count_word(shard));
+        seat.put(stepper);
+        Some(value.unwrap())
+    }
+
+    /// Looks some times for a free turn, and takes it and the value where it finds one.
+    fn look_for_turn(&self, seat: &mut TurnSeat<I, B>, shard: u8) -> Option<V>
+        requires seat { IsOf seat.old self.now }
+        requires free { (view_of seat.old).turn ≡ Free }
+        requires shard { shard < shards_of self.now }
+        ensures seat { IsOf seat.new self.now }
+        ensures entered { IfSome result (λ value. (view_of seat.new ≡ entered shard (items_at (view_of seat.new).seen shard) (view_of seat.old))
+            × IsFront (items_at (view_of seat.old).seen shard) (items_at (view_of seat.new).seen shard)
+            × StandsAt V.stands value (view_of seat.new).seen shard) }
+        ensures same { IfNone result (view_of seat.new ≡ view_of seat.old) }
+    {
+        for _ in 0..TRIES {
+            if self.table.shared.peek(turn_word(shard)) == FREE {
+                match self.try_enter(seat, shard) {
+                    Some(value) => return Some(value),
+                    None => {}
+                }
+            }
+            hint::spin_loop();
+        }
+        None
+    }
+
+    /// Waits until it has the shard's turn, and takes the value, which stands for the log as it is now.
+    pub fn enter<R: Wait>(&self, rt: &R, seat: &mut TurnSeat<I, B>, shard: u8) -> V
+        requires seat { IsOf seat.old self.now }
+        requires free { (view_of seat.old).turn ≡ Free }
+        requires shard { shard < shards_of self.now }
+        ensures seat { IsOf seat.new self.now }
+
+        // What the seat has seen of the shard's log is now the whole log, which begins with what it had seen before.
+        ensures view { view_of seat.new ≡ entered shard (items_at (view_of seat.new).seen shard) (view_of seat.old) }
+        ensures front { IsFront (items_at (view_of seat.old).seen shard) (items_at (view_of seat.new).seen shard) }
+        ensures value { StandsAt V.stands result (view_of seat.new).seen shard }
+    {
+        for _ in rt.forever() {
+            match self.look_for_turn(seat, shard) {
+                Some(value) => return value,
+                None => self
+                    .table
+                    .shared
+                    .park(rt, turn_word(shard), TAKEN as u32),
+            }
+        }
+        unreachable!()
+    }
+
+    /// Adds the item that a call picks, as `added` says.
+    fn count_next<N: Next<I>, E: Item<I>>(&self, seat: &mut TurnSeat<I, B>, shard: u8, item: &E)
+        requires seat { IsOf seat.old self.now }
+        requires held { (view_of seat.old).turn ≡ Inside shard }
+        requires room { length (items_at (view_of seat.old).seen shard) < MAX_ITEMS }
+        requires next { N.next ≡ Some (E.item item.now) }
+        ensures seat { IsOf seat.new self.now }
+        ensures view { view_of seat.new ≡ counted shard (E.item item.now) (view_of seat.old) }
+    {
+        let _ = item;
+        let mut stepper = seat.take::<V>();
+        self.table
+            .shared
+            .fetch_add::<Adds<N>>(&mut stepper, count_word(shard), 1);
+        seat.put(stepper);
+    }
+
+    /// Adds the item that this value means to the log of the shard that the seat is in, by one atomic step.
+    pub fn added<E: Item<I>>(&self, seat: &mut TurnSeat<I, B>, shard: u8, item: &E)
+        requires seat { IsOf seat.old self.now }
+        requires held { (view_of seat.old).turn ≡ Inside shard }
+        requires room { length (items_at (view_of seat.old).seen shard) < MAX_ITEMS }
+        ensures seat { IsOf seat.new self.now }
+        ensures view { view_of seat.new ≡ counted shard (E.item item.now) (view_of seat.old) }
+        ensures log { items_at (view_of seat.new).seen shard ≡ items_at (view_of seat.old).seen shard ++ E.item item.now ∷ [] }
+    {
+        self.count_next::<Brand, E>(seat, shard, item);
+    }
+
+    /// Ends the seat's turn at the shard: the value goes back, and one caller that sleeps here is woken.
+    pub fn leave(&self, seat: &mut TurnSeat<I, B>, shard: u8, value: V)
+        requires seat { IsOf seat.old self.now }
+        requires held { (view_of seat.old).turn ≡ Inside shard }
+        requires value { StandsAt V.stands value (view_of seat.old).seen shard }
+        ensures seat { IsOf seat.new self.now }
+        ensures view { view_of seat.new ≡ free (view_of seat.old) }
+    {
+        let mut stepper = seat.take::<V>();
+        let word = turn_word(shard);
+        self.table.shared.load::<Retakes>(&mut stepper, word);
+        let empty = self
+            .table
+            .shared
+            .exchange(&mut stepper, shard as usize, Some(value));
+        let None = empty else { unreachable!() };
+        self.table
+            .shared
+            .store::<Releases>(&mut stepper, word, FREE);
+        seat.put(stepper);
+        self.table.shared.wake_one(word);
+    }
+
+    /// A second seat, which has seen the same logs and has added nothing.
+    pub fn split(&self, seat: &mut TurnSeat<I, B>) -> TurnSeat<I, B>
+        requires seat { IsOf seat.old self.now }
+        requires free { (view_of seat.old).turn ≡ Free }
+        ensures seat { IsOf seat.new self.now × (view_of seat.new ≡ parent_view (view_of seat.old)) }
+        ensures new { IsOf result self.now × (view_of result ≡ child_view (view_of seat.old)) }
+    {
+        let mut stepper = seat.take::<V>();
+        let new = self.table.shared.split_seat::<Parts>(&mut stepper);
+        seat.put(stepper);
+        TurnSeat::of(new)
+    }
+
+    /// Ends the other seat, and leaves this one with the items that both added, and of each log the longer that either has seen.
+    pub fn join(&self, seat: &mut TurnSeat<I, B>, other: TurnSeat<I, B>)
+        requires seats { IsOf seat.old self.now × IsOf other self.now }
+        requires free { ((view_of seat.old).turn ≡ Free) × ((view_of other).turn ≡ Free) }
+        ensures { IsOf seat.new self.now × (view_of seat.new ≡ joined (view_of seat.old) (view_of other)) }
+    {
+        let mut stepper = seat.take::<V>();
+        self.table
+            .shared
+            .join_seat::<Parts>(&mut stepper, other.into_seat());
+        seat.put(stepper);
+    }
+}
