@@ -4,3 +4,5 @@ pub mod KeepsTurns
 pub mod StepsAllowed
 pub mod SeatLemmas
 pub mod SeatParts
+pub mod ValueLemmas
+pub mod BeginsAndEnds

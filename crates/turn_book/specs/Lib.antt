@@ -1,5 +1,6 @@
 pub mod Layout
 pub mod Logs
+pub mod Opening
 pub mod Seats
 pub mod TurnRule
 pub mod TurnSteps

@@ -1,7 +1,8 @@
 //! The shards that callers share, and the turns that they take at them.
-ghost use Rattle.std.specs.Prelude.{◌≡◌, ◌+◌, ◌*◌, ◌<◌, ◌≤◌, ◌^◌, [], ◌∷◌, ◌++◌, length, map, IfOk, IfErr, IfSome, IfNone, vec_len, Some};
+ghost use Rattle.std.specs.Prelude.{◌≡◌, ℕ, List, ◌+◌, ◌*◌, ◌<◌, ◌≤◌, ◌^◌, [], ◌∷◌, ◌++◌, length, map, IfOk, IfErr, IfSome, IfNone, vec_len, Some};
 ghost use Rattle.issuer_base.specs.declared.limits.TheConstants.{MAX_SHARDS};
 ghost use Rattle.turn_book.specs.declared.layout.TheConstants.{SHARD_WORDS};
+ghost use Rattle.turn_book.specs.declared.logs.Log.{Log};
 ghost use Rattle.turn_book.specs.declared.view.Turn.TheVariants.{Free, Inside};
 
 use crate::layout::{FREE, SHARD_WORDS, TAKEN, count_word, turn_word};
@@ -9,9 +10,9 @@ use crate::logs::{Item, Logged};
 use crate::opening::Opening;
 use crate::rule::{Adds, Looks, Next, Parts, Releases, Retakes, Takes, TurnRule};
 use crate::seat::TurnSeat;
-use crate::values::Spare;
+use crate::values::{Ground, Spare, empty_slots, fill_slots, take_ground, take_values};
 use crate::view::TurnView;
-use atomic_table::Table;
+use atomic_table::{Refused, Table};
 use issuer_base::MAX_SHARDS;
 use std::alloc::Global;
 use std::hint;
@@ -37,9 +38,47 @@ pub struct Turns<V: Logged<I, B>, I, B> {
 }
 
 impl<V: Logged<I, B>, I, B> Turns<V, I, B> {
-    ghost use Rattle.turn_book.specs.Logs.{items_at, IsFront, StandsAt};
-    ghost use Rattle.turn_book.specs.TurnViews.{entered, counted, free, parent_view, child_view, joined};
-    ghost use Rattle.turn_book.specs.Seats.{shards_of, view_of, IsOf};
+    ghost use Rattle.seat_names.specs.SeatNames.{IsWhole};
+    ghost use Rattle.turn_book.specs.Logs.{items_at, IsFront, StandsAt, StandFor};
+    ghost use Rattle.turn_book.specs.TurnRule.{between};
+    ghost use Rattle.turn_book.specs.TurnViews.{times, first_view, entered, counted, free, parent_view, child_view, joined};
+    ghost use Rattle.turn_book.specs.Seats.{opening_of, shards_of, view_of, IsOf};
+
+    /// The turns at shards with these values, in order, and the first seat. At first each value stands for a log with so many
+    /// items, the opening logs, of which the caller tells. Where memory is wanting, and then alone, the values come back in order.
+    pub fn load(
+        alloc: Global,
+        mut values: Vec<V>,
+        counts: &[u64],
+    ) -> Result<(Turns<V, I, B>, TurnSeat<I, B>), Vec<V>>
+        ghost opening: { List (Log I B) }
+        requires shards { (0 < vec_len values) × (vec_len values ≤ MAX_SHARDS) }
+        requires counts { counts.now ≡ map (λ log. length log.items) opening }
+        requires values { StandFor V.stands values.items opening }
+        ensures opening { IfOk result (λ made. opening_of made.0 ≡ opening) }
+        ensures seat { IfOk result (λ made. IsOf made.1 made.0 × (view_of made.1 ≡ first_view opening)) }
+        ensures refused { IfErr result (λ back. back.items ≡ values.items) }
+    {
+        let Ok(ground) = take_ground::<V, Brand, I, B>(alloc, &mut values, counts) else {
+            return Err(values);
+        };
+        let Ground {
+            words,
+            key,
+            mut slots,
+        } = ground;
+        fill_slots(&mut values, &mut slots);
+        match Table::new(alloc, words.as_slice(), slots, &key) {
+            Ok((table, seat)) => {
+                let spare = Mutex::new(Spare::new(values));
+                Ok((Turns { table, spare }, TurnSeat::of(seat)))
+            }
+            Err(Refused { slots }) => {
+                empty_slots(slots, &mut values);
+                Err(values)
+            }
+        }
+    }
 
     /// Takes the shard's turn and its value, in one step, where nobody has the turn.
     fn try_enter(&self, seat: &mut TurnSeat<I, B>, shard: u8) -> Option<V>
@@ -110,10 +149,7 @@ impl<V: Logged<I, B>, I, B> Turns<V, I, B> {
         for _ in rt.forever() {
             match self.look_for_turn(seat, shard) {
                 Some(value) => return value,
-                None => self
-                    .table
-                    .shared
-                    .park(rt, turn_word(shard), TAKEN as u32),
+                None => self.table.shared.park(rt, turn_word(shard), TAKEN as u32),
             }
         }
         unreachable!()
@@ -195,5 +231,28 @@ impl<V: Logged<I, B>, I, B> Turns<V, I, B> {
             .shared
             .join_seat::<Parts>(&mut stepper, other.into_seat());
         seat.put(stepper);
+    }
+
+    /// Ends the turns, with a seat into which all others were joined, and gives the values in order. It takes no memory.
+    pub fn close(self, seat: TurnSeat<I, B>) -> Vec<V>
+        requires seat { IsOf seat self }
+        requires free { (view_of seat).turn ≡ Free }
+        requires whole { IsWhole (view_of seat).names }
+
+        // Each value stands for the log that the seat has seen, which begins with the opening log.
+        ensures values { StandFor V.stands result.items (view_of seat).seen }
+        ensures fronts { (shard : ℕ) → IsFront (items_at (opening_of self) shard) (items_at (view_of seat).seen shard) }
+
+        // The items past the opening logs stand at just the places that are the seat's, each once.
+        ensures places { (shard place : ℕ) → shard < shards_of self → times shard place (view_of seat).mine
+            ≡ between (length (items_at (opening_of self) shard)) (length (items_at (view_of seat).seen shard)) place }
+    {
+        let seat = seat.into_seat::<V>();
+        let Turns { table, spare } = self;
+        let mut values = spare.into_inner().into_list();
+        let mut closed = table.close_with(seat);
+        take_values(&mut closed, &mut values);
+        closed.free();
+        values
     }
 }
