@@ -6,3 +6,4 @@ pub mod SeatLemmas
 pub mod SeatParts
 pub mod ValueLemmas
 pub mod BeginsAndEnds
+pub mod CountingLemmas

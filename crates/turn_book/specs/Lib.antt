@@ -1,3 +1,4 @@
+pub mod Counting
 pub mod Layout
 pub mod Logs
 pub mod Opening

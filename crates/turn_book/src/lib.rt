@@ -14,6 +14,10 @@ mod values;
 mod view;
 
 pub use logs::{Item, Log, Logged};
+pub use opening::OpeningLogs;
 pub use seat::TurnSeat;
-pub use turns::Turns;
+pub use turns::{MAX_ITEMS, Turns};
 pub use view::{Turn, TurnView};
+
+#[cfg(test)]
+mod tests;

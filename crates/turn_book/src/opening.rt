@@ -11,12 +11,13 @@ use std::marker::{Brand, PhantomData};
 /// The opening log of each shard.
 pub(crate) type Opening<I, B> = Mark<LinkedList<Log<I, B>>>;
 
-/// The opening logs that a call picks.
-pub(crate) trait Opens<I, B> {
+/// The opening logs of a table. The caller of `load` passes `Brand`, and its proof picks them.
+pub trait OpeningLogs<I, B> {
+    // The opening log of each shard.
     ghost opening: { List (Log I B) };
 }
 
-impl<I, B> Opens<I, B> for Brand {
+impl<I, B> OpeningLogs<I, B> for Brand {
     ghost opening = { [] };
 }
 
@@ -31,14 +32,16 @@ impl TableRule<(), (), ()> for Anything {
 
 struct Tells<J>(PhantomData<J>);
 
-impl<J: Opens<I, B>, I, B> PerchRule<LinkedList<Log<I, B>>> for Tells<J> {
+impl<J: OpeningLogs<I, B>, I, B> PerchRule<LinkedList<Log<I, B>>> for Tells<J> {
     ghost holds = { λ _ _. Unit {0} };
 
     ghost first = { J.opening };
 }
 
 /// A key with these opening logs. The table that it is made beside has no words, and ends here.
-pub(crate) fn opening_key<J: Opens<I, B>, I, B>(alloc: Global) -> Result<Opening<I, B>, AllocError>
+pub(crate) fn opening_key<J: OpeningLogs<I, B>, I, B>(
+    alloc: Global,
+) -> Result<Opening<I, B>, AllocError>
     ensures { IfOk result (λ key. key.view ≡ J.opening) }
 {
     let (_table, seat) = Table::<(), (), (), Anything, Global>::of_words(alloc, &[], &())?;

@@ -7,7 +7,7 @@ ghost use Rattle.turn_book.specs.declared.view.Turn.TheVariants.{Free, Inside};
 
 use crate::layout::{FREE, SHARD_WORDS, TAKEN, count_word, turn_word};
 use crate::logs::{Item, Logged};
-use crate::opening::Opening;
+use crate::opening::{Opening, OpeningLogs};
 use crate::rule::{Adds, Looks, Next, Parts, Releases, Retakes, Takes, TurnRule};
 use crate::seat::TurnSeat;
 use crate::values::{Ground, Spare, empty_slots, fill_slots, take_ground, take_values};
@@ -45,21 +45,20 @@ impl<V: Logged<I, B>, I, B> Turns<V, I, B> {
     ghost use Rattle.turn_book.specs.Seats.{opening_of, shards_of, view_of, IsOf};
 
     /// The turns at shards with these values, in order, and the first seat. At first each value stands for a log with so many
-    /// items, the opening logs, of which the caller tells. Where memory is wanting, and then alone, the values come back in order.
-    pub fn load(
+    /// items, the opening logs, which the caller picks as `J`. Where memory is wanting, and then alone, the values come back in order.
+    pub fn load<J: OpeningLogs<I, B>>(
         alloc: Global,
         mut values: Vec<V>,
         counts: &[u64],
     ) -> Result<(Turns<V, I, B>, TurnSeat<I, B>), Vec<V>>
-        ghost opening: { List (Log I B) }
         requires shards { (0 < vec_len values) × (vec_len values ≤ MAX_SHARDS) }
-        requires counts { counts.now ≡ map (λ log. length log.items) opening }
-        requires values { StandFor V.stands values.items opening }
-        ensures opening { IfOk result (λ made. opening_of made.0 ≡ opening) }
-        ensures seat { IfOk result (λ made. IsOf made.1 made.0 × (view_of made.1 ≡ first_view opening)) }
+        requires counts { counts.now ≡ map (λ log. length log.items) J.opening }
+        requires values { StandFor V.stands values.items J.opening }
+        ensures opening { IfOk result (λ made. opening_of made.0 ≡ J.opening) }
+        ensures seat { IfOk result (λ made. IsOf made.1 made.0 × (view_of made.1 ≡ first_view J.opening)) }
         ensures refused { IfErr result (λ back. back.items ≡ values.items) }
     {
-        let Ok(ground) = take_ground::<V, Brand, I, B>(alloc, &mut values, counts) else {
+        let Ok(ground) = take_ground::<V, J, I, B>(alloc, &mut values, counts) else {
             return Err(values);
         };
         let Ground {

@@ -5,7 +5,7 @@ ghost use Rattle.issuer_base.specs.declared.limits.TheConstants.{MAX_SHARDS};
 ghost use Rattle.turn_book.specs.Opening.{AreOpeningWords};
 
 use crate::layout::{SHARD_WORDS, count_word};
-use crate::opening::{Opening, Opens, opening_key};
+use crate::opening::{Opening, OpeningLogs, opening_key};
 use atomic_table::Closed;
 use issuer_base::MAX_SHARDS;
 use std::alloc::{AllocError, Global};
@@ -92,7 +92,7 @@ pub(crate) struct Ground<V, I, B> {
 }
 
 /// Takes the memory of a table for so many values.
-pub(crate) fn take_ground<V, J: Opens<I, B>, I, B>(
+pub(crate) fn take_ground<V, J: OpeningLogs<I, B>, I, B>(
     alloc: Global,
     values: &mut Vec<V>,
     counts: &[u64],

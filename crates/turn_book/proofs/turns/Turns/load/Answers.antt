@@ -7,29 +7,29 @@ use Rattle.turn_book.proofs.turns.Turns.load.Goals as goal
 
 pub take_ground-requires : goal.take_ground-requires
 take_ground-requires g c =
-    let long : length c.args.counts.now ≡ length c.args.values.items = ap length c.requires.1.1.1.1.0 ∙ counts-length g.opening
-    ∙ sym (stand-length g.V.Logged.stands c.args.values.items g.opening c.requires.1.1.1.1.1) in
-    (c.requires.1.1.1.0.1, omega (arith, long, c.args.values.ok))
+    let long : length c.args.counts.now ≡ length c.args.values.items = ap length c.requires.counts ∙ counts-length g.J.OpeningLogs.opening
+    ∙ sym (stand-length g.V.Logged.stands c.args.values.items g.J.OpeningLogs.opening c.requires.values) in
+    (c.requires.shards.1, omega (arith, long, c.args.values.ok))
 
 pub new-requires : goal.new-requires
 new-requires g c =
     rw (c.in-Ok.ensures.key, c.as_slice.ensures.value)
-    (opening_holds g.V.Logged.stands g.opening c.args.counts.now c.in-Ok.ground.words.items c.args.values.items c.fill_slots.new.slots.items
-    c.requires.1.1.1.1.0 c.in-Ok.ensures.words c.requires.1.1.1.1.1 (c.fill_slots.ensures.slots ∙ ap (map Some) c.take_ground.ensures.values))
+    (opening_holds g.V.Logged.stands g.J.OpeningLogs.opening c.args.counts.now c.in-Ok.ground.words.items c.args.values.items c.fill_slots.new.slots.items
+    c.requires.counts c.in-Ok.ensures.words c.requires.values (c.fill_slots.ensures.slots ∙ ap (map Some) c.take_ground.ensures.values))
 
 pub invariant_of-result : goal.invariant_of-result
 invariant_of-result g c =
     let made = c.in-Ok-new.ensures.ok in
-    let key : c.in-Ok-new.table.shared.key.view ≡ g.opening = ap (λ k. k.view) made.5 ∙ c.in-Ok.ensures.key in
+    let key : c.in-Ok-new.table.shared.key.view ≡ g.J.OpeningLogs.opening = ap (λ k. k.view) made.5 ∙ c.in-Ok.ensures.key in
     let long : length c.args.values.items ≡ length c.in-Ok-new.table.shared.key.view =
-    stand-length g.V.Logged.stands c.args.values.items g.opening c.requires.1.1.1.1.1 ∙ sym (ap length key) in
+    stand-length g.V.Logged.stands c.args.values.items g.J.OpeningLogs.opening c.requires.values ∙ sym (ap length key) in
     let counts : length c.args.counts.now ≡ length c.in-Ok-new.table.shared.key.view =
-    ap length c.requires.1.1.1.1.0 ∙ counts-length g.opening ∙ sym (ap length key) in
+    ap length c.requires.counts ∙ counts-length g.J.OpeningLogs.opening ∙ sym (ap length key) in
     let slots : length c.fill_slots.new.slots.items ≡ length c.args.values.items =
     ap length c.fill_slots.ensures.slots ∙ length-map c.take_ground.new.values.items Some ∙ ap length c.take_ground.ensures.values in
     record {
-      some_shard = omega (arith, long, c.args.values.ok, c.requires.1.1.1.0.0);
-      few = omega (arith, long, c.args.values.ok, c.requires.1.1.1.0.1);
+      some_shard = omega (arith, long, c.args.values.ok, c.requires.shards.0);
+      few = omega (arith, long, c.args.values.ok, c.requires.shards.1);
       sized = made.0 ∙ ap length c.as_slice.ensures.value ∙ c.in-Ok.ensures.words.wide ∙ ap (λ n. SHARD_WORDS * n) counts;
       slots = made.1 ∙ slots ∙ long;
     }
