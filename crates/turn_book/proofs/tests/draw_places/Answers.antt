@@ -4,6 +4,7 @@ use Rattle.seat_names.specs.SeatNames.{IsWhole}
 use Rattle.seat_names.specs.declared.seat_name.SeatName.{SeatName}
 use Rattle.seat_names.proofs.ManySeats.{flat_map-kept, lent_whole}
 use Rattle.turn_book.specs.declared.tests.Caller.{Caller}
+use Rattle.turn_book.specs.declared.tests.Tally.{Tally}
 use Rattle.turn_book.specs.Logs.{items_at}
 use Rattle.turn_book.specs.TurnRule.{between}
 use Rattle.turn_book.specs.Seats.{view_of}
@@ -30,7 +31,7 @@ returns g c shard place below =
     let done = c.join_all.ensures.seat in
     let turns = c.in-Ok.ensures.turns in
     let none = turns.1 shard in
-    let count = counts_are c.close.result.items (view_of c.join_all.new.seat).seen shard c.close.ensures.values in
+    let count = counts_are (λ (tally : Tally). tally.shard) (λ (tally : Tally). tally.count) c.close.result.items (view_of c.join_all.new.seat).seen shard c.close.ensures.values in
     sym (done.added shard place) ∙ c.close.ensures.places shard place (omega (arith, turns.0, below))
     ∙ ap (λ items. between (length items) (length (items_at (view_of c.join_all.new.seat).seen shard)) place) none
     ∙ ap (λ n. between 0 n place) (sym count)
