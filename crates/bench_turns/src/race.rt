@@ -92,12 +92,7 @@ fn take_turns<R: Wait>(rt: &R, tallies: &Tallies, caller: &mut Caller, run: &Run
 }
 
 /// Splits off a seat for each caller, and deals the shards among them.
-fn seat_all(
-    tallies: &Tallies,
-    seat: &mut TurnSeat<u64, u8>,
-    run: &Run,
-    callers: &mut Vec<Caller>,
-)
+fn seat_all(tallies: &Tallies, seat: &mut TurnSeat<u64, u8>, run: &Run, callers: &mut Vec<Caller>)
     requires seat { IsReady tallies.now seat.old 0 }
     requires shards { (0 < run.now.shards) × (run.now.shards ≡ shards_of tallies.now) }
     requires whole { IsWhole (view_of seat.old).names }
