@@ -17,6 +17,7 @@ use issuer_base::MAX_SHARDS;
 use std::alloc::Global;
 use std::hint;
 use std::marker::Brand;
+use std::sync::atomic::{AtomicU64, Ordering};
 use std::sync::{Mutex, Wait};
 
 /// How often a caller looks for a free turn before it sleeps.
@@ -31,6 +32,9 @@ pub struct Turns<V: Logged<I, B>, I, B> {
 
     // Where `close` puts the values, so that it takes no memory. The lock is never taken: with it, the values need not be shared.
     pub(crate) spare: Mutex<Spare<V>>,
+
+    // How many callers sleep or are about to, so that whoever leaves wakes nobody in vain.
+    pub(crate) sleepers: AtomicU64,
     ghost some_shard: { 0 < length table.shared.key.view },
     ghost few: { length table.shared.key.view ≤ MAX_SHARDS },
     ghost sized: { table.shared.table_id.words ≡ SHARD_WORDS * length table.shared.key.view },
@@ -70,7 +74,12 @@ impl<V: Logged<I, B>, I, B> Turns<V, I, B> {
         match Table::new(alloc, words.as_slice(), slots, &key) {
             Ok((table, seat)) => {
                 let spare = Mutex::new(Spare::new(values));
-                Ok((Turns { table, spare }, TurnSeat::of(seat)))
+                let turns = Turns {
+                    table,
+                    spare,
+                    sleepers: AtomicU64::new(0),
+                };
+                Ok((turns, TurnSeat::of(seat)))
             }
             Err(Refused { slots }) => {
                 empty_slots(slots, &mut values);
@@ -133,6 +142,24 @@ impl<V: Logged<I, B>, I, B> Turns<V, I, B> {
         None
     }
 
+    /// Sleeps while the shard's turn is taken, until somebody leaves. It may also return before.
+    fn sleep<R: Wait>(&self, rt: &R, shard: u8)
+        requires { shard < shards_of self.now }
+    {
+        self.sleepers.fetch_add(1, Ordering::SeqCst);
+        self.table.shared.park(rt, turn_word(shard), TAKEN as u32);
+        self.sleepers.fetch_sub(1, Ordering::SeqCst);
+    }
+
+    /// Wakes one caller that sleeps until it has the shard's turn, if there is one.
+    fn wake(&self, shard: u8)
+        requires { shard < shards_of self.now }
+    {
+        if self.sleepers.load(Ordering::SeqCst) != 0 {
+            self.table.shared.wake_one(turn_word(shard));
+        }
+    }
+
     /// Waits until it has the shard's turn, and takes the value, which stands for the log as it is now.
     pub fn enter<R: Wait>(&self, rt: &R, seat: &mut TurnSeat<I, B>, shard: u8) -> V
         requires seat { IsOf seat.old self.now }
@@ -148,7 +175,7 @@ impl<V: Logged<I, B>, I, B> Turns<V, I, B> {
         for _ in rt.forever() {
             match self.look_for_turn(seat, shard) {
                 Some(value) => return value,
-                None => self.table.shared.park(rt, turn_word(shard), TAKEN as u32),
+                None => self.sleep(rt, shard),
             }
         }
         unreachable!()
@@ -203,7 +230,7 @@ impl<V: Logged<I, B>, I, B> Turns<V, I, B> {
             .shared
             .store::<Releases>(&mut stepper, word, FREE);
         seat.put(stepper);
-        self.table.shared.wake_one(word);
+        self.wake(shard);
     }
 
     /// A second seat, which has seen the same logs and has added nothing.
@@ -247,7 +274,11 @@ impl<V: Logged<I, B>, I, B> Turns<V, I, B> {
             ≡ between (length (items_at (opening_of self) shard)) (length (items_at (view_of seat).seen shard)) place }
     {
         let seat = seat.into_seat::<V>();
-        let Turns { table, spare } = self;
+        let Turns {
+            table,
+            spare,
+            sleepers: _,
+        } = self;
         let mut values = spare.into_inner().into_list();
         let mut closed = table.close_with(seat);
         take_values(&mut closed, &mut values);

@@ -17,8 +17,8 @@ new-requires g c =
     (opening_holds g.V.Logged.stands g.J.OpeningLogs.opening c.args.counts.now c.in-Ok.ground.words.items c.args.values.items c.fill_slots.new.slots.items
     c.requires.counts c.in-Ok.ensures.words c.requires.values (c.fill_slots.ensures.slots ∙ ap (map Some) c.take_ground.ensures.values))
 
-pub invariant_of-result : goal.invariant_of-result
-invariant_of-result g c =
+pub invariant_of-turns : goal.invariant_of-turns
+invariant_of-turns g c =
     let made = c.in-Ok-new.ensures.ok in
     let key : c.in-Ok-new.table.shared.key.view ≡ g.J.OpeningLogs.opening = ap (λ k. k.view) made.5 ∙ c.in-Ok.ensures.key in
     let long : length c.args.values.items ≡ length c.in-Ok-new.table.shared.key.view =
