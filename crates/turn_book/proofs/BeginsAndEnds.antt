@@ -84,6 +84,7 @@ opening_holds {V} {I} {B} stands logs counts words values slots counted are all 
         heads = λ _. refl;
         opened = λ _ shard. LogLemmas.front_refl (items_at logs shard);
         idle = λ none. absurd (omega arith);
+        heard = λ at seen there. absurd (some-ne-none seen (sym there));
       } in
       subst (Knows logs logs) (at_one (first_view logs) view seat there) knows_first;
   names = named_first;

@@ -130,8 +130,23 @@ pub record IsStep {V I B : Type 0} (stands : V → B → List I → Type 0) (ope
   pub names : w.names ≡ v.names
   pub named : 0 < length v.names
   pub seen : heads_of w.seen ≡ heads_of v.seen
+  pub heard : w.heard ≡ v.heard
   pub here : IsHere stands opening logs after s words homes v w shard
   pub others : (other : ℕ) → other ≢ shard → IsElsewhere logs after s words homes v w other
+
+-- what was heard are fronts of these logs
+abbrev pub Heard : {I B : Type 0} → List (Log I B) → List (List (Log I B)) → Type 0
+Heard {I} {B} logs heard = (k : ℕ) (seen : List (Log I B)) → get_elem? heard k ≡ some seen → (shard : ℕ)
+    → IsFront (items_at seen shard) (items_at logs shard)
+
+heard_still : {I B : Type 0} (logs after : List (Log I B)) (heard : List (List (Log I B))) (shard : ℕ)
+    → IsFront (items_at logs shard) (items_at after shard)
+    → ((other : ℕ) → other ≢ shard → items_at after other ≡ items_at logs other) → Heard logs heard → Heard after heard
+heard_still logs after heard shard grows others before k seen there other =
+    elim (cases_eq other shard) [
+      | inl same ↦ subst (λ (n : ℕ). IsFront (items_at seen n) (items_at after n)) (sym same) (front_trans _ _ _ (before k seen there shard) grows)
+      | inr aside ↦ subst (λ (items : List _). IsFront (items_at seen other) items) (sym (others other aside)) (before k seen there other)
+    ]
 
 -- what the other views know, they still know
 knows_other : {V I B : Type 0} (stands : V → B → List I → Type 0) (opening logs after : List (Log I B)) (s : State (Option V) (TurnView I B))
@@ -165,6 +180,7 @@ knows_other stands opening logs after s words homes v w u shard id seat e here r
   heads = k.heads;
   opened = k.opened;
   idle = k.idle;
+  heard = heard_still logs after u.heard shard e.here.grows (λ other aside. (e.others other aside).items) k.heard;
 }
 
 -- and the seat that steps knows the log at its shard
@@ -202,6 +218,7 @@ knows_mine stands opening logs after s words homes v w shard e r k = record {
             subst (λ (items : List _). IsFront (items_at opening other) items) (sym (e.others other aside).aside.seen) (k.opened e.named other)
       ];
   idle = λ none. absurd (omega (arith, none, e.named, ap (λ (names : List SeatName). length names) e.names));
+  heard = subst (Heard after) (sym e.heard) (heard_still logs after v.heard shard e.here.grows (λ other aside. (e.others other aside).items) k.heard);
 }
 
 pub step_keeps : {V I B : Type 0} (stands : V → B → List I → Type 0) (opening : List (Log I B)) (s : State (Option V) (TurnView I B))
@@ -233,4 +250,34 @@ step_keeps stands opening s rule id after words homes v w shard here e = record 
       (sym (map-set names_of s.views id w
       ∙ set_again (map names_of s.views) id w.names
       (at_map names_of s.views id v here ∙ ap (λ (names : List SeatName). some names) (sym e.names)))) rule.names;
+}
+
+-- views with as many turns and places as before, of which some know the whole logs
+pub kept_alike : {V I B : Type 0} (stands : V → B → List I → Type 0) (opening : List (Log I B)) (s : State (Option V) (TurnView I B))
+    (rule : AreTurns stands opening s) (views : List (TurnView I B))
+    → ((shard : ℕ) → turns_of shard views ≡ turns_of shard s.views)
+    → ((shard : ℕ) → insides_of shard views ≡ insides_of shard s.views)
+    → ((shard place : ℕ) → owners_of shard place views ≡ owners_of shard place s.views)
+    → ((shard : ℕ) → 0 < seers_of shard (length (items_at rule.logs shard)) s.views → 0 < seers_of shard (length (items_at rule.logs shard)) views)
+    → ((seat : ℕ) (view : TurnView I B) → get_elem? views seat ≡ some view → Knows opening rule.logs view)
+    → AreNamed (map names_of views)
+    → AreTurns stands opening (record { words = s.words; homes = s.homes; views = views })
+kept_alike stands opening s rule views turns insides owners seers knows names = record {
+  logs = rule.logs;
+  heads = rule.heads;
+  wide = rule.wide;
+  shards = λ shard below.
+      let r = rule.shards shard below in
+      record {
+        front = r.front;
+        count = r.count;
+        turn = r.turn ∙ sym (turns shard);
+        alone = r.alone;
+        home = r.home;
+        out = λ some_out. r.out (omega (arith, some_out, insides shard));
+        known = seers shard r.known;
+        places = λ place. owners shard place ∙ r.places place;
+      };
+  knows = knows;
+  names = names;
 }

@@ -1,8 +1,8 @@
 -- A split and a join keep the rule.
-use Rattle.std.proofs.Common.{◌≡◌, ◌≢◌, ℕ, ◌+◌, ◌<◌, ◌≤◌, ◌⊎◌, List, [], ◌∷◌, ◌++◌, map, length, set, Bool, true, false, eqb, Option, inl, inr, refl, sym, ap}
+use Rattle.std.proofs.Common.{◌≡◌, ◌≢◌, ℕ, zero, suc, ◌+◌, ◌<◌, ◌≤◌, ◌⊎◌, List, [], ◌∷◌, ◌++◌, map, length, set, Bool, true, false, eqb, Option, inl, inr, refl, sym, ap}
 use Rattle.std.proofs.Common.{◌∙◌, subst, arith, length-append}
 use Rattle.std.proofs.lemmas.Bool.{cases_eq, cases_lt, eq-eqb, ne_eqb}
-use mathlib.Core.Option.{some}
+use mathlib.Core.Option.{some, some-injective, some-ne-none}
 use lib.ListN.{get_elem?}
 use Rattle.atomic_table.specs.Table.{State, Splits, Joins}
 use Rattle.seat_names.specs.Totals.{total, one_if}
@@ -15,40 +15,10 @@ use Rattle.turn_book.specs.declared.view.Turn.{Turn}
 use Rattle.turn_book.specs.declared.view.Turn.TheVariants.{Free}
 use Rattle.turn_book.specs.declared.view.TurnView.{TurnView}
 use Rattle.turn_book.specs.Logs.{heads_of, items_at, IsFront}
-use Rattle.turn_book.specs.TurnViews.{has_turn, is_inside, times, spent, parent_view, child_view, longer_logs, joined}
+use Rattle.turn_book.specs.TurnViews.{has_turn, is_inside, times, spent, parent_view, child_view, longer_logs, joined, joining}
 use Rattle.turn_book.specs.TurnRule.{turns_of, insides_of, seers_of, owners_of, IsShard, Knows, AreTurns}
 use Rattle.turn_book.proofs.LogLemmas.{front_length, heads-longer, items-longer}
-use Rattle.turn_book.proofs.KeepsTurns.{turn_at, inside_at, seer_at, names_of}
-
--- views with as many turns and places as before, of which some know the whole logs
-kept_alike : {V I B : Type 0} (stands : V → B → List I → Type 0) (opening : List (Log I B)) (s : State (Option V) (TurnView I B))
-    (rule : AreTurns stands opening s) (views : List (TurnView I B))
-    → ((shard : ℕ) → turns_of shard views ≡ turns_of shard s.views)
-    → ((shard : ℕ) → insides_of shard views ≡ insides_of shard s.views)
-    → ((shard place : ℕ) → owners_of shard place views ≡ owners_of shard place s.views)
-    → ((shard : ℕ) → 0 < seers_of shard (length (items_at rule.logs shard)) s.views → 0 < seers_of shard (length (items_at rule.logs shard)) views)
-    → ((seat : ℕ) (view : TurnView I B) → get_elem? views seat ≡ some view → Knows opening rule.logs view)
-    → AreNamed (map names_of views)
-    → AreTurns stands opening (record { words = s.words; homes = s.homes; views = views })
-kept_alike stands opening s rule views turns insides owners seers knows names = record {
-  logs = rule.logs;
-  heads = rule.heads;
-  wide = rule.wide;
-  shards = λ shard below.
-      let r = rule.shards shard below in
-      record {
-        front = r.front;
-        count = r.count;
-        turn = r.turn ∙ sym (turns shard);
-        alone = r.alone;
-        home = r.home;
-        out = λ some_out. r.out (omega (arith, some_out, insides shard));
-        known = seers shard r.known;
-        places = λ place. owners shard place ∙ r.places place;
-      };
-  knows = knows;
-  names = names;
-}
+use Rattle.turn_book.proofs.KeepsTurns.{turn_at, inside_at, seer_at, names_of, kept_alike}
 
 after_split-named : (names : List SeatName) → 0 < length names → 0 < length (after_split names)
 after_split-named [] named = absurd (omega arith)
@@ -75,6 +45,7 @@ knows_parent opening logs view named k = record {
   heads = λ _. k.heads named;
   opened = λ _. k.opened named;
   idle = λ none. absurd (omega (arith, none, after_split-named view.names named));
+  heard = k.heard;
 }
 
 knows_child : {I B : Type 0} (opening logs : List (Log I B)) (view : TurnView I B) → 0 < length view.names → Knows opening logs view
@@ -85,6 +56,7 @@ knows_child opening logs view named k = record {
   heads = λ _. k.heads named;
   opened = λ _. k.opened named;
   idle = λ none. absurd (omega (arith, none, split_off-named view.names named));
+  heard = λ at seen there. absurd (some-ne-none seen (sym there));
 }
 
 pub splits_allowed : {V I B : Type 0} (stands : V → B → List I → Type 0) (opening : List (Log I B)) (id : ℕ) (view : TurnView I B) → 0 < length view.names
@@ -113,8 +85,17 @@ splits_allowed {V} {I} {B} stands opening id view named s rule here =
     ])
     (subst AreNamed (sym names) (named_split (map names_of s.views) id view.names (at_map names_of s.views id view here) named rule.names))
 
+heard_two : {I B : Type 0} (logs first second : List (Log I B)) → ((shard : ℕ) → IsFront (items_at first shard) (items_at logs shard))
+    → ((shard : ℕ) → IsFront (items_at second shard) (items_at logs shard))
+    → (k : ℕ) (seen : List (Log I B)) → get_elem? (first ∷ second ∷ []) k ≡ some seen → (shard : ℕ) → IsFront (items_at seen shard) (items_at logs shard)
+heard_two logs first second a b zero seen there shard =
+    subst (λ (xs : List (Log _ _)). IsFront (items_at xs shard) (items_at logs shard)) (some-injective first seen there) (a shard)
+heard_two logs first second a b (suc zero) seen there shard =
+    subst (λ (xs : List (Log _ _)). IsFront (items_at xs shard) (items_at logs shard)) (some-injective second seen there) (b shard)
+heard_two logs first second a b (suc (suc k)) seen there shard = absurd (some-ne-none seen (sym there))
+
 knows_joined : {I B : Type 0} (opening logs : List (Log I B)) (view other : TurnView I B) → 0 < length view.names → 0 < length other.names
-    → Knows opening logs view → Knows opening logs other → Knows opening logs (joined view other)
+    → Knows opening logs view → Knows opening logs other → Knows opening logs (joining view other)
 knows_joined {I} {B} opening logs view other named also k l =
     let P : (ℕ → List I → Type 0) → Type 0 = λ good. ((shard : ℕ) → good shard (items_at view.seen shard)) → ((shard : ℕ) → good shard (items_at other.seen shard))
     → (shard : ℕ) → good shard (items_at (longer_logs view.seen other.seen) shard) in
@@ -128,6 +109,7 @@ knows_joined {I} {B} opening logs view other named also k l =
       heads = λ _. heads-longer view.seen other.seen (k.heads named ∙ sym (l.heads also)) ∙ k.heads named;
       opened = λ _. either_seen (λ shard items. IsFront (items_at opening shard) items) (k.opened named) (l.opened also);
       idle = λ none. absurd (omega (arith, none, named, length-append view.names other.names));
+      heard = λ at seen there. heard_two logs view.seen other.seen k.fronts l.fronts at seen there;
     }
 
 knows_spent : {I B : Type 0} (opening logs : List (Log I B)) → Knows opening logs spent
@@ -137,6 +119,7 @@ knows_spent opening logs = record {
   heads = λ named. absurd (omega arith);
   opened = λ named. absurd (omega arith);
   idle = λ none. refl;
+  heard = λ at seen there. absurd (some-ne-none seen (sym there));
 }
 
 -- whoever of two has seen the whole log, both together have
@@ -167,9 +150,9 @@ seers_joined {I} logs view other shard front also some_seer =
 
 pub joins_allowed : {V I B : Type 0} (stands : V → B → List I → Type 0) (opening : List (Log I B)) (id : ℕ) (view : TurnView I B) (other_id : ℕ)
     (other : TurnView I B) → 0 < length view.names → 0 < length other.names → view.turn ≡ Free → other.turn ≡ Free
-    → Joins {S = Option V} (AreTurns stands opening) id view other_id other (joined view other) spent
+    → Joins {S = Option V} (AreTurns stands opening) id view other_id other (joining view other) spent
 joins_allowed {V} {I} {B} stands opening id view other_id other named also off also_off s rule here apart there =
-    let both : TurnView I B = joined view other in
+    let both : TurnView I B = joining view other in
     let views : List (TurnView I B) = set (set s.views id both) other_id spent in
     let before : get_elem? s.views other_id ≡ some other = elim (at_set s.views id other_id both other there) [
       | inl same ↦ absurd (apart same.0)
@@ -218,3 +201,22 @@ joins_allowed {V} {I} {B} stands opening id view other_id other named also off a
     ])
     (subst AreNamed (sym names)
     (named_join (map names_of s.views) id other_id view.names other.names (at_map names_of s.views id view here) named_there rule.names))
+
+-- what either had seen is a front of what both together have, where it is one wherever it is no longer
+pub joined_fronts : {I B : Type 0} (view other : TurnView I B)
+    → ((k : ℕ) (seen : List (Log I B)) → get_elem? (view.seen ∷ other.seen ∷ []) k ≡ some seen
+    → (shard : ℕ) → length (items_at seen shard) ≤ length (items_at (joined view other).seen shard)
+    → IsFront (items_at seen shard) (items_at (joined view other).seen shard))
+    → (shard : ℕ)
+    → IsFront (items_at view.seen shard) (items_at (joined view other).seen shard) × IsFront (items_at other.seen shard) (items_at (joined view other).seen shard)
+joined_fronts {I} {B} view other fronts shard =
+    let cases = items-longer view.seen other.seen shard in
+    let first : length (items_at view.seen shard) ≤ length (items_at (joined view other).seen shard) = elim cases [
+      | inl mine ↦ omega (arith, ap length mine.0)
+      | inr theirs ↦ omega (arith, ap length theirs.0, theirs.1)
+    ] in
+    let second : length (items_at other.seen shard) ≤ length (items_at (joined view other).seen shard) = elim cases [
+      | inl mine ↦ omega (arith, ap length mine.0, mine.1)
+      | inr theirs ↦ omega (arith, ap length theirs.0)
+    ] in
+    (fronts 0 view.seen refl shard first, fronts 1 other.seen refl shard second)

@@ -1,30 +1,32 @@
 -- Each step on the words may be made.
-use Rattle.std.proofs.Common.{◌≡◌, ◌≢◌, ℕ, ◌+◌, ◌%◌, ◌^◌, ◌<◌, ◌≤◌, List, [], ◌∷◌, ◌++◌, length, set, get_or, Bool, true, false, ◌&&◌, eqb, Option, Some, None}
+use Rattle.std.proofs.Common.{◌≡◌, ◌≢◌, ℕ, ◌+◌, ◌%◌, ◌^◌, ◌<◌, ◌≤◌, List, [], ◌∷◌, ◌++◌, map, length, set, get_or, Bool, true, false, ◌&&◌, eqb, Option, Some, None}
 use Rattle.std.proofs.Common.{inl, inr, refl, sym, ap, ◌∙◌, subst, arith, length-set, length-append}
 use Rattle.std.proofs.Math.Nat.{mod-eq_of_lt}
 use Rattle.std.proofs.lemmas.Bool.{eq-eqb, ne_eqb, true≢false}
 use Rattle.std.proofs.lemmas.Option.{same_Some}
 use lib.Seq.{set-get_or}
-use mathlib.Core.Option.{none, some}
+use mathlib.Core.Option.{none, some, some-ne-none}
 use mathlib.Core.Option as maybe
 use lib.ListN.{get_elem?}
 use prog.Atomic.{either}
 use Rattle.atomic_table.specs.Table.{State, Me, Act, step, keeps, takes, gives, Valid, Allows, stepped, carried_after}
 use Rattle.atomic_table.proofs.Lists.{exchanged, set_here}
 use Rattle.seat_names.specs.Totals.{one_if}
-use Rattle.seat_names.proofs.Totals.{set_again, get_set_other, part_le}
+use Rattle.seat_names.specs.Totals.{total}
+use Rattle.seat_names.specs.SeatNames.{AreNamed}
+use Rattle.seat_names.proofs.Totals.{at_set, at_map, set_again, map-set, total-set, get_set_other, part_le}
 use Rattle.turn_book.specs.declared.logs.Log.{Log}
 use Rattle.turn_book.specs.declared.view.Turn.{Turn}
 use Rattle.turn_book.specs.declared.view.Turn.TheVariants.{Free, Moving, Inside}
 use Rattle.turn_book.specs.declared.view.TurnView.{TurnView}
 use Rattle.turn_book.specs.Layout.{turn_word_of, count_word_of, turn_in, count_in}
 use Rattle.turn_book.specs.Logs.{heads_of, items_at, with_items, IsFront, StandsAt}
-use Rattle.turn_book.specs.TurnViews.{has_turn, is_inside, times, moving, counted, free}
+use Rattle.turn_book.specs.TurnViews.{has_turn, is_inside, times, moving, counted, free, settled}
 use Rattle.turn_book.specs.TurnRule.{between, AreTurns, IsShard, Knows}
-use Rattle.turn_book.specs.TurnSteps.{taken, looked, added, retaken, released}
+use Rattle.turn_book.specs.TurnSteps.{taken, looked, added, retaken, released, learned}
 use Rattle.turn_book.proofs.LogLemmas
 use Rattle.turn_book.proofs.TurnWords
-use Rattle.turn_book.proofs.KeepsTurns.{IsAside, IsElsewhere, IsStep, turn_at, inside_at, step_keeps}
+use Rattle.turn_book.proofs.KeepsTurns.{IsAside, IsElsewhere, IsStep, turn_at, inside_at, seer_at, names_of, step_keeps, kept_alike}
 
 -- a view's part of another shard than that of its turn
 aside : {I B : Type 0} (v w : TurnView I B) (shard : ℕ) → has_turn shard v.turn ≡ false → has_turn shard w.turn ≡ false
@@ -88,6 +90,28 @@ module _ {V I B : Type 0} (stands : V → B → List I → Type 0) (opening : Li
       loaded word s.homes v (subst (λ (views : List (TurnView I B)). AreTurns stands opening (record { words = s.words; homes = s.homes; views = views }))
       (sym same_views) rule)
 
+  -- ---- what was heard is forgotten
+  settles : AreTurns stands opening (record { words = s.words; homes = s.homes; views = set s.views id (settled v) })
+  settles = kept_alike stands opening s rule (set s.views id (settled v)) (λ k. same (turn_at k) refl) (λ k. same (inside_at k) refl)
+      (λ k place. same (λ (u : TurnView I B). times k place u.mine) refl) (λ k old. omega (arith, old, same (seer_at k (length (items_at rule.logs k))) refl))
+      (λ seat view there.
+      elim (at_set s.views id seat (settled v) view there) [
+        | inl mine ↦ subst (Knows opening rule.logs) mine.1 (record {
+          fronts = knows.fronts;
+          whole = knows.whole;
+          heads = knows.heads;
+          opened = knows.opened;
+          idle = λ none. absurd (omega arith);
+          heard = λ k seen at. absurd (some-ne-none seen (sym at));
+        })
+        | inr other ↦ rule.knows seat view other.1
+      ])
+      (subst AreNamed (sym (map-set names_of s.views id (settled v)
+      ∙ set_again (map names_of s.views) id v.names (at_map names_of s.views id v here))) rule.names)
+    where
+      same : (f : TurnView I B → ℕ) → f (settled v) ≡ f v → total f (set s.views id (settled v)) ≡ total f s.views
+      same f e = omega (arith, e, total-set f s.views id v (settled v) here)
+
   -- ---- the turn is taken
   module _ (off : v.turn ≡ Free) where
     abbrev mover : TurnView I B
@@ -105,6 +129,7 @@ module _ {V I B : Type 0} (stands : V → B → List I → Type 0) (opening : Li
       names = refl;
       named = named;
       seen = LogLemmas.heads-with v.seen shard items;
+      heard = refl;
       here = record {
         grows = LogLemmas.front_refl items;
         adds = inl refl;
@@ -149,6 +174,7 @@ module _ {V I B : Type 0} (stands : V → B → List I → Type 0) (opening : Li
       names = refl;
       named = named;
       seen = refl;
+      heard = refl;
       here = record {
         grows = LogLemmas.front_refl items;
         adds = inl refl;
@@ -184,6 +210,7 @@ module _ {V I B : Type 0} (stands : V → B → List I → Type 0) (opening : Li
       names = refl;
       named = named;
       seen = refl;
+      heard = refl;
       here = record {
         grows = LogLemmas.front_refl items;
         adds = inl refl;
@@ -233,6 +260,7 @@ module _ {V I B : Type 0} (stands : V → B → List I → Type 0) (opening : Li
       names = refl;
       named = named;
       seen = refl;
+      heard = refl;
       here = record {
         grows = LogLemmas.front_refl items;
         adds = inl refl;
@@ -289,6 +317,7 @@ module _ {V I B : Type 0} (stands : V → B → List I → Type 0) (opening : Li
         names = refl;
         named = named;
         seen = LogLemmas.heads-with v.seen shard (items_at v.seen shard ++ item ∷ []);
+        heard = refl;
         here = record {
           grows = subst (λ (xs : List I). IsFront items xs) (sym after_items)
               (LogLemmas.front_append items items (item ∷ []) (LogLemmas.front_refl items));
@@ -430,3 +459,18 @@ module _ {V I B : Type 0} (stands : V → B → List I → Type 0) (opening : Li
             (release_step stands opening s rule id v here named shard within mid (omega arith) value stood),
         λ other is. refl,
       )
+
+  pub learns_allowed : (slots word : ℕ)
+      → Allows (AreTurns stands opening) slots id (v, []) word (λ n. n) (learned (step slots word 0 0 none) (v, []))
+  learns_allowed slots word s rule long here range = (
+    settled v,
+    keeps,
+    tt,
+    loaded stands opening s rule id v here named shard within word s.homes (settled v) (settles stands opening s rule id v here named shard within),
+    (
+      refl,
+      λ k seen at other le.
+          let knows = rule.knows id v here in
+          LogLemmas.front_below (items_at seen other) (items_at v.seen other) (items_at rule.logs other) (knows.heard k seen at other) (knows.fronts other) le,
+    ),
+  )

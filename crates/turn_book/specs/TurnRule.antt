@@ -60,6 +60,8 @@ pub record Knows {I B : Type 0} (opening logs : List (Log I B)) (view : TurnView
   pub heads : 0 < length view.names → heads_of view.seen ≡ heads_of opening
   pub opened : 0 < length view.names → (shard : ℕ) → IsFront (items_at opening shard) (items_at view.seen shard)
   pub idle : length view.names ≡ 0 → view ≡ spent
+  -- what it has heard are fronts of the logs
+  pub heard : (k : ℕ) (seen : List (Log I B)) → get_elem? view.heard k ≡ some seen → (shard : ℕ) → IsFront (items_at seen shard) (items_at logs shard)
 
 pub record AreTurns {V I B : Type 0} (stands : V → B → List I → Type 0) (opening : List (Log I B)) (table : State (Option V) (TurnView I B)) : Type 0 where
   pub logs : List (Log I B)

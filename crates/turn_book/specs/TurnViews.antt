@@ -27,7 +27,7 @@ times shard place places = how_many (λ pair. (pair.0 == shard) && (pair.1 == pl
 
 -- the view of a seat that holds these names, has seen these logs and has made no call
 abbrev pub newcomer : {I B : Type 0} → List (Log I B) → List SeatName → TurnView I B
-newcomer logs names = record { seen = logs; mine = []; turn = Free; names = names }
+newcomer logs names = record { seen = logs; mine = []; turn = Free; heard = []; names = names }
 
 -- the view of a table's first seat
 abbrev pub first_view : {I B : Type 0} → List (Log I B) → TurnView I B
@@ -79,5 +79,14 @@ joined view other = record {
   seen = longer_logs view.seen other.seen;
   mine = view.mine ++ other.mine;
   turn = Free;
+  heard = [];
   names = view.names ++ other.names;
 }
+
+-- the same view while the join lasts
+abbrev pub joining : {I B : Type 0} → TurnView I B → TurnView I B → TurnView I B
+joining view other = record (joined view other) { heard = view.seen ∷ other.seen ∷ [] }
+
+-- the view once the join is done
+abbrev pub settled : {I B : Type 0} → TurnView I B → TurnView I B
+settled view = record view { heard = [] }

@@ -1,8 +1,8 @@
 //! The rule of the table, and the names of its steps.
 ghost use Rattle.std.specs.Prelude.{Option, None, Some};
 ghost use Rattle.turn_book.specs.TurnRule.{AreTurns};
-ghost use Rattle.turn_book.specs.TurnSteps.{taken, looked, added, retaken, released};
-ghost use Rattle.turn_book.specs.TurnViews.{first_view, spent, parent_view, child_view, joined};
+ghost use Rattle.turn_book.specs.TurnSteps.{taken, looked, added, retaken, released, learned};
+ghost use Rattle.turn_book.specs.TurnViews.{first_view, spent, parent_view, child_view, joining};
 
 use crate::logs::Logged;
 use crate::opening::Opening;
@@ -62,6 +62,14 @@ impl<V, I, B> Play<Option<V>, TurnView<I, B>> for Releases {
     ghost then = { released };
 }
 
+/// Compares what the seats of a join had seen.
+pub(crate) struct Learns;
+
+impl<V, I, B> Play<Option<V>, TurnView<I, B>> for Learns {
+    ghost then = { learned };
+}
+
+/// Splits and joins seats.
 pub(crate) struct Parts;
 
 impl<I, B> Split<TurnView<I, B>> for Parts {
@@ -71,7 +79,7 @@ impl<I, B> Split<TurnView<I, B>> for Parts {
 }
 
 impl<I, B> Join<TurnView<I, B>> for Parts {
-    ghost both = { joined };
+    ghost both = { joining };
 
     ghost spent = { spent };
 }

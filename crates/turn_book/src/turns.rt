@@ -8,7 +8,7 @@ ghost use Rattle.turn_book.specs.declared.view.Turn.TheVariants.{Free, Inside};
 use crate::layout::{FREE, SHARD_WORDS, TAKEN, count_word, turn_word};
 use crate::logs::{Item, Logged};
 use crate::opening::{Opening, OpeningLogs};
-use crate::rule::{Adds, Looks, Next, Parts, Releases, Retakes, Takes, TurnRule};
+use crate::rule::{Adds, Learns, Looks, Next, Parts, Releases, Retakes, Takes, TurnRule};
 use crate::seat::TurnSeat;
 use crate::values::{Ground, Spare, empty_slots, fill_slots, take_ground, take_values};
 use crate::view::TurnView;
@@ -88,78 +88,6 @@ impl<V: Logged<I, B>, I, B> Turns<V, I, B> {
         }
     }
 
-    /// Takes the shard's turn and its value, in one step, where nobody has the turn.
-    fn try_enter(&self, seat: &mut TurnSeat<I, B>, shard: u8) -> Option<V>
-        requires seat { IsOf seat.old self.now }
-        requires free { (view_of seat.old).turn ≡ Free }
-        requires shard { shard < shards_of self.now }
-        ensures seat { IsOf seat.new self.now }
-        ensures entered { IfSome result (λ value. (view_of seat.new ≡ entered shard (items_at (view_of seat.new).seen shard) (view_of seat.old))
-            × IsFront (items_at (view_of seat.old).seen shard) (items_at (view_of seat.new).seen shard)
-            × StandsAt V.stands value (view_of seat.new).seen shard) }
-        ensures same { IfNone result (view_of seat.new ≡ view_of seat.old) }
-    {
-        let mut stepper = seat.take::<V>();
-        let found = self
-            .table
-            .shared
-            .compare_exchange::<Takes>(&mut stepper, turn_word(shard), FREE, TAKEN);
-        if found != FREE {
-            seat.put(stepper);
-            return None;
-        }
-        let value = self
-            .table
-            .shared
-            .exchange(&mut stepper, shard as usize, None);
-        self.table
-            .shared
-            .load::<Looks>(&mut stepper, count_word(shard));
-        seat.put(stepper);
-        Some(value.unwrap())
-    }
-
-    /// Looks some times for a free turn, and takes it and the value where it finds one.
-    fn look_for_turn(&self, seat: &mut TurnSeat<I, B>, shard: u8) -> Option<V>
-        requires seat { IsOf seat.old self.now }
-        requires free { (view_of seat.old).turn ≡ Free }
-        requires shard { shard < shards_of self.now }
-        ensures seat { IsOf seat.new self.now }
-        ensures entered { IfSome result (λ value. (view_of seat.new ≡ entered shard (items_at (view_of seat.new).seen shard) (view_of seat.old))
-            × IsFront (items_at (view_of seat.old).seen shard) (items_at (view_of seat.new).seen shard)
-            × StandsAt V.stands value (view_of seat.new).seen shard) }
-        ensures same { IfNone result (view_of seat.new ≡ view_of seat.old) }
-    {
-        for _ in 0..TRIES {
-            if self.table.shared.peek(turn_word(shard)) == FREE {
-                match self.try_enter(seat, shard) {
-                    Some(value) => return Some(value),
-                    None => {}
-                }
-            }
-            hint::spin_loop();
-        }
-        None
-    }
-
-    /// Sleeps while the shard's turn is taken, until somebody leaves. It may also return before.
-    fn sleep<R: Wait>(&self, rt: &R, shard: u8)
-        requires { shard < shards_of self.now }
-    {
-        self.sleepers.fetch_add(1, Ordering::SeqCst);
-        self.table.shared.park(rt, turn_word(shard), TAKEN as u32);
-        self.sleepers.fetch_sub(1, Ordering::SeqCst);
-    }
-
-    /// Wakes one caller that sleeps until it has the shard's turn, if there is one.
-    fn wake(&self, shard: u8)
-        requires { shard < shards_of self.now }
-    {
-        if self.sleepers.load(Ordering::SeqCst) != 0 {
-            self.table.shared.wake_one(turn_word(shard));
-        }
-    }
-
     /// Waits until it has the shard's turn, and takes the value, which stands for the log as it is now.
     pub fn enter<R: Wait>(&self, rt: &R, seat: &mut TurnSeat<I, B>, shard: u8) -> V
         requires seat { IsOf seat.old self.now }
@@ -179,23 +107,6 @@ impl<V: Logged<I, B>, I, B> Turns<V, I, B> {
             }
         }
         unreachable!()
-    }
-
-    /// Adds the item that a call picks, as `added` says.
-    fn count_next<N: Next<I>, E: Item<I>>(&self, seat: &mut TurnSeat<I, B>, shard: u8, item: &E)
-        requires seat { IsOf seat.old self.now }
-        requires held { (view_of seat.old).turn ≡ Inside shard }
-        requires room { length (items_at (view_of seat.old).seen shard) < MAX_ITEMS }
-        requires next { N.next ≡ Some (E.item item.now) }
-        ensures seat { IsOf seat.new self.now }
-        ensures view { view_of seat.new ≡ counted shard (E.item item.now) (view_of seat.old) }
-    {
-        let _ = item;
-        let mut stepper = seat.take::<V>();
-        self.table
-            .shared
-            .fetch_add::<Adds<N>>(&mut stepper, count_word(shard), 1);
-        seat.put(stepper);
     }
 
     /// Adds the item that this value means to the log of the shard that the seat is in, by one atomic step.
@@ -250,12 +161,18 @@ impl<V: Logged<I, B>, I, B> Turns<V, I, B> {
     pub fn join(&self, seat: &mut TurnSeat<I, B>, other: TurnSeat<I, B>)
         requires seats { IsOf seat.old self.now × IsOf other self.now }
         requires free { ((view_of seat.old).turn ≡ Free) × ((view_of other).turn ≡ Free) }
-        ensures { IsOf seat.new self.now × (view_of seat.new ≡ joined (view_of seat.old) (view_of other)) }
+        ensures seat { IsOf seat.new self.now }
+        ensures view { view_of seat.new ≡ joined (view_of seat.old) (view_of other) }
+
+        // What either has seen of a log is a front of what the seat has now seen of it.
+        ensures fronts { (shard : ℕ) → IsFront (items_at (view_of seat.old).seen shard) (items_at (view_of seat.new).seen shard)
+            × IsFront (items_at (view_of other).seen shard) (items_at (view_of seat.new).seen shard) }
     {
         let mut stepper = seat.take::<V>();
         self.table
             .shared
             .join_seat::<Parts>(&mut stepper, other.into_seat());
+        self.table.shared.load::<Learns>(&mut stepper, turn_word(0));
         seat.put(stepper);
     }
 
@@ -284,5 +201,94 @@ impl<V: Logged<I, B>, I, B> Turns<V, I, B> {
         take_values(&mut closed, &mut values);
         closed.free();
         values
+    }
+
+    /// Looks some times for a free turn, and takes it and the value where it finds one.
+    fn look_for_turn(&self, seat: &mut TurnSeat<I, B>, shard: u8) -> Option<V>
+        requires seat { IsOf seat.old self.now }
+        requires free { (view_of seat.old).turn ≡ Free }
+        requires shard { shard < shards_of self.now }
+        ensures seat { IsOf seat.new self.now }
+        ensures entered { IfSome result (λ value. (view_of seat.new ≡ entered shard (items_at (view_of seat.new).seen shard) (view_of seat.old))
+            × IsFront (items_at (view_of seat.old).seen shard) (items_at (view_of seat.new).seen shard)
+            × StandsAt V.stands value (view_of seat.new).seen shard) }
+        ensures same { IfNone result (view_of seat.new ≡ view_of seat.old) }
+    {
+        for _ in 0..TRIES {
+            if self.table.shared.peek(turn_word(shard)) == FREE {
+                match self.try_enter(seat, shard) {
+                    Some(value) => return Some(value),
+                    None => {}
+                }
+            }
+            hint::spin_loop();
+        }
+        None
+    }
+
+    /// Takes the shard's turn and its value, in one step, where nobody has the turn.
+    fn try_enter(&self, seat: &mut TurnSeat<I, B>, shard: u8) -> Option<V>
+        requires seat { IsOf seat.old self.now }
+        requires free { (view_of seat.old).turn ≡ Free }
+        requires shard { shard < shards_of self.now }
+        ensures seat { IsOf seat.new self.now }
+        ensures entered { IfSome result (λ value. (view_of seat.new ≡ entered shard (items_at (view_of seat.new).seen shard) (view_of seat.old))
+            × IsFront (items_at (view_of seat.old).seen shard) (items_at (view_of seat.new).seen shard)
+            × StandsAt V.stands value (view_of seat.new).seen shard) }
+        ensures same { IfNone result (view_of seat.new ≡ view_of seat.old) }
+    {
+        let mut stepper = seat.take::<V>();
+        let found = self
+            .table
+            .shared
+            .compare_exchange::<Takes>(&mut stepper, turn_word(shard), FREE, TAKEN);
+        if found != FREE {
+            seat.put(stepper);
+            return None;
+        }
+        let value = self
+            .table
+            .shared
+            .exchange(&mut stepper, shard as usize, None);
+        self.table
+            .shared
+            .load::<Looks>(&mut stepper, count_word(shard));
+        seat.put(stepper);
+        Some(value.unwrap())
+    }
+
+    /// Sleeps while the shard's turn is taken, until somebody leaves. It may also return before.
+    fn sleep<R: Wait>(&self, rt: &R, shard: u8)
+        requires { shard < shards_of self.now }
+    {
+        self.sleepers.fetch_add(1, Ordering::SeqCst);
+        self.table.shared.park(rt, turn_word(shard), TAKEN as u32);
+        self.sleepers.fetch_sub(1, Ordering::SeqCst);
+    }
+
+    /// Wakes one caller that sleeps until it has the shard's turn, if there is one.
+    fn wake(&self, shard: u8)
+        requires { shard < shards_of self.now }
+    {
+        if self.sleepers.load(Ordering::SeqCst) != 0 {
+            self.table.shared.wake_one(turn_word(shard));
+        }
+    }
+
+    /// Adds the item that a call picks, as `added` says.
+    fn count_next<N: Next<I>, E: Item<I>>(&self, seat: &mut TurnSeat<I, B>, shard: u8, item: &E)
+        requires seat { IsOf seat.old self.now }
+        requires held { (view_of seat.old).turn ≡ Inside shard }
+        requires room { length (items_at (view_of seat.old).seen shard) < MAX_ITEMS }
+        requires next { N.next ≡ Some (E.item item.now) }
+        ensures seat { IsOf seat.new self.now }
+        ensures view { view_of seat.new ≡ counted shard (E.item item.now) (view_of seat.old) }
+    {
+        let _ = item;
+        let mut stepper = seat.take::<V>();
+        self.table
+            .shared
+            .fetch_add::<Adds<N>>(&mut stepper, count_word(shard), 1);
+        seat.put(stepper);
     }
 }

@@ -26,6 +26,9 @@ pub struct TurnView<I, B> {
     /// Whether it has a turn.
     pub turn: Turn,
 
+    /// What the two seats of a join had seen of the logs, while the join lasts.
+    pub heard: LinkedList<LinkedList<Log<I, B>>>,
+
     /// Its names among the seats of the table.
     pub names: LinkedList<SeatName>,
 }

@@ -20,7 +20,7 @@ loop-caller-preserved c =
     subst (λ (names : List SeatName). IsWhole ((view_of c.loop-caller.seat).names ++ names))
     (ap (flat_map names_of) before ∙ flat_map-snoc names_of c.pop.new.self.items last) c.loop-caller.invariant.whole in
     record {
-      seat = record { of = c.join.ensures.0; free = ap (λ view. view.turn) c.join.ensures.1; within = c.loop-caller.invariant.seat.within };
+      seat = record { of = c.join.ensures.seat; free = ap (λ view. view.turn) c.join.ensures.view; within = c.loop-caller.invariant.seat.within };
       callers = popped.0;
-      whole = rw c.join.ensures.1 (whole_joined (view_of c.loop-caller.seat).names (view_of last.seat).names (flat_map names_of c.pop.new.self.items) whole);
+      whole = rw c.join.ensures.view (whole_joined (view_of c.loop-caller.seat).names (view_of last.seat).names (flat_map names_of c.pop.new.self.items) whole);
     }

@@ -25,13 +25,13 @@ loop-caller-preserved c =
     (ap (flat_map names_of) before ∙ flat_map-snoc names_of c.pop.new.self.items last) c.loop-caller.invariant.whole in
     record {
       done = record {
-        of = c.join.ensures.0;
-        free = ap (λ view. view.turn) c.join.ensures.1;
-        added = rw (c.push_reserved.ensures.items, map-snoc, c.join.ensures.1)
+        of = c.join.ensures.seat;
+        free = ap (λ view. view.turn) c.join.ensures.view;
+        added = rw (c.push_reserved.ensures.items, map-snoc, c.join.ensures.view)
             (have_added_joined _ last.places.items (view_of c.loop-caller.seat) (view_of last.seat) done.added ready.added);
       };
       callers = popped.0;
       count = search rules;
       room = search rules;
-      whole = rw c.join.ensures.1 (whole_joined (view_of c.loop-caller.seat).names (view_of last.seat).names (flat_map names_of c.pop.new.self.items) whole);
+      whole = rw c.join.ensures.view (whole_joined (view_of c.loop-caller.seat).names (view_of last.seat).names (flat_map names_of c.pop.new.self.items) whole);
     }
