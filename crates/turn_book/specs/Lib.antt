@@ -1,0 +1,8 @@
+pub mod Counting
+pub mod Layout
+pub mod Logs
+pub mod Opening
+pub mod Seats
+pub mod TurnRule
+pub mod TurnSteps
+pub mod TurnViews
