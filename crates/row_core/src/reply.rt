@@ -20,8 +20,8 @@ const RESPONSE_CODE: u32 = 0x8A;
 /// The tag of the issuer authentication data.
 const AUTHENTICATION_DATA: u32 = 0x91;
 
-/// The response code and the issuer's cryptogram of a reply by a row of the table, under the session key for cryptograms of
-/// the request's transaction.
+/// The issuer's answer to the card by a row of the table: the response code and the issuer's cryptogram. `session` is the session
+/// key for the cryptograms of the request's transaction.
 pub(crate) fn answer_bytes(
     method: Method,
     session: &SessionKey,
