@@ -266,32 +266,35 @@ fn queue_five(row: &mut Row) -> Result<(), Fail> {
     Ok(())
 }
 
-#[test]
-fn sends_commands_until_the_card_ran_them(rt: HostRuntime) -> Result<(), Fail> {
+/// The replies to a request on counter 7, and then to one on counter 9 that tells this register and two commands, from a row with
+/// five commands, and the row afterwards.
+fn replies(alloc: Global, register: u16, ac: u64) -> Result<(String, String, Row), Fail> {
     let table = table(&[SMALL_AMOUNTS, OTHERWISE])?;
     let keys = derived_keys().ok_or("keys")?;
+    let mut row = Row::new(alloc, Method::One).map_err(|_| "memory")?;
+    queue_five(&mut row)?;
+    let first = telling(7, 0, 0, 0x6317DE17_856BF19A).ok_or("a request")?;
+    let first = keep(&mut row, &keys, &table, &first, 5)?;
+    let second = telling(9, register, 0x20, ac).ok_or("a request")?;
+    let second = keep(&mut row, &keys, &table, &second, 6)?;
+    Ok((shown(alloc, &first)?, shown(alloc, &second)?, row))
+}
+
+#[test]
+fn sends_commands_until_the_card_ran_them(rt: HostRuntime) -> Result<(), Fail> {
     for (name, register, ac, done, expected) in [
         ("two ran", 7, 0xEBA261CB_1FC8AF7D, 2, AFTER_TWO_RAN),
         ("none ran", 5, 0x7AEEB7E0_0D9CE6BF, 0, AFTER_NONE_RAN),
     ] {
-        let mut row = Row::new(rt.alloc(), Method::One).map_err(|_| "memory")?;
-        queue_five(&mut row)?;
-        let first = telling(7, 0, 0, 0x6317DE17_856BF19A).ok_or("a request")?;
-        let carried = shown(rt.alloc(), &keep(&mut row, &keys, &table, &first, 5)?)?;
-        assert_eq!(rt; carried.as_str(), WITH_THREE_COMMANDS, "{name}");
-        let second = telling(9, register, 0x20, ac).ok_or("a request")?;
-        let carried = shown(rt.alloc(), &keep(&mut row, &keys, &table, &second, 6)?)?;
-        assert_eq!(rt; carried.as_str(), expected, "{name}");
+        let (first, second, row) = replies(rt.alloc(), register, ac)?;
+        let flight = Some(Flight {
+            counter: 9,
+            size: 3,
+        });
+        assert_eq!(rt; first.as_str(), WITH_THREE_COMMANDS, "{name}");
+        assert_eq!(rt; second.as_str(), expected, "{name}");
         assert_eq!(rt; row.done(), done, "{name}");
-        assert!(rt;
-            row.flight()
-                == Some(Flight {
-                    counter: 9,
-                    size: 3
-                }),
-            "{name}"
-        );
-        assert!(rt; !row.halted(), "{name}");
+        assert!(rt; row.flight() == flight && !row.halted(), "{name}");
     }
     Ok(())
 }
