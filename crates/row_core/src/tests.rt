@@ -97,6 +97,15 @@ fn keep(
     Ok(reply)
 }
 
+/// A copy of a reply whose last byte is another.
+fn altered(reply: &Reply) -> Reply {
+    let mut altered = reply.copy();
+    if let Some(last) = altered.bytes.pop() {
+        altered.bytes.push(last ^ 0x01);
+    }
+    altered
+}
+
 /// The outcome in words.
 fn told(alloc: Global, outcome: Outcome) -> Result<String, AllocError> {
     match outcome {
@@ -295,6 +304,67 @@ fn sends_commands_until_the_card_ran_them(rt: HostRuntime) -> Result<(), Fail> {
         assert_eq!(rt; second.as_str(), expected, "{name}");
         assert_eq!(rt; row.done(), done, "{name}");
         assert!(rt; row.flight() == flight && !row.halted(), "{name}");
+    }
+    Ok(())
+}
+
+/// A purchase over 123.45 in the seventh transaction of the card with the derived keys, with this cryptogram.
+fn purchase(ac: u64) -> Option<Request> {
+    let mut parts = request(7, 0)?.parts().copy();
+    parts.aip = [0x39, 0x00];
+    parts.tvr = [0x00, 0x00, 0x00, 0x80, 0x00];
+    parts.amount = [0x00, 0x00, 0x00, 0x01, 0x23, 0x45];
+    parts.un = [0x1A, 0x2B, 0x3C, 0x4D];
+    parts.iad[2] = 0x01;
+    parts.iad[3] = 0xA0;
+    parts.ac = ac.to_be_bytes();
+    Request::new(parts)
+}
+
+#[test]
+fn takes_over_what_another_row_decided(rt: HostRuntime) -> Result<(), Fail> {
+    let table = table(&[SMALL_AMOUNTS, OTHERWISE])?;
+    let keys = derived_keys().ok_or("keys")?;
+    let asked = purchase(0x6317DE17_856BF19A).ok_or("a request")?;
+    let forged = purchase(0x6317DE17_856BF19B).ok_or("a request")?;
+    let mut row = Row::new(rt.alloc(), Method::Two).map_err(|_| "memory")?;
+    queue_five(&mut row)?;
+    let reply = keep(&mut row, &keys, &table, &asked, 5)?;
+    let declined = Reply {
+        approve: false,
+        ..reply.copy()
+    };
+    let mut other = Row::new(rt.alloc(), Method::Two).map_err(|_| "memory")?;
+    queue_five(&mut other)?;
+    for (name, asked, reply, expected, hi) in [
+        ("another byte", &asked, &altered(&reply), false, None),
+        ("another approval", &asked, &declined, false, None),
+        ("another cryptogram", &forged, &reply, false, None),
+        ("what was decided", &asked, &reply, true, Some(7)),
+        ("the same again", &asked, &reply, false, Some(7)),
+    ] {
+        let accepted = other.accepts(&keys, asked, reply);
+        assert_eq!(rt; accepted, expected, "{name}");
+        let adopted = other.adopt(&keys, asked.copy(), reply.copy(), 5);
+        assert_eq!(rt; adopted, expected, "{name}");
+        assert_eq!(rt; other.hi(), hi, "{name}");
+    }
+    assert!(rt; other.flight() == row.flight());
+    Ok(())
+}
+
+#[test]
+fn keeps_the_window_of_three_hundred_decisions(rt: HostRuntime) -> Result<(), Fail> {
+    let table = table(&[OTHERWISE])?;
+    let mut row = Row::new(rt.alloc(), Method::One).map_err(|_| "memory")?;
+    for counter in 0..300 {
+        let asked = request(counter, 1).ok_or("a request")?;
+        keep(&mut row, &keys(), &table, &asked, u64::from(counter))?;
+    }
+    for (counter, expected) in [(235, "below 299"), (236, "kept 236"), (299, "kept 299")] {
+        let asked = request(counter, 1).ok_or("a request")?;
+        let planned = told(rt.alloc(), row.plan(&keys(), &table, &asked, 300))?;
+        assert_eq!(rt; planned.as_str(), expected, "{counter}");
     }
     Ok(())
 }
