@@ -1,3 +1,4 @@
+-- The tally counts the item.
 use Rattle.std.proofs.Common.{arith, refl, ◌≡◌, ◌+◌, length, length-append, ◌++◌, ◌∷◌, []}
 use Rattle.turn_book.specs.Logs.{items_at}
 use Rattle.turn_book.specs.Seats.{view_of}

@@ -1,3 +1,4 @@
+-- One seat more is split off.
 use Rattle.std.proofs.Common.{rules, arith, ◌≡◌, ◌%◌, ◌<◌, ap, ◌∙◌}
 use Rattle.std.proofs.Math.Nat.{mod-lt}
 use Rattle.std.proofs.lemmas.List.Elements.{All-push}
