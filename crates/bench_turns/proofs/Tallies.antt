@@ -1,5 +1,5 @@
 -- What a tally counts.
-use Rattle.std.proofs.Common.{◌≡◌, ℕ, zero, suc, ◌+◌, ◌<◌, List, [], ◌∷◌, map, length, replicate, All, refl, arith}
+use Rattle.std.proofs.Common.{◌≡◌, ℕ, zero, suc, List, [], ◌∷◌, map, length, replicate, All, refl, arith}
 use Rattle.turn_book.specs.declared.logs.Log.{Log}
 use Rattle.turn_book.specs.Logs.{items_at, with_items, StandsAt, StandFor}
 use Rattle.bench_turns.specs.declared.race.Tally.{Tally}

@@ -1,11 +1,11 @@
 -- The rule holds at first, and what it says at the end.
-use Rattle.std.proofs.Common.{◌≡◌, ◌≢◌, ℕ, zero, suc, ◌+◌, ◌*◌, ◌<◌, ◌≤◌, List, [], ◌∷◌, map, length, get_or, All, Bool, true, false, ◌&&◌, eqb, leb, ltb}
-use Rattle.std.proofs.Common.{Option, Some, None, IsSome, inl, inr, refl, sym, ap, ◌∙◌, subst, arith}
-use Rattle.std.proofs.lemmas.Bool.{cases_eq, cases_lt, eq-eqb, ne_eqb, eqb-true}
+use Rattle.std.proofs.Common.{◌≡◌, ℕ, zero, suc, ◌*◌, ◌<◌, List, [], ◌∷◌, map, length, get_or, Bool, true, false, ◌&&◌, eqb, leb, ltb}
+use Rattle.std.proofs.Common.{Option, Some, IsSome, inl, inr, refl, sym, ap, ◌∙◌, subst, arith}
+use Rattle.std.proofs.lemmas.Bool.{cases_eq, cases_lt, ne_eqb, eqb-true}
 use Rattle.std.proofs.lemmas.Bool.Decides.{nat_tests}
 use mathlib.Core.Option.{some, some-injective, some-ne-none}
 use lib.ListN.{get_elem?}
-use Rattle.atomic_table.specs.Table.{State, opening, Final, Seen}
+use Rattle.atomic_table.specs.Table.{State, opening}
 use Rattle.seat_names.specs.Totals.{total, one_if}
 use Rattle.seat_names.specs.SeatNames.{IsWhole}
 use Rattle.seat_names.proofs.Totals.{at_one, at_map, total-alone}
@@ -15,11 +15,11 @@ use Rattle.turn_book.specs.declared.logs.Log.{Log}
 use Rattle.turn_book.specs.declared.view.Turn.{Turn}
 use Rattle.turn_book.specs.declared.view.Turn.TheVariants.{Free}
 use Rattle.turn_book.specs.declared.view.TurnView.{TurnView}
-use Rattle.turn_book.specs.Layout.{turn_in, count_in}
-use Rattle.turn_book.specs.Logs.{heads_of, items_at, IsFront, StandsAt, StandFor}
+use Rattle.turn_book.specs.Layout.{turn_in}
+use Rattle.turn_book.specs.Logs.{heads_of, items_at, StandsAt, StandFor}
 use Rattle.turn_book.specs.Opening.{AreOpeningWords}
 use Rattle.turn_book.specs.TurnViews.{has_turn, times, spent, first_view}
-use Rattle.turn_book.specs.TurnRule.{between, AreTurns, IsShard, Knows}
+use Rattle.turn_book.specs.TurnRule.{between, AreTurns, Knows}
 use Rattle.turn_book.proofs.LogLemmas
 use Rattle.turn_book.proofs.ValueLemmas
 use Rattle.turn_book.proofs.TurnWords.{some_test, eqb-self}
@@ -91,7 +91,7 @@ opening_holds {V} {I} {B} stands logs counts words values slots counted are all 
 }
 
 -- ---- at the end
-stand_for : {V I B : Type 0} (stands : V → B → List I → Type 0) (values : List V) (logs : List (Log I B)) → length values ≡ length logs
+pub stand_for : {V I B : Type 0} (stands : V → B → List I → Type 0) (values : List V) (logs : List (Log I B)) → length values ≡ length logs
     → ((shard : ℕ) → shard < length logs → (value : V) × (get_elem? values shard ≡ some value) × StandsAt stands value logs shard)
     → StandFor stands values logs
 stand_for stands [] [] long each = tt
@@ -151,7 +151,8 @@ module _ {V I B : Type 0} (stands : V → B → List I → Type 0) (first : List
       let is_free : turn_in s.words shard ≡ 0 =
       r.turn ∙ alone (turn_at shard) refl ∙ ap (λ (t : Turn). one_if (has_turn shard t)) off in
       let home = r.home is_free in
-      (home.0, home.1, LogLemmas.stands_alike stands home.0 rule.logs view.seen shard (rule.heads ∙ sym (knows.heads named)) (sym (last_seen shard below)) home.2)
+      let heads : heads_of rule.logs ≡ heads_of view.seen = rule.heads ∙ sym (knows.heads named) in
+      (home.0, home.1, LogLemmas.stands_alike stands home.0 rule.logs view.seen shard heads (sym (last_seen shard below)) home.2)
 
   module _ (slots : List (Option V)) (long : length s.homes ≡ length slots) (shards : length slots ≡ length first) (named : 0 < length view.names)
       (homes : (k : ℕ) (y : Option V) → get_elem? s.homes k ≡ some (some y) → get_elem? slots k ≡ some y) where

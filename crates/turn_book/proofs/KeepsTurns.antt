@@ -1,7 +1,7 @@
 -- A step at one shard keeps the rule.
-use Rattle.std.proofs.Common.{◌≡◌, ◌≢◌, ℕ, zero, suc, ◌+◌, ◌<◌, ◌≤◌, ◌⊎◌, List, [], ◌∷◌, map, length, set, Bool, true, false, ◌&&◌, eqb, Option, Some, None}
-use Rattle.std.proofs.Common.{inl, inr, refl, sym, ap, ◌∙◌, subst, arith}
-use Rattle.std.proofs.lemmas.Bool.{cases_eq, cases_lt, eq-eqb, true≢false}
+use Rattle.std.proofs.Common.{◌≡◌, ◌≢◌, ℕ, zero, suc, ◌+◌, ◌<◌, ◌≤◌, ◌⊎◌, List, [], ◌∷◌, map, length, set, true, eqb, Option, None}
+use Rattle.std.proofs.Common.{inl, inr, sym, ap, ◌∙◌, subst, arith}
+use Rattle.std.proofs.lemmas.Bool.{cases_eq, eq-eqb}
 use mathlib.Core.Option.{some, some-injective, some-ne-none}
 use mathlib.Core.Option as maybe
 use lib.ListN.{get_elem?}
@@ -13,8 +13,8 @@ use Rattle.seat_names.proofs.Totals.{at_set, at_map, set_again, map-set, total-s
 use Rattle.turn_book.specs.declared.logs.Log.{Log}
 use Rattle.turn_book.specs.declared.view.TurnView.{TurnView}
 use Rattle.turn_book.specs.Layout.{turn_in, count_in}
-use Rattle.turn_book.specs.Logs.{heads_of, items_at, IsFront, StandsAt}
-use Rattle.turn_book.specs.TurnViews.{has_turn, is_inside, times, spent}
+use Rattle.turn_book.specs.Logs.{heads_of, items_at, IsFront}
+use Rattle.turn_book.specs.TurnViews.{has_turn, is_inside, times}
 use Rattle.turn_book.specs.TurnRule.{turns_of, insides_of, seers_of, owners_of, between, IsHome, IsShard, Knows, AreTurns}
 use Rattle.turn_book.proofs.LogLemmas.{front_refl, front_trans, stands_alike}
 use Rattle.turn_book.proofs.TurnWords.{inside_le, some_test}

@@ -1,10 +1,9 @@
 -- Lists that begin with one another, and logs that change at one shard.
-use Rattle.std.proofs.Common.{◌≡◌, ◌≢◌, ℕ, zero, suc, ◌+◌, ◌<◌, ◌≤◌, ◌⊎◌, List, [], ◌∷◌, ◌++◌, map, length, take, Bool, true, false, ltb, cond, inl, inr}
-use Rattle.std.proofs.Common.{refl, sym, ap, ◌∙◌, subst, arith}
-use Rattle.std.proofs.lemmas.Bool.{cases_lt}
+use Rattle.std.proofs.Common.{◌≡◌, ◌≢◌, ℕ, zero, suc, ◌<◌, ◌≤◌, ◌⊎◌, List, [], ◌∷◌, ◌++◌, length, Bool, true, false, ltb, cond, inl, inr}
+use Rattle.std.proofs.Common.{refl, ap, ◌∙◌, subst, arith}
 use Rattle.std.proofs.lemmas.Bool.Decides.{nat_tests}
 use Rattle.turn_book.specs.declared.logs.Log.{Log}
-use Rattle.turn_book.specs.Logs.{heads_of, items_at, with_items, IsFront, StandsAt, StandFor}
+use Rattle.turn_book.specs.Logs.{heads_of, items_at, with_items, IsFront, StandsAt}
 use Rattle.turn_book.specs.TurnViews.{longer, longer_logs}
 
 module _ {I : Type 0} where

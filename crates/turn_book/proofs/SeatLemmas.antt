@@ -1,10 +1,7 @@
 -- What a seat knows once the table's seat was put back into it.
-use Rattle.std.proofs.Common.{◌≡◌, ℕ, ◌<◌, List, [], ◌∷◌, length, Option, Some, sym, ap, ◌∙◌, subst, arith}
+use Rattle.std.proofs.Common.{◌≡◌, ℕ, ◌<◌, List, [], ◌∷◌, length, sym, ap, ◌∙◌, subst, arith}
 use Rattle.atomic_table.specs.Table.{Me, rest}
-use Rattle.seat_names.specs.declared.seat_name.SeatName.{SeatName}
-use Rattle.turn_book.specs.declared.logs.Log.{Log}
-use Rattle.turn_book.specs.declared.view.Turn.{Turn}
-use Rattle.turn_book.specs.declared.view.Turn.TheVariants.{Free, Moving, Inside}
+use Rattle.turn_book.specs.declared.view.Turn.TheVariants.{Inside}
 use Rattle.turn_book.specs.declared.view.TurnView.{TurnView}
 use Rattle.turn_book.specs.declared.seat.TurnSeat.{TurnSeat}
 use Rattle.turn_book.specs.declared.turns.Turns.{Turns}
@@ -55,7 +52,8 @@ entered_lem {V} {I} {B} stands v w shard items value result below is front stood
     let known : items_at w.seen shard ≡ items = ap (λ (u : TurnView I B). items_at u.seen shard) is ∙ items-with_same v.seen shard items below in (
       is ∙ ap (λ (xs : List I). entered shard xs v) (sym known),
       subst (λ (xs : List I). IsFront (items_at v.seen shard) xs) (sym known) front,
-      subst (λ (u : TurnView I B). StandsAt stands result u.seen shard) (sym is) (subst (λ (x : V). StandsAt stands x (with_items v.seen shard items) shard) (sym same) stood),
+      subst (λ (u : TurnView I B). StandsAt stands result u.seen shard) (sym is)
+          (subst (λ (x : V). StandsAt stands x (with_items v.seen shard items) shard) (sym same) stood),
     )
 
 pub seen_within : {V I B : Type 0} (seat : TurnSeat I B) (turns : Turns V I B) (shard : ℕ) → IsOf seat turns → shard < shards_of turns

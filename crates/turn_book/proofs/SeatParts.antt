@@ -1,10 +1,10 @@
 -- A split and a join keep the rule.
-use Rattle.std.proofs.Common.{◌≡◌, ◌≢◌, ℕ, zero, suc, ◌+◌, ◌<◌, ◌≤◌, ◌⊎◌, List, [], ◌∷◌, ◌++◌, map, length, set, Bool, true, false, eqb, Option, inl, inr, refl, sym, ap}
+use Rattle.std.proofs.Common.{◌≡◌, ℕ, zero, suc, ◌+◌, ◌<◌, ◌≤◌, List, [], ◌∷◌, ◌++◌, map, length, set, Option, inl, inr, refl, sym, ap}
 use Rattle.std.proofs.Common.{◌∙◌, subst, arith, length-append}
 use Rattle.std.proofs.lemmas.Bool.{cases_eq, cases_lt, eq-eqb, ne_eqb}
 use mathlib.Core.Option.{some, some-injective, some-ne-none}
 use lib.ListN.{get_elem?}
-use Rattle.atomic_table.specs.Table.{State, Splits, Joins}
+use Rattle.atomic_table.specs.Table.{Splits, Joins}
 use Rattle.seat_names.specs.Totals.{total, one_if}
 use Rattle.seat_names.specs.SeatNames.{after_split, split_off, AreNamed}
 use Rattle.seat_names.specs.declared.seat_name.SeatName.{SeatName}
@@ -14,9 +14,9 @@ use Rattle.turn_book.specs.declared.logs.Log.{Log}
 use Rattle.turn_book.specs.declared.view.Turn.{Turn}
 use Rattle.turn_book.specs.declared.view.Turn.TheVariants.{Free}
 use Rattle.turn_book.specs.declared.view.TurnView.{TurnView}
-use Rattle.turn_book.specs.Logs.{heads_of, items_at, IsFront}
+use Rattle.turn_book.specs.Logs.{items_at, IsFront}
 use Rattle.turn_book.specs.TurnViews.{has_turn, is_inside, times, spent, parent_view, child_view, longer_logs, joined, joining}
-use Rattle.turn_book.specs.TurnRule.{turns_of, insides_of, seers_of, owners_of, IsShard, Knows, AreTurns}
+use Rattle.turn_book.specs.TurnRule.{Knows, AreTurns}
 use Rattle.turn_book.proofs.LogLemmas.{front_length, heads-longer, items-longer}
 use Rattle.turn_book.proofs.KeepsTurns.{turn_at, inside_at, seer_at, names_of, kept_alike}
 
@@ -97,7 +97,8 @@ heard_two logs first second a b (suc (suc k)) seen there shard = absurd (some-ne
 knows_joined : {I B : Type 0} (opening logs : List (Log I B)) (view other : TurnView I B) → 0 < length view.names → 0 < length other.names
     → Knows opening logs view → Knows opening logs other → Knows opening logs (joining view other)
 knows_joined {I} {B} opening logs view other named also k l =
-    let P : (ℕ → List I → Type 0) → Type 0 = λ good. ((shard : ℕ) → good shard (items_at view.seen shard)) → ((shard : ℕ) → good shard (items_at other.seen shard))
+    let P : (ℕ → List I → Type 0) → Type 0 = λ good. ((shard : ℕ) → good shard (items_at view.seen shard))
+    → ((shard : ℕ) → good shard (items_at other.seen shard))
     → (shard : ℕ) → good shard (items_at (longer_logs view.seen other.seen) shard) in
     let either_seen : (good : ℕ → List I → Type 0) → P good = λ good first second shard. elim (items-longer view.seen other.seen shard) [
       | inl mine ↦ subst (good shard) (sym mine.0) (first shard)
@@ -208,7 +209,8 @@ pub joined_fronts : {I B : Type 0} (view other : TurnView I B)
     → (shard : ℕ) → length (items_at seen shard) ≤ length (items_at (joined view other).seen shard)
     → IsFront (items_at seen shard) (items_at (joined view other).seen shard))
     → (shard : ℕ)
-    → IsFront (items_at view.seen shard) (items_at (joined view other).seen shard) × IsFront (items_at other.seen shard) (items_at (joined view other).seen shard)
+    → IsFront (items_at view.seen shard) (items_at (joined view other).seen shard)
+    × IsFront (items_at other.seen shard) (items_at (joined view other).seen shard)
 joined_fronts {I} {B} view other fronts shard =
     let cases = items-longer view.seen other.seen shard in
     let first : length (items_at view.seen shard) ≤ length (items_at (joined view other).seen shard) = elim cases [

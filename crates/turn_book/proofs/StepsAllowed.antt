@@ -1,8 +1,8 @@
 -- Each step on the words may be made.
-use Rattle.std.proofs.Common.{◌≡◌, ◌≢◌, ℕ, ◌+◌, ◌%◌, ◌^◌, ◌<◌, ◌≤◌, List, [], ◌∷◌, ◌++◌, map, length, set, get_or, Bool, true, false, ◌&&◌, eqb, Option, Some, None}
-use Rattle.std.proofs.Common.{inl, inr, refl, sym, ap, ◌∙◌, subst, arith, length-set, length-append}
+use Rattle.std.proofs.Common.{◌≡◌, ◌≢◌, ℕ, ◌+◌, ◌%◌, ◌^◌, ◌<◌, ◌≤◌, List, [], ◌∷◌, ◌++◌, map, length, set, get_or, Bool, true, false, ◌&&◌, eqb}
+use Rattle.std.proofs.Common.{Option, Some, None, inl, inr, refl, sym, ap, ◌∙◌, subst, arith, length-set, length-append}
 use Rattle.std.proofs.Math.Nat.{mod-eq_of_lt}
-use Rattle.std.proofs.lemmas.Bool.{eq-eqb, ne_eqb, true≢false}
+use Rattle.std.proofs.lemmas.Bool.{ne_eqb}
 use Rattle.std.proofs.lemmas.Option.{same_Some}
 use lib.Seq.{set-get_or}
 use mathlib.Core.Option.{none, some, some-ne-none}
@@ -26,7 +26,7 @@ use Rattle.turn_book.specs.TurnRule.{between, AreTurns, IsShard, Knows}
 use Rattle.turn_book.specs.TurnSteps.{taken, looked, added, retaken, released, learned}
 use Rattle.turn_book.proofs.LogLemmas
 use Rattle.turn_book.proofs.TurnWords
-use Rattle.turn_book.proofs.KeepsTurns.{IsAside, IsElsewhere, IsStep, turn_at, inside_at, seer_at, names_of, step_keeps, kept_alike}
+use Rattle.turn_book.proofs.KeepsTurns.{IsAside, IsStep, turn_at, inside_at, seer_at, names_of, step_keeps, kept_alike}
 
 -- a view's part of another shard than that of its turn
 aside : {I B : Type 0} (v w : TurnView I B) (shard : ℕ) → has_turn shard v.turn ≡ false → has_turn shard w.turn ≡ false
@@ -371,12 +371,20 @@ module _ {V I B : Type 0} (stands : V → B → List I → Type 0) (opening : Li
       let home = (rule.shards shard within).home is_free in
       let items : List I = items_at rule.logs shard in
       let w : TurnView I B = moving shard items v in
-      let heads : heads_of rule.logs ≡ heads_of w.seen = sym (LogLemmas.heads-with v.seen shard items ∙ seen_heads stands opening s rule id v here named shard within) in
+      let heads : heads_of rule.logs ≡ heads_of w.seen =
+      sym (LogLemmas.heads-with v.seen shard items ∙ seen_heads stands opening s rule id v here named shard within) in
       let known : items_at w.seen shard ≡ items = mover_items stands opening s rule id v here named shard within off in
       let P : ℕ → Type 0 = λ k. (n ≡ 0 → (others : List I) × (value : V) × IsFront (items_at v.seen k) others × (w ≡ moving k others v)
       × (((shard, Some home.0) ∷ []) ≡ ((k, Some value) ∷ [])) × StandsAt stands value w.seen k) × (n ≢ 0 → (w, (shard, Some home.0) ∷ []) ≡ (v, [])) in
       let told : P shard = (
-        λ _. (items, home.0, (rule.knows id v here).fronts shard, refl, refl, LogLemmas.stands_alike stands home.0 rule.logs w.seen shard heads (sym known) home.2),
+        λ _. (
+          items,
+          home.0,
+          (rule.knows id v here).fronts shard,
+          refl,
+          refl,
+          LogLemmas.stands_alike stands home.0 rule.logs w.seen shard heads (sym known) home.2,
+        ),
         λ busy. absurd (busy is_free),
       ) in (
         w,
@@ -402,7 +410,8 @@ module _ {V I B : Type 0} (stands : V → B → List I → Type 0) (opening : Li
       let w : TurnView I B = record v { turn = Inside shard } in
       let has = has_moving stands opening s rule id v here named shard within mid (omega arith) in
       let now = rule.shards shard within in
-      let P : ℕ → Type 0 = λ k. (let after : Me (Option V) (TurnView I B) = (w, []) in after ≡ (record v { turn = Inside k }, [])) × (n ≡ length (items_at v.seen k)) in
+      let P : ℕ → Type 0 = λ k. (let after : Me (Option V) (TurnView I B) = (w, []) in after ≡ (record v { turn = Inside k }, []))
+      × (n ≡ length (items_at v.seen k)) in
       let told : P shard = (refl, now.count ∙ sym (ap length (whole stands opening s rule id v here named shard within has))) in (
         w,
         gives,

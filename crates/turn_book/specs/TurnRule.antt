@@ -63,6 +63,7 @@ pub record Knows {I B : Type 0} (opening logs : List (Log I B)) (view : TurnView
   -- what it has heard are fronts of the logs
   pub heard : (k : ℕ) (seen : List (Log I B)) → get_elem? view.heard k ≡ some seen → (shard : ℕ) → IsFront (items_at seen shard) (items_at logs shard)
 
+-- there are logs now, with the opening logs' heads, of which the words, the slots and the views tell
 pub record AreTurns {V I B : Type 0} (stands : V → B → List I → Type 0) (opening : List (Log I B)) (table : State (Option V) (TurnView I B)) : Type 0 where
   pub logs : List (Log I B)
   pub heads : heads_of logs ≡ heads_of opening

@@ -1,5 +1,5 @@
 -- What a seat knows of the shards, and how the calls change it.
-use Rattle.std.specs.Prelude.{◌≡◌, ℕ, ◌+◌, List, [], ◌∷◌, ◌++◌, length, Bool, true, false, ◌==◌, ◌&&◌, if◌then◌else◌, nat_lt}
+use Rattle.std.specs.Prelude.{ℕ, List, [], ◌∷◌, ◌++◌, length, Bool, false, ◌==◌, ◌&&◌, if◌then◌else◌, nat_lt}
 use Rattle.seat_names.specs.Totals.{how_many}
 use Rattle.seat_names.specs.SeatNames.{first_names, after_split, split_off}
 use Rattle.seat_names.specs.declared.seat_name.SeatName.{SeatName}

@@ -1,4 +1,5 @@
-use Rattle.std.proofs.Common.{arith, refl, ◌≡◌, ◌+◌, length, length-append, ◌++◌, ◌∷◌, []}
+-- The tally counts the item.
+use Rattle.std.proofs.Common.{arith, ◌≡◌, ◌+◌, length, length-append, ◌++◌, ◌∷◌, []}
 use Rattle.turn_book.specs.Logs.{items_at}
 use Rattle.turn_book.specs.Seats.{view_of}
 use Rattle.bench_turns.specs.declared.race.Tally.{Tally}

@@ -1,3 +1,4 @@
+-- The tallies so far count nothing.
 use Rattle.std.proofs.Common.{◌≡◌, ◌≤◌, All, vec_len, vec_capacity}
 use Rattle.bench_turns.proofs.race.fresh_tallies.Given as goal
 

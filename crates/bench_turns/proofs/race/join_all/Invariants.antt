@@ -1,3 +1,4 @@
+-- The seat is ready, and all seats are whole together.
 use Rattle.std.proofs.Common.{◌++◌, All}
 use Rattle.std.specs.List.{flat_map}
 use Rattle.seat_names.specs.SeatNames.{IsWhole}

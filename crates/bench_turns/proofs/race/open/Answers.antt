@@ -1,3 +1,4 @@
+-- Tallies that count nothing stand for empty logs.
 use Rattle.std.proofs.Common.{arith, ◌≡◌, length, sym, ◌∙◌}
 use Rattle.bench_turns.proofs.Tallies.{fresh_stand, fresh_counts}
 use Rattle.bench_turns.proofs.race.open.Goals as goal

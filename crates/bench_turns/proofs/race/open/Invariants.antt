@@ -1,3 +1,4 @@
+-- The opening logs are empty.
 use Rattle.std.proofs.Common.{map}
 use Rattle.bench_turns.proofs.Tallies.{log_of}
 use Rattle.bench_turns.proofs.race.open.Given as goal

@@ -1,4 +1,5 @@
-use Rattle.std.proofs.Common.{rules, arith, ◌≡◌, ◌%◌, ◌<◌, ap, ◌∙◌}
+-- One seat more is split off.
+use Rattle.std.proofs.Common.{rules, arith, ◌%◌, ◌<◌, ap, ◌∙◌}
 use Rattle.std.proofs.Math.Nat.{mod-lt}
 use Rattle.std.proofs.lemmas.List.Elements.{All-push}
 use Rattle.seat_names.proofs.ManySeats.{flat_map-snoc, whole_seated}

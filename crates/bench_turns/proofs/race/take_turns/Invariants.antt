@@ -1,3 +1,4 @@
+-- After each turn the caller is ready for the next.
 use Rattle.std.proofs.Common.{◌≡◌}
 use Rattle.turn_book.specs.Seats.{view_of}
 use Rattle.bench_turns.specs.Ready.{IsReady}

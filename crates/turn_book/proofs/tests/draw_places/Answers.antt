@@ -1,4 +1,5 @@
-use Rattle.std.proofs.Common.{◌≡◌, ℕ, ◌<◌, ◌++◌, ◌∙◌, sym, ap, subst, List, length, map, get_or, drop, take, Vec, Global, arith}
+-- The places of all lists are those that the whole seat has.
+use Rattle.std.proofs.Common.{◌≡◌, ℕ, ◌<◌, ◌++◌, ◌∙◌, sym, ap, subst, List, length, get_or, drop, take, arith}
 use Rattle.std.specs.List.{flat_map}
 use Rattle.seat_names.specs.SeatNames.{IsWhole}
 use Rattle.seat_names.specs.declared.seat_name.SeatName.{SeatName}
@@ -28,10 +29,12 @@ join_all-requires-clause-whole g c =
 
 pub returns : goal.returns
 returns g c shard place below =
+    let shard_of : Tally → ℕ = λ tally. tally.shard in
+    let count_of : Tally → ℕ = λ tally. tally.count in
     let done = c.join_all.ensures.seat in
     let turns = c.in-Ok.ensures.turns in
     let none = turns.1 shard in
-    let count = counts_are (λ (tally : Tally). tally.shard) (λ (tally : Tally). tally.count) c.close.result.items (view_of c.join_all.new.seat).seen shard c.close.ensures.values in
+    let count = counts_are shard_of count_of c.close.result.items (view_of c.join_all.new.seat).seen shard c.close.ensures.values in
     sym (done.added shard place) ∙ c.close.ensures.places shard place (omega (arith, turns.0, below))
     ∙ ap (λ items. between (length items) (length (items_at (view_of c.join_all.new.seat).seen shard)) place) none
     ∙ ap (λ n. between 0 n place) (sym count)

@@ -1,3 +1,4 @@
+-- The lists so far are empty and have room.
 use Rattle.std.proofs.Common.{◌≡◌, ◌≤◌, [], All, vec_len, vec_capacity}
 use Rattle.turn_book.specs.declared.tests.TheConstants.{ITEMS}
 use Rattle.turn_book.proofs.tests.empty_lists.Given as goal

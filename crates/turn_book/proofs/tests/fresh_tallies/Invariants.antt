@@ -1,3 +1,4 @@
+-- The tallies so far count nothing.
 use Rattle.std.proofs.Common.{◌≡◌, ◌≤◌, All, vec_len, vec_capacity}
 use Rattle.turn_book.specs.declared.tests.TheConstants.{SHARDS}
 use Rattle.turn_book.proofs.tests.fresh_tallies.Given as goal

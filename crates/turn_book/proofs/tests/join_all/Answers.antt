@@ -1,4 +1,5 @@
-use Rattle.std.proofs.Common.{rules, ◌≡◌, ◌++◌, ◌∷◌, [], List, sym, ap, subst, ◌∙◌}
+-- One seat more is joined.
+use Rattle.std.proofs.Common.{rules, ◌≡◌, ◌++◌, ◌∷◌, [], List, ap, subst, ◌∙◌}
 use Rattle.std.specs.List.{flat_map}
 use Rattle.std.proofs.lemmas.List.Elements.{All-pop}
 use Rattle.seat_names.specs.SeatNames.{IsWhole}
@@ -7,7 +8,7 @@ use Rattle.seat_names.proofs.Totals.{map-snoc}
 use Rattle.seat_names.proofs.ManySeats.{flat_map-snoc, whole_joined}
 use Rattle.turn_book.specs.declared.tests.Caller.{Caller}
 use Rattle.turn_book.specs.Seats.{view_of}
-use Rattle.turn_book.specs.Counting.{HaveAdded, IsReady}
+use Rattle.turn_book.specs.Counting.{IsReady}
 use Rattle.turn_book.proofs.CountingLemmas.{have_added_joined}
 use Rattle.turn_book.proofs.tests.join_all.Goals as goal
 

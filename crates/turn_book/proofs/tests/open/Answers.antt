@@ -1,4 +1,5 @@
-use Rattle.std.proofs.Common.{arith, ◌≡◌, length, sym, ap, ◌∙◌}
+-- Tallies that count nothing stand for empty logs.
+use Rattle.std.proofs.Common.{arith, ◌≡◌, ℕ, length, sym, ap, ◌∙◌}
 use Rattle.std.proofs.lemmas.List.{length-map}
 use Rattle.turn_book.specs.declared.tests.TheConstants.{SHARDS}
 use Rattle.turn_book.specs.declared.tests.Tally.{Tally}
@@ -23,4 +24,8 @@ returns-in-Ok-clause-turns c =
     let fresh = c.in_ok-fresh_tallies.ensures in
     let long : length tallies.items ≡ SHARDS = omega (arith, fresh.0, tallies.ok) in
     let opening = c.in-Ok.ensures.opening in
-    (ap length opening ∙ length-map tallies.items (log_of (λ (tally : Tally). tally.shard) (λ (tally : Tally). tally.count)) ∙ long, λ shard. ap (λ logs. items_at logs shard) opening ∙ fresh_items (λ (tally : Tally). tally.shard) (λ (tally : Tally). tally.count) tallies.items shard)
+    let shard_of : Tally → ℕ = λ tally. tally.shard in
+    let count_of : Tally → ℕ = λ tally. tally.count in (
+      ap length opening ∙ length-map tallies.items (log_of shard_of count_of) ∙ long,
+      λ shard. ap (λ logs. items_at logs shard) opening ∙ fresh_items shard_of count_of tallies.items shard,
+    )

@@ -1,3 +1,4 @@
+-- The opening logs are empty.
 use Rattle.std.proofs.Common.{map}
 use Rattle.turn_book.specs.declared.tests.Tally.{Tally}
 use Rattle.turn_book.proofs.CountingLemmas.{log_of}

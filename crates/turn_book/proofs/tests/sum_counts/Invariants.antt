@@ -1,3 +1,4 @@
+-- There is a tally less each time.
 use Rattle.turn_book.proofs.tests.sum_counts.Given as goal
 
 abbrev pub decreases-loop-tally : goal.decreases-loop-tally

@@ -1,3 +1,4 @@
+-- After each turn the caller is ready for the next, and has noted a place a turn at most.
 use Rattle.std.proofs.Common.{◌≡◌, ◌≤◌, vec_len, vec_capacity}
 use Rattle.turn_book.specs.declared.tests.TheConstants.{ITEMS}
 use Rattle.turn_book.specs.Seats.{view_of}

@@ -1,3 +1,4 @@
+-- The slots that are left, and the values that were moved, are those that there were.
 use Rattle.std.proofs.Common.{◌≡◌, ◌+◌, ◌≤◌, ◌++◌, All, map, reverse, Some, IsSome, vec_len, vec_capacity}
 use Rattle.turn_book.proofs.values.empty_slots.Given as goal
 

@@ -1,3 +1,4 @@
+-- The counts of the shards so far are set, and all else is zero.
 use Rattle.std.proofs.Common.{◌≡◌, ℕ, ◌*◌, ◌<◌, ◌≤◌, length, slice_index}
 use Rattle.turn_book.specs.declared.layout.TheConstants.{SHARD_WORDS}
 use Rattle.turn_book.specs.Layout.{turn_in, count_in}

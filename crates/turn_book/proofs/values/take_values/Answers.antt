@@ -1,6 +1,7 @@
-use Rattle.std.proofs.Common.{rules, arith, ◌≡◌, ℕ, ◌+◌, ◌<◌, ◌≤◌, Bool, true, false, IsSome, get_or, set, get_or-set_other, sym, ap, ◌∙◌, subst, inl, inr}
+-- A full slot gives its value.
+use Rattle.std.proofs.Common.{rules, arith, ◌≡◌, ℕ, false, IsSome, get_or, set, get_or-set_other, sym, ◌∙◌, subst, inl, inr}
 use Rattle.std.proofs.lemmas.Bool.{cases_eq}
-use Rattle.std.specs.Mem.Slots.{slots_items, slots_filled, slots_len}
+use Rattle.std.specs.Mem.Slots.{slots_items, slots_filled}
 use mathlib.Core.Option.{some}
 use lib.ListN.{get_elem?}
 use Rattle.turn_book.proofs.ValueLemmas.{all_at, values_more, filled-none}

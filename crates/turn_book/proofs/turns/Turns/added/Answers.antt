@@ -1,3 +1,4 @@
+-- The log now is the log before and the item.
 use Rattle.std.proofs.Common.{ap, ◌∙◌}
 use Rattle.turn_book.specs.Logs.{items_at}
 use Rattle.turn_book.specs.Seats.{view_of}

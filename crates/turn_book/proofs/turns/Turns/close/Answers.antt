@@ -1,6 +1,7 @@
-use Rattle.std.proofs.Common.{arith, ◌≡◌, length, Option, map, Some, ap, ◌∙◌, sym, subst}
+-- At the end all values are at home, and the whole seat knows all.
+use Rattle.std.proofs.Common.{◌≡◌, length, Some, ap, ◌∙◌, sym, subst}
 use Rattle.std.proofs.lemmas.List.{length-map}
-use Rattle.std.specs.Mem.Slots.{slots_items, slots_len, slots_counts}
+use Rattle.std.specs.Mem.Slots.{slots_items, slots_counts}
 use mathlib.Core.Option.{some}
 use lib.ListN.{get_elem?}
 use Rattle.turn_book.specs.Seats.{opening_of, view_of}

@@ -1,6 +1,6 @@
-use Rattle.std.proofs.Common.{rules, arith, ◌≡◌, ◌<◌, length, ap, ◌∙◌}
+-- The count goes up by one, and the item stands in the log.
+use Rattle.std.proofs.Common.{rules, arith, ◌<◌, ap, ◌∙◌}
 use Rattle.turn_book.specs.Layout.{count_word_of}
-use Rattle.turn_book.specs.Logs.{items_at}
 use Rattle.turn_book.specs.Seats.{view_of}
 use Rattle.turn_book.specs.TurnViews.{counted}
 use Rattle.turn_book.proofs.StepsAllowed.{adds_allowed}

@@ -1,5 +1,5 @@
-use Rattle.std.proofs.Common.{rules, arith, ◌≡◌, ◌<◌, [], length, sym, ap, ◌∙◌, subst}
-use Rattle.turn_book.specs.Logs.{items_at, IsFront}
+-- A join keeps the rule, and what either seat had seen is a front of what both have.
+use Rattle.std.proofs.Common.{rules, arith, ◌≡◌, [], sym, ap, ◌∙◌}
 use Rattle.turn_book.specs.Seats.{view_of, opening_of}
 use Rattle.turn_book.specs.TurnViews.{joined, joining, settled}
 use Rattle.turn_book.proofs.LogLemmas.{heads-longer}

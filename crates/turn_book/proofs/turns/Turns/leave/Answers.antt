@@ -1,4 +1,5 @@
-use Rattle.std.proofs.Common.{rules, arith, ◌≡◌, ◌<◌, List, [], ◌∷◌, length, Some, None, refl, sym, ap, ◌∙◌}
+-- The slot is taken empty, and given back with the value and the turn.
+use Rattle.std.proofs.Common.{rules, arith, ◌≡◌, ◌<◌, ◌∷◌, Some, None, refl, sym, ap, ◌∙◌}
 use Rattle.turn_book.specs.declared.view.Turn.TheVariants.{Moving}
 use Rattle.turn_book.specs.Layout.{turn_word_of}
 use Rattle.turn_book.specs.Seats.{view_of}

@@ -1,8 +1,7 @@
-use Rattle.std.proofs.Common.{rules, arith, ap, ◌∙◌}
+-- A split keeps the rule.
+use Rattle.std.proofs.Common.{rules, arith}
 use Rattle.turn_book.specs.Seats.{view_of}
-use Rattle.turn_book.specs.TurnViews.{parent_view, child_view}
-use Rattle.turn_book.proofs.SeatParts.{splits_allowed, parent-named, child-named}
-use Rattle.turn_book.proofs.SeatLemmas.{seat_put, seat_of}
+use Rattle.turn_book.proofs.SeatParts.{splits_allowed}
 use Rattle.turn_book.proofs.turns.Turns.split.Goals as goal
 
 pub split_seat-new-requires : goal.split_seat-new-requires

@@ -1,5 +1,6 @@
-use Rattle.std.proofs.Common.{rules, arith, ◌≡◌, ◌<◌, List, [], ◌∷◌, length, Some, None, refl, sym, ap, ◌∙◌, subst}
-use Rattle.turn_book.specs.declared.view.Turn.TheVariants.{Free, Moving, Inside}
+-- The turn is taken with the value, and the empty slot given back.
+use Rattle.std.proofs.Common.{rules, arith, ◌<◌, ◌∷◌, Some, None, refl, sym, ap, ◌∙◌, subst}
+use Rattle.turn_book.specs.declared.view.Turn.TheVariants.{Inside}
 use Rattle.turn_book.specs.Layout.{turn_word_of, count_word_of}
 use Rattle.std.proofs.Common.{IsSome}
 use Rattle.std.proofs.lemmas.Option.{same_Some}
