@@ -1,3 +1,4 @@
+-- The lemmas of this crate, lowest first.
 pub mod LogLemmas
 pub mod TurnWords
 pub mod KeepsTurns
