@@ -25,7 +25,7 @@ whole_seated names rest named whole =
     (λ path k. omega (arith, total-append (with_splits path k) after (rest ++ off), total-append (with_splits path k) rest off))
 
 -- the names of two seats that were joined are whole with the rest
-whole_joined : (names others rest : List SeatName) → IsWhole (names ++ (rest ++ others)) → IsWhole ((names ++ others) ++ rest)
+pub whole_joined : (names others rest : List SeatName) → IsWhole (names ++ (rest ++ others)) → IsWhole ((names ++ others) ++ rest)
 whole_joined names others rest whole =
     let same : (f : SeatName → ℕ) → total f ((names ++ others) ++ rest) ≡ total f (names ++ (rest ++ others)) = λ f. omega (
       arith,
@@ -41,7 +41,7 @@ flat_map-snoc f [] x = append-nil (f x)
 flat_map-snoc f (y ∷ ys) x = ap (λ (zs : List _). f y ++ zs) (flat_map-snoc f ys x) ∙ sym (append_assoc (f y) (flat_map f ys) (f x))
 
 -- callers whose seats keep their names
-flat_map-kept : {A B : Type 0} (f : A → List B) (xs ys : List A) → length ys ≡ length xs
+pub flat_map-kept : {A B : Type 0} (f : A → List B) (xs ys : List A) → length ys ≡ length xs
     → ((i : ℕ) (d : A) → i < length xs → f (get_or ys i d) ≡ f (get_or xs i d)) → flat_map f ys ≡ flat_map f xs
 flat_map-kept f [] [] long same = refl
 flat_map-kept f [] (y ∷ ys) long same = absurd (omega arith)
@@ -50,7 +50,7 @@ flat_map-kept f (x ∷ xs) (y ∷ ys) long same =
     ap₂ (λ a b. a ++ b) (same 0 x (omega arith)) (flat_map-kept f xs ys (omega arith) (λ i d below. same (suc i) d (omega arith)))
 
 -- a list that was lent as a slice comes back whole
-lent_whole : {A : Type 0} (n : ℕ) (part whole : List A) → length part ≡ n → length whole ≡ n → take n (part ++ drop (length part) whole) ≡ part
+pub lent_whole : {A : Type 0} (n : ℕ) (part whole : List A) → length part ≡ n → length whole ≡ n → take n (part ++ drop (length part) whole) ≡ part
 lent_whole n part whole long also =
     ap (λ rest. take n (part ++ rest)) (drop_all (length part) whole (omega arith)) ∙ ap (take n) (append-nil part) ∙ take_all n part (omega arith)
 
