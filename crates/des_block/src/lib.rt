@@ -13,7 +13,7 @@ ghost use Rattle.des_block.specs.Cipher.{word_bytes, des_encipher, des_decipher,
 ghost use Rattle.des_block.specs.Keyed.{HasKey, HasKeyPair};
 
 pub use permuted::PermutedBlock;
-use rounds::{rounds, rounds_back};
+use rounds::{rounds, rounds_back, rounds_of_both, rounds_of_both_back};
 use schedule::{RoundKey, round_keys};
 
 /// A key of sixteen bytes: a left and a right half of eight bytes each.
@@ -91,10 +91,7 @@ impl Des {
         ensures { (key : List ℕ) → HasKey self.now key → word_bytes result ≡ des_encipher key (word_bytes block.now) }
     {
         let (left, right) = rounds(&self.keys, block.left, block.right);
-        PermutedBlock {
-            left: right,
-            right: left,
-        }
+        PermutedBlock::after_rounds(left, right)
     }
 
     /// Deciphers a block in permuted halves.
@@ -102,10 +99,47 @@ impl Des {
         ensures { (key : List ℕ) → HasKey self.now key → word_bytes result ≡ des_decipher key (word_bytes block.now) }
     {
         let (left, right) = rounds_back(&self.keys, block.left, block.right);
-        PermutedBlock {
-            left: right,
-            right: left,
-        }
+        PermutedBlock::after_rounds(left, right)
+    }
+
+    /// Enciphers two blocks side by side.
+    fn encipher_both(
+        &self,
+        first: &PermutedBlock,
+        second: &PermutedBlock,
+    ) -> (PermutedBlock, PermutedBlock)
+        ensures first { (key : List ℕ) → HasKey self.now key → word_bytes result.0 ≡ des_encipher key (word_bytes first.now) }
+        ensures second { (key : List ℕ) → HasKey self.now key → word_bytes result.1 ≡ des_encipher key (word_bytes second.now) }
+    {
+        let (one, other) = rounds_of_both(
+            &self.keys,
+            (first.left, first.right),
+            (second.left, second.right),
+        );
+        (
+            PermutedBlock::after_rounds(one.0, one.1),
+            PermutedBlock::after_rounds(other.0, other.1),
+        )
+    }
+
+    /// Deciphers two blocks side by side.
+    fn decipher_both(
+        &self,
+        first: &PermutedBlock,
+        second: &PermutedBlock,
+    ) -> (PermutedBlock, PermutedBlock)
+        ensures first { (key : List ℕ) → HasKey self.now key → word_bytes result.0 ≡ des_decipher key (word_bytes first.now) }
+        ensures second { (key : List ℕ) → HasKey self.now key → word_bytes result.1 ≡ des_decipher key (word_bytes second.now) }
+    {
+        let (one, other) = rounds_of_both_back(
+            &self.keys,
+            (first.left, first.right),
+            (second.left, second.right),
+        );
+        (
+            PermutedBlock::after_rounds(one.0, one.1),
+            PermutedBlock::after_rounds(other.0, other.1),
+        )
     }
 }
 
@@ -182,6 +216,19 @@ impl Tdes {
         let first = self.left.decipher_permuted(block);
         let second = self.right.encipher_permuted(&first);
         self.left.decipher_permuted(&second)
+    }
+
+    /// Enciphers two blocks side by side, sooner than one after the other.
+    pub fn encipher_both(&self, first: [u8; 8], second: [u8; 8]) -> ([u8; 8], [u8; 8])
+        ensures first { (key : List ℕ) → HasKeyPair self.now key → result.0 ≡ tdes_encipher key first }
+        ensures second { (key : List ℕ) → HasKeyPair self.now key → result.1 ≡ tdes_encipher key second }
+    {
+        let first = PermutedBlock::new(u64::from_be_bytes(first));
+        let second = PermutedBlock::new(u64::from_be_bytes(second));
+        let (first, second) = self.left.encipher_both(&first, &second);
+        let (first, second) = self.right.decipher_both(&first, &second);
+        let (first, second) = self.left.encipher_both(&first, &second);
+        (first.word().to_be_bytes(), second.word().to_be_bytes())
     }
 }
 

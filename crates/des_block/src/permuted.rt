@@ -1,6 +1,7 @@
 //! A block in permuted halves, as the rounds take it.
 
 ghost use Rattle.std.specs.Prelude.{◌≡◌, bit_xor};
+ghost use Rattle.des_block.specs.Permuted.{permuted_word};
 
 use crate::rounds::{joined, split};
 use std::marker::Model;
@@ -47,6 +48,17 @@ impl PermutedBlock {
         PermutedBlock {
             left: self.left ^ other.left,
             right: self.right ^ other.right,
+        }
+    }
+
+    /// The block that the last round leaves in these halves, which it does not exchange.
+    #[inline]
+    pub(crate) fn after_rounds(left: u32, right: u32) -> PermutedBlock
+        ensures { result ≡ permuted_word right left }
+    {
+        PermutedBlock {
+            left: right,
+            right: left,
         }
     }
 }

@@ -98,3 +98,45 @@ pub(crate) fn rounds_back(keys: &[RoundKey; 16], left: u32, right: u32) -> (u32,
     }
     (left, right)
 }
+
+/// The sixteen rounds of two blocks side by side, so that neither waits for its own look-ups alone.
+#[inline]
+pub(crate) fn rounds_of_both(
+    keys: &[RoundKey; 16],
+    first: (u32, u32),
+    second: (u32, u32),
+) -> ((u32, u32), (u32, u32))
+    ensures first { turned_halves result.0.0 result.0.1 ≡ fold round (turned_halves first.0 first.1) (map key_bits keys.now) }
+    ensures second { turned_halves result.1.0 result.1.1 ≡ fold round (turned_halves second.0 second.1) (map key_bits keys.now) }
+{
+    let (mut left, mut right) = first;
+    let (mut beside_left, mut beside_right) = second;
+    for i in 0..8 {
+        left ^= mixed(right, &keys[2 * i]);
+        beside_left ^= mixed(beside_right, &keys[2 * i]);
+        right ^= mixed(left, &keys[2 * i + 1]);
+        beside_right ^= mixed(beside_left, &keys[2 * i + 1]);
+    }
+    ((left, right), (beside_left, beside_right))
+}
+
+/// The same with the keys in the opposite order.
+#[inline]
+pub(crate) fn rounds_of_both_back(
+    keys: &[RoundKey; 16],
+    first: (u32, u32),
+    second: (u32, u32),
+) -> ((u32, u32), (u32, u32))
+    ensures first { turned_halves result.0.0 result.0.1 ≡ fold round (turned_halves first.0 first.1) (reverse (map key_bits keys.now)) }
+    ensures second { turned_halves result.1.0 result.1.1 ≡ fold round (turned_halves second.0 second.1) (reverse (map key_bits keys.now)) }
+{
+    let (mut left, mut right) = first;
+    let (mut beside_left, mut beside_right) = second;
+    for i in 0..8 {
+        left ^= mixed(right, &keys[15 - 2 * i]);
+        beside_left ^= mixed(beside_right, &keys[15 - 2 * i]);
+        right ^= mixed(left, &keys[14 - 2 * i]);
+        beside_right ^= mixed(beside_left, &keys[14 - 2 * i]);
+    }
+    ((left, right), (beside_left, beside_right))
+}

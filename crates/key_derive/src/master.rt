@@ -53,8 +53,7 @@ fn diversified(imk: &Key16, block: [u8; 8]) -> Key16
     ensures { result.0 ≡ diversified imk.now.0 block }
 {
     let tdes = Tdes::new(imk);
-    let left = tdes.encipher(block);
-    let right = tdes.encipher(complement(block));
+    let (left, right) = tdes.encipher_both(block, complement(block));
     in_odd_parity(joined(left, right))
 }
 

@@ -8,6 +8,7 @@ use Rattle.des_block.proofs.Des.encipher_permuted.Goals as goal
 pub returns : goal.returns
 unfolding HasKey
 returns c = λ key held.
-    permuted_enciphered key (map key_bits c.args.self.now.keys) c.block.inside.left c.block.inside.right c.rounds-left.result.0 c.rounds-left.result.1
+    ap word_bytes c.after_rounds.ensures
+    ∙ permuted_enciphered key (map key_bits c.args.self.now.keys) c.block.inside.left c.block.inside.right c.rounds-left.result.0 c.rounds-left.result.1
     held c.rounds-left.ensures
     ∙ ap (λ block. des_encipher key (word_bytes block)) c.block.view_is

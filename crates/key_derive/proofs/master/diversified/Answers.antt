@@ -10,5 +10,5 @@ returns c =
     let imk = c.args.imk.now.0 in
     c.in_odd_parity.ensures
     ∙ ap (map with_odd_parity) (c.joined.ensures ∙ ap₂ (λ left right. left ++ right)
-    (c.encipher-left.ensures.enciphered imk c.new-tdes.ensures)
-    (c.encipher-right.ensures.enciphered imk c.new-tdes.ensures ∙ ap (tdes_encipher imk) c.complement.ensures))
+    (c.encipher_both.ensures.first imk c.new-tdes.ensures)
+    (c.encipher_both.ensures.second imk c.new-tdes.ensures ∙ ap (tdes_encipher imk) c.complement.ensures))

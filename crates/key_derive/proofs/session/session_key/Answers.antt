@@ -10,5 +10,5 @@ returns c =
     let mk = c.args.mk.now.0 in
     c.joined.ensures
     ∙ ap₂ (λ left right. left ++ right)
-    (c.encipher-left.ensures.enciphered mk c.new-tdes.ensures ∙ ap (tdes_encipher mk) c.with_third.ensures)
-    (c.encipher-right.ensures.enciphered mk c.new-tdes.ensures ∙ ap (tdes_encipher mk) c.with_third-2.ensures)
+    (c.encipher_both.ensures.first mk c.new-tdes.ensures ∙ ap (tdes_encipher mk) c.with_third.ensures)
+    (c.encipher_both.ensures.second mk c.new-tdes.ensures ∙ ap (tdes_encipher mk) c.with_third-2.ensures)
