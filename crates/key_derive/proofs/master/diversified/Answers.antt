@@ -6,9 +6,8 @@ use Rattle.key_derive.proofs.master.diversified.Goals as goal
 
 pub returns : goal.returns
 unfolding diversified
-returns c =
-    let imk = c.args.imk.now.0 in
+returns c imk keyed =
     c.in_odd_parity.ensures
     ∙ ap (map with_odd_parity) (c.joined.ensures ∙ ap₂ (λ left right. left ++ right)
-    (c.encipher-left.ensures.enciphered imk c.new-tdes.ensures)
-    (c.encipher-right.ensures.enciphered imk c.new-tdes.ensures ∙ ap (tdes_encipher imk) c.complement.ensures))
+    (c.encipher-left.ensures.enciphered imk keyed)
+    (c.encipher-right.ensures.enciphered imk keyed ∙ ap (tdes_encipher imk) c.complement.ensures))
