@@ -6,9 +6,8 @@ use Rattle.key_derive.proofs.master.diversified.Goals as goal
 
 pub returns : goal.returns
 unfolding diversified
-returns c =
-    let imk = c.args.imk.now.0 in
+returns c imk keyed =
     c.in_odd_parity.ensures
     ∙ ap (map with_odd_parity) (c.joined.ensures ∙ ap₂ (λ left right. left ++ right)
-    (c.encipher_both.ensures.first imk c.new-tdes.ensures)
-    (c.encipher_both.ensures.second imk c.new-tdes.ensures ∙ ap (tdes_encipher imk) c.complement.ensures))
+    (c.encipher_both.ensures.first imk keyed)
+    (c.encipher_both.ensures.second imk keyed ∙ ap (tdes_encipher imk) c.complement.ensures))
