@@ -1,3 +1,4 @@
+-- Both blocks go through the rounds backwards side by side, and each comes out deciphered.
 use Rattle.std.proofs.Common.{map, ap, ◌∙◌}
 use Rattle.des_block.specs.Cipher.{word_bytes, des_decipher}
 use Rattle.des_block.specs.Keyed.{key_bits, HasKey}

@@ -1,3 +1,4 @@
+-- Both blocks go through the rounds side by side, and each comes out enciphered.
 use Rattle.std.proofs.Common.{map, ap, ◌∙◌}
 use Rattle.des_block.specs.Cipher.{word_bytes, des_encipher}
 use Rattle.des_block.specs.Keyed.{key_bits, HasKey}

@@ -1,4 +1,4 @@
--- Three runs of rounds between one IP and one inverse are triple DES backwards, since the inner ones cancel.
+-- Split into permuted halves, deciphered there and joined again, a word is deciphered, and enciphering gives it back.
 use Rattle.std.proofs.Common.{ap, ◌∙◌}
 use Rattle.des_block.specs.Cipher.{word_bytes, tdes_encipher, tdes_decipher}
 use Rattle.des_block.proofs.Laws.{length-word_bytes, word_bytes_small, tdes_encipher-tdes_decipher}

@@ -1,4 +1,4 @@
--- A round with the next key goes one round further, until all sixteen are through.
+-- Two rounds with the next two keys take the halves two rounds further, until all sixteen are through.
 use Rattle.std.proofs.Common.{◌≡◌, ◌+◌, ◌*◌, ℕ, length, map, sym, arith}
 use Rattle.std.proofs.lemmas.List.{get_or-map, length-map}
 use Rattle.des_block.specs.Keyed.{key_bits}
