@@ -1,6 +1,6 @@
 -- What a walk over the objects leaves in the slots.
 use Rattle.std.proofs.Common.{◌≡◌, ℕ, zero, suc, ◌+◌, ◌<◌, ◌≤◌, ◌==◌, Bool, true, false, ◌&&◌, List, [], ◌∷◌, map, length, get_or, set, drop}
-use Rattle.std.proofs.Common.{Option, Some, None, is_none, is_some, cond, Bor, drop-cons, drop_of_length-le, refl, sym, ap, ◌∙◌, add-one, arith}
+use Rattle.std.proofs.Common.{Option, Some, None, is_none, cond, Bor, drop-cons, drop_of_length-le, refl, sym, ap, ◌∙◌, add-one, arith}
 use Rattle.std.specs.Option.{option_map}
 use Rattle.std.proofs.lemmas.Bool.{and_parts, eqb-true}
 use Rattle.std.proofs.lemmas.List.{map-set, length-map}
@@ -9,7 +9,7 @@ use Rattle.chip_request.specs.SlotViews.{field_in}
 use Rattle.tlv_objects.specs.Tlv.{TlvObject}
 use Rattle.chip_request.specs.declared.slots.Wrong.{Wrong}
 use Rattle.chip_request.specs.Fields.{Field, fields}
-use Rattle.chip_request.specs.Slots.{Found, place_of, founds_of, with_value, with_object, first_with_tag, first_wrong_found, is_wrong}
+use Rattle.chip_request.specs.Slots.{Found, place_of, founds_of, with_object, first_with_tag, first_wrong_found, is_wrong}
 
 -- no two fields of a table have one tag
 unfoldable pub are_distinct : List Field → Bool
