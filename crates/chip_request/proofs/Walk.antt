@@ -204,7 +204,8 @@ holds_first tag firsts are i long many here =
     sym (get_or-map value_in firsts i None) ∙ first_at tag fields (map value_in firsts) are i (length-map firsts value_in ∙ long) many here
 
 -- what the slots hold of the field at a place
-slots_at : (table : List declared_field.Field) (firsts : List (Option (Bor (List ℕ)))) (are : List Bool) (i : ℕ) (d : declared_field.Field) (f : Found) (is : Bool)
+slots_at : (table : List declared_field.Field) (firsts : List (Option (Bor (List ℕ)))) (are : List Bool) (i : ℕ) (d : declared_field.Field)
+    (f : Found) (is : Bool)
     → i < 15 → length firsts ≡ 15 → length are ≡ 15 → map field_in table ≡ fields
     → get_or (founds_of fields (map value_in firsts) are) i f
     ≡ record { field = field_in (get_or table i d); first = value_in (get_or firsts i None); is_repeated = get_or are i is }
@@ -226,7 +227,8 @@ many_slots firsts are long many = length-founds fields (map value_in firsts) are
 pub look_behind : (wrong : Wrong) (table : List declared_field.Field) (firsts : List (Option (Bor (List ℕ)))) (are : List Bool) (i : ℕ)
     (d : declared_field.Field) (is : Bool) → i < 15 → length firsts ≡ 15 → length are ≡ 15 → map field_in table ≡ fields
     → is_wrong wrong (record { field = field_in (get_or table i d); first = value_in (get_or firsts i None); is_repeated = get_or are i is }) ≡ false
-    → first_wrong_found wrong (drop (i + 1) (founds_of fields (map value_in firsts) are)) ≡ first_wrong_found wrong (drop i (founds_of fields (map value_in firsts) are))
+    → first_wrong_found wrong (drop (i + 1) (founds_of fields (map value_in firsts) are))
+    ≡ first_wrong_found wrong (drop i (founds_of fields (map value_in firsts) are))
 look_behind wrong table firsts are i d is below long many same right =
     let here = slots_at table firsts are i d no_found is below long many same in
     let size = many_slots firsts are long many in
