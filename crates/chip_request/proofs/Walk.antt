@@ -1,6 +1,6 @@
 -- What a walk over the objects leaves in the slots.
 use Rattle.std.proofs.Common.{◌≡◌, ℕ, zero, suc, ◌+◌, ◌<◌, ◌≤◌, ◌==◌, Bool, true, false, ◌&&◌, List, [], ◌∷◌, map, length, get_or, set, drop}
-use Rattle.std.proofs.Common.{Option, Some, None, is_none, is_some, cond, Bor, drop-cons, drop_of_length-le, refl, sym, ap, ◌∙◌, add-one, arith}
+use Rattle.std.proofs.Common.{Option, Some, None, is_none, cond, Bor, drop-cons, drop_of_length-le, refl, sym, ap, ◌∙◌, add-one, arith}
 use Rattle.std.specs.Option.{option_map}
 use Rattle.std.proofs.lemmas.Bool.{and_parts, eqb-true}
 use Rattle.std.proofs.lemmas.List.{map-set, length-map}
@@ -9,7 +9,7 @@ use Rattle.chip_request.specs.SlotViews.{field_in}
 use Rattle.tlv_objects.specs.Tlv.{TlvObject}
 use Rattle.chip_request.specs.declared.slots.Wrong.{Wrong}
 use Rattle.chip_request.specs.Fields.{Field, fields}
-use Rattle.chip_request.specs.Slots.{Found, place_of, founds_of, with_value, with_object, first_with_tag, first_wrong_found, is_wrong}
+use Rattle.chip_request.specs.Slots.{Found, place_of, founds_of, with_object, first_with_tag, first_wrong_found, is_wrong}
 
 -- no two fields of a table have one tag
 unfoldable pub are_distinct : List Field → Bool
@@ -204,7 +204,8 @@ holds_first tag firsts are i long many here =
     sym (get_or-map value_in firsts i None) ∙ first_at tag fields (map value_in firsts) are i (length-map firsts value_in ∙ long) many here
 
 -- what the slots hold of the field at a place
-slots_at : (table : List declared_field.Field) (firsts : List (Option (Bor (List ℕ)))) (are : List Bool) (i : ℕ) (d : declared_field.Field) (f : Found) (is : Bool)
+slots_at : (table : List declared_field.Field) (firsts : List (Option (Bor (List ℕ)))) (are : List Bool) (i : ℕ) (d : declared_field.Field)
+    (f : Found) (is : Bool)
     → i < 15 → length firsts ≡ 15 → length are ≡ 15 → map field_in table ≡ fields
     → get_or (founds_of fields (map value_in firsts) are) i f
     ≡ record { field = field_in (get_or table i d); first = value_in (get_or firsts i None); is_repeated = get_or are i is }
@@ -226,7 +227,8 @@ many_slots firsts are long many = length-founds fields (map value_in firsts) are
 pub look_behind : (wrong : Wrong) (table : List declared_field.Field) (firsts : List (Option (Bor (List ℕ)))) (are : List Bool) (i : ℕ)
     (d : declared_field.Field) (is : Bool) → i < 15 → length firsts ≡ 15 → length are ≡ 15 → map field_in table ≡ fields
     → is_wrong wrong (record { field = field_in (get_or table i d); first = value_in (get_or firsts i None); is_repeated = get_or are i is }) ≡ false
-    → first_wrong_found wrong (drop (i + 1) (founds_of fields (map value_in firsts) are)) ≡ first_wrong_found wrong (drop i (founds_of fields (map value_in firsts) are))
+    → first_wrong_found wrong (drop (i + 1) (founds_of fields (map value_in firsts) are))
+    ≡ first_wrong_found wrong (drop i (founds_of fields (map value_in firsts) are))
 look_behind wrong table firsts are i d is below long many same right =
     let here = slots_at table firsts are i d no_found is below long many same in
     let size = many_slots firsts are long many in

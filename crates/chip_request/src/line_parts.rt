@@ -101,8 +101,23 @@ pub(crate) fn read_data<const N: usize>(text: &[u8]) -> Result<ArrayVec<u8, N>, 
     Err(rest)
 }
 
-#[tactic(auto, unfolding(crate::specs::LineParts::pair_at))]
+#[tactic(auto, unfolding(crate::specs::LineParts::pair_at, crate::specs::LineParts::hex_digit_at))]
 fn read_pair(text: &[u8]) -> Result<(u8, &[u8]), &[u8]>
+    ensures { result_map_both (λ found. (found.0, found.1.now)) (λ rest. rest.now) result ≡ pair_at text.now }
+{
+    if let [high, low, rest @ ..] = text {
+        let high = hex_value(*high);
+        let low = hex_value(*low);
+        if high < 16 && low < 16 {
+            return Ok((16 * high + low, rest));
+        }
+    }
+    read_digit_by_digit(text)
+}
+
+// The same where a digit may be none, to say which.
+#[tactic(auto, unfolding(crate::specs::LineParts::pair_at))]
+fn read_digit_by_digit(text: &[u8]) -> Result<(u8, &[u8]), &[u8]>
     ensures { result_map_both (λ found. (found.0, found.1.now)) (λ rest. rest.now) result ≡ pair_at text.now }
 {
     let (high, rest) = read_hex_digit(text)?;

@@ -161,7 +161,7 @@ impl Field {
     }
 }
 
-// The parts of the slots are passed alone, so that the length of each is known.
+// The arrays are passed alone, since a proof knows the length of an array that is a parameter.
 fn first_wrong_among(
     firsts: &[Option<&[u8]>; 15],
     are_repeated: &[bool; 15],
@@ -177,7 +177,7 @@ fn first_wrong_among(
     None
 }
 
-// The contract alone names the repetitions.
+// The repetitions are named by the contract alone.
 fn first_with_tag<'a>(
     firsts: &[Option<&'a [u8]>; 15],
     _are_repeated: &[bool; 15],

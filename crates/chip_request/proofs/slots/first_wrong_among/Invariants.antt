@@ -7,4 +7,6 @@ use Rattle.chip_request.proofs.slots.first_wrong_among.Given as goal
 
 -- it is wrong with none of the fields so far
 abbrev pub invariant-loop-place : goal.invariant-loop-place
-invariant-loop-place l = first_wrong_found l.wrong (drop l.place (founds_of fields (map value_in l.firsts) l.are_repeated)) ≡ first_wrong_found l.wrong (founds_of fields (map value_in l.firsts) l.are_repeated)
+invariant-loop-place l =
+    let founds = founds_of fields (map value_in l.firsts) l.are_repeated in
+    first_wrong_found l.wrong (drop l.place founds) ≡ first_wrong_found l.wrong founds
