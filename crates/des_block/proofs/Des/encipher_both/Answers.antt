@@ -1,3 +1,4 @@
+-- Each of the two blocks goes through the rounds of DES.
 use Rattle.std.proofs.Common.{map, ap, ◌∙◌}
 use Rattle.des_block.specs.Cipher.{word_bytes, des_encipher}
 use Rattle.des_block.specs.Keyed.{key_bits, HasKey}

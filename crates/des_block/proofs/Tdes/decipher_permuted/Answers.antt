@@ -1,3 +1,4 @@
+-- Three ciphers one after another are the inverse of triple DES.
 use Rattle.std.proofs.Common.{take, drop, ap, ◌∙◌}
 use Rattle.des_block.specs.Cipher.{des_encipher, des_decipher, tdes_decipher}
 use Rattle.des_block.proofs.Tdes.decipher_permuted.Goals as goal

@@ -1,3 +1,4 @@
+-- Each of the two blocks goes through three ciphers.
 use Rattle.std.proofs.Common.{◌≡◌, ℕ, List, take, drop, rules, ap, ◌∙◌}
 use Rattle.des_block.specs.Cipher.{word_bytes, des_encipher, des_decipher, tdes_encipher}
 use Rattle.des_block.proofs.Laws.{on_bytes}

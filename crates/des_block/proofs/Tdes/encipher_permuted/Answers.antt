@@ -1,3 +1,4 @@
+-- Three ciphers one after another are triple DES.
 use Rattle.std.proofs.Common.{take, drop, ap, ◌∙◌}
 use Rattle.des_block.specs.Cipher.{des_encipher, des_decipher, tdes_encipher}
 use Rattle.des_block.proofs.Tdes.encipher_permuted.Goals as goal

@@ -1,3 +1,4 @@
+-- The rounds so far, two in a step.
 use Rattle.std.proofs.Common.{◌*◌, map}
 use Rattle.des_block.specs.Keyed.{key_bits}
 use Rattle.des_block.proofs.MixedSteps.{Runs}

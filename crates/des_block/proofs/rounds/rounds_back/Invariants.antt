@@ -1,3 +1,4 @@
+-- The rounds so far, two in a step, with the keys in the opposite order.
 use Rattle.std.proofs.Common.{◌*◌, map, reverse}
 use Rattle.des_block.specs.Keyed.{key_bits}
 use Rattle.des_block.proofs.MixedSteps.{Runs}

@@ -1,3 +1,4 @@
+-- The rounds of both blocks so far.
 use Rattle.std.proofs.Common.{◌≡◌, ◌+◌, ◌*◌, ℕ, length, map, sym, arith}
 use Rattle.std.proofs.lemmas.List.{get_or-map, length-map}
 use Rattle.des_block.specs.Keyed.{key_bits}
