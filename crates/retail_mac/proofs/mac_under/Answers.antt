@@ -1,3 +1,4 @@
+-- The chain from a block of zeros, and its end.
 use Rattle.std.proofs.Common.{◌∙◌, take, ap, fold, ◌/◌, length}
 use Rattle.std.proofs.lemmas.List.{take_rest}
 use Rattle.des_block.specs.Cipher.{word_bytes}
