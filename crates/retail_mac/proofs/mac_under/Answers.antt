@@ -12,5 +12,6 @@ returns c = λ key keyed.
     let text = c.args.text.now in
     c.ended.ensures key keyed
     ∙ retail_mac-end key text _ _
-    (c.chained.ensures (take 8 key) (c.left.ensures key keyed) ∙ ap (λ start. fold (chained (take 8 key)) start (blocks (length text / 8) text)) (ap word_bytes c.new-chain.ensures ∙ zero_word))
+    (c.chained.ensures (take 8 key) (c.left.ensures key keyed) ∙ ap (λ start. fold (chained (take 8 key)) start (blocks (length text / 8) text))
+    (ap word_bytes c.new-chain.ensures ∙ zero_word))
     (take_rest text _)

@@ -9,6 +9,7 @@ pub returns : goal.returns
 unfolding HasKey
 returns c = λ key held.
     ap word_bytes c.after_rounds.ensures
-    ∙ permuted_deciphered key (map key_bits c.args.self.now.keys) c.block.inside.left c.block.inside.right c.rounds_back-left.result.0 c.rounds_back-left.result.1
+    ∙ permuted_deciphered key (map key_bits c.args.self.now.keys) c.block.inside.left c.block.inside.right c.rounds_back-left.result.0
+    c.rounds_back-left.result.1
     held c.rounds_back-left.ensures
     ∙ ap (λ block. des_decipher key (word_bytes block)) c.block.view_is
