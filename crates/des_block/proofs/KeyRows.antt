@@ -69,6 +69,7 @@ word_more x j i word hj hi so_far =
     let low : bit_and (bit_and y 255 / 2 ^ 1) 7 ≡ y % 256 / 2 % 8 = and_mask (bit_and y 255 / 2 ^ 1) 3 ∙ ap (λ b. b / 2 % 8) byte in
     byte_more f x k word _ _ (picked_additive 64 (key_choice i)) (lowest_at j i hj hi)
     (so_far ∙ ap (λ n. f (x / 2 ^ n * 2 ^ n)) here)
-    (ap (λ v. slice_index (slice_index_or (slice_index_or HIGH_ROWS j []) v []) i) high ∙ row_at HIGH_ROWS 4 16 j (y % 256 / 16) i high_rows hj (omega arith) hi)
+    (ap (λ v. slice_index (slice_index_or (slice_index_or HIGH_ROWS j []) v []) i) high ∙ row_at HIGH_ROWS 4 16 j (y % 256 / 16) i high_rows hj
+    (omega arith) hi)
     (ap (λ v. slice_index (slice_index_or (slice_index_or LOW_ROWS j []) v []) i) low ∙ row_at LOW_ROWS 1 8 j (y % 256 / 2 % 8) i low_rows hj (omega arith) hi)
     ∙ ap (λ n. f (x / 2 ^ n * 2 ^ n)) next

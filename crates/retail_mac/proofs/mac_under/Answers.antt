@@ -1,4 +1,4 @@
--- The chain over the whole blocks, ended with what is left behind them, gives the retail MAC.
+-- The chain from a block of zeros, and its end.
 use Rattle.std.proofs.Common.{◌∙◌, take, ap, fold, ◌/◌, length}
 use Rattle.std.proofs.lemmas.List.{take_rest}
 use Rattle.des_block.specs.Cipher.{word_bytes}
@@ -12,5 +12,6 @@ returns c = λ key keyed.
     let text = c.args.text.now in
     c.ended.ensures key keyed
     ∙ retail_mac-end key text _ _
-    (c.chained.ensures (take 8 key) (c.left.ensures key keyed) ∙ ap (λ start. fold (chained (take 8 key)) start (blocks (length text / 8) text)) (ap word_bytes c.new-chain.ensures ∙ zero_word))
+    (c.chained.ensures (take 8 key) (c.left.ensures key keyed) ∙ ap (λ start. fold (chained (take 8 key)) start (blocks (length text / 8) text))
+    (ap word_bytes c.new-chain.ensures ∙ zero_word))
     (take_rest text _)

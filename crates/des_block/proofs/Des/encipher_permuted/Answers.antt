@@ -1,4 +1,4 @@
--- The rounds over the halves give the halves of the enciphered block.
+-- The rounds, and the exchange that follows them, are DES.
 use Rattle.std.proofs.Common.{map, ap, ◌∙◌}
 use Rattle.des_block.specs.Cipher.{word_bytes, des_encipher}
 use Rattle.des_block.specs.Keyed.{key_bits, HasKey}

@@ -1,4 +1,4 @@
--- Deciphered, enciphered and deciphered again under the two halves of the key, it is the standard's.
+-- Three ciphers one after another are the inverse of triple DES.
 use Rattle.std.proofs.Common.{take, drop, ap, ◌∙◌}
 use Rattle.des_block.specs.Cipher.{des_encipher, des_decipher, tdes_decipher}
 use Rattle.des_block.proofs.Tdes.decipher_permuted.Goals as goal

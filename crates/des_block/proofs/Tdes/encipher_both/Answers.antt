@@ -1,4 +1,4 @@
--- Enciphered, deciphered and enciphered again side by side, each of both blocks comes out as by triple DES.
+-- Each of the two blocks goes through three ciphers.
 use Rattle.std.proofs.Common.{◌≡◌, ℕ, List, take, drop, rules, ap, ◌∙◌}
 use Rattle.des_block.specs.Cipher.{word_bytes, des_encipher, des_decipher, tdes_encipher}
 use Rattle.des_block.proofs.Laws.{on_bytes}

@@ -1,4 +1,4 @@
--- Enciphered, deciphered and enciphered again under the two halves of the key, it is the standard's.
+-- Three ciphers one after another are triple DES.
 use Rattle.std.proofs.Common.{take, drop, ap, ◌∙◌}
 use Rattle.des_block.specs.Cipher.{des_encipher, des_decipher, tdes_encipher}
 use Rattle.des_block.proofs.Tdes.encipher_permuted.Goals as goal

@@ -1,4 +1,4 @@
--- Five exchanges of bits bring two turned halves through the inverse of IP.
+-- Five exchanges of bits are the inverse of IP.
 use Rattle.std.proofs.Common.{◌<◌, ◌^◌, arith, refl, rules}
 use Rattle.des_block.specs.Keyed.{turned_halves}
 use Rattle.des_block.specs.Permuted.{permuted_word}

@@ -1,4 +1,4 @@
--- Two rounds with the next two keys take the halves two rounds further, until all sixteen are through.
+-- The rounds so far, two in a step.
 use Rattle.std.proofs.Common.{◌≡◌, ◌+◌, ◌*◌, ℕ, length, map, sym, arith}
 use Rattle.std.proofs.lemmas.List.{get_or-map, length-map}
 use Rattle.des_block.specs.Keyed.{key_bits}

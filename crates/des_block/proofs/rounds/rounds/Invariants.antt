@@ -1,4 +1,4 @@
--- The halves are those after two rounds for each step so far.
+-- The rounds so far, two in a step.
 use Rattle.std.proofs.Common.{◌*◌, map}
 use Rattle.des_block.specs.Keyed.{key_bits}
 use Rattle.des_block.proofs.MixedSteps.{Runs}

@@ -1,4 +1,4 @@
--- The next two keys from the end are the next two in the opposite order, and take the halves two rounds further.
+-- The rounds so far, two in a step, with the keys in the opposite order.
 use Rattle.std.proofs.Common.{◌≡◌, ◌+◌, ◌-◌, ◌*◌, ◌<◌, ℕ, length, map, reverse, get_or, [], sym, ap, ◌∙◌, arith}
 use Rattle.std.proofs.lemmas.List.{get_or-map, get_or-reverse, length-map, length-reverse}
 use Rattle.des_block.specs.Keyed.{key_bits}

@@ -1,4 +1,4 @@
--- The halves are those after two rounds for each step so far, with the keys in the opposite order.
+-- The rounds so far, two in a step, with the keys in the opposite order.
 use Rattle.std.proofs.Common.{◌*◌, map, reverse}
 use Rattle.des_block.specs.Keyed.{key_bits}
 use Rattle.des_block.proofs.MixedSteps.{Runs}

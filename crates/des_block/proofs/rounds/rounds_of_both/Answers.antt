@@ -1,4 +1,4 @@
--- Two rounds with the next two keys take both blocks two rounds further, until all sixteen are through.
+-- The rounds of both blocks so far.
 use Rattle.std.proofs.Common.{◌≡◌, ◌+◌, ◌*◌, ℕ, length, map, sym, arith}
 use Rattle.std.proofs.lemmas.List.{get_or-map, length-map}
 use Rattle.des_block.specs.Keyed.{key_bits}
@@ -19,7 +19,8 @@ loop-i-preserved c =
           c.loop-i.invariant.0 (omega arith)
           (sym (get_or-map key_bits keys (2 * i) _ _ (omega arith))) c.mixed-left.ensures
           (sym (get_or-map key_bits keys (2 * i + 1) _ _ (omega arith))) c.mixed-right.ensures,
-      Runs_two (map key_bits keys) c.args.second.0 c.args.second.1 i c.loop-i.beside_left c.loop-i.beside_right c.mixed-beside_left.result c.mixed-beside_right.result _ _
+      Runs_two (map key_bits keys) c.args.second.0 c.args.second.1 i c.loop-i.beside_left c.loop-i.beside_right c.mixed-beside_left.result
+          c.mixed-beside_right.result _ _
           c.loop-i.invariant.1 (omega arith)
           (sym (get_or-map key_bits keys (2 * i) _ _ (omega arith))) c.mixed-beside_left.ensures
           (sym (get_or-map key_bits keys (2 * i + 1) _ _ (omega arith))) c.mixed-beside_right.ensures,

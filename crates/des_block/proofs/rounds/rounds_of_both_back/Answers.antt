@@ -1,4 +1,4 @@
--- The next two keys from the end are the next two in the opposite order, and take both blocks two rounds further.
+-- The rounds of both blocks so far, with the keys in the opposite order.
 use Rattle.std.proofs.Common.{◌≡◌, ◌+◌, ◌-◌, ◌*◌, ◌<◌, ℕ, length, map, reverse, get_or, [], sym, ap, ◌∙◌, arith}
 use Rattle.std.proofs.lemmas.List.{get_or-map, get_or-reverse, length-map, length-reverse}
 use Rattle.des_block.specs.Keyed.{key_bits}
@@ -22,10 +22,12 @@ loop-i-preserved c =
           c.loop-i.invariant.0 (omega arith)
           (sym (place (2 * i) (15 - 2 * i) (omega arith) (omega arith) ∙ get_or-map key_bits keys (15 - 2 * i) _ _ (omega arith))) c.mixed-left.ensures
           (sym (place (2 * i + 1) (14 - 2 * i) (omega arith) (omega arith) ∙ get_or-map key_bits keys (14 - 2 * i) _ _ (omega arith))) c.mixed-right.ensures,
-      Runs_two (reverse (map key_bits keys)) c.args.second.0 c.args.second.1 i c.loop-i.beside_left c.loop-i.beside_right c.mixed-beside_left.result c.mixed-beside_right.result _ _
+      Runs_two (reverse (map key_bits keys)) c.args.second.0 c.args.second.1 i c.loop-i.beside_left c.loop-i.beside_right
+          c.mixed-beside_left.result c.mixed-beside_right.result _ _
           c.loop-i.invariant.1 (omega arith)
           (sym (place (2 * i) (15 - 2 * i) (omega arith) (omega arith) ∙ get_or-map key_bits keys (15 - 2 * i) _ _ (omega arith))) c.mixed-beside_left.ensures
-          (sym (place (2 * i + 1) (14 - 2 * i) (omega arith) (omega arith) ∙ get_or-map key_bits keys (14 - 2 * i) _ _ (omega arith))) c.mixed-beside_right.ensures,
+          (sym (place (2 * i + 1) (14 - 2 * i) (omega arith) (omega arith) ∙ get_or-map key_bits keys (14 - 2 * i) _ _ (omega arith)))
+          c.mixed-beside_right.ensures,
     )
 
 pub returns-clause-first : goal.returns-clause-first
@@ -40,4 +42,5 @@ returns-clause-second c =
     let keys = c.args.keys.now in
     let len : length (map key_bits keys) ≡ 16 = length-map keys key_bits ∙ omega arith in
     let back : length (reverse (map key_bits keys)) ≡ 16 = length-reverse (map key_bits keys) ∙ len in
-    Runs_all (reverse (map key_bits keys)) c.args.second.0 c.args.second.1 (2 * c.loop-i.i) c.loop-i.beside_left c.loop-i.beside_right c.loop-i.invariant.1 (omega arith)
+    Runs_all (reverse (map key_bits keys)) c.args.second.0 c.args.second.1 (2 * c.loop-i.i) c.loop-i.beside_left c.loop-i.beside_right
+    c.loop-i.invariant.1 (omega arith)

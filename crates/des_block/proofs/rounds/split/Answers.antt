@@ -1,4 +1,4 @@
--- Five exchanges of bits and a turn bring a block through IP into two turned halves.
+-- Five exchanges of bits are IP.
 use Rattle.std.proofs.Common.{◌<◌, ◌^◌, arith, rules}
 use Rattle.des_block.proofs.WordSteps.{split_is}
 use Rattle.des_block.proofs.PermutedSteps.{permuted_word-split}

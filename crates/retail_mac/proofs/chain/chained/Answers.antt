@@ -1,4 +1,4 @@
--- One more block takes the chain one step further.
+-- One block more, and the chain is still that of the blocks so far.
 use Rattle.std.proofs.Common.{bit_xor, refl, ap, ◌∙◌}
 use Rattle.des_block.specs.Cipher.{word_bytes, des_encipher}
 use Rattle.retail_mac.specs.Mac.{blocks}

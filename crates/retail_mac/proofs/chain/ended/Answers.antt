@@ -1,4 +1,4 @@
--- The chain and the padded last block, together by xor, go through triple DES.
+-- The last block ends the chain by triple DES.
 use Rattle.std.proofs.Common.{◌≡◌, ℕ, bit_xor, ◌∙◌, ap}
 use Rattle.des_block.specs.Cipher.{word_bytes, tdes_encipher}
 use Rattle.retail_mac.specs.Mac.{xor_bytes}

@@ -1,4 +1,4 @@
--- The exclusive or of two blocks is that of their halves.
+-- Xor goes through IP.
 use Rattle.std.proofs.Common.{bit_xor, ap₂, ◌∙◌}
 use Rattle.des_block.proofs.PermutedSteps.{permuted_word-xor}
 use Rattle.des_block.proofs.permuted.PermutedBlock.xor.Goals as goal

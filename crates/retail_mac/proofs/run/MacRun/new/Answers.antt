@@ -1,4 +1,4 @@
--- Over no text the chain is zero and the part is empty.
+-- A run that has taken nothing.
 use Rattle.std.proofs.Common.{ap, ◌∙◌}
 use Rattle.des_block.specs.Cipher.{word_bytes}
 use Rattle.retail_mac.specs.Mac.{blocks}

@@ -1,4 +1,4 @@
--- The MAC is that of all that was taken, and behind it nothing is taken yet.
+-- A run that begins anew.
 use Rattle.std.proofs.Common.{ap, ◌∙◌}
 use Rattle.des_block.specs.Cipher.{word_bytes}
 use Rattle.retail_mac.specs.Mac.{blocks}

@@ -1,4 +1,4 @@
--- Behind the part that was filled, whole blocks join the chain, and what is left over is the new part.
+-- What a block that was begun needs, the whole blocks, and the rest.
 use Rattle.std.proofs.Common.{◌≡◌, ◌-◌, ◌/◌, ◌*◌, ◌++◌, List, ℕ, length, take, drop, fold, ap, ◌∙◌, subst, append_assoc}
 use Rattle.std.proofs.lemmas.List.{take-append-drop, take_rest}
 use Rattle.des_block.specs.Cipher.{word_bytes}
