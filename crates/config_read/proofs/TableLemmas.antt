@@ -64,7 +64,7 @@ module _ (value : Data) (elements : List Value) (rows : List TableRow)
       let it : Some table ≡ (if ends_in_all rows then Some rows else None) = taken ∙ table_from-front (map view elements) rows found in
       table_in-rows all
       ∙ elim (ends_in_all rows) as
-          (λ last. Some table ≡ (if last then Some rows else None) → (if last then Ok rows else Err (At TABLE (length rows))) ≡ Ok table) [
+      (λ last. Some table ≡ (if last then Some rows else None) → (if last then Ok rows else Err (At TABLE (length rows))) ≡ Ok table) [
         | true ↦ λ same. grind (arith, same)
         | false ↦ λ none. cc none
       ] it
