@@ -1,5 +1,5 @@
 -- What is planned for a request of a card: the answer of its shard, and the record that goes with it.
-use Rattle.std.specs.Prelude.{◌≡◌, ℕ, List, [], ◌∷◌, ◌++◌, length}
+use Rattle.std.specs.Prelude.{◌≡◌, ◌≤◌, ℕ, List, [], ◌∷◌, ◌++◌, length}
 use Rattle.issuer_base.specs.declared.request.Request.{Request}
 use Rattle.issuer_base.specs.declared.answer.Answer.{Answer}
 use Rattle.issuer_base.specs.declared.answer.Answer.TheVariants.{Fresh as AnswerFresh, Kept as AnswerKept, Refused}
@@ -50,6 +50,12 @@ IsPlan row keys table request place outcome =
     (shard : ℕ) (card : CardInfo) (history : List Entry)
     → StandsFor card row history → card_of request ≡ name_of card → place ≡ length history
     → Answers shard (reply_after card.method keys table) history request (answer_of shard outcome) (history_after history outcome)
+
+-- a record that is planned is of this request with the planned reply, which has a byte, and stands at this place
+abbrev pub IsForRequest : Request → ℕ → Outcome → Type 0
+IsForRequest request place (Fresh reply step) =
+    (step ≡ record { request = request; reply = reply; place = place }) × (1 ≤ length reply.bytes.items)
+IsForRequest request place _ = Unit {0}
 
 -- the decision is the next one of the row's card after this history: it is of the card, it stands at the place after the last, and
 -- its counter is in the window and unused

@@ -30,6 +30,7 @@ pub(crate) fn answer_bytes(
 ) -> ArrayVec<u8, ROOM>
     ensures exact { result.items ≡ answer_bytes method session.now request.now arc csu }
     ensures room { length result.items + MAX_TEMPLATE_BYTES ≤ ROOM }
+    ensures some { 1 ≤ length result.items }
 {
     let application_cryptogram = &request.parts().ac;
     let value = value91_under(method, session.cipher(), application_cryptogram, arc, csu);

@@ -13,7 +13,7 @@ ghost use Rattle.row_core.specs.CardRow.{KeepsWindow, KeepsScripts, StandsFor};
 ghost use Rattle.row_core.specs.Known.{IsKnown};
 ghost use Rattle.row_core.specs.Launching.{TakesOff};
 ghost use Rattle.row_core.specs.Replying.{script_bytes, reply_bytes, decided_reply};
-ghost use Rattle.row_core.specs.Plan.{IsPlan, IsNext, with_record, with_command_for, with_status_for};
+ghost use Rattle.row_core.specs.Plan.{IsPlan, IsForRequest, IsNext, with_record, with_command_for, with_status_for};
 
 use crate::reply::{answer_bytes, write_scripts};
 use crate::scripts::CardScripts;
@@ -177,7 +177,10 @@ impl Row {
         place: u64,
     ) -> Outcome
         requires { session.now ≡ session_ac keys.now.ac.0 request.now.atc }
-        ensures { IsPlan self.now keys.now table.now request.now place result }
+        ensures plan { IsPlan self.now keys.now table.now request.now place result }
+
+        // Whatever the row stands for, a record that is to be added is of this request, and its reply has a byte.
+        ensures some { IsForRequest request.now place result }
     {
         if let Some(outcome) = self.known(request) {
             return outcome;
@@ -239,9 +242,10 @@ impl Row {
         place: u64,
     ) -> Outcome
         requires { session.now ≡ session_ac keys.now.ac.0 request.now.atc }
-        ensures { (scripts : Scripts) → KeepsScripts self.now scripts
+        ensures reply { (scripts : Scripts) → KeepsScripts self.now scripts
             → let reply = decided_reply self.now.method keys.now table.now scripts self.now.status request.now in
             result ≡ Outcome.Fresh reply (record { request = request.now; reply = reply; place = place }) }
+        ensures some { IsForRequest request.now place result }
     {
         let row = decide(table, self.status, request);
         let reply = Reply {
@@ -267,8 +271,9 @@ impl Row {
         csu: [u8; 4],
     ) -> ArrayVec<u8, MAX_REPLY_BYTES>
         requires { session.now ≡ session_ac keys.now.ac.0 request.now.atc }
-        ensures { (scripts : Scripts) → KeepsScripts self.now scripts
+        ensures bytes { (scripts : Scripts) → KeepsScripts self.now scripts
             → result.items ≡ reply_bytes self.now.method keys.now scripts request.now arc csu }
+        ensures some { 1 ≤ length result.items }
     {
         let mut bytes = answer_bytes(self.method, session, request, arc, csu);
         if is_newest(request.parts().atc, self.hi) {
@@ -285,9 +290,10 @@ impl Row {
         request: &Request,
     )
         requires { length bytes.old.items + MAX_TEMPLATE_BYTES ≤ MAX_REPLY_BYTES }
-        ensures { (scripts : Scripts) → KeepsScripts self.now scripts
+        ensures batch { (scripts : Scripts) → KeepsScripts self.now scripts
             → let batch = in_flight (with_newest request.now scripts) in
             bytes.new.items ≡ bytes.old.items ++ script_bytes keys.now.smi.0 request.now.ac (first_of request.now scripts) batch }
+        ensures longer { length bytes.old.items ≤ length bytes.new.items }
     {
         let launch = self.scripts.launch(request);
         let first = self.scripts.first_number(launch);

@@ -26,6 +26,6 @@ returns c =
     let table_is = c.table.ensures ∙ ap (λ (host : Holding). host.issuer.table) c.self.view_is in
     let plan = subst
     (λ (table : List TableRow). IsPlan c.index-row.result.now c.args.checked.now.keys table c.args.checked.now.request c.index-place.result.now
-    c.plan_under.result) table_is c.plan_under.ensures in
+    c.plan_under.result) table_is c.plan_under.ensures.plan in
     row-plan c.args.self.now c.args.checked.now c.args.shard c.index-row.result.now c.index-place.result.now c.plan_under.result c.requires.at_hand
     c.requires.shard row_is place_is plan

@@ -6,4 +6,4 @@ pub returns : goal.returns
 returns c =
     plans-fresh c.args.self.now c.args.keys.now c.args.table.now c.args.request.now c.args.place c.decide.result
     (λ decisions hi window. c.in_default.ensures decisions hi window)
-    c.decide.ensures
+    c.decide.ensures.reply

@@ -2,8 +2,8 @@
 use Rattle.row_core.proofs.PlanLemmas.{plans-fresh}
 use Rattle.row_core.proofs.row.Row.plan_under.Goals as goal
 
-pub returns : goal.returns
-returns c =
+pub returns-clause-plan : goal.returns-clause-plan
+returns-clause-plan c =
     plans-fresh c.args.self.now c.args.keys.now c.args.table.now c.args.request.now c.args.place c.decide.result
     (λ decisions hi window. c.in_default.ensures decisions hi window)
-    c.decide.ensures
+    c.decide.ensures.reply
