@@ -46,32 +46,15 @@ fn first_card(alloc: Global) -> Result<Card, Fail> {
     Ok(Card::new(alloc, pan, 0x00, set.dki, Method::One, keys))
 }
 
-/// The line that asks for a request of that card.
+/// The line that asks for a request that the card made for the purchase.
 fn line_of(alloc: Global, request: &Request) -> Result<String, AllocError> {
     let parts = request.parts();
-    let mut line = String::new(alloc);
-    line.push_str("A 5A084000000000000002")?;
-    let fields: [(&str, &[u8]); 14] = [
-        ("8202", &parts.aip),
-        ("9F3602", &parts.atc.to_be_bytes()),
-        ("9505", &parts.tvr),
-        ("9A03", &parts.date),
-        ("9C01", &[parts.kind]),
-        ("9F0206", &parts.amount),
-        ("9F0306", &parts.other),
-        ("9F1A02", &parts.country),
-        ("5F2A02", &parts.currency),
-        ("9F3704", &parts.un),
-        ("9F2701", &[parts.cid]),
-        ("9F1020", &parts.iad),
-        ("9F2608", &parts.ac),
-        ("5F3401", &[parts.psn]),
-    ];
-    for (head, value) in fields {
-        line.push_str(head)?;
-        line.push_str(hex(alloc, value)?.as_str())?;
-    }
-    Ok(line)
+    let counter = parts.atc;
+    let cryptogram = u64::from_be_bytes(parts.ac);
+    let data = hex(alloc, &parts.iad)?;
+    format!(in alloc;
+        "A 5A0840000000000000029F2608{cryptogram:016X}9F2701809F1020{data}9F37041A2B3C4D9F3602{counter:04X}950500000080009A032601159C01009F02060000000123455F2A020978820239009F1A020276"
+    )
 }
 
 /// The card's next request, and the reply that the host decides to it.
