@@ -1,5 +1,5 @@
 //! The row of a card: what is to be done with a request, and the decisions of the card's window.
-ghost use Rattle.std.specs.Prelude.{◌≡◌, ◌↔◌, ◌+◌, ◌≤◌, ◌++◌, List, [], length, Some, MatchOption, IfOk, IsOk, OnErr, IsTrue};
+ghost use Rattle.std.specs.Prelude.{◌≡◌, ◌↔◌, ℕ, ◌+◌, ◌≤◌, ◌++◌, List, [], length, Some, MatchOption, IfOk, IfSome, IsOk, OnErr, IsTrue};
 ghost use Rattle.issuer_base.specs.declared.entry.Entry.{Entry};
 ghost use Rattle.issuer_base.specs.ScriptCommand.{is_command};
 ghost use Rattle.card_history.specs.declared.decision.Decision.{Decision};
@@ -302,8 +302,9 @@ impl Row {
 
     /// What the decisions of the window say of a request; `None` where its counter is in the window and unused.
     pub(crate) fn known(&self, request: &Request) -> Option<Outcome>
-        ensures { (decisions : List Decision) → self.now.hi ≡ greatest decisions → KeepsWindow self.now.slots decisions
+        ensures known { (decisions : List Decision) → self.now.hi ≡ greatest decisions → KeepsWindow self.now.slots decisions
             → MatchOption result (IsUnused decisions request.now) (IsKnown decisions request.now) }
+        ensures not_fresh { (place : ℕ) → IfSome result (IsForRequest request.now place) }
     {
         let counter = request.parts().atc;
         if let Some(top) = top_above(self.hi, counter) {

@@ -5,5 +5,5 @@ use Rattle.row_core.proofs.row.Row.plan.Goals as goal
 pub returns : goal.returns
 returns c =
     plans-fresh c.args.self.now c.args.keys.now c.args.table.now c.args.request.now c.args.place c.decide.result
-    (λ decisions hi window. c.in_default.ensures decisions hi window)
+    (λ decisions hi window. c.in_default.ensures.known decisions hi window)
     c.decide.ensures.reply

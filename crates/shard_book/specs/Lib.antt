@@ -1,0 +1,5 @@
+pub mod ShardRows
+pub mod Steps
+pub mod Grounds
+pub mod Shards
+pub mod Answering

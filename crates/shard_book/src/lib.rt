@@ -1,0 +1,7 @@
+//! A shard over a store: the rows of its cards, and the journal of its records.
+#![tactic(auto)]
+
+mod rows;
+mod shard;
+
+pub use shard::Shard;

@@ -1,0 +1,201 @@
+//! A shard over a store: what it answers, and what it writes before that.
+ghost use Rattle.std.specs.Prelude.{◌≡◌, ℕ, ◌^◌, ◌≤◌, ◌/◌, slice_get, Some, min, if◌then◌else◌, List, [], ◌∷◌, ◌++◌, length, Ok, IfOk, IsErr, IsTrue, is_err};
+ghost use Rattle.issuer_base.specs.OutsideFaults.{CountsFaults};
+ghost use Rattle.issuer_base.specs.Stores.{BothTold, LeavesOnly};
+ghost use Rattle.issuer_base.specs.declared.entry.Entry.{Entry};
+ghost use Rattle.card_history.specs.declared.decision.Asked.TheVariants.{Decide};
+ghost use Rattle.card_history.specs.LegalRecords.{IsLegal};
+ghost use Rattle.card_history.specs.Records.{card_of, named};
+ghost use Rattle.issuer_setup.specs.declared.card.CardInfo.{CardInfo};
+ghost use Rattle.issuer_setup.specs.IssuerSetup.{Setup};
+ghost use Rattle.row_core.specs.Plan.{IsNext, IsForRequest};
+ghost use Rattle.row_core.specs.Replying.{reply_to};
+ghost use Rattle.line_checks.specs.AtHand.{IsRequestAtHand, IsCommandAtHand, IsStatusAtHand};
+ghost use Rattle.line_checks.specs.Reading.{checked};
+ghost use Rattle.journal_rec.specs.Record.{is_record};
+ghost use Rattle.shard_book.specs.Grounds.{grounds_now, IsImageOf};
+ghost use Rattle.shard_book.specs.Steps.{IsCardOf};
+ghost use Rattle.shard_book.specs.Shards.{number_in, IsUnder, HasCard, disk_in, faults_in, HoldsHistory, StandsFor, Adds};
+ghost use Rattle.shard_book.specs.Answering.{is_store_fault, AnswersClaimed, AnswersQueueing, AnswersSetting};
+
+use crate::rows::Rows;
+use issuer_base::{Answer, Entry, Refusal, Reply, Request, Store, StoreFail};
+use issuer_setup::Issuer;
+use journal_rec::write_entry;
+use line_checks::{CheckedCommand, CheckedRequest, CheckedStatus};
+use record_store::Journal;
+use row_core::{Outcome, Row, Step};
+
+/// A shard of an issuer over a store: the rows of its cards, and the journal of its records.
+pub struct Shard<S: Store> {
+    journal: Journal<S>,
+    rows: Rows,
+}
+
+impl<S: Store> Shard<S> {
+    /// The answer to a request of a card of this shard that was checked. `won` says whether the caller may decide it.
+    ///
+    /// A new decision is safe in the store before it is answered.
+    pub fn answer(&mut self, issuer: &Issuer, found: &CheckedRequest, won: bool) -> Answer
+        requires under { IsUnder issuer.now self.old }
+        requires home { HasCard self.old found.now.card }
+        requires at_hand { IsRequestAtHand issuer.now found.now }
+        requires genuine { checked issuer.now found.now.request ≡ Ok (Decide found.now.request) }
+        ensures answer { (history : List Entry) → StandsFor issuer.now self.old history
+            → (after : List Entry) × StandsFor issuer.now self.new after
+            × AnswersClaimed (number_in self.old) (reply_to issuer.now) won history found.now.request result after }
+
+        // Whatever a crash since the start of the call may leave is the text of the history before it, and a torn record behind it.
+        ensures crash { (history : List Entry) → StandsFor issuer.now self.old history
+            → BothTold (LeavesOnly (IsImageOf (grounds_now issuer.now) (number_in self.old) history)) (disk_in self.old) (disk_in self.new) }
+        ensures count { CountsFaults (faults_in self.old) (faults_in self.new) (is_store_fault result) }
+        ensures under { IsUnder issuer.now self.new }
+    {
+        let shard = self.rows.shard();
+        match self.rows.plan(issuer, found, self.journal.records()) {
+            Outcome::Fresh(reply, step) => {
+                if !won {
+                    return Answer::Refused(Refusal::Pending);
+                }
+                self.decide(found, reply, step)
+            }
+            Outcome::Kept(reply, place) => Answer::Kept {
+                shard,
+                place,
+                reply,
+            },
+            Outcome::Below(top) => Answer::Refused(Refusal::Below(top)),
+            Outcome::Taken(place) => Answer::Refused(Refusal::Taken { shard, place }),
+        }
+    }
+
+    /// The answer to a command for a card of this shard that was checked.
+    pub fn queue(&mut self, issuer: &Issuer, found: CheckedCommand) -> Answer
+        requires under { IsUnder issuer.now self.old }
+        requires home { HasCard self.old found.card }
+        requires at_hand { IsCommandAtHand issuer.now found }
+        ensures answer { (history : List Entry) → StandsFor issuer.now self.old history
+            → (after : List Entry) × StandsFor issuer.now self.new after
+            × AnswersQueueing (number_in self.old) history (named found.pan found.psn) found.command result after }
+        ensures crash { (history : List Entry) → StandsFor issuer.now self.old history
+            → BothTold (LeavesOnly (IsImageOf (grounds_now issuer.now) (number_in self.old) history)) (disk_in self.old) (disk_in self.new) }
+        ensures count { CountsFaults (faults_in self.old) (faults_in self.new) (is_store_fault result) }
+        ensures under { IsUnder issuer.now self.new }
+    {
+        if !self.rows.takes_command(found.card) {
+            return Answer::Refused(Refusal::QueueFull);
+        }
+        let CheckedCommand {
+            pan,
+            psn,
+            command,
+            card,
+        } = found;
+        let entry = Entry::Queued {
+            pan,
+            psn,
+            command: command.copy(),
+        };
+        let Ok(place) = self.put(&entry) else {
+            return Answer::Refused(Refusal::StoreFault);
+        };
+        self.rows.push(card, command);
+        Answer::Queued {
+            shard: self.rows.shard(),
+            place,
+        }
+    }
+
+    /// The answer to a status for a card of this shard that was checked.
+    pub fn set_status(&mut self, issuer: &Issuer, found: CheckedStatus) -> Answer
+        requires under { IsUnder issuer.now self.old }
+        requires home { HasCard self.old found.card }
+        requires at_hand { IsStatusAtHand issuer.now found }
+        ensures answer { (history : List Entry) → StandsFor issuer.now self.old history
+            → (after : List Entry) × StandsFor issuer.now self.new after
+            × AnswersSetting (number_in self.old) history (named found.pan found.psn) found.status result after }
+        ensures crash { (history : List Entry) → StandsFor issuer.now self.old history
+            → BothTold (LeavesOnly (IsImageOf (grounds_now issuer.now) (number_in self.old) history)) (disk_in self.old) (disk_in self.new) }
+        ensures count { CountsFaults (faults_in self.old) (faults_in self.new) (is_store_fault result) }
+        ensures under { IsUnder issuer.now self.new }
+    {
+        let CheckedStatus {
+            pan,
+            psn,
+            status,
+            card,
+        } = found;
+        let entry = Entry::Status { pan, psn, status };
+        let Ok(place) = self.put(&entry) else {
+            return Answer::Refused(Refusal::StoreFault);
+        };
+        self.rows.set_status(card, status);
+        Answer::Set {
+            shard: self.rows.shard(),
+            place,
+        }
+    }
+
+    /// The row of a card of this shard.
+    pub fn row(&self, card: u32) -> &Row
+        requires { HasCard self.now card }
+        ensures { slice_get self.now.rows.rows (card / self.now.rows.shards) ≡ Some result.now }
+    {
+        self.rows.row(card)
+    }
+
+    /// How many records the shard has.
+    pub fn places(&self) -> u64
+        ensures { (issuer : Setup) (history : List Entry) → StandsFor issuer self.now history → result ≡ length history }
+    {
+        self.journal.records()
+    }
+
+    /// Decides a request by its plan.
+    fn decide(&mut self, found: &CheckedRequest, reply: Reply, step: Step) -> Answer
+        requires home { HasCard self.old found.now.card }
+        requires some { 1 ≤ length reply.bytes.items }
+        ensures added { (issuer : Setup) (card : CardInfo) (history : List Entry) → StandsFor issuer self.old history
+            → IsCardOf issuer found.now.card card → IsNext card history step
+            → step ≡ record { request = found.now.request; reply = reply; place = length history }
+            → IsLegal (grounds_now issuer) (number_in self.old) history (Entry.Decided found.now.request reply)
+            → Adds issuer self.new history (Entry.Decided found.now.request reply) (Answer.Fresh (number_in self.old) (length history) reply) result }
+        ensures crash { (issuer : Setup) (history : List Entry) → StandsFor issuer self.old history
+            → IsLegal (grounds_now issuer) (number_in self.old) history (Entry.Decided found.now.request reply)
+            → BothTold (LeavesOnly (IsImageOf (grounds_now issuer) (number_in self.old) history)) (disk_in self.old) (disk_in self.new) }
+        ensures count { CountsFaults (faults_in self.old) (faults_in self.new) (is_store_fault result) }
+        ensures under { (issuer : Setup) → IsUnder issuer self.old → IsUnder issuer self.new }
+    {
+        let entry = Entry::Decided {
+            request: found.request.copy(),
+            reply: reply.copy(),
+        };
+        let Ok(place) = self.put(&entry) else {
+            return Answer::Refused(Refusal::StoreFault);
+        };
+        self.rows.apply(found.card, step);
+        Answer::Fresh {
+            shard: self.rows.shard(),
+            place,
+            reply,
+        }
+    }
+
+    /// Writes the text of a record and makes it safe, and gives its place.
+    fn put(&mut self, entry: &Entry) -> Result<u64, StoreFail>
+        requires { IsTrue (is_record entry.now) }
+        ensures put { (issuer : Setup) (history : List Entry) → StandsFor issuer self.old history
+            → IfOk result (λ place. (place ≡ length history)
+            × HoldsHistory (grounds_now issuer) (number_in self.old) self.new.journal (history ++ entry.now ∷ [])) }
+        ensures failed { (issuer : Setup) (history : List Entry) → StandsFor issuer self.old history
+            → IsLegal (grounds_now issuer) (number_in self.old) history entry.now → IsErr result → StandsFor issuer self.new history }
+        ensures rows { self.new.rows ≡ self.old.rows }
+        ensures crash { (issuer : Setup) (history : List Entry) → StandsFor issuer self.old history
+            → IsLegal (grounds_now issuer) (number_in self.old) history entry.now
+            → BothTold (LeavesOnly (IsImageOf (grounds_now issuer) (number_in self.old) history)) (disk_in self.old) (disk_in self.new) }
+        ensures count { CountsFaults (faults_in self.old) (faults_in self.new) (is_err result) }
+    {
+        let text = write_entry(entry);
+        self.journal.put(text.as_slice())
+    }
+}
