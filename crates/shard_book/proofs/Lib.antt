@@ -1,3 +1,5 @@
 pub mod Places
 pub mod RowsAfter
 pub mod RowPlans
+pub mod ShardSteps
+pub mod LegalNext
