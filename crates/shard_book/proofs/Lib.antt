@@ -3,3 +3,4 @@ pub mod RowsAfter
 pub mod RowPlans
 pub mod ShardSteps
 pub mod LegalNext
+pub mod Adopted

@@ -115,3 +115,12 @@ queue-inside issuer rows now view number place place_is row home row_is card his
 pub ok-then : {X E : Type 0} (result : Result X E) (Q : Type 0) → IfOk result (λ _. Q) → IsOk result → Q
 ok-then (Ok x) Q says ok = says
 ok-then (Err e) Q says ok = absurd (false≢true ok)
+
+-- and the row at a card's place stands for the history
+pub row-inside : (issuer : Setup) (rows now : ShardRows) → rows ≡ now → (number place : ℕ) → place ≡ number / rows.shards → (row : CardRow)
+    → IsHome now number → slice_get rows.rows place ≡ Some row → (card : CardInfo) (history : List Entry) → StandsFor issuer now history
+    → IsCardOf issuer number card → RowStandsFor card row history
+row-inside issuer rows now view number place place_is row home row_is card history stands known =
+    row-there issuer rows history (subst (λ (rows : ShardRows). StandsFor issuer rows history) (sym view) stands) number
+    (subst (λ (rows : ShardRows). IsHome rows number) (sym view) home) row (subst (λ place. slice_get rows.rows place ≡ Some row) place_is row_is)
+    card known.card_is

@@ -2,6 +2,10 @@
 use Rattle.std.specs.Prelude.{◌≡◌, ◌↔◌, ℕ, Bool, List, [], ◌∷◌, ◌++◌, length, slice_get, Some, IsTrue}
 use Rattle.issuer_base.specs.declared.command.Command.{Command}
 use Rattle.issuer_base.specs.declared.entry.Entry.{Entry}
+use Rattle.issuer_base.specs.declared.entry.Entry.TheVariants.{Decided}
+use Rattle.issuer_base.specs.declared.answer.Reply.{Reply}
+use Rattle.card_history.specs.Records.{card_of}
+use Rattle.row_core.specs.Accepting.{MayFollow}
 use Rattle.card_history.specs.declared.decision.Decision.{Decision}
 use Rattle.card_history.specs.Scripts.{waiting, scripts_of}
 use Rattle.card_history.specs.Turns.{Answers}
@@ -31,6 +35,18 @@ abbrev pub Applies : ShardRows → ℕ → Decision → ShardRows → Type 0
 Applies old number step new =
     (issuer : Setup) (card : CardInfo) (history : List Entry) → StandsFor issuer old history → IsCardOf issuer number card
     → IsNext card history step → StandsFor issuer new (with_record history step)
+
+-- whether the decision of this request of a card may come next
+abbrev pub Accepts : ShardRows → CheckedRequest → Reply → Bool → Type 0
+Accepts rows found reply accepted =
+    (issuer : Setup) (card : CardInfo) (history : List Entry) → StandsFor issuer rows history → IsCardOf issuer found.card card
+    → card_of found.request ≡ name_of card → (IsTrue accepted ↔ MayFollow card.method found.keys history found.request reply)
+
+-- the decision is taken over
+abbrev pub Adopts : ShardRows → CheckedRequest → Reply → ℕ → ShardRows → Type 0
+Adopts old found reply place new =
+    (issuer : Setup) (card : CardInfo) (history : List Entry) → StandsFor issuer old history → IsCardOf issuer found.card card
+    → card_of found.request ≡ name_of card → place ≡ length history → StandsFor issuer new (history ++ Decided found.request reply ∷ [])
 
 -- whether the card's queue takes one more command
 abbrev pub TakesCommand : ShardRows → ℕ → Bool → Type 0

@@ -5,12 +5,13 @@ ghost use Rattle.issuer_base.specs.declared.entry.Entry.{Entry};
 ghost use Rattle.issuer_base.specs.ScriptCommand.{is_command};
 ghost use Rattle.card_history.specs.LegalRecords.{IsLegal};
 ghost use Rattle.issuer_setup.specs.IssuerSetup.{Setup};
+ghost use Rattle.key_derive.specs.SessionKey.{session_ac};
 ghost use Rattle.row_core.specs.Plan.{IsForRequest};
 ghost use Rattle.line_checks.specs.AtHand.{IsRequestAtHand};
 ghost use Rattle.shard_book.specs.ShardRows.{AreRowsOf, AreSame, IsHome, AreEmpty, StandsFor};
-ghost use Rattle.shard_book.specs.Steps.{IsPlanFor, Applies, Queues, TakesCommand, SetsStatus};
+ghost use Rattle.shard_book.specs.Steps.{IsPlanFor, Applies, Accepts, Adopts, Queues, TakesCommand, SetsStatus};
 
-use issuer_base::{Command, MAX_QUEUED, MAX_STATUS, MAX_UNDONE, NoMemory};
+use issuer_base::{Command, MAX_QUEUED, MAX_STATUS, MAX_UNDONE, NoMemory, Reply};
 use issuer_setup::Issuer;
 use line_checks::CheckedRequest;
 use row_core::{Outcome, Row, Step};
@@ -96,6 +97,23 @@ impl Rows {
         ensures same { AreSame self.old self.new }
     {
         self.rows[index_of(card, self.shards)].apply(step);
+    }
+
+    /// Takes over the decision of a request that was checked, where it may come next, and says whether it did.
+    pub(crate) fn adopt_checked(&mut self, found: CheckedRequest, reply: Reply, place: u64) -> bool
+        requires home { IsHome self.old found.card }
+        requires session { found.session ≡ session_ac found.keys.ac.0 found.request.atc }
+        ensures exact { Accepts self.old found reply result }
+        ensures adopted { IsTrue result → Adopts self.old found reply place self.new }
+        ensures same { AreSame self.old self.new }
+    {
+        let CheckedRequest {
+            request,
+            card,
+            keys,
+            session,
+        } = found;
+        self.rows[index_of(card, self.shards)].adopt_under(&session, &keys, request, reply, place)
     }
 
     /// Whether the queue of this card takes one more command.

@@ -1,5 +1,6 @@
 -- A status is put and set.
-use Rattle.std.proofs.Common.{◌≡◌, ◌≤◌, ℕ, List, [], ◌∷◌, ◌++◌, length, refl, ap, sym, subst, ◌∙◌, IsTrue, leb, leb-true}
+use Rattle.std.proofs.Common.{◌≡◌, ◌≤◌, ℕ, List, [], ◌∷◌, ◌++◌, length, refl, ap, sym, subst, ◌∙◌, IsTrue, leb}
+use Rattle.std.proofs.lemmas.Bool.{le-leb}
 use Rattle.issuer_base.specs.declared.entry.Entry.TheVariants.{Status}
 use Rattle.card_history.specs.Records.{CardName, named}
 use Rattle.shard_book.specs.Grounds.{grounds_now}
@@ -12,7 +13,7 @@ pub put-requires : goal.put-requires
 put-requires g c =
     let found = c.args.found in
     let card = card-found c.args.issuer.now (named found.pan found.psn) found.card c.requires.at_hand.card_is in
-    writable found.psn (leb found.status 9) card.decimal (leb-true found.status 9 c.requires.at_hand.within)
+    writable found.psn (leb found.status 9) card.decimal (le-leb found.status 9 c.requires.at_hand.within)
 
 pub returns-clause-answer : goal.returns-clause-answer
 returns-clause-answer g c history stands =
