@@ -3,3 +3,4 @@ pub mod Steps
 pub mod Grounds
 pub mod Shards
 pub mod Answering
+pub mod Loading

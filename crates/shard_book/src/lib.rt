@@ -2,7 +2,9 @@
 #![tactic(auto)]
 
 mod adopting;
+mod replay;
 mod rows;
 mod shard;
 
+pub use replay::LoadFault;
 pub use shard::Shard;

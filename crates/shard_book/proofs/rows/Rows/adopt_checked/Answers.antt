@@ -20,7 +20,7 @@ returns-clause-exact c issuer card history stands known its =
     stands known) its
 
 pub returns-clause-adopted : goal.returns-clause-adopted
-returns-clause-adopted c yes issuer card history stands known its at_end =
+returns-clause-adopted c accepted issuer card history stands known its at_end =
     let number = c.args.found.card in
     let rows : ShardRows =
     record { shard = c.self.inside.shard; shards = c.self.inside.shards; cards = c.self.inside.cards; rows = c.self.inside.rows.items } in
@@ -30,4 +30,4 @@ returns-clause-adopted c yes issuer card history stands known its at_end =
     let row_is = slice_get_read rows.rows _ c.index_of.result c.index_mut.result.now refl within c.index_mut.ensures.value in
     step-more issuer rows c.args.self.now c.self.view_is number c.index_of.result c.index_of.ensures c.index_mut.result.now c.adopt_under.new.self
     c.requires.home row_is card history (Decided c.args.found.request c.args.reply) stands known its
-    (λ before. c.adopt_under.ensures.adopted yes card history before its at_end)
+    (λ before. c.adopt_under.ensures.adopted accepted card history before its at_end)

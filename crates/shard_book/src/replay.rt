@@ -1,0 +1,86 @@
+//! Reading the text of a journal line by line, and taking over its records.
+ghost use Rattle.std.specs.Prelude.{◌≡◌, ℕ, ◌+◌, ◌^◌, ◌<◌, ◌≤◌, List, length, drop, IfOk, IfErr, OnOk};
+ghost use Rattle.issuer_base.specs.declared.entry.Entry.{Entry};
+ghost use Rattle.card_history.specs.LegalRecords.{IsLegalHistory};
+ghost use Rattle.journal_rec.specs.RecordText.{IsUnbroken};
+ghost use Rattle.shard_book.specs.Grounds.{grounds_of};
+ghost use Rattle.shard_book.specs.ShardRows.{AreRowsOf, AreSame, StandsFor};
+
+use crate::rows::Rows;
+use issuer_setup::Issuer;
+use journal_rec::read_entry;
+use memchr::memchr;
+
+/// Why a journal isn't loaded.
+#[derive(Clone, Copy, PartialEq, Eq, Debug)]
+pub enum LoadFault {
+    /// The store failed: the fault lies with the store.
+    StoreFault,
+
+    /// This whole line, counted from 1, is that of no record: the journal isn't one that this host wrote.
+    BadLine(u64),
+
+    /// This whole line, counted from 1, is that of a record which may not come after those before it: the journal is of another issuer,
+    /// or was changed.
+    BadRecord(u64),
+
+    /// No memory was left.
+    NoMemory,
+}
+
+/// How many records were taken over from the front of a text, and how many bytes they have.
+#[derive(Clone, Copy, PartialEq, Eq, Debug)]
+pub(crate) struct Taken {
+    pub(crate) records: u64,
+    pub(crate) bytes: usize,
+}
+
+impl Rows {
+    ghost use Rattle.shard_book.specs.Loading.{IsBad, StopsAt, TakesLine, TakesLines};
+
+    /// Takes over the records of the whole lines of a text, the first of which comes to this place.
+    pub(crate) fn adopt_lines(&mut self, issuer: &Issuer, text: &[u8], place: u64) -> Result<Taken, LoadFault>
+        requires rows { AreRowsOf issuer.now self.old }
+        requires room { place + length text.now < 2 ^ 64 }
+        ensures taken { (history : List Entry) → StandsFor issuer.now self.old history → place ≡ length history
+            → IsLegalHistory (grounds_of issuer.now) self.old.shard history
+            → IfOk result (λ taken. TakesLines issuer.now self.old.shard history text.now taken self.new) }
+        ensures rest { IfOk result (λ taken. IsUnbroken (drop taken.bytes text.now)) }
+        ensures within { IfOk result (λ taken. (taken.records ≤ taken.bytes) × (taken.bytes ≤ length text.now)) }
+        ensures stopped { (history : List Entry) → StandsFor issuer.now self.old history → place ≡ length history
+            → IsLegalHistory (grounds_of issuer.now) self.old.shard history
+            → IfErr result (StopsAt issuer.now self.old.shard history text.now) }
+        ensures same { AreSame self.old self.new }
+    {
+        let mut taken = Taken {
+            records: 0,
+            bytes: 0,
+        };
+        while let Some(length) = memchr(b'\n', &text[taken.bytes..]) {
+            let end = taken.bytes + length;
+            self.adopt_line(issuer, &text[taken.bytes..end], place + taken.records)?;
+            taken.bytes = end + 1;
+            taken.records += 1;
+        }
+        Ok(taken)
+    }
+
+    /// Takes over the record of a line, which comes to this place.
+    fn adopt_line(&mut self, issuer: &Issuer, line: &[u8], place: u64) -> Result<(), LoadFault>
+        requires rows { AreRowsOf issuer.now self.old }
+        requires room { place + 1 < 2 ^ 64 }
+        ensures taken { (history : List Entry) → StandsFor issuer.now self.old history → place ≡ length history
+            → OnOk result (TakesLine issuer.now self.old.shard history line.now self.new) }
+        ensures bad { (history : List Entry) → StandsFor issuer.now self.old history → place ≡ length history
+            → IfErr result (IsBad (grounds_of issuer.now) self.old.shard history line.now) }
+        ensures same { AreSame self.old self.new }
+    {
+        let Ok(entry) = read_entry(line) else {
+            return Err(LoadFault::BadLine(place + 1));
+        };
+        if !self.adopt(issuer, entry, place) {
+            return Err(LoadFault::BadRecord(place + 1));
+        }
+        Ok(())
+    }
+}
