@@ -4,3 +4,4 @@ pub mod RowPlans
 pub mod ShardSteps
 pub mod LegalNext
 pub mod Adopted
+pub mod Lines

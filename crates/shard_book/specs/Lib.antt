@@ -3,4 +3,5 @@ pub mod Steps
 pub mod Grounds
 pub mod Shards
 pub mod Answering
+pub mod LineAhead
 pub mod Loading

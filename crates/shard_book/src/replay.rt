@@ -1,8 +1,9 @@
 //! Reading the text of a journal line by line, and taking over its records.
-ghost use Rattle.std.specs.Prelude.{◌≡◌, ℕ, ◌+◌, ◌^◌, ◌<◌, ◌≤◌, List, length, drop, IfOk, IfErr, OnOk};
+ghost use Rattle.std.specs.Prelude.{◌≡◌, ℕ, ◌+◌, ◌^◌, ◌<◌, ◌≤◌, List, length, drop, MatchOption, IfOk, IfErr, OnOk};
 ghost use Rattle.issuer_base.specs.declared.entry.Entry.{Entry};
 ghost use Rattle.card_history.specs.LegalRecords.{IsLegalHistory};
 ghost use Rattle.journal_rec.specs.RecordText.{IsUnbroken};
+ghost use Rattle.shard_book.specs.LineAhead.{IsLineAhead};
 ghost use Rattle.shard_book.specs.Grounds.{grounds_of};
 ghost use Rattle.shard_book.specs.ShardRows.{AreRowsOf, AreSame, StandsFor};
 
@@ -56,11 +57,15 @@ impl Rows {
             records: 0,
             bytes: 0,
         };
-        while let Some(length) = memchr(b'\n', &text[taken.bytes..]) {
+        while let Some(length) = next_newline(text, taken.bytes) {
             let end = taken.bytes + length;
-            self.adopt_line(issuer, &text[taken.bytes..end], place + taken.records)?;
-            taken.bytes = end + 1;
-            taken.records += 1;
+            match self.adopt_line(issuer, &text[taken.bytes..end], place + taken.records) {
+                Ok(()) => {
+                    taken.bytes = end + 1;
+                    taken.records += 1;
+                }
+                Err(fault) => return Err(fault),
+            }
         }
         Ok(taken)
     }
@@ -83,4 +88,12 @@ impl Rows {
         }
         Ok(())
     }
+}
+
+/// How many bytes stand before the first newline from a place on.
+fn next_newline(text: &[u8], from: usize) -> Option<usize>
+    requires { from ≤ length text.now }
+    ensures { MatchOption result (IsUnbroken (drop from text.now)) (IsLineAhead (drop from text.now)) }
+{
+    memchr(b'\n', &text[from..])
 }
