@@ -5,3 +5,4 @@ pub mod ShardSteps
 pub mod LegalNext
 pub mod Adopted
 pub mod Lines
+pub mod Loaded
