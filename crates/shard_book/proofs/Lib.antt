@@ -6,3 +6,4 @@ pub mod LegalNext
 pub mod Adopted
 pub mod Lines
 pub mod Loaded
+pub mod LoadCrash

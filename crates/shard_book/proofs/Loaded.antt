@@ -49,18 +49,18 @@ module _ (issuer : Setup) (shard : ℕ) (bytes : Option (List ℕ)) (text : List
   reads (Err fault) takes unbroken within = tt
 
   stops-told : (b : Option (List ℕ)) → Tells b text → (fault : LoadFault) → StopsAt issuer shard [] text fault → IfSome b (λ text. StopsAt issuer shard [] text fault)
-  stops-told None told fault stops = tt
-  stops-told (Some whole) told fault stops = subst (λ text. StopsAt issuer shard [] text fault) (sym told) stops
+  stops-told None told fault bad = tt
+  stops-told (Some whole) told fault bad = subst (λ text. StopsAt issuer shard [] text fault) (sym told) bad
 
   stops-text : (fault : LoadFault) → StopsAt issuer shard [] text fault → StopsText issuer shard bytes fault
-  stops-text StoreFault stops = tt
-  stops-text NoMemory stops = tt
-  stops-text (BadLine number) stops = stops-told bytes told (BadLine number) stops
-  stops-text (BadRecord number) stops = stops-told bytes told (BadRecord number) stops
+  stops-text StoreFault bad = tt
+  stops-text NoMemory bad = tt
+  stops-text (BadLine number) bad = stops-told bytes told (BadLine number) bad
+  stops-text (BadRecord number) bad = stops-told bytes told (BadRecord number) bad
 
   pub stops : (result : Result TakenOver LoadFault) → IfErr result (StopsAt issuer shard [] text) → IfErr result (StopsText issuer shard bytes)
   stops (Ok over) none = tt
-  stops (Err fault) stops = stops-text fault stops
+  stops (Err fault) bad = stops-text fault bad
 
 pub outside-stops : (issuer : Setup) (shard : ℕ) (bytes : Option (List ℕ)) (fault : LoadFault) → IsOutside fault → StopsText issuer shard bytes fault
 outside-stops issuer shard bytes StoreFault outside = tt

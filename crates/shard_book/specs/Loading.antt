@@ -72,3 +72,7 @@ IsOutside _ = ⊥
 abbrev pub is_by_store : {X : Type 0} → Result X LoadFault → Bool
 is_by_store (Err StoreFault) = true
 is_by_store _ = false
+
+abbrev pub is_store_failure : LoadFault → Bool
+is_store_failure StoreFault = true
+is_store_failure _ = false

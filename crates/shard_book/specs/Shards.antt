@@ -1,19 +1,21 @@
 -- The history that a shard over a store stands for.
 use Rattle.std.specs.Prelude.{◌≡◌, ◌⊎◌, ℕ, List, [], ◌∷◌, ◌++◌, length, Option}
-use Rattle.issuer_base.specs.Stores.{Disk}
+use Rattle.issuer_base.specs.Stores.{Disk, Moment}
+use Rattle.issuer_base.specs.Tells.{Tells}
+use Rattle.record_store.specs.Images.{IsCutImage}
 use Rattle.issuer_base.specs.declared.outside.store.Store.{Ghosts}
 use Rattle.issuer_base.specs.declared.answer.Answer.{Answer}
 use Rattle.issuer_base.specs.declared.answer.Answer.TheVariants.{Refused}
 use Rattle.issuer_base.specs.declared.answer.Refusal.TheVariants.{StoreFault}
 use Rattle.issuer_base.specs.declared.entry.Entry.{Entry}
-use Rattle.card_history.specs.LegalRecords.{Grounds}
+use Rattle.card_history.specs.LegalRecords.{Grounds, IsLegalHistory}
 use Rattle.issuer_setup.specs.IssuerSetup.{Setup}
-use Rattle.journal_rec.specs.RecordText.{texts_of}
+use Rattle.journal_rec.specs.RecordText.{texts_of, IsUnbroken}
 use Rattle.record_store.specs.declared.journal.Journal.{Journal}
 use Rattle.record_store.specs.Holding.{Holds}
 use Rattle.shard_book.specs.declared.shard.Shard.{Shard}
 use Rattle.shard_book.specs.ShardRows.{AreRowsOf, IsHome, StandsFor as RowsStandFor}
-use Rattle.shard_book.specs.Grounds.{IsTail, grounds_now}
+use Rattle.shard_book.specs.Grounds.{IsTail, grounds_now, grounds_of}
 
 -- the journal has the records of the history; a front of the text of a record that may come next may stand behind them
 pub record HoldsHistory {S : Type 0} {G : Ghosts S} (grounds : Grounds) (number : ℕ) (journal : Journal S G) (history : List Entry) : Type 0 where
@@ -34,6 +36,10 @@ module _ {S : Type 0} {G : Ghosts S} where
   abbrev pub HasCard : Shard S G → ℕ → Type 0
   HasCard shard number = IsHome shard.rows number
 
+  -- how many bytes of its store are sure
+  abbrev pub sure_in : Shard S G → ℕ
+  sure_in shard = shard.journal.sure
+
   -- what its store tells of its disk, and the store's count of faults
   abbrev pub disk_in : Shard S G → Option Disk
   disk_in shard = G.disk shard.journal.store
@@ -50,3 +56,19 @@ pub record StandsFor {S : Type 0} {G : Ghosts S} (issuer : Setup) (shard : Shard
 abbrev pub Adds : {S : Type 0} {G : Ghosts S} → Setup → Shard S G → List Entry → Entry → Answer → Answer → Type 0
 Adds issuer new history entry good answer =
     ((answer ≡ good) × StandsFor issuer new (history ++ entry ∷ [])) ⊎ ((answer ≡ Refused StoreFault) × StandsFor issuer new history)
+
+-- a shard that was loaded: where the bytes were told, they were the text of a legal history and a rest without a newline; the shard
+-- stands for that history, and its journal has just the history's text
+pub record IsLoaded {S : Type 0} {G : Ghosts S} (issuer : Setup) (number : ℕ) (bytes : Option (List ℕ)) (shard : Shard S G) : Type 0 where
+  pub history : List Entry
+  pub rest : List ℕ
+  pub text_is : Tells bytes (texts_of history ++ rest)
+  pub unbroken : IsUnbroken rest
+  pub legal : IsLegalHistory (grounds_of issuer) number history
+  pub number_is : number_in shard ≡ number
+  pub stands : StandsFor issuer shard history
+  pub settled : Holds shard.journal (length history) (texts_of history) []
+
+-- what the moment may leave, or some of its first bytes
+abbrev pub IsSomeCutImage : Moment → List ℕ → Type 0
+IsSomeCutImage moment image = (sure : ℕ) × IsCutImage sure moment image

@@ -7,4 +7,4 @@ mod rows;
 mod shard;
 
 pub use replay::LoadFault;
-pub use shard::Shard;
+pub use shard::{LoadBack, Shard};

@@ -1,5 +1,5 @@
 //! A shard over a store: what it answers, and what it writes before that.
-ghost use Rattle.std.specs.Prelude.{◌≡◌, ℕ, ◌^◌, ◌≤◌, ◌/◌, slice_get, Some, min, if◌then◌else◌, List, [], ◌∷◌, ◌++◌, length, Ok, IfOk, IsErr, IsTrue, is_err};
+ghost use Rattle.std.specs.Prelude.{◌≡◌, ℕ, ◌^◌, ◌≤◌, ◌/◌, slice_get, Some, min, if◌then◌else◌, List, [], ◌∷◌, ◌++◌, length, ◌<◌, Ok, IfOk, IfErr, IsErr, false, true, IsTrue, is_err};
 ghost use Rattle.issuer_base.specs.OutsideFaults.{CountsFaults};
 ghost use Rattle.issuer_base.specs.Stores.{BothTold, LeavesOnly};
 ghost use Rattle.issuer_base.specs.declared.entry.Entry.{Entry};
@@ -13,11 +13,16 @@ ghost use Rattle.row_core.specs.Replying.{reply_to};
 ghost use Rattle.line_checks.specs.AtHand.{IsRequestAtHand, IsCommandAtHand, IsStatusAtHand};
 ghost use Rattle.line_checks.specs.Reading.{checked};
 ghost use Rattle.journal_rec.specs.Record.{is_record};
+ghost use Rattle.issuer_base.specs.Tells.{Tells};
+ghost use Rattle.record_store.specs.Holding.{Holds};
+ghost use Rattle.record_store.specs.Images.{IsCutImage};
+ghost use Rattle.shard_book.specs.Loading.{StopsText, is_store_failure};
 ghost use Rattle.shard_book.specs.Grounds.{grounds_now, IsImageOf};
 ghost use Rattle.shard_book.specs.Steps.{IsCardOf};
-ghost use Rattle.shard_book.specs.Shards.{number_in, IsUnder, HasCard, disk_in, faults_in, HoldsHistory, StandsFor, Adds};
+ghost use Rattle.shard_book.specs.Shards.{number_in, IsUnder, HasCard, sure_in, disk_in, faults_in, HoldsHistory, StandsFor, Adds, IsLoaded, IsSomeCutImage};
 ghost use Rattle.shard_book.specs.Answering.{is_store_fault, AnswersClaimed, AnswersQueueing, AnswersSetting};
 
+use crate::replay::{LoadFault, Taken, TakenOver, take_over};
 use crate::rows::Rows;
 use issuer_base::{Answer, Entry, Refusal, Reply, Request, Store, StoreFail};
 use issuer_setup::Issuer;
@@ -25,6 +30,7 @@ use journal_rec::write_entry;
 use line_checks::{CheckedCommand, CheckedRequest, CheckedStatus};
 use record_store::Journal;
 use row_core::{Outcome, Row, Step};
+use std::alloc::Global;
 
 /// A shard of an issuer over a store: the rows of its cards, and the journal of its records.
 pub struct Shard<S: Store> {
@@ -32,7 +38,35 @@ pub struct Shard<S: Store> {
     rows: Rows,
 }
 
+/// A store that wasn't loaded, and why.
+pub struct LoadBack<S> {
+    pub fault: LoadFault,
+    pub store: S,
+}
+
 impl<S: Store> Shard<S> {
+    /// Loads the shard with this number of an issuer from its store: takes over the records of the store's whole lines, cuts away
+    /// what stands behind them, and makes them safe. The first bad line stops it, and then the store is as it was.
+    ///
+    /// All memory, that for the store's bytes among it, is taken before the store is read, and no later call takes any.
+    pub fn load(alloc: Global, store: S, shard: u8, issuer: &Issuer) -> Result<Shard<S>, LoadBack<S>>
+        requires { shard < issuer.now.shards }
+        ensures loaded { IfOk result (IsLoaded issuer.now shard (S.bytes store)) }
+        ensures stopped { IfErr result (λ back. StopsText issuer.now shard (S.bytes store) back.fault) }
+
+        // While it is loaded a crash leaves what it might leave before, or the text of the records.
+        ensures opened { IfOk result (λ loaded. BothTold (λ old new. LeavesOnly (IsCutImage (sure_in loaded) old.now) old new) (S.disk store) (disk_in loaded)) }
+        ensures crash { IfErr result (λ back. BothTold (λ old new. LeavesOnly (IsSomeCutImage old.now) old new) (S.disk store) (S.disk back.store)) }
+        ensures count { IfOk result (λ loaded. CountsFaults (S.faults store) (faults_in loaded) false) }
+        ensures failed { IfErr result (λ back. CountsFaults (S.faults store) (S.faults back.store) (is_store_failure back.fault)) }
+    {
+        let mut store = store;
+        match take_over(alloc, &mut store, issuer, shard) {
+            Ok(TakenOver { rows, taken }) => open(store, rows, taken),
+            Err(fault) => Err(LoadBack { fault, store }),
+        }
+    }
+
     /// The answer to a request of a card of this shard that was checked. `won` says whether the caller may decide it.
     ///
     /// A new decision is safe in the store before it is answered.
@@ -197,5 +231,28 @@ impl<S: Store> Shard<S> {
     {
         let text = write_entry(entry);
         self.journal.put(text.as_slice())
+    }
+}
+
+/// Opens the journal of a store whose front was taken over.
+fn open<S: Store>(store: S, rows: Rows, taken: Taken) -> Result<Shard<S>, LoadBack<S>>
+    requires within { taken.bytes ≤ S.size store }
+    requires few { taken.records ≤ taken.bytes }
+    ensures rows { IfOk result (λ loaded. loaded.rows ≡ rows) }
+    ensures sure { IfOk result (λ loaded. sure_in loaded ≡ taken.bytes) }
+    ensures holds { (text rest : List ℕ) → length text ≡ taken.bytes → Tells (S.bytes store) (text ++ rest)
+        → IfOk result (λ loaded. Holds loaded.journal taken.records text []) }
+    ensures opened { IfOk result (λ loaded. BothTold (λ old new. LeavesOnly (IsCutImage taken.bytes old.now) old new) (S.disk store) (disk_in loaded)) }
+    ensures crash { IfErr result (λ back. BothTold (λ old new. LeavesOnly (IsCutImage taken.bytes old.now) old new) (S.disk store) (S.disk back.store)) }
+    ensures fault { IfErr result (λ back. back.fault ≡ LoadFault.StoreFault) }
+    ensures count { IfOk result (λ loaded. CountsFaults (S.faults store) (faults_in loaded) false) }
+    ensures failed { IfErr result (λ back. CountsFaults (S.faults store) (S.faults back.store) true) }
+{
+    match Journal::open(store, taken.bytes as u64, taken.records) {
+        Ok(journal) => Ok(Shard { journal, rows }),
+        Err(store) => Err(LoadBack {
+            fault: LoadFault::StoreFault,
+            store,
+        }),
     }
 }
