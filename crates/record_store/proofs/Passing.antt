@@ -171,13 +171,13 @@ leaves-cut sure old moment image is left =
     let has = left.has_safe in
     ⊎_elim
     (λ (kept : (moment.bytes ≡ old.bytes) × (old.safe ≤ moment.safe)).
-      inl (record { has_safe = let more = kept.1 in omega arith; is_front = left.is_front ∙ ap (take (length image)) kept.0 }))
+    inl (record { has_safe = let more = kept.1 in omega arith; is_front = left.is_front ∙ ap (take (length image)) kept.0 }))
     (λ (cut : (moment.bytes ≡ take sure old.bytes) × (min old.safe sure ≤ moment.safe)).
-      let front : image ≡ take (length image) (take sure old.bytes) = left.is_front ∙ ap (take (length image)) cut.0 in
-      elim (cases_lt (length image) sure) [
-        | inl below ↦ inl (record { has_safe = let least = cut.1 in omega arith; is_front = front ∙ take-take (length image) sure old.bytes (omega arith) })
-        | inr above ↦ inr (front ∙ take_all (length image) (take sure old.bytes) (let most = length-take sure old.bytes in omega arith))
-      ])
+    let front : image ≡ take (length image) (take sure old.bytes) = left.is_front ∙ ap (take (length image)) cut.0 in
+    elim (cases_lt (length image) sure) [
+      | inl below ↦ inl (record { has_safe = let least = cut.1 in omega arith; is_front = front ∙ take-take (length image) sure old.bytes (omega arith) })
+      | inr above ↦ inr (front ∙ take_all (length image) (take sure old.bytes) (let most = length-take sure old.bytes in omega arith))
+    ])
     is
 
 kept-cut : (sure : ℕ) (old mid moment : Moment) → IsCutMoment sure old mid → WhileKept mid moment → IsCutMoment sure old moment
@@ -222,5 +222,5 @@ module _ (sure : ℕ) where
   crash-cut_sync failed second a b c =
       BothTold-then (CutsDisk sure failed) (SyncsDisk second) (λ old new. LeavesOnly (IsCutImage sure old.now) old new) a b c
       (λ x y z cuts syncs.
-        let first = Passes-weaker (WhileCut sure x.now) (IsCutMoment sure x.now) x y (while-cut x.now) cuts.passes in
-        cut-leaves x z (Passes-then (IsCutMoment sure x.now) x y z first (sync-cut second x y z first.last syncs)))
+      let first = Passes-weaker (WhileCut sure x.now) (IsCutMoment sure x.now) x y (while-cut x.now) cuts.passes in
+      cut-leaves x z (Passes-then (IsCutMoment sure x.now) x y z first (sync-cut second x y z first.last syncs)))

@@ -40,13 +40,16 @@ module _ {S : Type 0} {G : Ghosts S} (grounds : Grounds) (number : ℕ) (history
       → IfOk result (λ place. (place ≡ length history) × Holds new (length history + 1) (texts_of history ++ piece) [])
       → IfOk result (λ place. (place ≡ length history) × HoldsHistory grounds number new (history ++ entry ∷ []))
   put-done (Err error) done = tt
-  put-done (Ok place) done = (done.0, record {
-    tail = [];
-    tail_is = inl refl;
-    holds =
-        subst (λ (n : ℕ). Holds new n (texts_of (history ++ entry ∷ [])) []) (sym (length_push history entry))
-        (subst (λ (text : List ℕ). Holds new (length history + 1) text []) (ap (λ l. texts_of history ++ l) its ∙ texts-more history entry) done.1);
-  })
+  put-done (Ok place) done = (
+    done.0,
+    record {
+      tail = [];
+      tail_is = inl refl;
+      holds =
+          subst (λ (n : ℕ). Holds new n (texts_of (history ++ entry ∷ [])) []) (sym (length_push history entry))
+          (subst (λ (text : List ℕ). Holds new (length history + 1) text []) (ap (λ l. texts_of history ++ l) its ∙ texts-more history entry) done.1);
+    },
+  )
 
   -- one that was not may be in doubt
   pub put-failed : IsLegal grounds number history entry
@@ -61,9 +64,9 @@ module _ {S : Type 0} {G : Ghosts S} (grounds : Grounds) (number : ℕ) (history
   put-crash legal a b =
       BothTold-weaker (LeavesOnly (IsEitherImage (texts_of history) h.tail piece)) (LeavesOnly (IsImageOf grounds number history)) a b
       (λ x y only. LeavesOnly-weaker (IsEitherImage (texts_of history) h.tail piece) (IsImageOf grounds number history) x y
-        (λ image. ⊎_elim
-          (λ (one : IsImage (texts_of history) h.tail image). (h.tail, h.tail_is, one))
-          (λ (one : IsImage (texts_of history) piece image). (piece, inr (entry, legal, its), one))) only)
+      (λ image. ⊎_elim
+      (λ (one : IsImage (texts_of history) h.tail image). (h.tail, h.tail_is, one))
+      (λ (one : IsImage (texts_of history) piece image). (piece, inr (entry, legal, its), one))) only)
 
 -- no call was made
 no_call : (grounds : Grounds) (number : ℕ) (history : List Entry) (tail : List ℕ) → IsTail grounds number history tail → (disk : Option Disk)

@@ -36,6 +36,10 @@ module _ {S : Type 0} {G : Ghosts S} where
   abbrev pub HasCard : Shard S G → ℕ → Type 0
   HasCard shard number = IsHome shard.rows number
 
+  -- its store
+  abbrev pub store_in : Shard S G → S
+  store_in shard = shard.journal.store
+
   -- how many bytes of its store are sure
   abbrev pub sure_in : Shard S G → ℕ
   sure_in shard = shard.journal.sure

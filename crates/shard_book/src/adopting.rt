@@ -38,7 +38,13 @@ impl Rows {
     }
 
     /// Takes over a decision.
-    fn adopt_decision(&mut self, issuer: &Issuer, request: Request, reply: Reply, place: u64) -> bool
+    fn adopt_decision(
+        &mut self,
+        issuer: &Issuer,
+        request: Request,
+        reply: Reply,
+        place: u64,
+    ) -> bool
         requires { AreRowsOf issuer.now self.old }
         ensures exact { (history : List Entry) → StandsFor issuer.now self.old history
             → (IsTrue result ↔ IsLegalDecision (grounds_of issuer.now) self.old.shard history request reply) }

@@ -53,7 +53,12 @@ pub(crate) struct Taken {
 
 impl Rows {
     /// Takes over the records of the whole lines of a text, the first of which comes to this place.
-    pub(crate) fn adopt_lines(&mut self, issuer: &Issuer, text: &[u8], place: u64) -> Result<Taken, LoadFault>
+    pub(crate) fn adopt_lines(
+        &mut self,
+        issuer: &Issuer,
+        text: &[u8],
+        place: u64,
+    ) -> Result<Taken, LoadFault>
         requires rows { AreRowsOf issuer.now self.old }
         requires room { place + length text.now < 2 ^ 64 }
         ensures taken { (history : List Entry) → StandsFor issuer.now self.old history → place ≡ length history
@@ -114,7 +119,12 @@ fn next_newline(text: &[u8], from: usize) -> Option<usize>
 /// Reads a store, and takes over the records of its whole lines into the rows of this shard.
 ///
 /// All memory, that for the store's bytes among it, is taken before the store is read.
-pub(crate) fn take_over<S: Store>(alloc: Global, store: &mut S, issuer: &Issuer, shard: u8) -> Result<TakenOver, LoadFault>
+pub(crate) fn take_over<S: Store>(
+    alloc: Global,
+    store: &mut S,
+    issuer: &Issuer,
+    shard: u8,
+) -> Result<TakenOver, LoadFault>
     requires { shard < issuer.now.shards }
     ensures taken { IfOk result (λ over. ReadsText issuer.now shard (S.bytes store.old) over.rows over.taken) }
     ensures rows { IfOk result (λ over. AreRowsOf issuer.now over.rows × (over.rows.shard ≡ shard)) }

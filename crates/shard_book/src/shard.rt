@@ -19,7 +19,7 @@ ghost use Rattle.record_store.specs.Images.{IsCutImage};
 ghost use Rattle.shard_book.specs.Loading.{StopsText, is_store_failure};
 ghost use Rattle.shard_book.specs.Grounds.{grounds_now, IsImageOf};
 ghost use Rattle.shard_book.specs.Steps.{IsCardOf};
-ghost use Rattle.shard_book.specs.Shards.{number_in, IsUnder, HasCard, sure_in, disk_in, faults_in, HoldsHistory, StandsFor, Adds, IsLoaded, IsSomeCutImage};
+ghost use Rattle.shard_book.specs.Shards.{number_in, IsUnder, HasCard, store_in, sure_in, disk_in, faults_in, HoldsHistory, StandsFor, Adds, IsLoaded, IsSomeCutImage};
 ghost use Rattle.shard_book.specs.Answering.{is_store_fault, AnswersClaimed, AnswersQueueing, AnswersSetting};
 
 use crate::replay::{LoadFault, Taken, TakenOver, take_over};
@@ -49,7 +49,12 @@ impl<S: Store> Shard<S> {
     /// what stands behind them, and makes them safe. The first bad line stops it, and then the store is as it was.
     ///
     /// All memory, that for the store's bytes among it, is taken before the store is read, and no later call takes any.
-    pub fn load(alloc: Global, store: S, shard: u8, issuer: &Issuer) -> Result<Shard<S>, LoadBack<S>>
+    pub fn load(
+        alloc: Global,
+        store: S,
+        shard: u8,
+        issuer: &Issuer,
+    ) -> Result<Shard<S>, LoadBack<S>>
         requires { shard < issuer.now.shards }
         ensures loaded { IfOk result (IsLoaded issuer.now shard (S.bytes store)) }
         ensures stopped { IfErr result (λ back. StopsText issuer.now shard (S.bytes store) back.fault) }
@@ -183,6 +188,14 @@ impl<S: Store> Shard<S> {
         ensures { (issuer : Setup) (history : List Entry) → StandsFor issuer self.now history → result ≡ length history }
     {
         self.journal.records()
+    }
+
+    /// The store, with the text of the records, and behind it what is in doubt.
+    pub fn into_store(self) -> S
+        ensures { result ≡ store_in self }
+    {
+        let Shard { journal, rows: _ } = self;
+        journal.into_store()
     }
 
     /// Decides a request by its plan.

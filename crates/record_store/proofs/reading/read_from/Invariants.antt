@@ -14,7 +14,7 @@ invariant-loop-count g l = record {
   bytes_are : g.S.Store.bytes l.store ≡ g.S.Store.bytes l.fn.store;
   given : IfSome (g.S.Store.bytes l.fn.store) (HasRead l.at l.count l.into);
   disk : BothTold OnlyReads (g.S.Store.disk l.fn.store) (g.S.Store.disk l.store);
-  counts : CountsFaults (g.S.Store.faults l.fn.store) (g.S.Store.faults l.store) false
+  counts : CountsFaults (g.S.Store.faults l.fn.store) (g.S.Store.faults l.store) false;
 }
 
 abbrev pub decreases-loop-count : goal.decreases-loop-count

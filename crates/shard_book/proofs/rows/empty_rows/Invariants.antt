@@ -7,7 +7,7 @@ use Rattle.shard_book.proofs.rows.empty_rows.Given as goal
 abbrev pub invariant-loop-card : goal.invariant-loop-card
 invariant-loop-card l = record {
   at : l.card ≡ l.shard + length l.rows.items * l.issuer.shards;
-  each : (place : ℕ) (card : CardInfo) → place < length l.rows.items → IsEmptyAt l.issuer l.shard l.rows.items place card
+  each : (place : ℕ) (card : CardInfo) → place < length l.rows.items → IsEmptyAt l.issuer l.shard l.rows.items place card;
 }
 
 abbrev pub decreases-loop-card : goal.decreases-loop-card

@@ -28,8 +28,7 @@ returns-then-not-takes_command-clause-exact c history stands =
     let its : c.in-Some.card % issuer.shards ≡ c.args.self.now.shard = sym c.shard_of.ensures.number ∙ c.if-shard_of-shard.false ∙ c.shard.ensures in
     let at_hand : IsCardAtHand issuer name c.in-Some.card = record { valid = c.in-Some.ensures.valid; number_is = number_is } in
     let card = card-found issuer name c.in-Some.card at_hand in
-    let takes = c.takes_command.ensures issuer card.card history stands card.known in
-    (
+    let takes = c.takes_command.ensures issuer card.card history stands card.known in (
       λ taken. absurd (false≢true taken),
       λ legal. sym c.if-not-takes_command.true
           ∙ takes.1 (subst (λ (name : CardName). TakesOneMore (waiting (scripts_of name history))) (sym card.named) legal.room),
@@ -51,8 +50,7 @@ returns-clause-exact c history stands =
     let its : c.in-Some.card % issuer.shards ≡ c.args.self.now.shard = sym c.shard_of.ensures.number ∙ c.if-shard_of-shard.false ∙ c.shard.ensures in
     let at_hand : IsCardAtHand issuer name c.in-Some.card = record { valid = c.in-Some.ensures.valid; number_is = number_is } in
     let card = card-found issuer name c.in-Some.card at_hand in
-    let takes = c.takes_command.ensures issuer card.card history stands card.known in
-    (
+    let takes = c.takes_command.ensures issuer card.card history stands card.known in (
       λ taken. record {
         home = card-at_home issuer c.args.self.now c.requires.rows name c.in-Some.card number_is its;
         form = c.requires.form;

@@ -14,7 +14,7 @@ invariant-loop-length l = record {
   within : l.taken.bytes ≤ length l.text;
   few : l.taken.records ≤ l.taken.bytes;
   taken : (history : List Entry) → StandsFor l.issuer l.fn.self history → l.place ≡ length history
-      → IsLegalHistory (grounds_of l.issuer) l.fn.self.shard history → TakesLines l.issuer l.fn.self.shard history l.text l.taken l.self
+      → IsLegalHistory (grounds_of l.issuer) l.fn.self.shard history → TakesLines l.issuer l.fn.self.shard history l.text l.taken l.self;
 }
 
 abbrev pub decreases-loop-length : goal.decreases-loop-length

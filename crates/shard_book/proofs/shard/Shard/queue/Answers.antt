@@ -23,7 +23,7 @@ returns-then-not-takes_command-clause-answer g c history stands =
       stands,
       (
         λ room. false≢true (sym c.if-not-takes_command.true
-        ∙ takes.1 (subst (λ (name : CardName). TakesOneMore (waiting (scripts_of name history))) (sym card.named) room)),
+            ∙ takes.1 (subst (λ (name : CardName). TakesOneMore (waiting (scripts_of name history))) (sym card.named) room)),
         refl,
       ),
     )
@@ -79,8 +79,7 @@ returns-clause-answer g c history stands =
     (c.push.ensures.queued issuer card.card history before card.known (takes.0 c.if-not-takes_command.false)) in
     let holds =
     subst (λ (command : Command). HoldsHistory (grounds_now issuer) number c.put.new.self.journal (history ++ Queued found.pan found.psn command ∷ []))
-    c.copy.ensures put.1 in
-    (
+    c.copy.ensures put.1 in (
       history ++ Queued found.pan found.psn found.command ∷ [],
       stands-with issuer number c.put.new.self.journal c.put.new.self.rows c.push.new.self (history ++ Queued found.pan found.psn found.command ∷ [])
           number_is c.push.ensures.same rows holds,

@@ -25,8 +25,7 @@ returns-clause-answer g c history stands =
     let number_is : c.put.new.self.rows.shard ≡ number = ap (λ (rows : ShardRows). rows.shard) c.put.ensures.rows in
     let before = subst (λ (rows : ShardRows). RowsStandFor issuer rows history) (sym c.put.ensures.rows) stands.rows_stand in
     let rows = subst (λ (name : CardName). RowsStandFor issuer c.set_status.new.self (history ++ Status name.pan name.psn found.status ∷ [])) card.named
-    (c.set_status.ensures.set issuer card.card history before card.known) in
-    (
+    (c.set_status.ensures.set issuer card.card history before card.known) in (
       history ++ Status found.pan found.psn found.status ∷ [],
       stands-with issuer number c.put.new.self.journal c.put.new.self.rows c.set_status.new.self (history ++ Status found.pan found.psn found.status ∷ [])
           number_is c.set_status.ensures.same rows put.1,
