@@ -8,6 +8,3 @@ mod shard;
 
 pub use replay::LoadFault;
 pub use shard::{LoadBack, Shard};
-
-#[cfg(test)]
-mod tests;
