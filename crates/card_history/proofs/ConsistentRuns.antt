@@ -17,6 +17,7 @@ use Rattle.card_history.specs.Records.{CardName, named, card_of}
 use Rattle.card_history.specs.Turns.{Rules, IsRefused, Turn, Run, no_records}
 use Rattle.card_history.specs.OneReply.{record_at, IsOncePerCounter, AreLegal, IsOfItsRecord, IsAnswered, IsConsistent, reply_in}
 use Rattle.card_history.proofs.LongerHistories.{Stays}
+use Rattle.card_history.proofs.CommandsInOrder.{in_order}
 use Rattle.card_history.proofs.ShardTurns.{IsSound, StaysSound, answers-keep, command-keeps, status-keeps}
 
 -- what holds of each shard's history, and of a new one, holds of each once the new one is written
@@ -213,4 +214,5 @@ module _ (rules : Rules) where
         one_reply = λ first second request answer other reply other_reply first_answered second_answered reply_is other_is.
             same-replies histories request answer other reply other_reply once (kept.recorded first request answer first_answered)
             (kept.recorded second request other second_answered) reply_is other_is;
+        in_order = λ card shard. in_order card (slice_index_or histories shard []);
       }

@@ -1,3 +1,4 @@
+-- The lemmas of this crate, lowest first.
 pub mod CardNames
 pub mod OneMoreRecord
 pub mod OtherRecords

@@ -7,7 +7,8 @@ use Rattle.issuer_base.specs.declared.answer.Answer.TheVariants.{Fresh, Kept}
 use Rattle.issuer_base.specs.declared.entry.Entry.{Entry}
 use Rattle.issuer_base.specs.declared.entry.Entry.TheVariants.{Decided}
 use Rattle.card_history.specs.declared.decision.Asked.TheVariants.{Decide}
-use Rattle.card_history.specs.Records.{card_of}
+use Rattle.card_history.specs.Records.{CardName, card_of}
+use Rattle.card_history.specs.ScriptOrder.{AreInOrder}
 use Rattle.card_history.specs.Turns.{Rules, IsUnused, decided_for}
 
 -- the record at this place of this shard, if there is one
@@ -70,3 +71,5 @@ pub record IsConsistent (rules : Rules) (lines : List (List ℕ)) (answers : Lis
   pub one_reply : (first second : ℕ) (request : Request) (answer other : Answer) (reply other_reply : Reply)
       → IsAnswered rules lines answers first request answer → IsAnswered rules lines answers second request other
       → reply_in answer ≡ Some reply → reply_in other ≡ Some other_reply → reply ≡ other_reply
+  -- each card's commands went with replies in the order of its queue
+  pub in_order : (card : CardName) (shard : ℕ) → AreInOrder card (slice_index_or histories shard [])

@@ -9,7 +9,7 @@ ghost use Rattle.card_history.specs.OneReply.{IsConsistent};
 
 /// Whatever lines come, repeated or reordered, and however cards are spread over shards, no counter of a card
 /// is decided twice, each record is a legal next one after the records before it in its card's shard, each reply
-/// is that of its record, and two replies to the same request are the same.
+/// is that of its record, two replies to the same request are the same, and each card's commands went out in order.
 ///
 /// The contract is a theorem on every run from empty histories; the function does nothing.
 pub fn every_run_is_consistent()

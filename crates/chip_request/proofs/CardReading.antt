@@ -6,6 +6,8 @@ use Rattle.std.proofs.lemmas.Bool.{and_parts, and_from}
 use Rattle.std.proofs.lemmas.Option.{cond_some}
 use Rattle.std.proofs.lemmas.List.{append-nil, length-replicate}
 use Rattle.std.proofs.lemmas.List.Folds.{list_all-append}
+use Rattle.std.proofs.lemmas.Str.{digit_value_digit}
+use Rattle.std.specs.Char.{digit_value}
 use Rattle.std.specs.List.{list_all}
 use Rattle.issuer_base.specs.CardNumber.{is_pan, pan_from}
 use Rattle.issuer_base.specs.ChipData.{is_bcd}
@@ -46,14 +48,16 @@ decimal_digit_value-some byte digit has =
     let within = and_parts _ _ parts.0 in
     let low : 48 ≤ byte = leb-true _ _ within.0 in
     let high : byte ≤ 57 = leb-true _ _ within.1 in
-    let value : byte - 48 ≡ digit = parts.1 in
-    (omega arith, omega arith)
+    let value : digit_value byte ≡ digit = parts.1 in
+    let spelled = digit_value_digit byte (low, high) in
+    (omega (arith, value, spelled), omega (arith, value, spelled))
 
 pub decimal_digit_value-text : (digit : ℕ) → digit ≤ 9 → decimal_digit_value (48 + digit) ≡ Some digit
 decimal_digit_value-text digit small =
     let low : leb 48 (48 + digit) ≡ true = le-leb _ _ (omega arith) in
     let high : leb (48 + digit) 57 ≡ true = le-leb _ _ (omega arith) in
-    let value : 48 + digit - 48 ≡ digit = omega arith in
+    let spelled = digit_value_digit (48 + digit) (omega arith, omega arith) in
+    let value : digit_value (48 + digit) ≡ digit = omega (arith, spelled) in
     rw (low, high, value) refl
 
 -- each is a decimal digit

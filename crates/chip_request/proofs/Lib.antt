@@ -1,4 +1,6 @@
+-- The laws of this crate.
 pub mod Walk
+pub mod HexTable
 pub mod Found
 pub mod Meaning
 pub mod Good

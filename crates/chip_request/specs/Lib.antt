@@ -1,5 +1,7 @@
+-- The definitions that the contracts of this crate cite.
 pub mod Fields
 pub mod Forms
+pub mod HexDigits
 pub mod Reading
 pub mod Slots
 pub mod SlotViews

@@ -1,7 +1,7 @@
 -- A line read from its front, part by part: each part's value and the text behind it, or the text from the first byte
 -- on that can't stand there.
 use Rattle.std.specs.Prelude.{ℕ, zero, suc, ◌+◌, ◌-◌, ◌*◌, List, [], ◌∷◌, length, Option, Some, None, Result, Ok, Err, ◌==◌, if◌then◌else◌}
-use Rattle.std.specs.Char.{is_ascii_digit}
+use Rattle.std.specs.Char.{digit_value, is_ascii_digit}
 use Rattle.hex.specs.Hex.{hex_digit_value}
 use Rattle.issuer_base.specs.CardNumber.{pan_from}
 use Rattle.issuer_base.specs.declared.limits.TheConstants.{MAX_PAN_DIGITS, MAX_CHIP_BYTES}
@@ -13,12 +13,13 @@ use Rattle.chip_request.specs.declared.line.LineKind.TheVariants.{Ask, Queue, Se
 abbrev pub Part : Type 0 → Type 0
 Part A = Result A (List ℕ)
 
+-- the next part, read behind this one, where this one is read
 infixl 10 ◌>>=◌
 abbrev pub ◌>>=◌ : {A B : Type 0} → Part A → (A → Part B) → Part B
 (Ok a) >>= f = f a
 (Err rest) >>= f = Err rest
 
--- the text behind this byte
+-- this byte in front: the text behind it
 unfoldable pub byte_at : ℕ → List ℕ → Part (List ℕ)
 byte_at byte [] = Err []
 byte_at byte (first ∷ rest) = if first == byte then Ok rest else Err (first ∷ rest)
@@ -28,21 +29,24 @@ abbrev pub value_in_front : Option ℕ → ℕ → List ℕ → Part (ℕ × Lis
 value_in_front None byte rest = Err (byte ∷ rest)
 value_in_front (Some value) byte rest = Ok (value, rest)
 
+-- the value of the first byte, if there is one and it has one, and the text behind it
 abbrev pub value_at : (ℕ → Option ℕ) → List ℕ → Part (ℕ × List ℕ)
 value_at value [] = Err []
 value_at value (byte ∷ rest) = value_in_front (value byte) byte rest
 
 -- the value of a decimal digit
 abbrev pub decimal_digit_value : ℕ → Option ℕ
-decimal_digit_value byte = if is_ascii_digit byte then Some (byte - 48) else None
+decimal_digit_value byte = if is_ascii_digit byte then Some (digit_value byte) else None
 
+-- a decimal digit in front: its value, and the text behind it
 unfoldable pub digit_at : List ℕ → Part (ℕ × List ℕ)
 digit_at text = value_at decimal_digit_value text
 
+-- a hexadecimal digit in front: its value, and the text behind it
 unfoldable pub hex_digit_at : List ℕ → Part (ℕ × List ℕ)
 hex_digit_at text = value_at hex_digit_value text
 
--- a digit, where one was read, in front of those behind it
+-- a digit that was read, in front of the others that are read behind it; or none, and the text as it stands
 abbrev pub and_others : (List ℕ → List ℕ × List ℕ) → Part (ℕ × List ℕ) → List ℕ × List ℕ
 and_others others (Err rest) = ([], rest)
 and_others others (Ok found) = (found.0 ∷ (others found.1).0, (others found.1).1)
@@ -52,21 +56,23 @@ unfoldable pub digits_at : ℕ → List ℕ → List ℕ × List ℕ
 digits_at zero text = ([], text)
 digits_at (suc room) text = and_others (digits_at room) (digit_at text)
 
--- the account number that these digits are
+-- the account number that digits were found to be, and the text behind it
 abbrev pub number_in_front : Option (List ℕ) → List ℕ → Part (List ℕ × List ℕ)
 number_in_front None rest = Err rest
 number_in_front (Some pan) rest = Ok (pan, rest)
 
+-- an account number in front, of all the decimal digits that stand there, but no more than it may have, and the text behind it
 unfoldable pub account_number_at : List ℕ → Part (List ℕ × List ℕ)
 account_number_at text =
     let found = digits_at MAX_PAN_DIGITS text in number_in_front (pan_from found.0) found.1
 
--- a card's account number and sequence number, each between spaces
+-- a card's account number and sequence number, and the text behind them
 pub record CardPart : Type 0 where
   pub pan : List ℕ
   pub psn : ℕ
   pub rest : List ℕ
 
+-- a card in front: its account number and its sequence number of two decimal digits, each between spaces
 unfoldable pub card_at : List ℕ → Part CardPart
 card_at text = do
   start ← byte_at 32 text
@@ -77,16 +83,18 @@ card_at text = do
   rest ← byte_at 32 low.1
   Ok (record { pan = number.0; psn = 16 * high.0 + low.0; rest = rest })
 
--- a value at the end of a text
+-- a value behind which nothing stands
 abbrev pub at_end : {A : Type 0} → A → List ℕ → Part A
 at_end value [] = Ok value
 at_end value (byte ∷ rest) = Err (byte ∷ rest)
 
+-- a decimal digit at the end of a text
 unfoldable pub last_digit_at : List ℕ → Part ℕ
 last_digit_at text = do
   digit ← digit_at text
   at_end digit.0 digit.1
 
+-- the byte that two hexadecimal digits in front spell, the high one first, and the text behind them
 unfoldable pub pair_at : List ℕ → Part (ℕ × List ℕ)
 pair_at text = do
   high ← hex_digit_at text
@@ -103,25 +111,28 @@ data_at (suc room) text = do
     | byte ∷ rest ↦ data_at room (byte ∷ rest) >>= λ bytes. Ok (pair.0 ∷ bytes)
   ]
 
+-- behind `A`: a space and chip data
 abbrev pub ask_at : List ℕ → Part LineKind
 ask_at text = do
   digits ← byte_at 32 text
   bytes ← data_at MAX_CHIP_BYTES digits
   Ok (Ask (record { items = bytes }))
 
+-- behind `Q`: a card and the bytes of a command for its queue
 abbrev pub queue_at : List ℕ → Part LineKind
 queue_at text = do
   card ← card_at text
   bytes ← data_at MAX_QUEUE_BYTES card.rest
   Ok (Queue card.pan card.psn (record { items = bytes }))
 
+-- behind `S`: a card and a digit, its status
 abbrev pub set_at : List ℕ → Part LineKind
 set_at text = do
   card ← card_at text
   status ← last_digit_at card.rest
   Ok (Set card.pan card.psn status)
 
--- by the first letter
+-- what a line says by its first letter: 65 is `A`, 81 is `Q` and 83 is `S`
 unfoldable pub kind_at : List ℕ → Part LineKind
 kind_at [] = Err []
 kind_at (letter ∷ text) =
@@ -130,7 +141,7 @@ kind_at (letter ∷ text) =
     else if letter == 83 then set_at text
     else Err (letter ∷ text)
 
--- the column of the first byte of what is left
+-- what a line of so many bytes says, or the column of the first byte of what is left of it, counted from 1
 abbrev pub with_column : ℕ → Part LineKind → Result LineKind ℕ
 with_column size (Ok kind) = Ok kind
 with_column size (Err rest) = Err (size - length rest + 1)

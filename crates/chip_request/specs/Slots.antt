@@ -1,6 +1,6 @@
 -- What a walk over the objects keeps of each field.
 use Rattle.std.specs.Prelude.{ℕ, ◌+◌, ◌*◌, Bool, true, false, not, ◌&&◌, List, [], ◌∷◌, map, length, replicate, slice_index, Option, Some, None}
-use Rattle.std.specs.Prelude.{option_and_then, is_some, is_none, ◌==◌, if◌then◌else◌}
+use Rattle.std.specs.Prelude.{option_and_then, option_map, is_some, is_none, ◌==◌, if◌then◌else◌}
 use Rattle.tlv_objects.specs.Tlv.{TlvObject}
 use Rattle.chip_request.specs.Fields.{Field}
 use Rattle.issuer_base.specs.declared.request.Parts.{Parts}
@@ -43,6 +43,16 @@ unfoldable pub first_wrong_found : Wrong → List Found → Option ℕ
 first_wrong_found wrong [] = None
 first_wrong_found wrong (found ∷ others) =
     if is_wrong wrong found then Some found.field.tag else first_wrong_found wrong others
+
+-- the place in a table of the first field with a tag
+unfoldable pub place_of : ℕ → List Field → Option ℕ
+place_of tag [] = None
+place_of tag (field ∷ others) = if field.tag == tag then Some 0 else option_map (λ place. place + 1) (place_of tag others)
+
+-- what was found of each field of a table: its first value, and whether there is another
+unfoldable pub founds_of : List Field → List (Option (List ℕ)) → List Bool → List Found
+founds_of (field ∷ others) (first ∷ firsts) (is ∷ are) = record { field = field; first = first; is_repeated = is } ∷ founds_of others firsts are
+founds_of _ _ _ = []
 
 -- the first value of the field with a tag
 unfoldable pub first_with_tag : ℕ → List Found → Option (List ℕ)

@@ -3,6 +3,7 @@
 #![tactic(auto)]
 
 mod form;
+mod hex_digits;
 mod line;
 mod line_parts;
 mod reading;

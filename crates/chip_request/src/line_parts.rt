@@ -4,6 +4,7 @@ ghost use Rattle.std.specs.Prelude.{◌≡◌, ◌<◌, IfOk};
 ghost use Rattle.std.specs.Result.{result_map_both};
 ghost use Rattle.chip_request.specs.LineParts.{byte_at, card_at, account_number_at, digits_at, last_digit_at, digit_at, data_at, pair_at, hex_digit_at};
 
+use crate::hex_digits::hex_value;
 use arrayvec::ArrayVec;
 use issuer_base::{MAX_PAN_DIGITS, Pan};
 
@@ -100,8 +101,23 @@ pub(crate) fn read_data<const N: usize>(text: &[u8]) -> Result<ArrayVec<u8, N>, 
     Err(rest)
 }
 
-#[tactic(auto, unfolding(crate::specs::LineParts::pair_at))]
+#[tactic(auto, unfolding(crate::specs::LineParts::pair_at, crate::specs::LineParts::hex_digit_at))]
 fn read_pair(text: &[u8]) -> Result<(u8, &[u8]), &[u8]>
+    ensures { result_map_both (λ found. (found.0, found.1.now)) (λ rest. rest.now) result ≡ pair_at text.now }
+{
+    if let [high, low, rest @ ..] = text {
+        let high = hex_value(*high);
+        let low = hex_value(*low);
+        if high < 16 && low < 16 {
+            return Ok((16 * high + low, rest));
+        }
+    }
+    read_digit_by_digit(text)
+}
+
+// The same where a digit may be none, to say which.
+#[tactic(auto, unfolding(crate::specs::LineParts::pair_at))]
+fn read_digit_by_digit(text: &[u8]) -> Result<(u8, &[u8]), &[u8]>
     ensures { result_map_both (λ found. (found.0, found.1.now)) (λ rest. rest.now) result ≡ pair_at text.now }
 {
     let (high, rest) = read_hex_digit(text)?;
@@ -115,9 +131,13 @@ fn read_hex_digit(text: &[u8]) -> Result<(u8, &[u8]), &[u8]>
     ensures small { IfOk result (λ found. found.0 < 16) }
 {
     match text {
-        [digit @ b'0'..=b'9', rest @ ..] => Ok((digit - b'0', rest)),
-        [digit @ b'a'..=b'f', rest @ ..] => Ok((digit - b'a' + 10, rest)),
-        [digit @ b'A'..=b'F', rest @ ..] => Ok((digit - b'A' + 10, rest)),
+        [digit, rest @ ..] => {
+            let value = hex_value(*digit);
+            if value >= 16 {
+                return Err(text);
+            }
+            Ok((value, rest))
+        }
         _ => Err(text),
     }
 }

@@ -4,10 +4,10 @@ ghost use Rattle.tlv_objects.specs.Tlv.{objects_of, objects_ahead};
 ghost use Rattle.chip_request.specs.Fields.{fields};
 ghost use Rattle.chip_request.specs.Reading.{request_of};
 ghost use Rattle.chip_request.specs.Slots.{request_in, unfound, with_objects};
-ghost use Rattle.chip_request.specs.SlotViews.{found_in};
+ghost use Rattle.chip_request.specs.SlotViews.{founds_in};
 
 use crate::form::account_number;
-use crate::slots::{Slot, Wrong, bytes, first_value, first_wrong, note, unfound};
+use crate::slots::{Slots, Wrong};
 use issuer_base::{MAX_CHIP_BYTES, Parts, Request};
 use tlv_objects::{Objects, TlvFault};
 
@@ -31,31 +31,31 @@ pub fn read_request(bytes: &[u8]) -> Result<Request, RequestFault>
     requires { length bytes.now ≤ MAX_CHIP_BYTES }
     ensures { result ≡ request_of bytes.now }
 {
-    let mut slots = unfound();
+    let mut slots = Slots::unfound();
     note_all(&mut slots, Objects::new(bytes))?;
-    if let Some(tag) = first_wrong(&slots, Wrong::Missing) {
+    if let Some(tag) = slots.first_wrong(Wrong::Missing) {
         return Err(RequestFault::Missing(tag));
     }
-    if let Some(tag) = first_wrong(&slots, Wrong::Misformed) {
+    if let Some(tag) = slots.first_wrong(Wrong::Misformed) {
         return Err(RequestFault::BadField(tag));
     }
-    if let Some(tag) = first_wrong(&slots, Wrong::Repeated) {
+    if let Some(tag) = slots.first_wrong(Wrong::Repeated) {
         return Err(RequestFault::Repeated(tag));
     }
     Ok(request_in(&slots).unwrap())
 }
 
 // Notes the objects ahead of a cursor, up to the end of its text.
-fn note_all<'a>(slots: &mut [Slot<'a>; 15], objects: Objects<'a>) -> Result<(), RequestFault>
+fn note_all<'a>(slots: &mut Slots<'a>, objects: Objects<'a>) -> Result<(), RequestFault>
     requires { objects.at + length objects.bytes < 2 ^ 32 }
     ensures ok { OnOk result (((objects_ahead objects.entry).torn ≡ None)
-        × (map found_in slots.new ≡ with_objects (map found_in slots.old) (objects_ahead objects.entry).objects)) }
+        × (founds_in slots.new ≡ with_objects (founds_in slots.old) (objects_ahead objects.entry).objects)) }
     ensures err { IfErr result (λ fault. (place : ℕ)
         × ((objects_ahead objects.entry).torn ≡ Some place) × (fault ≡ RequestFault.BadTlv place)) }
 {
     for item in objects {
         match item {
-            Ok(object) => note(slots, object),
+            Ok(object) => slots.note(object),
             Err(TlvFault::Torn(at)) => return Err(RequestFault::BadTlv(at as u32)),
         }
     }
@@ -64,26 +64,26 @@ fn note_all<'a>(slots: &mut [Slot<'a>; 15], objects: Objects<'a>) -> Result<(), 
 
 // The request that was found, where each field that is there has its form.
 #[tactic(auto, unfolding(crate::specs::Slots::request_in))]
-fn request_in(slots: &[Slot<'_>; 15]) -> Option<Request>
-    ensures { result ≡ request_in (map found_in slots.now) }
+fn request_in(slots: &Slots<'_>) -> Option<Request>
+    ensures { result ≡ request_in (founds_in slots.now) }
 {
-    let pan = account_number(first_value(slots, 0x5A)?)?;
-    let atc = bytes::<2>(slots, 0x9F36);
+    let pan = account_number(slots.first_value(0x5A)?)?;
+    let atc = slots.bytes::<2>(0x9F36);
     Request::new(Parts {
         pan,
-        psn: bytes::<1>(slots, 0x5F34)[0],
-        aip: bytes(slots, 0x82),
+        psn: slots.bytes::<1>(0x5F34)[0],
+        aip: slots.bytes(0x82),
         atc: u16::from(atc[0]) * 256 + u16::from(atc[1]),
-        tvr: bytes(slots, 0x95),
-        date: bytes(slots, 0x9A),
-        kind: bytes::<1>(slots, 0x9C)[0],
-        amount: bytes(slots, 0x9F02),
-        other: bytes(slots, 0x9F03),
-        country: bytes(slots, 0x9F1A),
-        currency: bytes(slots, 0x5F2A),
-        un: bytes(slots, 0x9F37),
-        cid: bytes::<1>(slots, 0x9F27)[0],
-        iad: bytes(slots, 0x9F10),
-        ac: bytes(slots, 0x9F26),
+        tvr: slots.bytes(0x95),
+        date: slots.bytes(0x9A),
+        kind: slots.bytes::<1>(0x9C)[0],
+        amount: slots.bytes(0x9F02),
+        other: slots.bytes(0x9F03),
+        country: slots.bytes(0x9F1A),
+        currency: slots.bytes(0x5F2A),
+        un: slots.bytes(0x9F37),
+        cid: slots.bytes::<1>(0x9F27)[0],
+        iad: slots.bytes(0x9F10),
+        ac: slots.bytes(0x9F26),
     })
 }

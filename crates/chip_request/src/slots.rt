@@ -1,9 +1,9 @@
 //! The fields of a request, and what a walk over the objects keeps of each.
-ghost use Rattle.std.specs.Prelude.{◌≡◌, map, option_map};
+ghost use Rattle.std.specs.Prelude.{◌≡◌, ◌<◌, map, option_map, IfSome};
 ghost use Rattle.tlv_objects.specs.Seen.{seen as object_seen};
 ghost use Rattle.chip_request.specs.Fields.{fields};
-ghost use Rattle.chip_request.specs.Slots.{with_value, with_object, unfound, is_wrong, first_wrong_found, first_with_tag, sized};
-ghost use Rattle.chip_request.specs.SlotViews.{found_in};
+ghost use Rattle.chip_request.specs.Slots.{founds_of, place_of, with_object, unfound, is_wrong, first_wrong_found, first_with_tag, sized};
+ghost use Rattle.chip_request.specs.SlotViews.{field_in, founds_in};
 
 use crate::form::Form;
 use tlv_objects::Object;
@@ -16,91 +16,41 @@ pub(crate) struct Field {
     pub(crate) form: Form,
 }
 
-/// What was found of a field: the value of the first object with its tag, and whether there is another.
-#[derive(Clone, Copy, Debug, PartialEq, Eq)]
-pub(crate) struct Slot<'a> {
-    pub(crate) field: Field,
-    pub(crate) first: Option<&'a [u8]>,
-    pub(crate) is_repeated: bool,
-}
-
-macro_rules! slot {
+macro_rules! field {
     ($tag:expr, $is_required:expr, $form:expr) => {
-        Slot {
-            field: Field {
-                tag: $tag,
-                is_required: $is_required,
-                form: $form,
-            },
-            first: None,
-            is_repeated: false,
+        Field {
+            tag: $tag,
+            is_required: $is_required,
+            form: $form,
         }
     };
 }
 
-/// The fields in the order in which what is wrong with them is looked for, before any object is found.
-const UNFOUND: [Slot<'static>; 15] = [
-    slot!(0x5A, true, Form::AccountNumber),
-    slot!(0x5F34, false, Form::Decimal(1)),
-    slot!(0x82, true, Form::Bytes(2)),
-    slot!(0x95, true, Form::Bytes(5)),
-    slot!(0x9A, true, Form::Bytes(3)),
-    slot!(0x9C, true, Form::Bytes(1)),
-    slot!(0x9F02, true, Form::Decimal(6)),
-    slot!(0x9F03, false, Form::Bytes(6)),
-    slot!(0x9F10, true, Form::ApplicationData),
-    slot!(0x9F1A, true, Form::Bytes(2)),
-    slot!(0x5F2A, true, Form::Bytes(2)),
-    slot!(0x9F26, true, Form::Bytes(8)),
-    slot!(0x9F27, true, Form::Bytes(1)),
-    slot!(0x9F36, true, Form::Bytes(2)),
-    slot!(0x9F37, true, Form::Bytes(4)),
+/// The fields in the order in which what is wrong with them is looked for.
+const FIELDS: [Field; 15] = [
+    field!(0x5A, true, Form::AccountNumber),
+    field!(0x5F34, false, Form::Decimal(1)),
+    field!(0x82, true, Form::Bytes(2)),
+    field!(0x95, true, Form::Bytes(5)),
+    field!(0x9A, true, Form::Bytes(3)),
+    field!(0x9C, true, Form::Bytes(1)),
+    field!(0x9F02, true, Form::Decimal(6)),
+    field!(0x9F03, false, Form::Bytes(6)),
+    field!(0x9F10, true, Form::ApplicationData),
+    field!(0x9F1A, true, Form::Bytes(2)),
+    field!(0x5F2A, true, Form::Bytes(2)),
+    field!(0x9F26, true, Form::Bytes(8)),
+    field!(0x9F27, true, Form::Bytes(1)),
+    field!(0x9F36, true, Form::Bytes(2)),
+    field!(0x9F37, true, Form::Bytes(4)),
 ];
 
-/// The slots before any object is found.
-pub(crate) fn unfound<'a>() -> [Slot<'a>; 15]
-    ensures { map found_in result ≡ map unfound fields }
-{
-    UNFOUND
-}
-
-impl<'a> Slot<'a> {
-    fn with_value(self, value: &'a [u8]) -> Slot<'a>
-        ensures { found_in result ≡ with_value (found_in self.entry) value.now }
-    {
-        match self.first {
-            None => Slot {
-                first: Some(value),
-                ..self
-            },
-            Some(_) => Slot {
-                is_repeated: true,
-                ..self
-            },
-        }
-    }
-
-    fn is(self, wrong: Wrong) -> bool
-        ensures { result ≡ is_wrong wrong (found_in self.entry) }
-    {
-        match wrong {
-            Wrong::Missing => self.field.is_required && self.first.is_none(),
-            Wrong::Misformed => match self.first {
-                None => false,
-                Some(value) => !self.field.form.fits(value),
-            },
-            Wrong::Repeated => self.is_repeated,
-        }
-    }
-
-    /// Takes one more object, if it is one of the field; else the slot is left as it was, and nothing is written.
-    fn note(&mut self, object: Object<'a>)
-        ensures { found_in self.new ≡ with_object (object_seen object.entry) (found_in self.old) }
-    {
-        if self.field.tag == object.tag {
-            *self = self.with_value(object.value);
-        }
-    }
+/// What was found of each field, in the order of the table: the value of the first object with its tag, and whether
+/// there is another.
+#[derive(Clone, Copy, Debug)]
+pub(crate) struct Slots<'a> {
+    pub(crate) firsts: [Option<&'a [u8]>; 15],
+    pub(crate) are_repeated: [bool; 15],
 }
 
 /// What may be wrong with a field.
@@ -111,48 +61,131 @@ pub(crate) enum Wrong {
     Repeated,
 }
 
-/// Takes one more object into its slot, if it has one.
-pub(crate) fn note<'a>(slots: &mut [Slot<'a>; 15], object: Object<'a>)
-    ensures { map found_in slots.new ≡ map (with_object (object_seen object.entry)) (map found_in slots.old) }
+fn table() -> &'static [Field; 15]
+    ensures { map field_in result.now ≡ fields }
 {
-    for slot in slots.iter_mut() {
-        slot.note(object);
+    &FIELDS
+}
+
+/// The place in the table of the field with a tag.
+#[tactic(auto, unfolding(crate::specs::Slots::place_of))]
+fn place_of(tag: u32) -> Option<usize>
+    ensures place { result ≡ place_of tag fields }
+    ensures within { IfSome result (λ place. place < 15) }
+{
+    match tag {
+        0x5A => Some(0),
+        0x5F34 => Some(1),
+        0x82 => Some(2),
+        0x95 => Some(3),
+        0x9A => Some(4),
+        0x9C => Some(5),
+        0x9F02 => Some(6),
+        0x9F03 => Some(7),
+        0x9F10 => Some(8),
+        0x9F1A => Some(9),
+        0x5F2A => Some(10),
+        0x9F26 => Some(11),
+        0x9F27 => Some(12),
+        0x9F36 => Some(13),
+        0x9F37 => Some(14),
+        _ => None,
     }
 }
 
-/// The tag of the first field with which this is wrong.
-pub(crate) fn first_wrong(slots: &[Slot<'_>; 15], wrong: Wrong) -> Option<u32>
-    ensures { result ≡ first_wrong_found wrong (map found_in slots.now) }
+impl<'a> Slots<'a> {
+    /// The slots before any object is found.
+    #[tactic(auto, unfolding(crate::specs::Slots::founds_of))]
+    pub(crate) fn unfound() -> Slots<'a>
+        ensures { founds_in result ≡ map unfound fields }
+    {
+        Slots {
+            firsts: [None; 15],
+            are_repeated: [false; 15],
+        }
+    }
+
+    /// Takes one more object, if it is one of a field.
+    pub(crate) fn note(&mut self, object: Object<'a>)
+        ensures { founds_in self.new ≡ map (with_object (object_seen object.entry)) (founds_in self.old) }
+    {
+        if let Some(place) = place_of(object.tag) {
+            match self.firsts[place] {
+                None => self.firsts[place] = Some(object.value),
+                Some(_) => self.are_repeated[place] = true,
+            }
+        }
+    }
+
+    /// The tag of the first field with which this is wrong.
+    pub(crate) fn first_wrong(&self, wrong: Wrong) -> Option<u32>
+        ensures { result ≡ first_wrong_found wrong (founds_in self.now) }
+    {
+        first_wrong_among(&self.firsts, &self.are_repeated, wrong)
+    }
+
+    /// The value of the first object with this tag, which is a field's.
+    pub(crate) fn first_value(&self, tag: u32) -> Option<&'a [u8]>
+        ensures { option_map (λ value. value.now) result ≡ first_with_tag tag (founds_in self.now) }
+    {
+        first_with_tag(&self.firsts, &self.are_repeated, tag)
+    }
+
+    /// That value in an array, and 00 bytes where the field is absent.
+    pub(crate) fn bytes<const N: usize>(&self, tag: u32) -> [u8; N]
+        ensures { result ≡ sized N (first_with_tag tag (founds_in self.now)) }
+    {
+        let mut bytes = [0; N];
+        if let Some(value) = self.first_value(tag) {
+            if value.len() == N {
+                bytes.copy_from_slice(value);
+            }
+        }
+        bytes
+    }
+}
+
+impl Field {
+    fn is_wrong(&self, wrong: Wrong, first: Option<&[u8]>, is_repeated: bool) -> bool
+        ensures { result ≡ is_wrong wrong
+            (record { field = field_in self.now; first = option_map (λ value. value.now) first.entry; is_repeated = is_repeated }) }
+    {
+        match wrong {
+            Wrong::Missing => self.is_required && first.is_none(),
+            Wrong::Misformed => match first {
+                None => false,
+                Some(value) => !self.form.fits(value),
+            },
+            Wrong::Repeated => is_repeated,
+        }
+    }
+}
+
+// The arrays are passed alone, since a proof knows the length of an array that is a parameter.
+fn first_wrong_among(
+    firsts: &[Option<&[u8]>; 15],
+    are_repeated: &[bool; 15],
+    wrong: Wrong,
+) -> Option<u32>
+    ensures { result ≡ first_wrong_found wrong (founds_of fields (map (option_map (λ value. value.now)) firsts.now) are_repeated.now) }
 {
-    for slot in slots {
-        if slot.is(wrong) {
-            return Some(slot.field.tag);
+    for (place, field) in table().iter().enumerate() {
+        if field.is_wrong(wrong, firsts[place], are_repeated[place]) {
+            return Some(field.tag);
         }
     }
     None
 }
 
-/// The value of the first object with this tag, which is a field's.
-pub(crate) fn first_value<'a>(slots: &[Slot<'a>; 15], tag: u32) -> Option<&'a [u8]>
-    ensures { option_map (λ value. value.now) result ≡ first_with_tag tag (map found_in slots.now) }
+// The repetitions are named by the contract alone.
+fn first_with_tag<'a>(
+    firsts: &[Option<&'a [u8]>; 15],
+    _are_repeated: &[bool; 15],
+    tag: u32,
+) -> Option<&'a [u8]>
+    ensures { option_map (λ value. value.now) result
+        ≡ first_with_tag tag (founds_of fields (map (option_map (λ value. value.now)) firsts.now) _are_repeated.now) }
 {
-    for slot in slots {
-        if slot.field.tag == tag {
-            return slot.first;
-        }
-    }
-    None
-}
-
-/// That value in an array, and 00 bytes where the field is absent.
-pub(crate) fn bytes<const N: usize>(slots: &[Slot<'_>; 15], tag: u32) -> [u8; N]
-    ensures { result ≡ sized N (first_with_tag tag (map found_in slots.now)) }
-{
-    let mut bytes = [0; N];
-    if let Some(value) = first_value(slots, tag) {
-        if value.len() == N {
-            bytes.copy_from_slice(value);
-        }
-    }
-    bytes
+    let place = place_of(tag)?;
+    firsts[place]
 }

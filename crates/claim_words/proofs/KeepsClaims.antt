@@ -429,44 +429,37 @@ below_top first s id view rule here card counter small known =
       | inr unkept ↦ rule.above card counter small (rule.told card counter (omega arith))
     ]
 
+-- a view that knows of other tops, each one of its own or that of a counter that is kept
+tops_keep : {S : Type 0} (first : List ℕ) (s : State S ClaimView) (view : ClaimView) (tops : List (ℕ × ℕ)) → AreClaims first s → 0 < length view.names
+    → ((card counter : ℕ) → (times card counter tops ≤ times card counter view.tops) ⊎ (0 < places is_kept first s.views card counter))
+    → IsKeeping first s s.words view (record view { tops = tops })
+tops_keep first s view tops rule named told = record {
+  wide = refl;
+  names = refl;
+  named = named;
+  live = λ other_card other also. refl;
+  kept = λ other_card other. omega arith;
+  any = λ other_card other. omega arith;
+  above = λ other_card other. inl (omega arith);
+  rises = λ other_card. omega arith;
+  greatest = λ other_card other e. inl e;
+  small = rule.small;
+  found = λ other_card other. inl (omega arith);
+  told = told;
+}
+
 -- a view with what a top tells
 top_keeps : {S : Type 0} (first : List ℕ) (s : State S ClaimView) (view : ClaimView) → AreClaims first s → 0 < length view.names
     → (card : ℕ) (answer : Option ℕ)
     → ((counter : ℕ) → answer ≡ Some counter → top_of s.words card ≡ counter + 1) → IsKeeping first s s.words view (after_top card answer view)
-top_keeps first s view rule named card None is = record {
-  wide = refl;
-  names = refl;
-  named = named;
-  live = λ other_card other also. refl;
-  kept = λ other_card other. omega arith;
-  any = λ other_card other. omega arith;
-  above = λ other_card other. inl (omega arith);
-  rises = λ other_card. omega arith;
-  greatest = λ other_card other e. inl e;
-  small = rule.small;
-  found = λ other_card other. inl (omega arith);
-  told = λ other_card other. inl (omega arith);
-}
-top_keeps first s view rule named card (Some counter) is = record {
-  wide = refl;
-  names = refl;
-  named = named;
-  live = λ other_card other also. refl;
-  kept = λ other_card other. omega arith;
-  any = λ other_card other. omega arith;
-  above = λ other_card other. inl (omega arith);
-  rises = λ other_card. omega arith;
-  greatest = λ other_card other e. inl e;
-  small = rule.small;
-  found = λ other_card other. inl (omega arith);
-  told = λ other_card other.
-      elim (ClaimCounts.pair_cases other_card other card counter) [
-        | inl same ↦
-            let P : ℕ → ℕ → Type 0 = λ c k. 0 < places is_kept first s.views c k in
-            inr (subst (λ (c : ℕ). P c other) (sym same.0) (subst (λ (k : ℕ). P card k) (sym same.1) (rule.greatest card counter (is counter refl))))
-        | inr apart ↦ inl (omega (arith, ClaimCounts.times-cons_other card counter other_card other view.tops apart))
-      ];
-}
+top_keeps first s view rule named card None is = tops_keep first s view view.tops rule named (λ other_card other. inl (omega arith))
+top_keeps first s view rule named card (Some counter) is = tops_keep first s view ((card, counter) ∷ view.tops) rule named (λ other_card other.
+    elim (ClaimCounts.pair_cases other_card other card counter) [
+      | inl same ↦
+          let P : ℕ → ℕ → Type 0 = λ c k. 0 < places is_kept first s.views c k in
+          inr (subst (λ (c : ℕ). P c other) (sym same.0) (subst (λ (k : ℕ). P card k) (sym same.1) (rule.greatest card counter (is counter refl))))
+      | inr apart ↦ inl (omega (arith, ClaimCounts.times-cons_other card counter other_card other view.tops apart))
+    ])
 
 told_none : (n : ℕ) → n ≡ 0 → told_by n ≡ None
 told_none n e = ap (λ (b : Bool). cond b None (Some (n - 1))) (eq-eqb n 0 e)

@@ -1,3 +1,4 @@
+-- The laws of this crate.
 pub mod ClaimBits
 pub mod ClaimCounts
 pub mod ContestLemmas

@@ -15,13 +15,15 @@ use Rattle.claim_words.specs.ClaimViews.{claims_on, times, is_live, is_kept, is_
 abbrev pub places : (Standing → Bool) → List ℕ → List ClaimView → ℕ → ℕ → ℕ
 places test first views card counter = bit_of first card counter + total (λ view. claims_on test card counter view.claims) views
 
--- how often the pair was found set, and how often it was told by a top word
+-- how often the pair was found set
 abbrev pub found_by : List ClaimView → ℕ → ℕ → ℕ
 found_by views card counter = total (λ view. times card counter view.found) views
 
+-- how often the pair was told by a top word
 abbrev pub told_to : List ClaimView → ℕ → ℕ → ℕ
 told_to views card counter = total (λ view. times card counter view.tops) views
 
+-- a table's words and its seats' views go together
 pub record AreClaims {S : Type 0} (first : List ℕ) (table : State S ClaimView) : Type 0 where
   pub wide : length table.words ≡ length first
   -- a bit is set where the pair stands in just one place, as an opening record or as a claim that isn't given back

@@ -14,11 +14,13 @@ use Rattle.claim_words.specs.declared.claim_words.Claim.TheVariants.{Won, Lost}
 abbrev pub is_pair : ℕ → ℕ → ℕ → ℕ → Bool
 is_pair card counter other_card other = (other_card == card) && (other == counter)
 
+-- claimed, and neither kept nor given back
 abbrev pub is_open : Standing → Bool
 is_open Open = true
 is_open Kept = false
 is_open GivenBack = false
 
+-- kept, since its counter is recorded
 abbrev pub is_kept : Standing → Bool
 is_kept Open = false
 is_kept Kept = true
@@ -30,6 +32,7 @@ is_live Open = true
 is_live Kept = true
 is_live GivenBack = false
 
+-- in whatever standing
 abbrev pub is_any : Standing → Bool
 is_any standing = true
 
@@ -84,10 +87,11 @@ IsNew card counter view = (claims_on is_live card counter view.claims ≡ 0) × 
 abbrev pub known_on : ℕ → ℕ → ClaimView → ℕ
 known_on card counter view = claims_on is_kept card counter view.claims + times card counter view.tops
 
--- the views of the two seats after a split
+-- the view of a seat that was split
 abbrev pub parent_view : ClaimView → ClaimView
 parent_view view = record view { names = after_split view.names }
 
+-- the view of the seat that was split off: it knows nothing
 abbrev pub child_view : ClaimView → ClaimView
 child_view view = newcomer (split_off view.names)
 

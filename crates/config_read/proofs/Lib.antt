@@ -1,3 +1,4 @@
+-- The laws of this crate.
 pub mod JsonLemmas
 pub mod WordsLemmas
 pub mod RowPartsLemmas

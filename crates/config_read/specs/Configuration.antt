@@ -4,6 +4,7 @@ use Rattle.serde_json.specs.Data.{Data}
 use Rattle.serde_json.specs.Find.{as_object}
 use Rattle.issuer_setup.specs.IssuerSetup.{Setup}
 use Rattle.config_read.specs.declared.config.TheConstants.{MAX_CONFIG_BYTES}
+use Rattle.config_read.specs.declared.fault.TheConstants.{WHOLE}
 use Rattle.config_read.specs.declared.fault.ConfigFault.{ConfigFault}
 use Rattle.config_read.specs.declared.fault.ConfigFault.TheVariants.{NotJson, At}
 use Rattle.config_read.specs.Json.{json_of}
@@ -11,7 +12,7 @@ use Rattle.config_read.specs.Parts.{◌>>=◌, shards_in, keys_in, cards_in, tab
 
 -- a value that is an object
 abbrev pub object_in : Data → Result Data ConfigFault
-object_in value = if is_some (as_object value) then Ok value else Err (At 1 0)
+object_in value = if is_some (as_object value) then Ok value else Err (At WHOLE 0)
 
 -- what an object says: the parts, tested in order; other members are ignored
 abbrev pub setup_in : Data → Result Setup ConfigFault
@@ -30,4 +31,4 @@ where_json (Some value) = setup_in value
 
 -- what a configuration of these bytes says; that it has more than 4,194,304 is looked for first
 unfoldable pub configured : List ℕ → Result Setup ConfigFault
-configured bytes = if nat_le (length bytes) MAX_CONFIG_BYTES then where_json (json_of bytes) else Err (At 1 0)
+configured bytes = if nat_le (length bytes) MAX_CONFIG_BYTES then where_json (json_of bytes) else Err (At WHOLE 0)

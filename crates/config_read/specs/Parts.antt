@@ -10,6 +10,7 @@ use Rattle.issuer_setup.specs.declared.card.CardInfo.{CardInfo}
 use Rattle.issuer_setup.specs.Shards.{shards_from}
 use Rattle.issuer_setup.specs.KeyList.{first_repeat}
 use Rattle.issuer_setup.specs.CardList.{first_bad}
+use Rattle.config_read.specs.declared.fault.TheConstants.{SHARDS, KEYS, CARDS, TABLE}
 use Rattle.config_read.specs.declared.fault.ConfigFault.{ConfigFault}
 use Rattle.config_read.specs.declared.fault.ConfigFault.TheVariants.{At}
 use Rattle.config_read.specs.Json.{number_member, list_member}
@@ -54,17 +55,17 @@ abbrev pub said_by : {A : Type 0} → ℕ → (Data → Option A) → (List A �
 said_by part said conflict elements =
     unless_broken part (option_or (conflict (front said elements)) (silent_at said elements)) (front said elements)
 
--- part 2: the number of shards, 1 to 16
+-- the number of shards, 1 to 16
 abbrev pub shards_in : Data → Result ℕ ConfigFault
-shards_in value = ok_or (option_and_then shards_from (number_member (codes "shards") value)) (At 2 0)
+shards_in value = ok_or (option_and_then shards_from (number_member (codes "shards") value)) (At SHARDS 0)
 
--- part 3: 1 to 16 key sets, no two of one index
+-- 1 to 16 key sets, no two of one index
 abbrev pub keys_in : Data → Result (List KeySet) ConfigFault
-keys_in value = part_elements 3 (codes "keys") MAX_KEY_SETS value >>= said_by 3 key_set_in (first_repeat [])
+keys_in value = part_elements KEYS (codes "keys") MAX_KEY_SETS value >>= said_by KEYS key_set_in (first_repeat [])
 
--- part 4: 1 to 4,096 cards, no two of one account and sequence number
+-- 1 to 4,096 cards, no two of one account and sequence number
 abbrev pub cards_in : Data → Result (List CardInfo) ConfigFault
-cards_in value = part_elements 4 (codes "cards") MAX_CARDS value >>= said_by 4 card_in (first_bad [])
+cards_in value = part_elements CARDS (codes "cards") MAX_CARDS value >>= said_by CARDS card_in (first_bad [])
 
 -- no row is in conflict with an earlier one
 abbrev pub no_conflict : List TableRow → Option ℕ
@@ -72,8 +73,8 @@ no_conflict rows = None
 
 -- the last row takes all, or it is broken
 abbrev pub where_last_takes_all : List TableRow → Result (List TableRow) ConfigFault
-where_last_takes_all rows = if ends_in_all rows then Ok rows else Err (At 5 (length rows))
+where_last_takes_all rows = if ends_in_all rows then Ok rows else Err (At TABLE (length rows))
 
--- part 5: 1 to 64 rows, of which the last takes all
+-- 1 to 64 rows, of which the last takes all
 abbrev pub table_in : Data → Result (List TableRow) ConfigFault
-table_in value = part_elements 5 (codes "table") MAX_TABLE_ROWS value >>= said_by 5 row_in no_conflict >>= where_last_takes_all
+table_in value = part_elements TABLE (codes "table") MAX_TABLE_ROWS value >>= said_by TABLE row_in no_conflict >>= where_last_takes_all

@@ -1,5 +1,6 @@
 -- What the texts and numbers of a configuration write.
-use Rattle.std.specs.Prelude.{ℕ, ◌+◌, ◌-◌, ◌*◌, Bool, ◌&&◌, ◌==◌, nat_le, if◌then◌else◌, List, [], ◌∷◌, map, codes, Option, Some, None}
+use Rattle.std.specs.Prelude.{ℕ, ◌+◌, ◌*◌, ◌&&◌, ◌==◌, nat_le, if◌then◌else◌, List, [], ◌∷◌, map, codes, Option, Some, None}
+use Rattle.std.specs.Char.{digit_value, is_ascii_digit}
 use Rattle.std.specs.List.{list_all}
 use Rattle.std.specs.Result.{result_ok}
 use Rattle.std.specs.Str.{bytes_eq}
@@ -14,21 +15,13 @@ use Rattle.issuer_base.specs.declared.answer.Method.TheVariants.{One, Two}
 abbrev pub bytes_of : ℕ → List ℕ → Option (List ℕ)
 bytes_of count text = result_ok (decode_sized text count)
 
--- a character is one of the digits `0` to `9`
-abbrev pub is_digit : ℕ → Bool
-is_digit character = nat_le 48 character && nat_le character 57
-
--- the digit that such a character writes
-abbrev pub digit : ℕ → ℕ
-digit character = character - 48
-
 -- an account number: 8 to 19 digits
 unfoldable pub pan_of : List ℕ → Option (List ℕ)
-pan_of text = if list_all is_digit text then pan_from (map digit text) else None
+pan_of text = if list_all is_ascii_digit text then pan_from (map digit_value text) else None
 
 -- a sequence number: two digits, a nibble each
 unfoldable pub psn_of : List ℕ → Option ℕ
-psn_of (tens ∷ units ∷ []) = if is_digit tens && is_digit units then Some (digit tens * 16 + digit units) else None
+psn_of (tens ∷ units ∷ []) = if is_ascii_digit tens && is_ascii_digit units then Some (digit_value tens * 16 + digit_value units) else None
 psn_of _ = None
 
 -- how a card's master key is derived: `A` or `B`

@@ -1,6 +1,7 @@
 //! What the texts and numbers of a configuration write.
 ghost use Rattle.std.specs.Prelude.{◌≡◌, if◌then◌else◌, Some, None};
-ghost use Rattle.config_read.specs.Words.{at_most, bytes_of, digit, is_digit, method_of, option_of, pan_of, psn_of};
+ghost use Rattle.std.specs.Char.{digit_value, is_ascii_digit};
+ghost use Rattle.config_read.specs.Words.{at_most, bytes_of, method_of, option_of, pan_of, psn_of};
 
 use arrayvec::ArrayVec;
 use hex::FromHex;
@@ -30,7 +31,7 @@ pub(crate) fn read_psn(text: &str) -> Option<u8>
 }
 
 fn read_digit(character: u8) -> Option<u8>
-    ensures { result ≡ (if is_digit character then Some (digit character) else None) }
+    ensures { result ≡ (if is_ascii_digit character then Some (digit_value character) else None) }
 {
     match character {
         b'0'..=b'9' => Some(character - b'0'),

@@ -54,7 +54,7 @@ length-initial : (bs : List Bool) → length (picked initial_permutation bs) ≡
 unfolding initial_permutation
 length-initial bs = length-picked initial_permutation bs
 
-length-inverse : (bs : List Bool) → length (picked inverse_permutation bs) ≡ 64
+pub length-inverse : (bs : List Bool) → length (picked inverse_permutation bs) ≡ 64
 unfolding inverse_permutation
 length-inverse bs = length-picked inverse_permutation bs
 

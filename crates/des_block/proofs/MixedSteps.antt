@@ -1,6 +1,6 @@
 -- The merged tables are the S boxes and P, and the round's word is the cipher function.
 use Rattle.std.proofs.Common.{◌≡◌, ℕ, ◌+◌, ◌*◌, ◌/◌, ◌%◌, ◌^◌, ◌<◌, ◌≤◌, Bool, List, [], ◌∷◌, ◌++◌, length, map, take, drop, get_or, slice_index, bit_xor}
-use Rattle.std.proofs.Common.{bit_and, bit_or, refl, sym, ap, ap₂, ◌∙◌, arith, append-nil, length-append, fold}
+use Rattle.std.proofs.Common.{bit_and, bit_or, refl, sym, ap, ap₂, ◌∙◌, arith, append-nil, length-append, fold, subst}
 use Rattle.std.specs.List.{range_with_len}
 use Rattle.std.proofs.lemmas.Nat.{or_comm, and_mask}
 use Rattle.std.proofs.lemmas.List.{drop_more, drop_all, length-map}
@@ -30,14 +30,23 @@ merged_additive = picked_additive 32 turned_permutation
 unfoldable pub box_word : List ℕ → ℕ → ℕ → ℕ
 box_word box k x = merged (number (box_output box (bits 6 x)) * 2 ^ k)
 
+-- the low six bits of a byte
+bits_byte : (x : ℕ) → bits 6 (x % 256) ≡ bits 6 x
+bits_byte x = sym (bits_mod 6 (x % 256)) ∙ ap (bits 6) (omega arith) ∙ bits_mod 6 x
+
 -- a table's entry
-pub box_at : (t box : List ℕ) (k x : ℕ) → t ≡ map (box_word box k) (range_with_len 0 64) → slice_index t (bit_and x 63) ≡ box_word box k x
+pub box_at : (t box : List ℕ) (k x : ℕ) → t ≡ map (box_word box k) (range_with_len 0 256) → slice_index t (bit_and x 255) ≡ box_word box k x
 unfolding box_word
 box_at t box k x e =
-    let below : x % 64 < 64 = omega arith in
-    ap (slice_index t) (and_mask x 6) ∙ ap (λ u. slice_index u (x % 64)) e
-    ∙ get_or-map-range_with_len (box_word box k) 0 64 (x % 64) (x % 64) 0 below (omega arith)
-    ∙ ap (λ b. merged (number (box_output box b) * 2 ^ k)) (bits_mod 6 x)
+    let below : x % 256 < 256 = omega arith in
+    ap (slice_index t) (and_mask x 8) ∙ ap (λ u. slice_index u (x % 256)) e
+    ∙ get_or-map-range_with_len (box_word box k) 0 256 (x % 256) (x % 256) 0 below (omega arith)
+    ∙ ap (λ b. merged (number (box_output box b) * 2 ^ k)) (bits_byte x)
+
+-- the same of a number that is a byte already
+pub box_top : (t box : List ℕ) (k x : ℕ) → t ≡ map (box_word box k) (range_with_len 0 256) → x < 256 → slice_index t x ≡ box_word box k x
+box_top t box k x e below =
+    ap (λ u. slice_index u x) e ∙ get_or-map-range_with_len (box_word box k) 0 256 x x 0 below (omega arith)
 
 turned-picked : (bs : List Bool) → turned 1 (picked box_permutation bs) ≡ picked turned_permutation bs
 unfolding turned picked box_permutation turned_permutation
@@ -185,7 +194,8 @@ back-picked : (x : ℕ) → turned 31 (bits 32 x) ≡ picked turn_table (bits 32
 unfolding turned bits picked turn_table
 back-picked x = refl
 
-turned-xor : (x y : ℕ) → turned 31 (bits 32 (bit_xor x y)) ≡ xor_bits (turned 31 (bits 32 x)) (turned 31 (bits 32 y))
+-- turning back goes through xor
+pub turned-xor : (x y : ℕ) → turned 31 (bits 32 (bit_xor x y)) ≡ xor_bits (turned 31 (bits 32 x)) (turned 31 (bits 32 y))
 turned-xor x y =
     back-picked (bit_xor x y) ∙ ap (picked turn_table) (bits-xor 32 x y)
     ∙ picked-xor_bits turn_table (bits 32 x) (bits 32 y) (length-bits 32 x ∙ sym (length-bits 32 y))
@@ -198,7 +208,7 @@ pub record Runs (keys : List (List Bool)) (left right i l r : ℕ) : Type 0 wher
 pub Runs_none : (keys : List (List Bool)) (left right : ℕ) → Runs keys left right 0 left right
 Runs_none keys left right = record { joined = refl }
 
-pub Runs_more : (keys : List (List Bool)) (left right i l r m : ℕ) (key : List Bool) → Runs keys left right i l r → i < length keys → key ≡ get_or keys i []
+Runs_more : (keys : List (List Bool)) (left right i l r m : ℕ) (key : List Bool) → Runs keys left right i l r → i < length keys → key ≡ get_or keys i []
     → m ≡ number (turned 1 (cipher_function (turned 31 (bits 32 r)) key)) → Runs keys left right (i + 1) r (bit_xor l m)
 unfolding turned_halves round
 Runs_more keys left right i l r m key done h ek em =
@@ -212,6 +222,17 @@ Runs_more keys left right i l r m key done h ek em =
     ap (fold round (turned_halves l r)) head
     ∙ ap (λ b. fold round (record { left = turned 31 (bits 32 r); right = b }) (drop (i + 1) keys)) (sym next) in
     record { joined = sym step ∙ done.joined }
+
+-- two rounds in a step, after which no half is exchanged
+pub Runs_two : (keys : List (List Bool)) (left right i l r m n : ℕ) (key next : List Bool) → Runs keys left right (2 * i) l r → 2 * i + 1 < length keys
+    → key ≡ get_or keys (2 * i) [] → m ≡ number (turned 1 (cipher_function (turned 31 (bits 32 r)) key))
+    → next ≡ get_or keys (2 * i + 1) [] → n ≡ number (turned 1 (cipher_function (turned 31 (bits 32 (bit_xor l m))) next))
+    → Runs keys left right (2 * (i + 1)) (bit_xor l m) (bit_xor r n)
+Runs_two keys left right i l r m n key next done h ek em en eo =
+    let one : Runs keys left right (2 * i + 1) r (bit_xor l m) = Runs_more keys left right (2 * i) l r m key done (omega arith) ek em in
+    let two : Runs keys left right (2 * i + 1 + 1) (bit_xor l m) (bit_xor r n) = Runs_more keys left right (2 * i + 1) r (bit_xor l m) n next one h en eo in
+    let count : 2 * i + 1 + 1 ≡ 2 * (i + 1) = omega arith in
+    subst (λ k. Runs keys left right k (bit_xor l m) (bit_xor r n)) count two
 
 pub Runs_all : (keys : List (List Bool)) (left right i l r : ℕ) → Runs keys left right i l r → length keys ≤ i
     → turned_halves l r ≡ fold round (turned_halves left right) keys

@@ -1,6 +1,9 @@
 //! DES and two-key triple DES (FIPS 46-3).
 #![tactic(auto)]
 
+mod boxes;
+mod key_rows;
+mod permuted;
 pub mod plain;
 mod rounds;
 mod schedule;
@@ -9,7 +12,8 @@ ghost use Rattle.std.specs.Prelude.{◌≡◌, ℕ, List, take, drop};
 ghost use Rattle.des_block.specs.Cipher.{word_bytes, des_encipher, des_decipher, tdes_encipher, tdes_decipher};
 ghost use Rattle.des_block.specs.Keyed.{HasKey, HasKeyPair};
 
-use rounds::{joined, rounds, rounds_back, split};
+pub use permuted::PermutedBlock;
+use rounds::{rounds, rounds_back, rounds_of_both, rounds_of_both_back};
 use schedule::{RoundKey, round_keys};
 
 /// A key of sixteen bytes: a left and a right half of eight bytes each.
@@ -71,9 +75,7 @@ impl Des {
         ensures enciphered { (key : List ℕ) → HasKey self.now key → word_bytes result ≡ des_encipher key (word_bytes block) }
         ensures undone { (key : List ℕ) → HasKey self.now key → des_decipher key (word_bytes result) ≡ word_bytes block }
     {
-        let (left, right) = split(block);
-        let (left, right) = rounds(&self.keys, left, right);
-        joined(left, right)
+        self.encipher_permuted(&PermutedBlock::new(block)).word()
     }
 
     /// Deciphers a block that is written as a number, its first byte the highest.
@@ -81,9 +83,63 @@ impl Des {
         ensures deciphered { (key : List ℕ) → HasKey self.now key → word_bytes result ≡ des_decipher key (word_bytes block) }
         ensures undone { (key : List ℕ) → HasKey self.now key → des_encipher key (word_bytes result) ≡ word_bytes block }
     {
-        let (left, right) = split(block);
-        let (left, right) = rounds_back(&self.keys, left, right);
-        joined(left, right)
+        self.decipher_permuted(&PermutedBlock::new(block)).word()
+    }
+
+    /// Enciphers a block in permuted halves.
+    pub fn encipher_permuted(&self, block: &PermutedBlock) -> PermutedBlock
+        ensures { (key : List ℕ) → HasKey self.now key → word_bytes result ≡ des_encipher key (word_bytes block.now) }
+    {
+        let (left, right) = rounds(&self.keys, block.left, block.right);
+        PermutedBlock::after_rounds(left, right)
+    }
+
+    /// Deciphers a block in permuted halves.
+    pub fn decipher_permuted(&self, block: &PermutedBlock) -> PermutedBlock
+        ensures { (key : List ℕ) → HasKey self.now key → word_bytes result ≡ des_decipher key (word_bytes block.now) }
+    {
+        let (left, right) = rounds_back(&self.keys, block.left, block.right);
+        PermutedBlock::after_rounds(left, right)
+    }
+
+    /// Enciphers two blocks side by side.
+    fn encipher_both(
+        &self,
+        first: &PermutedBlock,
+        second: &PermutedBlock,
+    ) -> (PermutedBlock, PermutedBlock)
+        ensures first { (key : List ℕ) → HasKey self.now key → word_bytes result.0 ≡ des_encipher key (word_bytes first.now) }
+        ensures second { (key : List ℕ) → HasKey self.now key → word_bytes result.1 ≡ des_encipher key (word_bytes second.now) }
+    {
+        let (one, other) = rounds_of_both(
+            &self.keys,
+            (first.left, first.right),
+            (second.left, second.right),
+        );
+        (
+            PermutedBlock::after_rounds(one.0, one.1),
+            PermutedBlock::after_rounds(other.0, other.1),
+        )
+    }
+
+    /// Deciphers two blocks side by side.
+    fn decipher_both(
+        &self,
+        first: &PermutedBlock,
+        second: &PermutedBlock,
+    ) -> (PermutedBlock, PermutedBlock)
+        ensures first { (key : List ℕ) → HasKey self.now key → word_bytes result.0 ≡ des_decipher key (word_bytes first.now) }
+        ensures second { (key : List ℕ) → HasKey self.now key → word_bytes result.1 ≡ des_decipher key (word_bytes second.now) }
+    {
+        let (one, other) = rounds_of_both_back(
+            &self.keys,
+            (first.left, first.right),
+            (second.left, second.right),
+        );
+        (
+            PermutedBlock::after_rounds(one.0, one.1),
+            PermutedBlock::after_rounds(other.0, other.1),
+        )
     }
 }
 
@@ -133,12 +189,7 @@ impl Tdes {
         ensures enciphered { (key : List ℕ) → HasKeyPair self.now key → word_bytes result ≡ tdes_encipher key (word_bytes block) }
         ensures undone { (key : List ℕ) → HasKeyPair self.now key → tdes_decipher key (word_bytes result) ≡ word_bytes block }
     {
-        // Between the three ciphers, IP undoes its inverse and the halves stay exchanged.
-        let (left1, right1) = split(block);
-        let (left2, right2) = rounds(&self.left.keys, left1, right1);
-        let (right3, left3) = rounds_back(&self.right.keys, right2, left2);
-        let (left4, right4) = rounds(&self.left.keys, left3, right3);
-        joined(left4, right4)
+        self.encipher_permuted(&PermutedBlock::new(block)).word()
     }
 
     /// Deciphers a block that is written as a number, its first byte the highest.
@@ -146,11 +197,38 @@ impl Tdes {
         ensures deciphered { (key : List ℕ) → HasKeyPair self.now key → word_bytes result ≡ tdes_decipher key (word_bytes block) }
         ensures undone { (key : List ℕ) → HasKeyPair self.now key → tdes_encipher key (word_bytes result) ≡ word_bytes block }
     {
-        let (left1, right1) = split(block);
-        let (left2, right2) = rounds_back(&self.left.keys, left1, right1);
-        let (right3, left3) = rounds(&self.right.keys, right2, left2);
-        let (left4, right4) = rounds_back(&self.left.keys, left3, right3);
-        joined(left4, right4)
+        self.decipher_permuted(&PermutedBlock::new(block)).word()
+    }
+
+    /// Enciphers a block in permuted halves.
+    pub fn encipher_permuted(&self, block: &PermutedBlock) -> PermutedBlock
+        ensures { (key : List ℕ) → HasKeyPair self.now key → word_bytes result ≡ tdes_encipher key (word_bytes block.now) }
+    {
+        let first = self.left.encipher_permuted(block);
+        let second = self.right.decipher_permuted(&first);
+        self.left.encipher_permuted(&second)
+    }
+
+    /// Deciphers a block in permuted halves.
+    pub fn decipher_permuted(&self, block: &PermutedBlock) -> PermutedBlock
+        ensures { (key : List ℕ) → HasKeyPair self.now key → word_bytes result ≡ tdes_decipher key (word_bytes block.now) }
+    {
+        let first = self.left.decipher_permuted(block);
+        let second = self.right.encipher_permuted(&first);
+        self.left.decipher_permuted(&second)
+    }
+
+    /// Enciphers two blocks side by side, sooner than one after the other.
+    pub fn encipher_both(&self, first: [u8; 8], second: [u8; 8]) -> ([u8; 8], [u8; 8])
+        ensures first { (key : List ℕ) → HasKeyPair self.now key → result.0 ≡ tdes_encipher key first }
+        ensures second { (key : List ℕ) → HasKeyPair self.now key → result.1 ≡ tdes_encipher key second }
+    {
+        let first = PermutedBlock::new(u64::from_be_bytes(first));
+        let second = PermutedBlock::new(u64::from_be_bytes(second));
+        let (first, second) = self.left.encipher_both(&first, &second);
+        let (first, second) = self.right.decipher_both(&first, &second);
+        let (first, second) = self.left.encipher_both(&first, &second);
+        (first.word().to_be_bytes(), second.word().to_be_bytes())
     }
 }
 

@@ -1,112 +1,13 @@
-//! The sixteen rounds on words: the S boxes and P merged into eight tables, both halves kept turned left by one place.
+//! The sixteen rounds on words, two at a time, both halves kept turned left by one place.
 
 ghost use Rattle.std.specs.Prelude.{◌≡◌, ℕ, ◌*◌, ◌/◌, ◌%◌, ◌^◌, ◌<◌, ◌++◌, bit_and, bit_xor, map, fold, reverse};
-ghost use Rattle.des_block.specs.Bits.{bits, number, picked};
-ghost use Rattle.des_block.specs.Tables.{initial_permutation, inverse_permutation};
-ghost use Rattle.des_block.specs.Cipher.{cipher_function, round, turned, halves};
+ghost use Rattle.des_block.specs.Bits.{bits, number};
+ghost use Rattle.des_block.specs.Cipher.{cipher_function, round, turned};
 ghost use Rattle.des_block.specs.Keyed.{key_bits, turned_halves};
+ghost use Rattle.des_block.specs.Permuted.{permuted_word};
 
+use crate::boxes::BOXES;
 use crate::schedule::RoundKey;
-
-/// For each S box and each six bits: P of what the box gives, turned left by one place.
-static BOXES: [[u32; 64]; 8] = [
-    [
-        0x01010400, 0x00000000, 0x00010000, 0x01010404, 0x01010004, 0x00010404, 0x00000004,
-        0x00010000, 0x00000400, 0x01010400, 0x01010404, 0x00000400, 0x01000404, 0x01010004,
-        0x01000000, 0x00000004, 0x00000404, 0x01000400, 0x01000400, 0x00010400, 0x00010400,
-        0x01010000, 0x01010000, 0x01000404, 0x00010004, 0x01000004, 0x01000004, 0x00010004,
-        0x00000000, 0x00000404, 0x00010404, 0x01000000, 0x00010000, 0x01010404, 0x00000004,
-        0x01010000, 0x01010400, 0x01000000, 0x01000000, 0x00000400, 0x01010004, 0x00010000,
-        0x00010400, 0x01000004, 0x00000400, 0x00000004, 0x01000404, 0x00010404, 0x01010404,
-        0x00010004, 0x01010000, 0x01000404, 0x01000004, 0x00000404, 0x00010404, 0x01010400,
-        0x00000404, 0x01000400, 0x01000400, 0x00000000, 0x00010004, 0x00010400, 0x00000000,
-        0x01010004,
-    ],
-    [
-        0x80108020, 0x80008000, 0x00008000, 0x00108020, 0x00100000, 0x00000020, 0x80100020,
-        0x80008020, 0x80000020, 0x80108020, 0x80108000, 0x80000000, 0x80008000, 0x00100000,
-        0x00000020, 0x80100020, 0x00108000, 0x00100020, 0x80008020, 0x00000000, 0x80000000,
-        0x00008000, 0x00108020, 0x80100000, 0x00100020, 0x80000020, 0x00000000, 0x00108000,
-        0x00008020, 0x80108000, 0x80100000, 0x00008020, 0x00000000, 0x00108020, 0x80100020,
-        0x00100000, 0x80008020, 0x80100000, 0x80108000, 0x00008000, 0x80100000, 0x80008000,
-        0x00000020, 0x80108020, 0x00108020, 0x00000020, 0x00008000, 0x80000000, 0x00008020,
-        0x80108000, 0x00100000, 0x80000020, 0x00100020, 0x80008020, 0x80000020, 0x00100020,
-        0x00108000, 0x00000000, 0x80008000, 0x00008020, 0x80000000, 0x80100020, 0x80108020,
-        0x00108000,
-    ],
-    [
-        0x00000208, 0x08020200, 0x00000000, 0x08020008, 0x08000200, 0x00000000, 0x00020208,
-        0x08000200, 0x00020008, 0x08000008, 0x08000008, 0x00020000, 0x08020208, 0x00020008,
-        0x08020000, 0x00000208, 0x08000000, 0x00000008, 0x08020200, 0x00000200, 0x00020200,
-        0x08020000, 0x08020008, 0x00020208, 0x08000208, 0x00020200, 0x00020000, 0x08000208,
-        0x00000008, 0x08020208, 0x00000200, 0x08000000, 0x08020200, 0x08000000, 0x00020008,
-        0x00000208, 0x00020000, 0x08020200, 0x08000200, 0x00000000, 0x00000200, 0x00020008,
-        0x08020208, 0x08000200, 0x08000008, 0x00000200, 0x00000000, 0x08020008, 0x08000208,
-        0x00020000, 0x08000000, 0x08020208, 0x00000008, 0x00020208, 0x00020200, 0x08000008,
-        0x08020000, 0x08000208, 0x00000208, 0x08020000, 0x00020208, 0x00000008, 0x08020008,
-        0x00020200,
-    ],
-    [
-        0x00802001, 0x00002081, 0x00002081, 0x00000080, 0x00802080, 0x00800081, 0x00800001,
-        0x00002001, 0x00000000, 0x00802000, 0x00802000, 0x00802081, 0x00000081, 0x00000000,
-        0x00800080, 0x00800001, 0x00000001, 0x00002000, 0x00800000, 0x00802001, 0x00000080,
-        0x00800000, 0x00002001, 0x00002080, 0x00800081, 0x00000001, 0x00002080, 0x00800080,
-        0x00002000, 0x00802080, 0x00802081, 0x00000081, 0x00800080, 0x00800001, 0x00802000,
-        0x00802081, 0x00000081, 0x00000000, 0x00000000, 0x00802000, 0x00002080, 0x00800080,
-        0x00800081, 0x00000001, 0x00802001, 0x00002081, 0x00002081, 0x00000080, 0x00802081,
-        0x00000081, 0x00000001, 0x00002000, 0x00800001, 0x00002001, 0x00802080, 0x00800081,
-        0x00002001, 0x00002080, 0x00800000, 0x00802001, 0x00000080, 0x00800000, 0x00002000,
-        0x00802080,
-    ],
-    [
-        0x00000100, 0x02080100, 0x02080000, 0x42000100, 0x00080000, 0x00000100, 0x40000000,
-        0x02080000, 0x40080100, 0x00080000, 0x02000100, 0x40080100, 0x42000100, 0x42080000,
-        0x00080100, 0x40000000, 0x02000000, 0x40080000, 0x40080000, 0x00000000, 0x40000100,
-        0x42080100, 0x42080100, 0x02000100, 0x42080000, 0x40000100, 0x00000000, 0x42000000,
-        0x02080100, 0x02000000, 0x42000000, 0x00080100, 0x00080000, 0x42000100, 0x00000100,
-        0x02000000, 0x40000000, 0x02080000, 0x42000100, 0x40080100, 0x02000100, 0x40000000,
-        0x42080000, 0x02080100, 0x40080100, 0x00000100, 0x02000000, 0x42080000, 0x42080100,
-        0x00080100, 0x42000000, 0x42080100, 0x02080000, 0x00000000, 0x40080000, 0x42000000,
-        0x00080100, 0x02000100, 0x40000100, 0x00080000, 0x00000000, 0x40080000, 0x02080100,
-        0x40000100,
-    ],
-    [
-        0x20000010, 0x20400000, 0x00004000, 0x20404010, 0x20400000, 0x00000010, 0x20404010,
-        0x00400000, 0x20004000, 0x00404010, 0x00400000, 0x20000010, 0x00400010, 0x20004000,
-        0x20000000, 0x00004010, 0x00000000, 0x00400010, 0x20004010, 0x00004000, 0x00404000,
-        0x20004010, 0x00000010, 0x20400010, 0x20400010, 0x00000000, 0x00404010, 0x20404000,
-        0x00004010, 0x00404000, 0x20404000, 0x20000000, 0x20004000, 0x00000010, 0x20400010,
-        0x00404000, 0x20404010, 0x00400000, 0x00004010, 0x20000010, 0x00400000, 0x20004000,
-        0x20000000, 0x00004010, 0x20000010, 0x20404010, 0x00404000, 0x20400000, 0x00404010,
-        0x20404000, 0x00000000, 0x20400010, 0x00000010, 0x00004000, 0x20400000, 0x00404010,
-        0x00004000, 0x00400010, 0x20004010, 0x00000000, 0x20404000, 0x20000000, 0x00400010,
-        0x20004010,
-    ],
-    [
-        0x00200000, 0x04200002, 0x04000802, 0x00000000, 0x00000800, 0x04000802, 0x00200802,
-        0x04200800, 0x04200802, 0x00200000, 0x00000000, 0x04000002, 0x00000002, 0x04000000,
-        0x04200002, 0x00000802, 0x04000800, 0x00200802, 0x00200002, 0x04000800, 0x04000002,
-        0x04200000, 0x04200800, 0x00200002, 0x04200000, 0x00000800, 0x00000802, 0x04200802,
-        0x00200800, 0x00000002, 0x04000000, 0x00200800, 0x04000000, 0x00200800, 0x00200000,
-        0x04000802, 0x04000802, 0x04200002, 0x04200002, 0x00000002, 0x00200002, 0x04000000,
-        0x04000800, 0x00200000, 0x04200800, 0x00000802, 0x00200802, 0x04200800, 0x00000802,
-        0x04000002, 0x04200802, 0x04200000, 0x00200800, 0x00000000, 0x00000002, 0x04200802,
-        0x00000000, 0x00200802, 0x04200000, 0x00000800, 0x04000002, 0x04000800, 0x00000800,
-        0x00200002,
-    ],
-    [
-        0x10001040, 0x00001000, 0x00040000, 0x10041040, 0x10000000, 0x10001040, 0x00000040,
-        0x10000000, 0x00040040, 0x10040000, 0x10041040, 0x00041000, 0x10041000, 0x00041040,
-        0x00001000, 0x00000040, 0x10040000, 0x10000040, 0x10001000, 0x00001040, 0x00041000,
-        0x00040040, 0x10040040, 0x10041000, 0x00001040, 0x00000000, 0x00000000, 0x10040040,
-        0x10000040, 0x10001000, 0x00041040, 0x00040000, 0x00041040, 0x00040000, 0x10041000,
-        0x00001000, 0x00000040, 0x10040040, 0x00001000, 0x00041040, 0x10001000, 0x00000040,
-        0x10000040, 0x10040000, 0x10040040, 0x10000000, 0x00040000, 0x10001040, 0x00000000,
-        0x10041040, 0x00040040, 0x10000040, 0x10040000, 0x10001000, 0x10001040, 0x00000000,
-        0x10041040, 0x00041000, 0x00041000, 0x00001040, 0x00001040, 0x00040040, 0x10000000,
-        0x10041000,
-    ],
-];
 
 /// P(S(E(R) xor K)), turned left by one place, of a half R that is turned left by one place.
 ///
@@ -118,14 +19,14 @@ fn mixed(half: u32, key: &RoundKey) -> u32
 {
     let odd = half.rotate_right(4) ^ key.odd;
     let even = half ^ key.even;
-    BOXES[0][(odd >> 24 & 63) as usize]
-        ^ BOXES[1][(even >> 24 & 63) as usize]
-        ^ BOXES[2][(odd >> 16 & 63) as usize]
-        ^ BOXES[3][(even >> 16 & 63) as usize]
-        ^ BOXES[4][(odd >> 8 & 63) as usize]
-        ^ BOXES[5][(even >> 8 & 63) as usize]
-        ^ BOXES[6][(odd & 63) as usize]
-        ^ BOXES[7][(even & 63) as usize]
+    BOXES[0][(odd >> 24) as usize]
+        ^ BOXES[1][(even >> 24) as usize]
+        ^ BOXES[2][(odd >> 16 & 255) as usize]
+        ^ BOXES[3][(even >> 16 & 255) as usize]
+        ^ BOXES[4][(odd >> 8 & 255) as usize]
+        ^ BOXES[5][(even >> 8 & 255) as usize]
+        ^ BOXES[6][(odd & 255) as usize]
+        ^ BOXES[7][(even & 255) as usize]
 }
 
 /// Exchanges the bits of `b` under `mask` with those of `a` that stand `shift` places higher.
@@ -142,7 +43,7 @@ fn exchange(a: u32, b: u32, shift: u32, mask: u32) -> (u32, u32)
 /// The halves of a block after IP.
 #[inline]
 pub(crate) fn split(block: u64) -> (u32, u32)
-    ensures { turned_halves result.0 result.1 ≡ halves (picked initial_permutation (bits 64 block)) }
+    ensures { permuted_word result.0 result.1 ≡ block }
 {
     let (a1, b1) = exchange(
         (block >> 32) as u32,
@@ -157,12 +58,12 @@ pub(crate) fn split(block: u64) -> (u32, u32)
     (a5.rotate_left(1), b5.rotate_left(1))
 }
 
-/// The block of two halves, exchanged and sent through the inverse of IP.
+/// The block of two halves after IP.
 #[inline]
 pub(crate) fn joined(left: u32, right: u32) -> u64
-    ensures { result ≡ number (picked inverse_permutation ((turned_halves left right).right ++ (turned_halves left right).left)) }
+    ensures { result ≡ permuted_word left right }
 {
-    let (a1, b1) = exchange(right.rotate_right(1), left.rotate_right(1), 1, 0x5555_5555);
+    let (a1, b1) = exchange(left.rotate_right(1), right.rotate_right(1), 1, 0x5555_5555);
     let (b2, a2) = exchange(b1, a1, 8, 0x00FF_00FF);
     let (b3, a3) = exchange(b2, a2, 2, 0x3333_3333);
     let (a4, b4) = exchange(a3, b3, 16, 0x0000_FFFF);
@@ -177,10 +78,9 @@ pub(crate) fn rounds(keys: &[RoundKey; 16], left: u32, right: u32) -> (u32, u32)
 {
     let mut left = left;
     let mut right = right;
-    for key in keys {
-        let next = left ^ mixed(right, key);
-        left = right;
-        right = next;
+    for i in 0..8 {
+        left ^= mixed(right, &keys[2 * i]);
+        right ^= mixed(left, &keys[2 * i + 1]);
     }
     (left, right)
 }
@@ -192,10 +92,51 @@ pub(crate) fn rounds_back(keys: &[RoundKey; 16], left: u32, right: u32) -> (u32,
 {
     let mut left = left;
     let mut right = right;
-    for i in 0..16 {
-        let next = left ^ mixed(right, &keys[15 - i]);
-        left = right;
-        right = next;
+    for i in 0..8 {
+        left ^= mixed(right, &keys[15 - 2 * i]);
+        right ^= mixed(left, &keys[14 - 2 * i]);
     }
     (left, right)
+}
+
+/// The sixteen rounds of two blocks side by side, so that neither waits for its own look-ups alone.
+#[inline]
+pub(crate) fn rounds_of_both(
+    keys: &[RoundKey; 16],
+    first: (u32, u32),
+    second: (u32, u32),
+) -> ((u32, u32), (u32, u32))
+    ensures first { turned_halves result.0.0 result.0.1 ≡ fold round (turned_halves first.0 first.1) (map key_bits keys.now) }
+    ensures second { turned_halves result.1.0 result.1.1 ≡ fold round (turned_halves second.0 second.1) (map key_bits keys.now) }
+{
+    let (mut left, mut right) = first;
+    let (mut beside_left, mut beside_right) = second;
+    for i in 0..8 {
+        left ^= mixed(right, &keys[2 * i]);
+        beside_left ^= mixed(beside_right, &keys[2 * i]);
+        right ^= mixed(left, &keys[2 * i + 1]);
+        beside_right ^= mixed(beside_left, &keys[2 * i + 1]);
+    }
+    ((left, right), (beside_left, beside_right))
+}
+
+/// The same with the keys in the opposite order.
+#[inline]
+pub(crate) fn rounds_of_both_back(
+    keys: &[RoundKey; 16],
+    first: (u32, u32),
+    second: (u32, u32),
+) -> ((u32, u32), (u32, u32))
+    ensures first { turned_halves result.0.0 result.0.1 ≡ fold round (turned_halves first.0 first.1) (reverse (map key_bits keys.now)) }
+    ensures second { turned_halves result.1.0 result.1.1 ≡ fold round (turned_halves second.0 second.1) (reverse (map key_bits keys.now)) }
+{
+    let (mut left, mut right) = first;
+    let (mut beside_left, mut beside_right) = second;
+    for i in 0..8 {
+        left ^= mixed(right, &keys[15 - 2 * i]);
+        beside_left ^= mixed(beside_right, &keys[15 - 2 * i]);
+        right ^= mixed(left, &keys[14 - 2 * i]);
+        beside_right ^= mixed(beside_left, &keys[14 - 2 * i]);
+    }
+    ((left, right), (beside_left, beside_right))
 }

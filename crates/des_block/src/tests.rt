@@ -214,3 +214,19 @@ fn agrees_with_another_triple_des(rt: HostRuntime) {
         );
     }
 }
+
+#[test]
+fn enciphers_two_blocks_side_by_side(rt: HostRuntime) {
+    let (left, right, block, enciphered, deciphered) = TRIPLE[0];
+    let tdes = Tdes::new(&key_of(left, right));
+    let (first, second) = tdes.encipher_both(block.to_be_bytes(), deciphered.to_be_bytes());
+    assert_eq!(rt; u64::from_be_bytes(first), enciphered);
+    assert_eq!(rt; u64::from_be_bytes(second), block);
+}
+
+#[test]
+fn joins_permuted_blocks(rt: HostRuntime) {
+    let one = PermutedBlock::new(0x0123456789ABCDEF);
+    let other = PermutedBlock::new(0xFFFFFFFF00000000);
+    assert_eq!(rt; one.xor(&other).word(), 0xFEDCBA9889ABCDEF);
+}

@@ -1,3 +1,4 @@
+-- The laws of this crate.
 pub mod Names
 pub mod KeyListLemmas
 pub mod CardListLemmas

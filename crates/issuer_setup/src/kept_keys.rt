@@ -4,7 +4,7 @@ ghost use Rattle.issuer_setup.specs.KeptKeys.{pairs_of, kept_keys};
 
 use crate::card::CardInfo;
 use issuer_base::{MAX_CARDS, MAX_KEY_SETS};
-use key_derive::{CardKeys, KeySet, card_keys};
+use key_derive::{CardKeys, KeySet, MasterCiphers};
 use std::alloc::{AllocError, Global};
 use std::marker::Model;
 
@@ -32,8 +32,8 @@ impl Model for KeptKeys {
 }
 
 impl KeptKeys {
-    /// Derives the master keys of each card from each key set: 32 bytes a pair, for which it takes the memory
-    /// at first.
+    /// Derives the master keys of each card from each key set, which is set up once: 32 bytes a pair, for which it
+    /// takes the memory at first.
     pub(crate) fn derive(
         alloc: Global,
         keys: &[KeySet],
@@ -43,9 +43,10 @@ impl KeptKeys {
         requires cards { length cards.now ≤ MAX_CARDS }
         ensures { IfOk result (λ kept. kept ≡ kept_keys keys.now cards.now) }
     {
+        let ciphers = set_up(alloc, keys)?;
         let mut pairs = Vec::with_capacity(alloc, cards.len() * keys.len())?;
         for card in cards {
-            add_card(&mut pairs, keys, card);
+            add_card(&mut pairs, ciphers.as_slice(), card);
         }
         Ok(KeptKeys {
             sets: keys.len(),
@@ -62,13 +63,24 @@ impl KeptKeys {
     }
 }
 
+/// Each of these key sets, set up.
+fn set_up(alloc: Global, keys: &[KeySet]) -> Result<Vec<MasterCiphers>, AllocError>
+    ensures { IfOk result (λ ciphers. ciphers.items ≡ keys.now) }
+{
+    let mut ciphers = Vec::with_capacity(alloc, keys.len())?;
+    for set in keys {
+        ciphers.push_reserved(MasterCiphers::new(set));
+    }
+    Ok(ciphers)
+}
+
 /// Adds the master keys of a card from each key set to pairs that have room for them.
-fn add_card(pairs: &mut Vec<CardKeys>, keys: &[KeySet], card: &CardInfo)
-    requires { length pairs.old.items + length keys.now ≤ vec_capacity pairs.old }
-    ensures added { pairs.new.items ≡ pairs.old.items ++ pairs_of keys.now card.now }
+fn add_card(pairs: &mut Vec<CardKeys>, ciphers: &[MasterCiphers], card: &CardInfo)
+    requires { length pairs.old.items + length ciphers.now ≤ vec_capacity pairs.old }
+    ensures added { pairs.new.items ≡ pairs.old.items ++ pairs_of ciphers.now card.now }
     ensures room { vec_capacity pairs.new ≡ vec_capacity pairs.old }
 {
-    for set in keys {
-        pairs.push_reserved(card_keys(set, &card.pan, card.psn));
+    for set in ciphers {
+        pairs.push_reserved(set.card_keys(&card.pan, card.psn));
     }
 }

@@ -1,6 +1,8 @@
 //! Whole runs over a desk and a sink in memory.
 ghost use Rattle.std.specs.Prelude.{None};
 
+mod scripts;
+
 use super::*;
 use issuer_base::{
     Desk, DeskFault, MemoryDesk, MemorySink, MemorySource, ReadFault, Sink, Source, Words,
@@ -164,7 +166,7 @@ fn refuses_by_the_first_cause(rt: HostRuntime) -> Result<(), Fail> {
     check(
         &rt,
         "S 4000000000000002 00 1\nS 4000000000000028 00 1\nQ 4000000000000028 00 00\nQ 4000000000000002 00 00\n",
-        "refused 1 1\nrefused 6\nrefused 6\nrefused 14\n",
+        "set 0 0\nrefused 6\nrefused 6\nrefused 14\n",
     )?;
     check(
         &rt,

@@ -1,3 +1,4 @@
+-- The laws of this crate.
 pub mod DigitTable
 pub mod Spelling
 pub mod PanLemmas

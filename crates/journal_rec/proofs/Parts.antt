@@ -12,7 +12,7 @@ use Rattle.issuer_base.specs.declared.request.Parts.{Parts}
 use Rattle.issuer_base.proofs.ChipDataLemmas.{request_from-some, request_from-valid}
 use Rattle.journal_rec.specs.RecordText.{pan_bytes, request_bytes, request_fields}
 use Rattle.journal_rec.specs.Record.{IsRequest, request_sizes}
-use Rattle.journal_rec.specs.Reading.{byte_at, bytes_at, counter_at, pan_at, parts_at, request_at}
+use Rattle.journal_rec.specs.Reading.{byte_at, bytes_at, counter_at, pan_at, parts_at, parts_of, request_at}
 use Rattle.journal_rec.proofs.Exact.{Exact, anything, exact_map, exact_same, exact_then}
 use Rattle.journal_rec.proofs.HexText.{encode_lower-concat}
 use Rattle.journal_rec.proofs.PanText.{IsBytes-pan_bytes, length-pan_bytes}
@@ -69,23 +69,7 @@ module _ (pan : List ℕ) (psn : ℕ) (aip : List ℕ) (atc : ℕ) (tvr date : L
 
   -- a request of these fields and the last
   abbrev with_last : List ℕ → Parts
-  with_last ac = record {
-    pan = pan;
-    psn = psn;
-    aip = aip;
-    atc = atc;
-    tvr = tvr;
-    date = date;
-    kind = kind;
-    amount = amount;
-    other = other;
-    country = country;
-    currency = currency;
-    un = un;
-    cid = cid;
-    iad = iad;
-    ac = ac;
-  }
+  with_last ac = parts_of pan psn aip atc tvr date kind amount other country currency un cid iad ac
 
   with_last-own : (parts : Parts) → AreThese parts → with_last parts.ac ≡ parts
   with_last-own parts (

@@ -25,6 +25,7 @@ infixl 10 ◌>>=◌
 abbrev pub ◌>>=◌ : {A B : Type 0} → Reader A → (A → Reader B) → Reader B
 (read >>= next) left = option_and_then (λ found. next found.0 found.1) (read left)
 
+-- one part is read, and then another, whatever the first was
 infixl 10 ◌>>◌
 abbrev pub ◌>>◌ : {A B : Type 0} → Reader A → Reader B → Reader B
 read >> next = read >>= λ _. next
@@ -99,12 +100,33 @@ pan_of text =
     let digits = take_while is_ascii_digit text in
     if list_all (λ byte. byte == 102) (drop (length digits) text) then pan_from (map (λ digit. digit - 48) digits) else None
 
+-- an account number, as it stands in a line
 unfoldable pub pan_at : Reader (List ℕ)
 pan_at = do
   text ← piece_at PAN_DIGITS
   given (pan_of text)
 
--- the fields of a request
+-- the fields of a request, in the order of a line, together
+abbrev pub parts_of : List ℕ → ℕ → List ℕ → ℕ → List ℕ → List ℕ → ℕ → List ℕ → List ℕ → List ℕ → List ℕ → List ℕ → ℕ → List ℕ → List ℕ → Parts
+parts_of pan psn aip atc tvr date kind amount other country currency un cid iad ac = record {
+  pan = pan;
+  psn = psn;
+  aip = aip;
+  atc = atc;
+  tvr = tvr;
+  date = date;
+  kind = kind;
+  amount = amount;
+  other = other;
+  country = country;
+  currency = currency;
+  un = un;
+  cid = cid;
+  iad = iad;
+  ac = ac;
+}
+
+-- the fields of a request, one after another
 unfoldable pub parts_at : Reader Parts
 parts_at = do
   pan ← pan_at
@@ -122,23 +144,7 @@ parts_at = do
   cid ← byte_at
   iad ← bytes_at 32
   ac ← bytes_at 8
-  given (Some (record {
-    pan = pan;
-    psn = psn;
-    aip = aip;
-    atc = atc;
-    tvr = tvr;
-    date = date;
-    kind = kind;
-    amount = amount;
-    other = other;
-    country = country;
-    currency = currency;
-    un = un;
-    cid = cid;
-    iad = iad;
-    ac = ac;
-  }))
+  given (Some (parts_of pan psn aip atc tvr date kind amount other country currency un cid iad ac))
 
 -- a request
 unfoldable pub request_at : Reader Parts

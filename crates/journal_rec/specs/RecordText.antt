@@ -10,10 +10,11 @@ use Rattle.issuer_base.specs.declared.entry.Entry.{Entry}
 use Rattle.issuer_base.specs.declared.entry.Entry.TheVariants.{Decided, Queued, Status}
 use Rattle.journal_rec.specs.declared.limits.TheConstants.{PAN_DIGITS}
 
--- a space and a newline
+-- a space
 abbrev pub space : ℕ
 space = 32
 
+-- a newline
 abbrev pub newline : ℕ
 newline = 10
 

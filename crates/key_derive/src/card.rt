@@ -3,9 +3,10 @@
 ghost use Rattle.std.specs.Prelude.{◌≡◌};
 ghost use Rattle.key_derive.specs.CardKey.{card_keys};
 
-use crate::master::master_key;
-use des_block::Key16;
+use crate::master::{block_of, diversified};
+use des_block::{Key16, Tdes};
 use issuer_base::{MasterOption, Pan};
+use std::marker::Model;
 
 /// The issuer's master keys that a derivation key index names.
 #[derive(Clone, Copy, PartialEq, Eq, Debug)]
@@ -50,12 +51,59 @@ pub struct CardKeys {
     pub smi: Key16,
 }
 
-/// The master keys of a card from those of its issuer.
+/// A key set with its master keys set up, once for all cards.
+///
+/// A contract sees the key set.
+#[derive(Drop)]
+pub struct MasterCiphers {
+    set: KeySet,
+
+    /// For application cryptograms.
+    ac: Tdes,
+
+    /// For the integrity of secure messages.
+    smi: Tdes,
+}
+
+impl Model for MasterCiphers {
+    ghost use Rattle.des_block.specs.Keyed.{HasKeyPair};
+    ghost use Rattle.key_derive.specs.declared.card.KeySet.{KeySet};
+
+    ghost Value = { KeySet };
+
+    ghost view = { λ ciphers. ciphers.set };
+
+    ghost invariant = { λ ciphers. HasKeyPair ciphers.ac ciphers.set.ac.0 × HasKeyPair ciphers.smi ciphers.set.smi.0 };
+}
+
+impl MasterCiphers {
+    /// Sets up both master keys of the key set.
+    pub fn new(set: &KeySet) -> MasterCiphers
+        ensures { result ≡ set.now }
+    {
+        MasterCiphers {
+            set: *set,
+            ac: Tdes::new(&set.ac),
+            smi: Tdes::new(&set.smi),
+        }
+    }
+
+    /// The master keys of a card from those of this key set. Sets up no key, and enciphers four blocks.
+    pub fn card_keys(&self, pan: &Pan, psn: u8) -> CardKeys
+        ensures { result ≡ card_keys self.now pan.now psn }
+    {
+        let block = block_of(self.set.option, pan, psn);
+        CardKeys {
+            ac: diversified(&self.ac, block),
+            smi: diversified(&self.smi, block),
+        }
+    }
+}
+
+/// The master keys of a card from those of its issuer, which are set up for it. Of several cards, set up
+/// [`MasterCiphers`] once.
 pub fn card_keys(set: &KeySet, pan: &Pan, psn: u8) -> CardKeys
     ensures { result ≡ card_keys set.now pan.now psn }
 {
-    CardKeys {
-        ac: master_key(set.option, &set.ac, pan, psn),
-        smi: master_key(set.option, &set.smi, pan, psn),
-    }
+    MasterCiphers::new(set).card_keys(pan, psn)
 }

@@ -8,7 +8,7 @@ mod session;
 #[cfg(test)]
 mod tests;
 
-pub use card::{CardKeys, KeySet, card_keys};
+pub use card::{CardKeys, KeySet, MasterCiphers, card_keys};
 pub use digits::decimal16;
 pub use master::{master_key, option_a, option_b};
 pub use session::{SessionKey, session_ac, session_sm};

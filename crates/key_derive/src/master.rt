@@ -1,6 +1,7 @@
 //! A card's master keys: EMV 4.3 Book 2, Annex A1.4.
 
-ghost use Rattle.std.specs.Prelude.{◌≡◌, ◌≤◌, ◌++◌, length, map};
+ghost use Rattle.std.specs.Prelude.{◌≡◌, ℕ, List, ◌≤◌, ◌++◌, length, map};
+ghost use Rattle.des_block.specs.Keyed.{HasKeyPair};
 ghost use Rattle.key_derive.specs.MasterKey.{with_odd_parity, complement, diversified, option_a, option_b, master_key};
 
 use crate::digits::{decimal16, written};
@@ -16,10 +17,7 @@ const LONGEST_UNHASHED: usize = 16;
 pub fn option_a(imk: &Key16, pan: &Pan, psn: u8) -> Key16
     ensures { result.0 ≡ option_a imk.now.0 pan.now psn }
 {
-    // The last eight bytes hold the rightmost sixteen digits.
-    let mut block = [0; 8];
-    block.copy_from_slice(&written(pan, psn)[3..]);
-    diversified(imk, block)
+    diversified(&Tdes::new(imk), block_a(pan, psn))
 }
 
 /// A card's master key by option B: EMV 4.3 Book 2, Annex A1.4.2. An account number of at most sixteen
@@ -28,33 +26,56 @@ pub fn option_b(imk: &Key16, pan: &Pan, psn: u8) -> Key16
     ensures exact { result.0 ≡ option_b imk.now.0 pan.now psn }
     ensures short { length pan.now ≤ 16 → result.0 ≡ option_a imk.now.0 pan.now psn }
 {
-    let len = pan.digits().len();
-    if len <= LONGEST_UNHASHED {
-        return option_a(imk, pan, psn);
-    }
-    // The bytes before the first digit or, where the digits are odd in number, before the zero in front of it.
-    let unused = 11 - (len + 3) / 2;
-    let digest = Sha1::digest(&written(pan, psn)[unused..]);
-    diversified(imk, decimal16(&digest))
+    diversified(&Tdes::new(imk), block_b(pan, psn))
 }
 
 /// A card's master key by the option that the issuer's keys are for.
 pub fn master_key(option: MasterOption, imk: &Key16, pan: &Pan, psn: u8) -> Key16
     ensures { result.0 ≡ master_key option imk.now.0 pan.now psn }
 {
+    diversified(&Tdes::new(imk), block_of(option, pan, psn))
+}
+
+/// The block that an issuer's master key makes a card's of by this option, for any such key.
+pub(crate) fn block_of(option: MasterOption, pan: &Pan, psn: u8) -> [u8; 8]
+    ensures { (imk : List ℕ) → master_key option imk pan.now psn ≡ diversified imk result }
+{
     match option {
-        MasterOption::A => option_a(imk, pan, psn),
-        MasterOption::B => option_b(imk, pan, psn),
+        MasterOption::A => block_a(pan, psn),
+        MasterOption::B => block_b(pan, psn),
     }
 }
 
-/// The key that an issuer's master key gives for a block of sixteen digits.
-fn diversified(imk: &Key16, block: [u8; 8]) -> Key16
-    ensures { result.0 ≡ diversified imk.now.0 block }
+/// The rightmost sixteen digits of the account and sequence number.
+fn block_a(pan: &Pan, psn: u8) -> [u8; 8]
+    ensures { (imk : List ℕ) → option_a imk pan.now psn ≡ diversified imk result }
 {
-    let tdes = Tdes::new(imk);
-    let left = tdes.encipher(block);
-    let right = tdes.encipher(complement(block));
+    // The last eight bytes hold the rightmost sixteen digits.
+    let mut block = [0; 8];
+    block.copy_from_slice(&written(pan, psn)[3..]);
+    block
+}
+
+/// Sixteen digits of the digest of a long account number; for one of at most sixteen digits the block of option A.
+fn block_b(pan: &Pan, psn: u8) -> [u8; 8]
+    ensures exact { (imk : List ℕ) → option_b imk pan.now psn ≡ diversified imk result }
+    ensures short { length pan.now ≤ 16 → (imk : List ℕ) → option_a imk pan.now psn ≡ diversified imk result }
+{
+    let len = pan.digits().len();
+    if len <= LONGEST_UNHASHED {
+        return block_a(pan, psn);
+    }
+    // The bytes before the first digit or, where the digits are odd in number, before the zero in front of it.
+    let unused = 11 - (len + 3) / 2;
+    let digest = Sha1::digest(&written(pan, psn)[unused..]);
+    decimal16(&digest)
+}
+
+/// The key that an issuer's master key, set up in this cipher, gives for a block of sixteen digits.
+pub(crate) fn diversified(tdes: &Tdes, block: [u8; 8]) -> Key16
+    ensures { (imk : List ℕ) → HasKeyPair tdes.now imk → result.0 ≡ diversified imk block }
+{
+    let (left, right) = tdes.encipher_both(block, complement(block));
     in_odd_parity(joined(left, right))
 }
 

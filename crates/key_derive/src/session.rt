@@ -68,8 +68,7 @@ fn session_key(mk: &Key16, value: [u8; 8]) -> Key16
     ensures { result.0 ≡ session_key mk.now.0 value }
 {
     let tdes = Tdes::new(mk);
-    let left = tdes.encipher(with_third(value, 0xF0));
-    let right = tdes.encipher(with_third(value, 0x0F));
+    let (left, right) = tdes.encipher_both(with_third(value, 0xF0), with_third(value, 0x0F));
     joined(left, right)
 }
 

@@ -1,3 +1,4 @@
+-- The laws of this crate.
 pub mod Pieces
 pub mod InLine
 pub mod LineLaws

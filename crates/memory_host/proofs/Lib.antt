@@ -1,3 +1,4 @@
+-- The laws of this crate.
 pub mod EmptyRows
 pub mod RowsAfter
 pub mod PlannedTurns

@@ -166,7 +166,7 @@ fn table() -> Option<Table> {
 }
 
 /// A host of two shards, with one card in each.
-fn host(alloc: Global) -> Result<MemoryHost, Fail> {
+fn empty_host(alloc: Global) -> Result<MemoryHost, Fail> {
     let mut keys = ArrayVec::new();
     keys.push(KeySet {
         dki: 0x01,
@@ -225,7 +225,7 @@ fn hex(alloc: Global, bytes: &[u8]) -> Result<String, AllocError> {
 
 #[test]
 fn answers_requests(rt: HostRuntime) -> Result<(), Fail> {
-    let mut host = host(rt.alloc())?;
+    let mut host = empty_host(rt.alloc())?;
     for case in &CASES {
         let name = case.name;
         let line = line(rt.alloc(), case.asked)?;
@@ -237,7 +237,7 @@ fn answers_requests(rt: HostRuntime) -> Result<(), Fail> {
 
 #[test]
 fn decides_by_the_table(rt: HostRuntime) -> Result<(), Fail> {
-    let mut host = host(rt.alloc())?;
+    let mut host = empty_host(rt.alloc())?;
     for case in &AMOUNTS {
         let name = case.name;
         let line = line(rt.alloc(), case.asked)?;
@@ -249,7 +249,7 @@ fn decides_by_the_table(rt: HostRuntime) -> Result<(), Fail> {
 
 #[test]
 fn answers_other_lines(rt: HostRuntime) -> Result<(), Fail> {
-    let mut host = host(rt.alloc())?;
+    let mut host = empty_host(rt.alloc())?;
     for (line, expected) in [
         ("X", "refused BadLine(1)"),
         ("A 9F36020007", "refused Missing(90)"),

@@ -1,1 +1,3 @@
+-- The laws of this crate.
 pub mod SlotLemmas
+pub mod OpenSlots

@@ -16,10 +16,11 @@ pub length-none_kept : length none_kept ≡ WINDOW
 unfolding none_kept
 length-none_kept = refl
 
-abbrev no_decision : Option Decision
+abbrev pub no_decision : Option Decision
 no_decision = None
 
-get_or-none : (n slot : ℕ) → get_or (replicate n no_decision) slot None ≡ None
+-- so many empty slots
+pub get_or-none : (n slot : ℕ) → get_or (replicate n no_decision) slot None ≡ None
 get_or-none n slot =
     elim (cases_lt slot n) [
       | inl below ↦ get_or-replicate n slot None None below

@@ -1,6 +1,6 @@
 -- The decisions that are kept for a card, so that a repeat gets its reply again: one slot for each residue of the transaction
 -- counter modulo the window.
-use Rattle.std.specs.Prelude.{ℕ, ◌%◌, ◌==◌, if◌then◌else◌, List, replicate, slice_index_or, slice_set, Option, None, Some, option_and_then}
+use Rattle.std.specs.Prelude.{ℕ, ◌-◌, ◌%◌, ◌==◌, if◌then◌else◌, List, ◌++◌, length, replicate, slice_index_or, slice_set, Option, None, Some, option_and_then}
 use Rattle.issuer_base.specs.declared.limits.TheConstants.{WINDOW}
 use Rattle.card_history.specs.declared.decision.Decision.{Decision}
 
@@ -24,3 +24,7 @@ kept_on counter slots =
 -- the slots with this decision in its own, in place of what stood there
 abbrev pub with_kept : Decision → List (Option Decision) → List (Option Decision)
 with_kept decision slots = slice_set slots (slot_of decision.request.atc) (Some decision)
+
+-- all slots: the open ones, and an empty one for each that isn't open yet
+unfoldable pub all_slots : List (Option Decision) → List (Option Decision)
+all_slots opened = opened ++ replicate (WINDOW - length opened) None

@@ -1,6 +1,6 @@
 //! The slots of kept decisions.
-ghost use Rattle.std.specs.Prelude.{◌≡◌, IfOk, option_copied};
-ghost use Rattle.reply_keep.specs.ReplySlots.{none_kept, kept_on, with_kept};
+ghost use Rattle.std.specs.Prelude.{◌≡◌, ◌+◌, ◌-◌, ◌≤◌, ◌++◌, None, length, replicate, vec_capacity, IfOk, option_copied};
+ghost use Rattle.reply_keep.specs.ReplySlots.{none_kept, in_slot, kept_on, with_kept, all_slots};
 
 use crate::KeptEntry;
 use issuer_base::{NoMemory, WINDOW};
@@ -8,21 +8,25 @@ use std::alloc::Global;
 use std::marker::Model;
 
 /// The decisions that are kept for a card, each in the slot of its counter's residue modulo [`WINDOW`].
+///
+/// A contract sees all slots. Those behind the open ones are empty: a slot is opened once a decision is kept in it or
+/// behind it.
 #[derive(Drop)]
 pub struct Kept {
-    slots: Vec<Option<KeptEntry>>,
+    opened: Vec<Option<KeptEntry>>,
 }
 
 impl Model for Kept {
-    ghost use Rattle.std.specs.Prelude.{◌≡◌, List, length, Option};
+    ghost use Rattle.std.specs.Prelude.{◌≤◌, List, length, Option, vec_capacity};
     ghost use Rattle.issuer_base.specs.declared.limits.TheConstants.{WINDOW};
     ghost use Rattle.card_history.specs.declared.decision.Decision.{Decision};
+    ghost use Rattle.reply_keep.specs.ReplySlots.{all_slots};
 
     ghost Value = { List (Option Decision) };
 
-    ghost view = { λ kept. kept.slots.items };
+    ghost view = { λ kept. all_slots kept.opened.items };
 
-    ghost invariant = { λ kept. length kept.slots.items ≡ WINDOW };
+    ghost invariant = { λ kept. (length kept.opened.items ≤ WINDOW) × (WINDOW ≤ vec_capacity kept.opened) };
 }
 
 impl Kept {
@@ -30,20 +34,16 @@ impl Kept {
     pub fn new(alloc: Global) -> Result<Kept, NoMemory>
         ensures { IfOk result (λ kept. kept ≡ none_kept) }
     {
-        let mut slots = Vec::with_capacity(alloc, usize::from(WINDOW))?;
-        for _ in 0..WINDOW {
-            slots.push_reserved(None);
-        }
-        Ok(Kept { slots })
+        let opened = Vec::with_capacity(alloc, usize::from(WINDOW))?;
+        Ok(Kept { opened })
     }
 
     /// The decision that is kept on this counter.
     pub fn find(&self, counter: u16) -> Option<&KeptEntry>
         ensures { option_copied result ≡ kept_on counter self.now }
     {
-        self.slots[usize::from(counter % WINDOW)]
-            .as_ref()
-            .filter(|decision| decision.request.parts().atc == counter)
+        let found = in_slot(self.opened.as_slice(), usize::from(counter % WINDOW));
+        found.filter(|decision| decision.request.parts().atc == counter)
     }
 
     /// Keeps a decision in its counter's slot, in place of what is there.
@@ -51,6 +51,34 @@ impl Kept {
         ensures { self.new ≡ with_kept item self.old }
     {
         let slot = usize::from(item.request.parts().atc % WINDOW);
-        self.slots[slot] = Some(item);
+        if slot < self.opened.len() {
+            self.opened[slot] = Some(item);
+            return;
+        }
+        open_before(&mut self.opened, slot);
+        self.opened.push_reserved(Some(item));
+    }
+}
+
+/// The decision in a slot, which is empty where it isn't open.
+fn in_slot(opened: &[Option<KeptEntry>], slot: usize) -> Option<&KeptEntry>
+    ensures { option_copied result ≡ in_slot slot (all_slots opened.now) }
+{
+    if slot < opened.len() {
+        opened[slot].as_ref()
+    } else {
+        None
+    }
+}
+
+/// Opens the slots before this one, which are empty.
+fn open_before(opened: &mut Vec<Option<KeptEntry>>, slot: usize)
+    requires ahead { length opened.old.items ≤ slot }
+    requires room { slot ≤ vec_capacity opened.old }
+    ensures grown { opened.new.items ≡ opened.old.items ++ replicate (slot - length opened.old.items) None }
+    ensures room { vec_capacity opened.new ≡ vec_capacity opened.old }
+{
+    for _ in opened.len()..slot {
+        opened.push_reserved(None);
     }
 }

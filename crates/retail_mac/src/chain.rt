@@ -5,7 +5,7 @@ ghost use Rattle.des_block.specs.Cipher.{word_bytes, tdes_encipher};
 ghost use Rattle.des_block.specs.Keyed.{HasKey, HasKeyPair};
 ghost use Rattle.retail_mac.specs.Mac.{blocks, xor_bytes, chained};
 
-use des_block::{Des, Tdes};
+use des_block::{Des, PermutedBlock, Tdes};
 
 /// The block of eight bytes at `at`, as a number, its first byte the highest.
 #[inline]
@@ -37,25 +37,27 @@ pub(crate) fn last_word(rest: &[u8]) -> u64
     u64::from_be_bytes(block)
 }
 
-/// The chain behind the whole blocks of a text.
+/// Takes the chain over the whole blocks of a text.
 #[inline]
-pub(crate) fn chained(cipher: &Des, mut chain: u64, text: &[u8]) -> u64
+pub(crate) fn chained(cipher: &Des, chain: &mut PermutedBlock, text: &[u8])
     ensures { (key : List ℕ) → HasKey cipher.now key
-        → word_bytes result ≡ fold (chained key) (word_bytes chain) (blocks (length text.now / 8) text.now) }
+        → word_bytes chain.new ≡ fold (chained key) (word_bytes chain.old) (blocks (length text.now / 8) text.now) }
 {
     for i in 0..text.len() / 8 {
-        chain = cipher.encipher_word(chain ^ word_at(text, 8 * i));
+        let block = PermutedBlock::new(word_at(text, 8 * i));
+        *chain = cipher.encipher_permuted(&chain.xor(&block));
     }
-    chain
 }
 
 /// The MAC that ends a chain, of a text of which these bytes are left behind the whole blocks.
 #[inline]
-pub(crate) fn ended(cipher: &Tdes, chain: u64, rest: &[u8]) -> [u8; 8]
+pub(crate) fn ended(cipher: &Tdes, chain: &PermutedBlock, rest: &[u8]) -> [u8; 8]
     requires { length rest.now < 8 }
     ensures { (key : List ℕ) → HasKeyPair cipher.now key
-        → result ≡ tdes_encipher key (xor_bytes (word_bytes chain) (rest.now ++ 0x80 ∷ replicate (7 - length rest.now) 0)) }
+        → result ≡ tdes_encipher key (xor_bytes (word_bytes chain.now) (rest.now ++ 0x80 ∷ replicate (7 - length rest.now) 0)) }
 {
     // The last step of the chain and the two ciphers after it are triple DES.
-    cipher.encipher_word(chain ^ last_word(rest)).to_be_bytes()
+    let last = PermutedBlock::new(last_word(rest));
+    let mac = cipher.encipher_permuted(&chain.xor(&last));
+    mac.word().to_be_bytes()
 }

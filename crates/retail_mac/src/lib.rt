@@ -18,7 +18,7 @@ ghost use Rattle.retail_mac.specs.Mac.{padded, retail_mac, cbc};
 
 use arrayvec::ArrayVec;
 use chain::{chained, ended, last_word, word_at};
-use des_block::{Key16, Tdes};
+use des_block::{Key16, PermutedBlock, Tdes};
 pub use run::MacRun;
 
 /// The enciphered text does not fit into what is left of the output.
@@ -36,8 +36,10 @@ pub fn mac(key: &Key16, text: &[u8]) -> [u8; 8]
 pub fn mac_under(cipher: &Tdes, text: &[u8]) -> [u8; 8]
     ensures { (key : List ℕ) → HasKeyPair cipher.now key → result ≡ retail_mac key text.now }
 {
+    let mut chain = PermutedBlock::new(0);
+    chained(cipher.left(), &mut chain, text);
     let whole = text.len() / 8;
-    ended(cipher, chained(cipher.left(), 0, text), &text[8 * whole..])
+    ended(cipher, &chain, &text[8 * whole..])
 }
 
 /// Appends the bytes of a word, its highest byte first.

@@ -7,13 +7,13 @@ ghost use Rattle.retail_mac.specs.Run.{IsRun};
 
 use crate::chain::{chained, ended};
 use arrayvec::ArrayVec;
-use des_block::{Key16, Tdes};
+use des_block::{Key16, PermutedBlock, Tdes};
 
 /// A MAC over a text that comes piece by piece, however the text is cut. Of the text only a part of a block is kept.
 #[derive(Drop)]
 pub struct MacRun {
     cipher: Tdes,
-    chain: u64,
+    chain: PermutedBlock,
     /// The bytes behind the whole blocks.
     part: ArrayVec<u8, 7>,
 }
@@ -25,7 +25,7 @@ impl MacRun {
     {
         MacRun {
             cipher: Tdes::new(key),
-            chain: 0,
+            chain: PermutedBlock::new(0),
             part: ArrayVec::new(),
         }
     }
@@ -36,7 +36,7 @@ impl MacRun {
     {
         let rest = self.complete(piece);
         let whole = rest.len() / 8;
-        self.chain = chained(self.cipher.left(), self.chain, rest);
+        chained(self.cipher.left(), &mut self.chain, rest);
         self.part.try_extend_from_slice(&rest[8 * whole..]).unwrap();
     }
 
@@ -44,7 +44,7 @@ impl MacRun {
     pub fn finish(self) -> [u8; 8]
         ensures { (key text : List ℕ) → IsRun self key text → result ≡ retail_mac key text }
     {
-        ended(&self.cipher, self.chain, self.part.as_slice())
+        ended(&self.cipher, &self.chain, self.part.as_slice())
     }
 
     /// The MAC of the text, behind which nothing is taken again and the key is kept.
@@ -52,8 +52,8 @@ impl MacRun {
         ensures mac { (key text : List ℕ) → IsRun self.old key text → result ≡ retail_mac key text }
         ensures again { (key text : List ℕ) → IsRun self.old key text → IsRun self.new key [] }
     {
-        let mac = ended(&self.cipher, self.chain, self.part.as_slice());
-        self.chain = 0;
+        let mac = ended(&self.cipher, &self.chain, self.part.as_slice());
+        self.chain = PermutedBlock::new(0);
         self.part.clear();
         mac
     }
@@ -77,7 +77,7 @@ impl MacRun {
         }
         let (front, rest) = piece.split_at(8 - begun);
         let block = joined(self.part.as_slice(), front);
-        self.chain = chained(self.cipher.left(), self.chain, &block);
+        chained(self.cipher.left(), &mut self.chain, &block);
         self.part.clear();
         rest
     }

@@ -1,3 +1,4 @@
+-- The lemmas of this crate, lowest first.
 pub mod WindowLemmas
 pub mod LaunchLemmas
 pub mod RowLemmas

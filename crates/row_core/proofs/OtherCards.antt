@@ -1,10 +1,10 @@
 -- A row stands for a longer history of its shard where the record is one of another card.
-use Rattle.std.proofs.Common.{◌≡◌, ◌≢◌, List, [], ◌∷◌, ◌++◌, false, ap, sym, ◌∙◌, subst}
+use Rattle.std.proofs.Common.{◌≡◌, ◌≢◌, List, [], ◌∷◌, ◌++◌, ap, sym, ◌∙◌, subst}
 use Rattle.issuer_base.specs.declared.entry.Entry.{Entry}
 use Rattle.issuer_base.specs.declared.entry.Entry.TheVariants.{Decided, Queued, Status}
 use Rattle.card_history.specs.declared.decision.Decision.{Decision}
 use Rattle.card_history.specs.Records.{CardName, card_in, decided, greatest, status_of}
-use Rattle.card_history.specs.Scripts.{Scripts, scripts_of}
+use Rattle.card_history.specs.Scripts.{scripts_of}
 use Rattle.card_history.proofs.CardNames.{is_of-other, has_numbers-other}
 use Rattle.card_history.proofs.OneMoreRecord.{decided-other}
 use Rattle.card_history.proofs.OtherRecords.{status_of-decided, status_of-queued, status_of-status_other, decided-queued, decided-status}

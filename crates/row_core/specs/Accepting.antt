@@ -1,10 +1,9 @@
 -- When a reply that was recorded is one that an issuer makes after a history, whatever its decision table was then.
-use Rattle.std.specs.Prelude.{◌≡◌, ℕ, Bool, ◌==◌, List, ◌++◌, [], ◌∷◌, length, take, drop, slice_index, bit_and, false, true}
+use Rattle.std.specs.Prelude.{◌≡◌, ℕ, Bool, ◌==◌, List, [], ◌∷◌, slice_index, bit_and}
 use Rattle.issuer_base.specs.declared.answer.Method.{Method}
 use Rattle.issuer_base.specs.declared.answer.Method.TheVariants.{Two}
 use Rattle.issuer_base.specs.declared.answer.Reply.{Reply}
 use Rattle.issuer_base.specs.declared.entry.Entry.{Entry}
-use Rattle.issuer_base.specs.declared.entry.Entry.TheVariants.{Decided}
 use Rattle.issuer_base.specs.declared.request.Request.{Request}
 use Rattle.cryptogram_in.specs.Cryptogram.{application_cryptogram}
 use Rattle.key_derive.specs.declared.card.CardKeys.{CardKeys}

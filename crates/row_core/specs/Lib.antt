@@ -1,3 +1,4 @@
+-- The definitions that the contracts of this crate cite.
 pub use Rattle.issuer_setup.specs.Shards
 pub use Rattle.issuer_setup.specs.KeyList
 pub use Rattle.issuer_setup.specs.CardList

@@ -26,17 +26,16 @@ script_bytes master_key ac first [] = []
 script_bytes master_key ac first (command ∷ commands) =
     template_bytes (session_sm master_key ac) ac first (command ∷ commands)
 
--- what goes to the card without scripts: tag 8A has the response code, tag 91 the issuer's cryptogram under this session key
+-- the issuer's answer to the card, under this session key for cryptograms: tag 8A has the response code, tag 91 the issuer's
+-- cryptogram of the response code or of the status update
 abbrev pub answer_bytes : Method → List ℕ → Request → List ℕ → List ℕ → List ℕ
 answer_bytes method session request arc csu =
     object_text 0x8A arc ++ object_text 0x91 (value91 method session request.ac arc csu)
 
--- what goes to the card: tag 8A has the response code, tag 91 the issuer's cryptogram of the response code or of the status update,
--- under the session key for cryptograms, and behind them the batch of the card's script commands
+-- what goes to the card: the issuer's answer, and behind it the batch of the card's script commands
 abbrev pub reply_bytes : Method → CardKeys → Scripts → Request → List ℕ → List ℕ → List ℕ
 reply_bytes method keys scripts request arc csu =
-    object_text 0x8A arc
-    ++ object_text 0x91 (value91 method (session_ac keys.ac.0 request.atc) request.ac arc csu)
+    answer_bytes method (session_ac keys.ac.0 request.atc) request arc csu
     ++ script_bytes keys.smi.0 request.ac (first_of request scripts) (batch_of request scripts)
 
 -- the reply by a row of the table: its response code and approval

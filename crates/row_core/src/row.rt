@@ -132,21 +132,21 @@ impl Row {
         self.scripts.queue()
     }
 
-    /// How many script commands are done: the card ran them, the first that were queued.
+    /// How many script commands are done: the card ran them, the first ones that were queued.
     pub fn done(&self) -> u32
         ensures { result ≡ self.now.scripts.done }
     {
         self.scripts.done()
     }
 
-    /// The script commands that the last reply on a newest counter carried: none before the first, and where scripts are halted.
+    /// What the last reply on a newest counter carried of them; `None` before the first, and where the scripts are halted.
     pub fn flight(&self) -> Option<Flight>
         ensures { result ≡ self.now.scripts.flight }
     {
         self.scripts.flight()
     }
 
-    /// Whether no script command is sent to the card any more.
+    /// Whether the card's scripts are halted: the card told what can't be, and gets no script command any more.
     pub fn halted(&self) -> bool
         ensures { result ≡ self.now.scripts.halted }
     {
@@ -197,7 +197,8 @@ impl Row {
         self.kept.keep(step.decision);
     }
 
-    /// Queues a command for the card, and gives its number in the card's queue, from 0.
+    /// Queues a command for the card, and gives its number in the card's queue, from 0. Where the queue takes no more, it is refused
+    /// and nothing changes.
     pub fn push(&mut self, command: Command) -> Result<u32, QueueFull>
         requires { IsTrue (is_command command) }
         ensures taken { IsOk result ↔ TakesOneMore self.old.scripts.commands }

@@ -275,32 +275,35 @@ fn queue_five(row: &mut Row) -> Result<(), Fail> {
     Ok(())
 }
 
-#[test]
-fn sends_commands_until_the_card_ran_them(rt: HostRuntime) -> Result<(), Fail> {
+/// The replies to a request on counter 7, and then to one on counter 9 that tells this register and two commands, from a row with
+/// five commands, and the row afterwards.
+fn replies(alloc: Global, register: u16, ac: u64) -> Result<(String, String, Row), Fail> {
     let table = table(&[SMALL_AMOUNTS, OTHERWISE])?;
     let keys = derived_keys().ok_or("keys")?;
+    let mut row = Row::new(alloc, Method::One).map_err(|_| "memory")?;
+    queue_five(&mut row)?;
+    let first = telling(7, 0, 0, 0x6317DE17_856BF19A).ok_or("a request")?;
+    let first = keep(&mut row, &keys, &table, &first, 5)?;
+    let second = telling(9, register, 0x20, ac).ok_or("a request")?;
+    let second = keep(&mut row, &keys, &table, &second, 6)?;
+    Ok((shown(alloc, &first)?, shown(alloc, &second)?, row))
+}
+
+#[test]
+fn sends_commands_until_the_card_ran_them(rt: HostRuntime) -> Result<(), Fail> {
     for (name, register, ac, done, expected) in [
         ("two ran", 7, 0xEBA261CB_1FC8AF7D, 2, AFTER_TWO_RAN),
         ("none ran", 5, 0x7AEEB7E0_0D9CE6BF, 0, AFTER_NONE_RAN),
     ] {
-        let mut row = Row::new(rt.alloc(), Method::One).map_err(|_| "memory")?;
-        queue_five(&mut row)?;
-        let first = telling(7, 0, 0, 0x6317DE17_856BF19A).ok_or("a request")?;
-        let carried = shown(rt.alloc(), &keep(&mut row, &keys, &table, &first, 5)?)?;
-        assert_eq!(rt; carried.as_str(), WITH_THREE_COMMANDS, "{name}");
-        let second = telling(9, register, 0x20, ac).ok_or("a request")?;
-        let carried = shown(rt.alloc(), &keep(&mut row, &keys, &table, &second, 6)?)?;
-        assert_eq!(rt; carried.as_str(), expected, "{name}");
+        let (first, second, row) = replies(rt.alloc(), register, ac)?;
+        let flight = Some(Flight {
+            counter: 9,
+            size: 3,
+        });
+        assert_eq!(rt; first.as_str(), WITH_THREE_COMMANDS, "{name}");
+        assert_eq!(rt; second.as_str(), expected, "{name}");
         assert_eq!(rt; row.done(), done, "{name}");
-        assert!(rt;
-            row.flight()
-                == Some(Flight {
-                    counter: 9,
-                    size: 3
-                }),
-            "{name}"
-        );
-        assert!(rt; !row.halted(), "{name}");
+        assert!(rt; row.flight() == flight && !row.halted(), "{name}");
     }
     Ok(())
 }
@@ -318,6 +321,13 @@ fn purchase(ac: u64) -> Option<Request> {
     Request::new(parts)
 }
 
+/// Whether a row accepts a decision and adopts it, or neither; `None` where it does one alone.
+fn adopts(row: &mut Row, keys: &CardKeys, asked: &Request, reply: &Reply) -> Option<bool> {
+    let accepted = row.accepts(keys, asked, reply);
+    let adopted = row.adopt(keys, asked.copy(), reply.copy(), 5);
+    (accepted == adopted).then_some(adopted)
+}
+
 #[test]
 fn takes_over_what_another_row_decided(rt: HostRuntime) -> Result<(), Fail> {
     let table = table(&[SMALL_AMOUNTS, OTHERWISE])?;
@@ -325,27 +335,32 @@ fn takes_over_what_another_row_decided(rt: HostRuntime) -> Result<(), Fail> {
     let asked = purchase(0x6317DE17_856BF19A).ok_or("a request")?;
     let forged = purchase(0x6317DE17_856BF19B).ok_or("a request")?;
     let mut row = Row::new(rt.alloc(), Method::Two).map_err(|_| "memory")?;
-    queue_five(&mut row)?;
     let reply = keep(&mut row, &keys, &table, &asked, 5)?;
-    let declined = Reply {
-        approve: false,
-        ..reply.copy()
-    };
     let mut other = Row::new(rt.alloc(), Method::Two).map_err(|_| "memory")?;
-    queue_five(&mut other)?;
-    for (name, asked, reply, expected, hi) in [
-        ("another byte", &asked, &altered(&reply), false, None),
-        ("another approval", &asked, &declined, false, None),
-        ("another cryptogram", &forged, &reply, false, None),
-        ("what was decided", &asked, &reply, true, Some(7)),
-        ("the same again", &asked, &reply, false, Some(7)),
-    ] {
-        let accepted = other.accepts(&keys, asked, reply);
-        assert_eq!(rt; accepted, expected, "{name}");
-        let adopted = other.adopt(&keys, asked.copy(), reply.copy(), 5);
-        assert_eq!(rt; adopted, expected, "{name}");
-        assert_eq!(rt; other.hi(), hi, "{name}");
+    assert_eq!(rt;
+        adopts(&mut other, &keys, &asked, &altered(&reply)),
+        Some(false)
+    );
+    assert_eq!(rt; adopts(&mut other, &keys, &forged, &reply), Some(false));
+    assert_eq!(rt; other.hi(), None);
+    assert_eq!(rt; adopts(&mut other, &keys, &asked, &reply), Some(true));
+    assert_eq!(rt; adopts(&mut other, &keys, &asked, &reply), Some(false));
+    assert_eq!(rt; other.hi(), Some(7));
+    Ok(())
+}
+
+#[test]
+fn keeps_the_window_of_three_hundred_decisions(rt: HostRuntime) -> Result<(), Fail> {
+    let table = table(&[OTHERWISE])?;
+    let mut row = Row::new(rt.alloc(), Method::One).map_err(|_| "memory")?;
+    for counter in 0..300 {
+        let asked = request(counter, 1).ok_or("a request")?;
+        keep(&mut row, &keys(), &table, &asked, u64::from(counter))?;
     }
-    assert!(rt; other.flight() == row.flight());
+    for (counter, expected) in [(235, "below 299"), (236, "kept 236"), (299, "kept 299")] {
+        let asked = request(counter, 1).ok_or("a request")?;
+        let planned = told(rt.alloc(), row.plan(&keys(), &table, &asked, 300))?;
+        assert_eq!(rt; planned.as_str(), expected, "{counter}");
+    }
     Ok(())
 }

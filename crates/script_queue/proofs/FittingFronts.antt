@@ -145,7 +145,8 @@ fit-front commands count taken = ap (λ n. take n commands) taken ∙ sym (fitti
 pub fitting_front-front : (commands : List Command) → take (length (fitting_front commands)) commands ≡ fitting_front commands
 fitting_front-front commands =
     fit-front commands (length (fitting_front commands))
-    (ap (λ (front : List Command). length front) (fitting_front-take commands) ∙ length-take-le (fit whole_room commands) commands (fit-within whole_room commands))
+    (ap (λ (front : List Command). length front) (fitting_front-take commands) ∙ length-take-le (fit whole_room commands) commands
+    (fit-within whole_room commands))
 
 -- there are as many commands as the front has
 pub fitting_front-within : (commands : List Command) → length (fitting_front commands) ≤ length commands

@@ -1,1 +1,2 @@
+-- The laws of this crate.
 pub mod FittingFronts

@@ -1,5 +1,5 @@
 -- The names of a seat and of a list of callers' seats, through splits and joins.
-use Rattle.std.proofs.Common.{◌≡◌, ℕ, suc, ◌<◌, List, [], ◌∷◌, ◌++◌, length, take, drop, get_or, leb, ◌&&◌, refl, sym, ap, ap₂, ◌∙◌, append-nil}
+use Rattle.std.proofs.Common.{◌≡◌, ℕ, suc, ◌<◌, List, [], ◌∷◌, ◌++◌, length, take, drop, get_or, leb, ◌&&◌, refl, sym, ap, ap₂, subst, ◌∙◌, append-nil}
 use Rattle.std.proofs.Common.{append_assoc, arith}
 use Rattle.std.proofs.lemmas.List.{take_all, drop_all}
 use Rattle.std.specs.List.{flat_map}
@@ -53,3 +53,21 @@ flat_map-kept f (x ∷ xs) (y ∷ ys) long same =
 pub lent_whole : {A : Type 0} (n : ℕ) (part whole : List A) → length part ≡ n → length whole ≡ n → take n (part ++ drop (length part) whole) ≡ part
 lent_whole n part whole long also =
     ap (λ rest. take n (part ++ rest)) (drop_all (length part) whole (omega arith)) ∙ ap (take n) (append-nil part) ∙ take_all n part (omega arith)
+
+-- callers whose list was lent as a slice, and whose seats kept their names, are as whole with a seat as they were
+pub whole_lent : {A : Type 0} (names_of : A → List SeatName) (names : List SeatName) (count : ℕ) (old lent new : List A) → lent ≡ old
+    → length new ≡ count → length old ≡ count
+    → ((i : ℕ) (d : A) → i < length lent → names_of (get_or new i d) ≡ names_of (get_or lent i d))
+    → IsWhole (names ++ flat_map names_of old) → IsWhole (names ++ flat_map names_of (take count (new ++ drop (length new) old)))
+whole_lent {A} names_of names count old lent new is long also same whole =
+    let back : take count (new ++ drop (length new) old) ≡ new = lent_whole count new old long also in
+    let kept : flat_map names_of new ≡ flat_map names_of old = flat_map-kept names_of old new (omega (arith, long, also))
+    (subst (λ (callers : List A). (i : ℕ) (d : A) → i < length callers → names_of (get_or new i d) ≡ names_of (get_or callers i d)) is same) in
+    subst (λ (others : List SeatName). IsWhole (names ++ others)) (sym (ap (flat_map names_of) back ∙ kept)) whole
+
+-- a seat that takes over the last caller's is as whole with the callers that are left
+pub whole_popped : {A : Type 0} (names_of : A → List SeatName) (names : List SeatName) (callers rest : List A) (last : A) → callers ≡ rest ++ last ∷ []
+    → IsWhole (names ++ flat_map names_of callers) → IsWhole ((names ++ names_of last) ++ flat_map names_of rest)
+whole_popped names_of names callers rest last split whole =
+    whole_joined names (names_of last) (flat_map names_of rest)
+    (subst (λ (others : List SeatName). IsWhole (names ++ others)) (ap (flat_map names_of) split ∙ flat_map-snoc names_of rest last) whole)

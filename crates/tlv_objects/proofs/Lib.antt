@@ -1,3 +1,4 @@
+-- The laws of this crate.
 pub mod Fronts
 pub mod Texts
 pub mod Written

@@ -1,3 +1,4 @@
+-- The first method's cryptogram enciphers the request's, whose first two bytes carry the response code.
 use Rattle.std.proofs.Common.{◌≡◌, length, ap, ◌∙◌, rules}
 use Rattle.des_block.specs.Cipher.{tdes_encipher}
 use Rattle.arpc_methods.specs.Arpc.{method1}

@@ -1,3 +1,4 @@
+-- The second method's cryptogram is the first four bytes of a MAC over the request's cryptogram and the status update.
 use Rattle.std.proofs.Common.{◌≡◌, length, take, ap, ◌∙◌, arith, rules}
 use Rattle.retail_mac.specs.Mac.{retail_mac}
 use Rattle.arpc_methods.specs.Arpc.{method2}

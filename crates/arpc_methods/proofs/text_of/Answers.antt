@@ -1,3 +1,4 @@
+-- The text under the MAC is the request's cryptogram with the status update behind it.
 use Rattle.arpc_methods.proofs.Blocks.{parts-joined}
 use Rattle.arpc_methods.proofs.text_of.Goals as goal
 

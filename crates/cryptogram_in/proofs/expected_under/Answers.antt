@@ -1,3 +1,4 @@
+-- The expected cryptogram is the retail MAC of the request's input under the session key.
 use Rattle.std.proofs.Common.{ap, ◌∙◌}
 use Rattle.retail_mac.specs.Mac.{retail_mac}
 use Rattle.cryptogram_in.specs.Cryptogram.{cryptogram_under}

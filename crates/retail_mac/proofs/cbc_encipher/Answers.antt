@@ -1,3 +1,4 @@
+-- One more block is enciphered behind the others, the padded one last; refused is exactly what doesn't fit.
 use Rattle.std.proofs.Common.{refl, ap, ◌≡◌, ◌∙◌, ◌-◌, ◌/◌, ◌*◌, List, ℕ, ◌∷◌, ◌++◌, length, drop, replicate, arith, length-drop}
 use Rattle.std.proofs.lemmas.List.{take_rest}
 use Rattle.des_block.specs.Cipher.{word_bytes}

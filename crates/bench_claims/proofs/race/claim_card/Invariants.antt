@@ -1,3 +1,4 @@
+-- The caller's seat stays at the table, with the names that it had.
 use Rattle.std.proofs.Common.{◌≡◌}
 use Rattle.claim_words.specs.Seats.{view_of, IsOf}
 use Rattle.bench_claims.proofs.race.claim_card.Given as goal

@@ -1,3 +1,4 @@
+-- Whatever cards and rounds are through, the caller's seat stays at the table, with the names that it had.
 use Rattle.std.proofs.Common.{◌≡◌}
 use Rattle.claim_words.specs.Seats.{view_of, IsOf}
 use Rattle.bench_claims.proofs.race.claim_cards.Given as goal

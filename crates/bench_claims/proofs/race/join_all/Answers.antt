@@ -1,9 +1,7 @@
-use Rattle.std.proofs.Common.{rules, ◌≡◌, ◌++◌, ◌∷◌, [], List, ap, subst, ◌∙◌}
+-- A seat that takes over the last caller's is whole with the callers that are left.
+use Rattle.std.proofs.Common.{rules, ◌≡◌, ◌++◌, ◌∷◌, []}
 use Rattle.std.proofs.lemmas.List.Elements.{All-pop}
-use Rattle.std.specs.List.{flat_map}
-use Rattle.seat_names.specs.SeatNames.{IsWhole}
-use Rattle.seat_names.specs.declared.seat_name.SeatName.{SeatName}
-use Rattle.seat_names.proofs.ManySeats.{flat_map-snoc, whole_joined}
+use Rattle.seat_names.proofs.ManySeats.{whole_popped}
 use Rattle.claim_words.specs.Seats.{view_of, IsOf}
 use Rattle.bench_claims.specs.declared.race.Caller.{Caller}
 use Rattle.bench_claims.proofs.race.join_all.Goals as goal
@@ -13,13 +11,11 @@ loop-caller-preserved c =
     let Ready : Caller → Type 0 = λ caller. IsOf caller.seat c.args.words.now in
     let popped = All-pop Ready c.loop-caller.callers.items c.pop.new.self.items c.pop.result c.pop.ensures.items c.loop-caller.invariant.callers in
     let last : Caller = c.in-Some.caller in
-    let names_of : Caller → List SeatName = λ caller. (view_of caller.seat).names in
     let before : c.loop-caller.callers.items ≡ c.pop.new.self.items ++ last ∷ [] = rw c.in-Some.is at c.pop.ensures.items in
-    let whole : IsWhole ((view_of c.loop-caller.seat).names ++ (flat_map names_of c.pop.new.self.items ++ names_of last)) =
-    subst (λ (names : List SeatName). IsWhole ((view_of c.loop-caller.seat).names ++ names))
-    (ap (flat_map names_of) before ∙ flat_map-snoc names_of c.pop.new.self.items last) c.loop-caller.invariant.whole in
     record {
       seat = search rules;
       callers = popped.0;
-      whole = rw c.join.ensures.1 (whole_joined (view_of c.loop-caller.seat).names (view_of last.seat).names (flat_map names_of c.pop.new.self.items) whole);
+      whole = rw c.join.ensures.1
+          (whole_popped (λ (caller : Caller). (view_of caller.seat).names) (view_of c.loop-caller.seat).names c.loop-caller.callers.items c.pop.new.self.items
+          last before c.loop-caller.invariant.whole);
     }

@@ -1,3 +1,4 @@
+-- The seat so far is whole with those of the callers that are still to join.
 use Rattle.std.proofs.Common.{◌++◌, All}
 use Rattle.std.specs.List.{flat_map}
 use Rattle.seat_names.specs.SeatNames.{IsWhole}

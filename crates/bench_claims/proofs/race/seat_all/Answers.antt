@@ -1,3 +1,4 @@
+-- A seat that splits one off for a new caller is whole with all that were split off.
 use Rattle.std.proofs.Common.{rules}
 use Rattle.std.proofs.lemmas.List.Elements.{All-push}
 use Rattle.seat_names.proofs.ManySeats.{flat_map-snoc, whole_seated}

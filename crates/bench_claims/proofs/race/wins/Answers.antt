@@ -1,23 +1,12 @@
-use Rattle.std.proofs.Common.{◌≡◌, ◌<◌, ◌++◌, ◌∙◌, sym, ap, subst, List, length, get_or, drop, take, arith}
-use Rattle.std.specs.List.{flat_map}
-use Rattle.seat_names.specs.SeatNames.{IsWhole}
-use Rattle.seat_names.specs.declared.seat_name.SeatName.{SeatName}
-use Rattle.seat_names.proofs.ManySeats.{flat_map-kept, lent_whole}
+-- Claiming at once leaves each seat its names, so all seats together are still whole.
+use Rattle.std.proofs.Common.{ap, length, arith}
+use Rattle.seat_names.proofs.ManySeats.{whole_lent}
 use Rattle.claim_words.specs.Seats.{view_of}
 use Rattle.bench_claims.specs.declared.race.Caller.{Caller}
 use Rattle.bench_claims.proofs.race.wins.Goals as goal
 
 pub join_all-count-requires-clause-whole : goal.join_all-count-requires-clause-whole
 join_all-count-requires-clause-whole g c =
-    let names_of : Caller → List SeatName = λ caller. (view_of caller.seat).names in
-    let old : List Caller = c.seat_all.new.callers.items in
-    let new : List Caller = c.claim_at_once.new.callers in
-    let lent : c.as_mut_slice.result.now ≡ old = c.as_mut_slice.ensures.value in
-    let long : length new ≡ length old = omega (arith, ap length lent) in
-    let back : take c.seat_all.new.callers.len (new ++ drop (length new) old) ≡ new =
-    lent_whole c.seat_all.new.callers.len new old (omega arith) (omega arith) in
-    let same : flat_map names_of new ≡ flat_map names_of old = flat_map-kept names_of old new long (λ i d below.
-    subst (λ (callers : List Caller). i < length callers → names_of (get_or new i d) ≡ names_of (get_or callers i d)) lent
-    (c.claim_at_once.ensures.names i d) below) in
-    subst (λ (names : List SeatName). IsWhole ((view_of c.seat_all.new.seat).names ++ names)) (sym (ap (flat_map names_of) back ∙ same))
-    c.seat_all.ensures.whole
+    whole_lent (λ (caller : Caller). (view_of caller.seat).names) (view_of c.seat_all.new.seat).names c.seat_all.new.callers.len
+    c.seat_all.new.callers.items c.as_mut_slice.result.now c.claim_at_once.new.callers c.as_mut_slice.ensures.value
+    (omega (arith, ap length c.as_mut_slice.ensures.value)) (omega arith) c.claim_at_once.ensures.names c.seat_all.ensures.whole

@@ -1,14 +1,14 @@
 -- The walk over the objects of a text.
-use Rattle.std.proofs.Common.{◌≡◌, ◌+◌, map, length}
+use Rattle.std.proofs.Common.{◌≡◌, ◌+◌, length}
 use Rattle.tlv_objects.specs.Tlv.{objects_ahead}
 use Rattle.chip_request.specs.Slots.{with_objects}
-use Rattle.chip_request.specs.SlotViews.{found_in}
+use Rattle.chip_request.specs.SlotViews.{founds_in}
 use Rattle.chip_request.proofs.reading.note_all.Given as goal
 
 -- the objects ahead lead from the slots to where all objects lead from the first slots
 abbrev pub invariant-loop-item : goal.invariant-loop-item
 invariant-loop-item l = record {
-  found : with_objects (map found_in l.slots) (objects_ahead l.item-iterator).objects ≡ with_objects (map found_in l.fn.slots)
+  found : with_objects (founds_in l.slots) (objects_ahead l.item-iterator).objects ≡ with_objects (founds_in l.fn.slots)
       (objects_ahead l.fn.objects).objects;
   torn : (objects_ahead l.item-iterator).torn ≡ (objects_ahead l.fn.objects).torn;
   end : l.item-iterator.at + length l.item-iterator.bytes ≡ l.fn.objects.at + length l.fn.objects.bytes;

@@ -1,3 +1,4 @@
+-- The words are those that the recorded counters so far open with.
 use Rattle.std.proofs.Common.{take}
 use Rattle.claim_words.specs.Opening.{AreOpening}
 use Rattle.claim_words.proofs.opening.opening_words.Given as goal

@@ -1,3 +1,4 @@
+-- The caller has tried each counter so far, and its list has room for the others.
 use Rattle.std.proofs.Common.{◌≡◌, ◌≤◌, vec_len, vec_capacity}
 use Rattle.claim_words.specs.declared.layout.TheConstants.{COUNTERS}
 use Rattle.claim_words.specs.Contest.{HasTried}

@@ -1,3 +1,4 @@
+-- A counter that is won is one more that was tried, and stands in the caller's list.
 use Rattle.claim_words.specs.Seats.{view_of}
 use Rattle.claim_words.proofs.ContestLemmas.{tried_won}
 use Rattle.claim_words.proofs.tests.claim_next.Goals as goal

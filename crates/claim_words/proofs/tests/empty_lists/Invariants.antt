@@ -1,3 +1,4 @@
+-- So many lists are made, each empty and with room for all counters.
 use Rattle.std.proofs.Common.{◌≡◌, ◌≤◌, [], All, vec_len, vec_capacity}
 use Rattle.claim_words.specs.declared.layout.TheConstants.{COUNTERS}
 use Rattle.claim_words.proofs.tests.empty_lists.Given as goal

@@ -1,3 +1,4 @@
+-- A caller that is seated with an empty list has tried nothing, and all seats together stay whole.
 use Rattle.std.proofs.Common.{rules, ◌≡◌, ◌≤◌, ℕ, [], Vec, vec_capacity}
 use Rattle.std.proofs.Common.{Global}
 use Rattle.std.proofs.lemmas.List.Elements.{All-pop, All-push}

@@ -1,3 +1,4 @@
+-- The cards so far are those that the elements before this one say.
 use Rattle.config_read.specs.Elements.{card_in}
 use Rattle.config_read.proofs.FrontLemmas.{HasFront}
 use Rattle.config_read.proofs.front.front_cards.Given as goal

@@ -1,3 +1,4 @@
+-- Named is the first key set that repeats an index, else the first element that says none; with neither, all are read.
 use Rattle.std.proofs.Common.{◌≡◌, ◌≤◌, length, Ok, Err, ap, sym, ◌∙◌, arith}
 use Rattle.std.proofs.lemmas.Result.{err_from_is_err_and}
 use Rattle.serde_json.specs.View.{view}

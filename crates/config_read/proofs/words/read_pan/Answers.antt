@@ -1,3 +1,4 @@
+-- A text of more than nineteen characters is no account number.
 use Rattle.std.proofs.Common.{◌<◌, length, sym, arith}
 use Rattle.std.proofs.lemmas.Grind.{common_steps}
 use Rattle.config_read.proofs.WordsLemmas.{pan_of-long}

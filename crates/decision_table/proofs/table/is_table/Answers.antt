@@ -1,3 +1,4 @@
+-- No rows are no table.
 use Rattle.std.proofs.Common.{not, ap, sym, ◌∙◌}
 use Rattle.std.proofs.lemmas.Bool.{eqb-true}
 use Rattle.decision_table.proofs.TableLemmas.{is_table-empty}

@@ -1,3 +1,4 @@
+-- A round with the next key goes one round further, and IP before with its inverse behind makes the cipher.
 use Rattle.std.proofs.Common.{refl, arith}
 use Rattle.des_block.specs.Tables.{initial_permutation, inverse_permutation}
 use Rattle.des_block.proofs.PlainSteps.{Ciphers_more, Ciphers_all}

@@ -1,3 +1,4 @@
+-- The halves are those after as many rounds as keys so far.
 use Rattle.des_block.proofs.PlainSteps.{Ciphers}
 use Rattle.des_block.proofs.plain.ciphered.Given as goal
 

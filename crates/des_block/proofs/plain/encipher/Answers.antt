@@ -1,3 +1,4 @@
+-- The bytes are those of the word that is ciphered with the round keys in order.
 use Rattle.std.proofs.Common.{ap, ap₂, ◌∙◌, w64}
 use Rattle.std.specs.Int.{to_be_bytes}
 use Rattle.des_block.specs.Bits.{bits, number}

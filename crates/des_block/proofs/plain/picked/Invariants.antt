@@ -1,3 +1,4 @@
+-- The number so far is that of the bits that the table's entries so far pick.
 use Rattle.std.proofs.Common.{◌≡◌, take}
 use Rattle.des_block.specs.Bits.{bits, number, picked}
 use Rattle.des_block.proofs.plain.picked.Given as goal

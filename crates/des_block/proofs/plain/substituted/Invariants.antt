@@ -1,3 +1,4 @@
+-- The number so far is that of the outputs of the boxes so far.
 use Rattle.des_block.specs.Tables.{s_boxes}
 use Rattle.des_block.proofs.PlainSteps.{Substitutes}
 use Rattle.des_block.proofs.plain.substituted.Given as goal

@@ -1,20 +1,24 @@
-use Rattle.std.proofs.Common.{◌≡◌, length, map, sym, arith}
+-- The rounds so far, two in a step.
+use Rattle.std.proofs.Common.{◌≡◌, ◌+◌, ◌*◌, ℕ, length, map, sym, arith}
 use Rattle.std.proofs.lemmas.List.{get_or-map, length-map}
 use Rattle.des_block.specs.Keyed.{key_bits}
-use Rattle.des_block.proofs.MixedSteps.{Runs_none, Runs_more, Runs_all}
+use Rattle.des_block.proofs.MixedSteps.{Runs_none, Runs_two, Runs_all}
 use Rattle.des_block.proofs.rounds.rounds.Goals as goal
 
-pub loop-key-init : goal.loop-key-init
-loop-key-init c = Runs_none (map key_bits c.args.keys.now) c.args.left c.args.right
+pub loop-i-init : goal.loop-i-init
+loop-i-init c = Runs_none (map key_bits c.args.keys.now) c.args.left c.args.right
 
-pub loop-key-preserved : goal.loop-key-preserved
-loop-key-preserved c =
-    let len : length (map key_bits c.args.keys.now) ≡ length c.args.keys.now = length-map c.args.keys.now key_bits in
-    Runs_more (map key_bits c.args.keys.now) c.args.left c.args.right c.loop-key.key-index c.loop-key.left c.loop-key.right c.mixed.result _
-    c.loop-key.invariant
-    (omega arith) (sym (get_or-map key_bits c.args.keys.now c.loop-key.key-index _ _ (omega arith))) c.mixed.ensures
+pub loop-i-preserved : goal.loop-i-preserved
+loop-i-preserved c =
+    let keys = c.args.keys.now in
+    let i : ℕ = c.loop-i.i in
+    let len : length (map key_bits keys) ≡ length keys = length-map keys key_bits in
+    Runs_two (map key_bits keys) c.args.left c.args.right i c.loop-i.left c.loop-i.right c.mixed-left.result c.mixed-right.result _ _
+    c.loop-i.invariant (omega arith)
+    (sym (get_or-map key_bits keys (2 * i) _ _ (omega arith))) c.mixed-left.ensures
+    (sym (get_or-map key_bits keys (2 * i + 1) _ _ (omega arith))) c.mixed-right.ensures
 
 pub returns : goal.returns
 returns c =
     let len : length (map key_bits c.args.keys.now) ≡ length c.args.keys.now = length-map c.args.keys.now key_bits in
-    Runs_all (map key_bits c.args.keys.now) c.args.left c.args.right c.loop-key.key-index c.loop-key.left c.loop-key.right c.loop-key.invariant (omega arith)
+    Runs_all (map key_bits c.args.keys.now) c.args.left c.args.right (2 * c.loop-i.i) c.loop-i.left c.loop-i.right c.loop-i.invariant (omega arith)

@@ -1,7 +1,8 @@
-use Rattle.std.proofs.Common.{map}
+-- The rounds so far, two in a step.
+use Rattle.std.proofs.Common.{◌*◌, map}
 use Rattle.des_block.specs.Keyed.{key_bits}
 use Rattle.des_block.proofs.MixedSteps.{Runs}
 use Rattle.des_block.proofs.rounds.rounds.Given as goal
 
-abbrev pub invariant-loop-key : goal.invariant-loop-key
-invariant-loop-key l = Runs (map key_bits l.keys) l.initial.left l.initial.right l.key-index l.left l.right
+abbrev pub invariant-loop-i : goal.invariant-loop-i
+invariant-loop-i l = Runs (map key_bits l.keys) l.initial.left l.initial.right (2 * l.i) l.left l.right

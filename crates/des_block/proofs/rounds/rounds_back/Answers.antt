@@ -1,7 +1,8 @@
-use Rattle.std.proofs.Common.{◌≡◌, ◌-◌, length, map, reverse, get_or, [], sym, ap, ◌∙◌, arith}
+-- The rounds so far, two in a step, with the keys in the opposite order.
+use Rattle.std.proofs.Common.{◌≡◌, ◌+◌, ◌-◌, ◌*◌, ◌<◌, ℕ, length, map, reverse, get_or, [], sym, ap, ◌∙◌, arith}
 use Rattle.std.proofs.lemmas.List.{get_or-map, get_or-reverse, length-map, length-reverse}
 use Rattle.des_block.specs.Keyed.{key_bits}
-use Rattle.des_block.proofs.MixedSteps.{Runs_none, Runs_more, Runs_all}
+use Rattle.des_block.proofs.MixedSteps.{Runs_none, Runs_two, Runs_all}
 use Rattle.des_block.proofs.rounds.rounds_back.Goals as goal
 
 pub loop-i-init : goal.loop-i-init
@@ -9,15 +10,19 @@ loop-i-init c = Runs_none (reverse (map key_bits c.args.keys.now)) c.args.left c
 
 pub loop-i-preserved : goal.loop-i-preserved
 loop-i-preserved c =
-    let len : length (map key_bits c.args.keys.now) ≡ 16 = length-map c.args.keys.now key_bits ∙ omega arith in
-    let back : length (reverse (map key_bits c.args.keys.now)) ≡ 16 = length-reverse (map key_bits c.args.keys.now) ∙ len in
-    let place : get_or (reverse (map key_bits c.args.keys.now)) c.loop-i.i [] ≡ get_or (map key_bits c.args.keys.now) (15 - c.loop-i.i) [] =
-    get_or-reverse (map key_bits c.args.keys.now) c.loop-i.i [] (omega arith) ∙ ap (λ k. get_or (map key_bits c.args.keys.now) k []) (omega arith) in
-    Runs_more (reverse (map key_bits c.args.keys.now)) c.args.left c.args.right c.loop-i.i c.loop-i.left c.loop-i.right c.mixed.result _ c.loop-i.invariant
-    (omega arith) (sym (place ∙ get_or-map key_bits c.args.keys.now (15 - c.loop-i.i) _ _ (omega arith))) c.mixed.ensures
+    let keys = c.args.keys.now in
+    let i : ℕ = c.loop-i.i in
+    let len : length (map key_bits keys) ≡ 16 = length-map keys key_bits ∙ omega arith in
+    let back : length (reverse (map key_bits keys)) ≡ 16 = length-reverse (map key_bits keys) ∙ len in
+    let place : (n m : ℕ) → n < 16 → m ≡ 15 - n → get_or (reverse (map key_bits keys)) n [] ≡ get_or (map key_bits keys) m [] =
+    λ n m h e. get_or-reverse (map key_bits keys) n [] (omega arith) ∙ ap (λ k. get_or (map key_bits keys) k []) (omega arith) in
+    Runs_two (reverse (map key_bits keys)) c.args.left c.args.right i c.loop-i.left c.loop-i.right c.mixed-left.result c.mixed-right.result _ _
+    c.loop-i.invariant (omega arith)
+    (sym (place (2 * i) (15 - 2 * i) (omega arith) (omega arith) ∙ get_or-map key_bits keys (15 - 2 * i) _ _ (omega arith))) c.mixed-left.ensures
+    (sym (place (2 * i + 1) (14 - 2 * i) (omega arith) (omega arith) ∙ get_or-map key_bits keys (14 - 2 * i) _ _ (omega arith))) c.mixed-right.ensures
 
 pub returns : goal.returns
 returns c =
     let len : length (map key_bits c.args.keys.now) ≡ 16 = length-map c.args.keys.now key_bits ∙ omega arith in
     let back : length (reverse (map key_bits c.args.keys.now)) ≡ 16 = length-reverse (map key_bits c.args.keys.now) ∙ len in
-    Runs_all (reverse (map key_bits c.args.keys.now)) c.args.left c.args.right c.loop-i.i c.loop-i.left c.loop-i.right c.loop-i.invariant (omega arith)
+    Runs_all (reverse (map key_bits c.args.keys.now)) c.args.left c.args.right (2 * c.loop-i.i) c.loop-i.left c.loop-i.right c.loop-i.invariant (omega arith)

@@ -1,7 +1,8 @@
-use Rattle.std.proofs.Common.{map, reverse}
+-- The rounds so far, two in a step, with the keys in the opposite order.
+use Rattle.std.proofs.Common.{◌*◌, map, reverse}
 use Rattle.des_block.specs.Keyed.{key_bits}
 use Rattle.des_block.proofs.MixedSteps.{Runs}
 use Rattle.des_block.proofs.rounds.rounds_back.Given as goal
 
 abbrev pub invariant-loop-i : goal.invariant-loop-i
-invariant-loop-i l = Runs (reverse (map key_bits l.keys)) l.initial.left l.initial.right l.i l.left l.right
+invariant-loop-i l = Runs (reverse (map key_bits l.keys)) l.initial.left l.initial.right (2 * l.i) l.left l.right

@@ -1,3 +1,4 @@
+-- One more byte has all its bits turned over.
 use Rattle.std.proofs.Common.{bit_xor, refl, arith}
 use Rattle.key_derive.proofs.Blocks.{map-over}
 use Rattle.key_derive.proofs.master.complement.Goals as goal

@@ -1,3 +1,4 @@
+-- One more byte is set to odd parity.
 use Rattle.std.proofs.Common.{arith}
 use Rattle.key_derive.specs.MasterKey.{with_odd_parity}
 use Rattle.key_derive.proofs.Blocks.{map-over}

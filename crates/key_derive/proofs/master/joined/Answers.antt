@@ -1,3 +1,4 @@
+-- Two halves of eight bytes side by side are the key of sixteen.
 use Rattle.key_derive.proofs.Blocks.{halves-joined}
 use Rattle.key_derive.proofs.master.joined.Goals as goal
 

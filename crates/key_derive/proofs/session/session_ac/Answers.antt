@@ -1,3 +1,4 @@
+-- The two bytes of the counter, and zeros behind, are what the session key for cryptograms is made of.
 use Rattle.std.proofs.Common.{◌≡◌, ◌/◌, ◌%◌, [], ◌∷◌, get_or, ap, ap₂, ◌∙◌, arith}
 use Rattle.key_derive.specs.SessionKey.{session_key, session_ac}
 use Rattle.key_derive.proofs.session.session_ac.Goals as goal

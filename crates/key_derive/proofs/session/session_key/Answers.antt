@@ -1,3 +1,4 @@
+-- The halves of the session key are two encipherments, told apart by their third byte.
 use Rattle.std.proofs.Common.{◌++◌, ap, ap₂, ◌∙◌}
 use Rattle.des_block.specs.Cipher.{tdes_encipher}
 use Rattle.key_derive.specs.SessionKey.{session_key}
@@ -9,5 +10,5 @@ returns c =
     let mk = c.args.mk.now.0 in
     c.joined.ensures
     ∙ ap₂ (λ left right. left ++ right)
-    (c.encipher-left.ensures.enciphered mk c.new-tdes.ensures ∙ ap (tdes_encipher mk) c.with_third.ensures)
-    (c.encipher-right.ensures.enciphered mk c.new-tdes.ensures ∙ ap (tdes_encipher mk) c.with_third-2.ensures)
+    (c.encipher_both.ensures.first mk c.new-tdes.ensures ∙ ap (tdes_encipher mk) c.with_third.ensures)
+    (c.encipher_both.ensures.second mk c.new-tdes.ensures ∙ ap (tdes_encipher mk) c.with_third-2.ensures)

@@ -1,3 +1,4 @@
+-- The first newline of the bytes within the room is the one that the search finds, or there is none.
 use Rattle.std.proofs.Common.{ℕ, List, MatchOption, sym, subst, arith}
 use Rattle.std.proofs.lemmas.List.{take_all}
 use Rattle.line_reader.specs.Lines.{IsUnbroken, IsFirstNewline}

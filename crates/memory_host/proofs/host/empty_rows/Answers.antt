@@ -1,3 +1,4 @@
+-- One more empty row is the next card's.
 use Rattle.std.proofs.Common.{refl}
 use Rattle.memory_host.proofs.EmptyRows.{empty-more}
 use Rattle.memory_host.proofs.host.empty_rows.Goals as goal

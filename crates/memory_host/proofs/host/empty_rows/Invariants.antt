@@ -1,3 +1,4 @@
+-- The rows so far are the empty ones of the cards so far.
 use Rattle.memory_host.specs.Deciding.{AreEmpty}
 use Rattle.memory_host.proofs.host.empty_rows.Given as goal
 

@@ -1,3 +1,4 @@
+-- The counts so far are all zero.
 use Rattle.std.proofs.Common.{◌≡◌, replicate}
 use Rattle.memory_host.proofs.host.zeros.Given as goal
 

@@ -1,3 +1,4 @@
+-- One block more, and the chain is still that of the blocks so far.
 use Rattle.std.proofs.Common.{◌≡◌, ℕ, List, fold}
 use Rattle.des_block.specs.Cipher.{word_bytes}
 use Rattle.des_block.specs.Keyed.{HasKey}

@@ -1,3 +1,4 @@
+-- The commands so far have the right form, and the template with them has this size and is not too large.
 use Rattle.std.proofs.Common.{◌≡◌, ◌+◌, ◌≤◌, take, sum_by}
 use Rattle.std.specs.Prelude.{All, IsTrue}
 use Rattle.issuer_base.specs.ScriptCommand.{is_command}

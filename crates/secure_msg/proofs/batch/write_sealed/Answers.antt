@@ -1,3 +1,4 @@
+-- One more sealed command stands behind the others, and its MAC is the next link of the chain.
 use Rattle.std.proofs.Common.{◌≡◌, ◌+◌, ℕ, List, ◌∷◌, length, drop, sum_by, ap, ◌∙◌, sym, arith, length-append}
 use Rattle.std.proofs.lemmas.List.{drop_more}
 use Rattle.std.proofs.lemmas.List.Sums.{sum_by-cons}

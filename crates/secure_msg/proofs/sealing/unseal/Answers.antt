@@ -1,3 +1,4 @@
+-- Bytes without a command in them, or other than its sealed ones, open as none; the sealed ones open as the command.
 use Rattle.std.proofs.Common.{◌≡◌, true, false, Some, ap, ◌∙◌, sym}
 use Rattle.std.specs.Str.{bytes_eq}
 use Rattle.std.proofs.lemmas.Bool.{not-true, not-false}

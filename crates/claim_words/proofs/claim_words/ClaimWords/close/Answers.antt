@@ -1,3 +1,4 @@
+-- The last seat is whole, so what it knows of claims and tops is all that the words hold.
 use Rattle.claim_words.proofs.KeepsClaims.{whole_found, whole_tops, whole_once}
 use Rattle.claim_words.proofs.claim_words.ClaimWords.close.Goals as goal
 

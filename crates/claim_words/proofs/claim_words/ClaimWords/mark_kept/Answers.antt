@@ -1,3 +1,4 @@
+-- A seat that holds a claim may raise its card's top, and has the claim as kept from then on.
 use Rattle.std.proofs.Common.{rules, arith, refl, ap, ◌∙◌, length, ◌<◌}
 use Rattle.claim_words.specs.Layout.{top_word_of}
 use Rattle.claim_words.proofs.KeepsClaims.{marks_allowed, still_named}

@@ -1,3 +1,4 @@
+-- A seat that holds a claim may clear its bit, and is without the claim from then on.
 use Rattle.std.proofs.Common.{rules, arith, ap, ◌∙◌, length, ◌<◌}
 use Rattle.claim_words.specs.Layout.{word_of}
 use Rattle.claim_words.proofs.KeepsClaims.{releases_allowed, still_named}

@@ -1,3 +1,4 @@
+-- A seat may always split off another, which holds nothing.
 use Rattle.std.proofs.Common.{rules, arith}
 use Rattle.claim_words.proofs.KeepsClaims.{splits_allowed}
 use Rattle.claim_words.proofs.claim_words.ClaimWords.split.Goals as goal

@@ -1,3 +1,4 @@
+-- The cards that are kept are all ones that may stand.
 use Rattle.issuer_setup.proofs.CardListLemmas.{bad_card-none}
 use Rattle.issuer_setup.proofs.cards.Cards.as_slice.Goals as goal
 

@@ -1,3 +1,4 @@
+-- The pairs so far are those of the cards so far, and the room is for those of all.
 use Rattle.std.proofs.Common.{◌≡◌, ◌*◌, length, take, vec_capacity}
 use Rattle.std.specs.List.{flat_map}
 use Rattle.issuer_setup.specs.KeptKeys.{pairs_of}

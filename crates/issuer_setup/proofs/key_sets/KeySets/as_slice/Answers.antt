@@ -1,3 +1,4 @@
+-- The key sets that are kept are all ones that may stand.
 use Rattle.issuer_setup.proofs.KeyListLemmas.{bad_key-none}
 use Rattle.issuer_setup.proofs.key_sets.KeySets.as_slice.Goals as goal
 

@@ -1,3 +1,4 @@
+-- Sixteen digits that are taken stay the first sixteen, whatever comes behind.
 use Rattle.key_derive.proofs.Taking.{take-full}
 use Rattle.key_derive.proofs.digits.Taken.add.Goals as goal
 

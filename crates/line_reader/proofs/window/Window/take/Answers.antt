@@ -1,3 +1,4 @@
+-- Bytes that are taken leave what is ahead and lengthen the line in hand.
 use Rattle.std.proofs.Common.{◌≤◌, ◌-◌, length, sym, arith}
 use Rattle.line_reader.proofs.Pieces.{drop-between, length-between, line-grown, line-joined}
 use Rattle.line_reader.proofs.window.Window.take.Goals as goal

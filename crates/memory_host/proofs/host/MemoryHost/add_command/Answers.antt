@@ -26,7 +26,8 @@ returns-clause-queued c =
       place_is = c.next_place.ensures.place;
       counted = c.next_place.ensures.counted;
     } in
-    subst (λ (before : Holding). IsQueued before c.args.card c.args.command (after_step host c.args.card c.push.new.self c.next_place.new.records.items) c.next_place.result)
+    subst (λ (before : Holding). IsQueued before c.args.card c.args.command (after_step host c.args.card c.push.new.self c.next_place.new.records.items)
+    c.next_place.result)
     c.self.view_is
     (λ histories card stands known. (
       subst TakesOneMore (place-there host c.args.card c.index_mut.result.now step.row_is histories card stands known) (c.in_ok-push.ensures.taken.0 refl),
@@ -43,7 +44,8 @@ returns-in_err-push-clause-full c =
     slice_get_read host.rows _ c.args.card c.index_mut.result.now refl within c.index_mut.ensures.value in
     λ failed. subst (λ (before : Holding). IsFull before c.args.card) c.self.view_is
     (λ histories card stands known takes.
-    false≢true (c.in_err-push.ensures.taken.1 (subst TakesOneMore (sym (place-there host c.args.card c.index_mut.result.now row_is histories card stands known)) takes)))
+    false≢true (c.in_err-push.ensures.taken.1
+    (subst TakesOneMore (sym (place-there host c.args.card c.index_mut.result.now row_is histories card stands known)) takes)))
 
 pub returns-clause-count : goal.returns-clause-count
 returns-clause-count c = λ most below.

@@ -24,7 +24,8 @@ returns-clause-recorded c =
       place_is = c.next_place.ensures.place;
       counted = c.next_place.ensures.counted;
     } in
-    subst (λ (before : Holding). IsRecorded before c.args.card c.args.step (after_step host c.args.card c.apply.new.self c.next_place.new.records.items) c.next_place.result)
+    subst (λ (before : Holding). IsRecorded before c.args.card c.args.step (after_step host c.args.card c.apply.new.self c.next_place.new.records.items)
+    c.next_place.result)
     c.self.view_is
     (λ histories card stands known next.
     step-added host c.args.card c.args.shard c.index_mut.result.now c.apply.new.self c.next_place.new.records.items c.next_place.result step histories card

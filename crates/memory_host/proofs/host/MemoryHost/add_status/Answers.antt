@@ -24,7 +24,8 @@ returns-clause-set c =
       place_is = c.next_place.ensures.place;
       counted = c.next_place.ensures.counted;
     } in
-    subst (λ (before : Holding). IsSet before c.args.card c.args.status (after_step host c.args.card c.set_status.new.self c.next_place.new.records.items) c.next_place.result)
+    subst (λ (before : Holding). IsSet before c.args.card c.args.status (after_step host c.args.card c.set_status.new.self c.next_place.new.records.items)
+    c.next_place.result)
     c.self.view_is
     (λ histories card stands known.
     step-added host c.args.card c.args.shard c.index_mut.result.now c.set_status.new.self c.next_place.new.records.items c.next_place.result step histories card

@@ -13,7 +13,8 @@ pub returns-in-Kept-clause-turn : goal.returns-in-Kept-clause-turn
 returns-in-Kept-clause-turn c = λ histories stands. (
   histories,
   stands,
-  unchanged-turn c.args.self.now c.args.checked c.requires.at_hand c.shard_of-shard.result c.shard_of-shard.ensures histories stands (AnswerKept c.shard_of-shard.result c.in-Kept.place c.in-Kept.reply)
+  unchanged-turn c.args.self.now c.args.checked c.requires.at_hand c.shard_of-shard.result c.shard_of-shard.ensures histories stands
+      (AnswerKept c.shard_of-shard.result c.in-Kept.place c.in-Kept.reply)
       (c.in-Kept.ensures histories stands),
 )
 
@@ -21,7 +22,8 @@ pub returns-in-Below-clause-turn : goal.returns-in-Below-clause-turn
 returns-in-Below-clause-turn c = λ histories stands. (
   histories,
   stands,
-  unchanged-turn c.args.self.now c.args.checked c.requires.at_hand c.shard_of-shard.result c.shard_of-shard.ensures histories stands (Refused (IsBelowWindow c.in-Below.top))
+  unchanged-turn c.args.self.now c.args.checked c.requires.at_hand c.shard_of-shard.result c.shard_of-shard.ensures histories stands
+      (Refused (IsBelowWindow c.in-Below.top))
       (c.in-Below.ensures histories stands),
 )
 
@@ -29,6 +31,7 @@ pub returns-in-Taken-clause-turn : goal.returns-in-Taken-clause-turn
 returns-in-Taken-clause-turn c = λ histories stands. (
   histories,
   stands,
-  unchanged-turn c.args.self.now c.args.checked c.requires.at_hand c.shard_of-shard.result c.shard_of-shard.ensures histories stands (Refused (IsTaken c.shard_of-shard.result c.in-Taken.place))
+  unchanged-turn c.args.self.now c.args.checked c.requires.at_hand c.shard_of-shard.result c.shard_of-shard.ensures histories stands
+      (Refused (IsTaken c.shard_of-shard.result c.in-Taken.place))
       (c.in-Taken.ensures histories stands),
 )

@@ -1,3 +1,4 @@
+-- A host with empty rows and no records stands for empty histories.
 use Rattle.std.proofs.Common.{ap, replicate, ◌∙◌}
 use Rattle.memory_host.proofs.EmptyRows.{stands-empty}
 use Rattle.memory_host.proofs.host.MemoryHost.new.Goals as goal

@@ -1,3 +1,4 @@
+-- The plan of the card's row is a plan of the host that holds it.
 use Rattle.std.proofs.Common.{◌≡◌, ◌<◌, List, length, get_or, Some, ap, refl, sym, subst, ◌∙◌, arith}
 use Rattle.std.proofs.lemmas.Option.{slice_get_read}
 use Rattle.std.specs.List.{slice_get}

@@ -1,3 +1,4 @@
+-- A block that was begun is filled up, or stays begun.
 use Rattle.std.proofs.Common.{◌≡◌, ◌-◌, ◌/◌, ◌*◌, ◌++◌, List, ℕ, length, take, drop, fold, sym, ap, ◌∙◌, subst, arith, length-append}
 use Rattle.std.proofs.lemmas.List.{take_all, drop_all}
 use Rattle.des_block.specs.Cipher.{word_bytes}
@@ -30,11 +31,11 @@ returns-clause-taken c = λ key text is.
     let whole : length (part ++ front) ≡ 8 = omega (arith, length-append part front) in
     let start : List ℕ = word_bytes c.args.self.now.chain in
     let block : c.joined-block.result ≡ part ++ front = c.joined-block.ensures ∙ ap (λ p. p ++ front) c.as_slice.ensures.value in
-    let stepped : word_bytes c.chained-self.result ≡ fold (chained (take 8 key)) start (blocks (length (part ++ front) / 8) (part ++ front)) =
-    c.chained-self.ensures (take 8 key) (c.left.ensures key is.keyed) ∙ ap (λ b. fold (chained (take 8 key)) start (blocks (length b / 8) b)) block in
+    let stepped : word_bytes c.chained.new.chain ≡ fold (chained (take 8 key)) start (blocks (length (part ++ front) / 8) (part ++ front)) =
+    c.chained.ensures (take 8 key) (c.left.ensures key is.keyed) ∙ ap (λ b. fold (chained (take 8 key)) start (blocks (length b / 8) b)) block in
     let count : 8 - c.len-begun.result ≡ length piece - length c.split_at.result.1.now = omega arith in
     let taken : front ≡ take (length piece - length c.split_at.result.1.now) piece =
     c.split_at.ensures.front ∙ ap (λ k. take k piece) count in
-    subst (λ taken. IsRun (record c.args.self.now { chain = c.chained-self.result; part = c.clear.new.self }) key (text ++ taken)) taken
-    (IsRun-more c.args.self.now key text front c.chained-self.result c.clear.new.self is stepped
+    subst (λ taken. IsRun (record c.args.self.now { chain = c.chained.new.chain; part = c.clear.new.self }) key (text ++ taken)) taken
+    (IsRun-more c.args.self.now key text front c.chained.new.chain c.clear.new.self is stepped
     (c.clear.ensures ∙ sym (drop_all (8 * (length (part ++ front) / 8)) (part ++ front) (omega arith))))

@@ -1,4 +1,6 @@
-use Rattle.std.proofs.Common.{◌∙◌}
+-- A run that begins anew.
+use Rattle.std.proofs.Common.{ap, ◌∙◌}
+use Rattle.des_block.specs.Cipher.{word_bytes}
 use Rattle.retail_mac.specs.Mac.{blocks}
 use Rattle.retail_mac.proofs.Blocks.{zero_word}
 use Rattle.retail_mac.proofs.Pieces.{retail_mac-end}
@@ -9,4 +11,4 @@ returns-clause-mac c = λ key text is. c.ended-mac.ensures key is.keyed ∙ reta
 
 pub returns-clause-again : goal.returns-clause-again
 unfolding blocks
-returns-clause-again c = λ key text is. record { keyed = is.keyed; chain = zero_word; part = c.clear.ensures }
+returns-clause-again c = λ key text is. record { keyed = is.keyed; chain = ap word_bytes c.new-self.ensures ∙ zero_word; part = c.clear.ensures }

@@ -1,3 +1,4 @@
+-- What a block that was begun needs, the whole blocks, and the rest.
 use Rattle.std.proofs.Common.{◌≡◌, ◌-◌, ◌/◌, ◌*◌, ◌++◌, List, ℕ, length, take, drop, fold, ap, ◌∙◌, subst, append_assoc}
 use Rattle.std.proofs.lemmas.List.{take-append-drop, take_rest}
 use Rattle.des_block.specs.Cipher.{word_bytes}
@@ -14,8 +15,8 @@ returns c = λ key text is.
     let front : List ℕ = take (length piece - length rest) piece in
     let mid : IsRun c.complete-rest.new.self key (text ++ front) = c.complete-rest.ensures.taken key text is in
     let start : List ℕ = word_bytes c.complete-rest.new.self.chain in
-    let stepped : word_bytes c.chained-self.result ≡ fold (chained (take 8 key)) start (blocks (length (part ++ rest) / 8) (part ++ rest)) =
-    c.chained-self.ensures (take 8 key) (c.left.ensures key mid.keyed)
+    let stepped : word_bytes c.chained.new.chain ≡ fold (chained (take 8 key)) start (blocks (length (part ++ rest) / 8) (part ++ rest)) =
+    c.chained.ensures (take 8 key) (c.left.ensures key mid.keyed)
     ∙ ap (fold (chained (take 8 key)) start) (begun-blocks part rest c.complete-rest.ensures.short c.complete-rest.ensures.begun) in
     let held : c.try_extend_from_slice.new.self.items ≡ part ++ drop (8 * (length rest / 8)) rest =
     let ok : c.try_extend_from_slice.new.self.items ≡ part ++ take (length rest - 8 * (length rest / 8)) (drop (8 * (length rest / 8)) rest) =
@@ -24,6 +25,6 @@ returns c = λ key text is.
     let joined : (text ++ front) ++ rest ≡ text ++ piece =
     append_assoc text front rest
     ∙ ap (λ bytes. text ++ bytes) (ap (λ r. front ++ r) c.complete-rest.ensures.left ∙ take-append-drop (length piece - length rest) piece) in
-    subst (λ taken. IsRun (record c.complete-rest.new.self { chain = c.chained-self.result; part = c.try_extend_from_slice.new.self }) key taken) joined
-    (IsRun-more c.complete-rest.new.self key (text ++ front) rest c.chained-self.result c.try_extend_from_slice.new.self mid stepped
+    subst (λ taken. IsRun (record c.complete-rest.new.self { chain = c.chained.new.chain; part = c.try_extend_from_slice.new.self }) key taken) joined
+    (IsRun-more c.complete-rest.new.self key (text ++ front) rest c.chained.new.chain c.try_extend_from_slice.new.self mid stepped
     (held ∙ begun-part part rest c.complete-rest.ensures.short c.complete-rest.ensures.begun))

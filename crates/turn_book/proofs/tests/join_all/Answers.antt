@@ -1,0 +1,38 @@
+-- One seat more is joined.
+use Rattle.std.proofs.Common.{rules, ◌≡◌, ◌++◌, ◌∷◌, [], List, ap, subst, ◌∙◌}
+use Rattle.std.specs.List.{flat_map}
+use Rattle.std.proofs.lemmas.List.Elements.{All-pop}
+use Rattle.seat_names.specs.SeatNames.{IsWhole}
+use Rattle.seat_names.specs.declared.seat_name.SeatName.{SeatName}
+use Rattle.seat_names.proofs.Totals.{map-snoc}
+use Rattle.seat_names.proofs.ManySeats.{flat_map-snoc, whole_joined}
+use Rattle.turn_book.specs.declared.tests.Caller.{Caller}
+use Rattle.turn_book.specs.Seats.{view_of}
+use Rattle.turn_book.specs.Counting.{IsReady}
+use Rattle.turn_book.proofs.CountingLemmas.{have_added_joined}
+use Rattle.turn_book.proofs.tests.join_all.Goals as goal
+
+pub loop-caller-preserved : goal.loop-caller-preserved
+loop-caller-preserved c =
+    let Ready : Caller → Type 0 = λ caller. IsReady c.args.tallies.now caller.seat caller.places.items in
+    let popped = All-pop Ready c.loop-caller.callers.items c.pop.new.self.items c.pop.result c.pop.ensures.items c.loop-caller.invariant.callers in
+    let last : Caller = c.in-Some.caller in
+    let ready : Ready last = rw c.in-Some.is at popped.1 in
+    let done = c.loop-caller.invariant.done in
+    let names_of : Caller → List SeatName = λ caller. (view_of caller.seat).names in
+    let before : c.loop-caller.callers.items ≡ c.pop.new.self.items ++ last ∷ [] = rw c.in-Some.is at c.pop.ensures.items in
+    let whole : IsWhole ((view_of c.loop-caller.seat).names ++ (flat_map names_of c.pop.new.self.items ++ names_of last)) =
+    subst (λ (names : List SeatName). IsWhole ((view_of c.loop-caller.seat).names ++ names))
+    (ap (flat_map names_of) before ∙ flat_map-snoc names_of c.pop.new.self.items last) c.loop-caller.invariant.whole in
+    record {
+      done = record {
+        of = c.join.ensures.seat;
+        free = ap (λ view. view.turn) c.join.ensures.view;
+        added = rw (c.push_reserved.ensures.items, map-snoc, c.join.ensures.view)
+            (have_added_joined _ last.places.items (view_of c.loop-caller.seat) (view_of last.seat) done.added ready.added);
+      };
+      callers = popped.0;
+      count = search rules;
+      room = search rules;
+      whole = rw c.join.ensures.view (whole_joined (view_of c.loop-caller.seat).names (view_of last.seat).names (flat_map names_of c.pop.new.self.items) whole);
+    }

@@ -1,0 +1,112 @@
+//! The values of the shards, as they come in and go out again.
+ghost use Rattle.std.specs.Prelude.{◌≡◌, ℕ, ◌+◌, ◌*◌, ◌<◌, ◌≤◌, false, List, [], All, length, map, Some, None, IsSome, IfOk, vec_len, vec_capacity, slice_index_or};
+ghost use Rattle.std.specs.Mem.Slots.{slots_items, slots_filled, slots_len, IsFull};
+ghost use Rattle.issuer_base.specs.declared.limits.TheConstants.{MAX_SHARDS};
+ghost use Rattle.turn_book.specs.Opening.{AreOpeningWords};
+
+use crate::layout::{SHARD_WORDS, count_word};
+use crate::opening::{Opening, OpeningLogs, opening_key};
+use atomic_table::Closed;
+use issuer_base::MAX_SHARDS;
+use std::alloc::{AllocError, Global};
+
+/// An empty list with room for the value of each shard.
+pub(crate) struct Spare<V> {
+    list: Vec<V>,
+    ghost empty: { vec_len list ≡ 0 },
+    ghost room: { MAX_SHARDS ≤ vec_capacity list },
+}
+
+impl<V> Spare<V> {
+    pub(crate) fn new(list: Vec<V>) -> Spare<V>
+        requires { (vec_len list ≡ 0) × (MAX_SHARDS ≤ vec_capacity list) }
+    {
+        Spare { list }
+    }
+
+    pub(crate) fn into_list(self) -> Vec<V>
+        ensures { (result.items ≡ []) × (MAX_SHARDS ≤ vec_capacity result) }
+    {
+        let Spare { list } = self;
+        list
+    }
+}
+
+/// The words of a table that begins with so many items in each log, and whose turns are free.
+pub(crate) fn opening_words(alloc: Global, counts: &[u64]) -> Result<Vec<u64>, AllocError>
+    requires { length counts.now ≤ MAX_SHARDS }
+    ensures { IfOk result (λ words. AreOpeningWords counts.now words.items) }
+{
+    let mut words = vec![in alloc; 0; SHARD_WORDS * counts.len()]?;
+    for (shard, &count) in counts.iter().enumerate() {
+        words[count_word(shard as u8)] = count;
+    }
+    Ok(words)
+}
+
+/// Moves the values into slots, in order.
+pub(crate) fn fill_slots<V>(values: &mut Vec<V>, slots: &mut Vec<Option<V>>)
+    requires empty { slots.old.items ≡ [] }
+    requires room { vec_len values.old ≤ vec_capacity slots.old }
+    ensures values { (values.new.items ≡ []) × (vec_capacity values.new ≡ vec_capacity values.old) }
+    ensures slots { slots.new.items ≡ map Some values.old.items }
+{
+    while let Some(value) = values.pop() {
+        slots.push_reserved(Some(value));
+    }
+    slots.reverse();
+}
+
+/// Moves the values out of slots that are full, in order.
+pub(crate) fn empty_slots<V>(mut slots: Vec<Option<V>>, values: &mut Vec<V>)
+    requires full { All IsSome slots.items }
+    requires empty { values.old.items ≡ [] }
+    requires room { vec_len slots ≤ vec_capacity values.old }
+    ensures { map Some values.new.items ≡ slots.items }
+{
+    while let Some(slot) = slots.pop() {
+        values.push_reserved(slot.unwrap());
+    }
+    slots.destroy_empty();
+    values.reverse();
+}
+
+/// Takes the values of a closed table, in order.
+pub(crate) fn take_values<V>(closed: &mut Closed<Option<V>, Global>, values: &mut Vec<V>)
+    requires full { IsFull closed.old.slots × All IsSome (slots_items closed.old.slots) }
+    requires empty { values.old.items ≡ [] }
+    requires room { slots_len closed.old.slots ≤ vec_capacity values.old }
+    ensures values { map Some values.new.items ≡ slots_items closed.old.slots }
+    ensures taken { (k : ℕ) → k < slots_len closed.new.slots → slice_index_or (slots_filled closed.new.slots) k false ≡ false }
+{
+    for shard in 0..closed.slot_count() {
+        values.push_reserved(closed.take(shard).unwrap());
+    }
+}
+
+/// What a table is made from: its words, its key, and room for its slots, of which the list of values has as much.
+pub(crate) struct Ground<V, I, B> {
+    pub(crate) words: Vec<u64>,
+    pub(crate) key: Opening<I, B>,
+    pub(crate) slots: Vec<Option<V>>,
+}
+
+/// Takes the memory of a table for so many values.
+pub(crate) fn take_ground<V, J: OpeningLogs<I, B>, I, B>(
+    alloc: Global,
+    values: &mut Vec<V>,
+    counts: &[u64],
+) -> Result<Ground<V, I, B>, AllocError>
+    requires { (vec_len values.old ≤ MAX_SHARDS) × (length counts.now ≡ vec_len values.old) }
+    ensures values { values.new.items ≡ values.old.items }
+    ensures words { IfOk result (λ ground. AreOpeningWords counts.now ground.words.items) }
+    ensures key { IfOk result (λ ground. ground.key.view ≡ J.opening) }
+    ensures slots { IfOk result (λ ground. (ground.slots.items ≡ []) × (vec_len values.new ≤ vec_capacity ground.slots) × (MAX_SHARDS ≤ vec_capacity values.new)) }
+{
+    let count = values.len();
+    values.reserve(MAX_SHARDS as usize - count)?;
+    let words = opening_words(alloc, counts)?;
+    let key = opening_key::<J, I, B>(alloc)?;
+    let slots = Vec::with_capacity(alloc, count)?;
+    Ok(Ground { words, key, slots })
+}
