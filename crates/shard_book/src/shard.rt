@@ -57,6 +57,8 @@ impl<S: Store> Shard<S> {
     ) -> Result<Shard<S>, LoadBack<S>>
         requires { shard < issuer.now.shards }
         ensures loaded { IfOk result (IsLoaded issuer.now shard (S.bytes store)) }
+        ensures under { IfOk result (IsUnder issuer.now) }
+        ensures number { IfOk result (λ loaded. number_in loaded ≡ shard) }
         ensures stopped { IfErr result (λ back. StopsText issuer.now shard (S.bytes store) back.fault) }
 
         // While it is loaded a crash leaves what it might leave before, or the text of the records.
