@@ -39,6 +39,7 @@ impl<S: Store> Journal<S> {
         ensures holds { (text rest : List ℕ) → length text ≡ sure → Tells (S.bytes store) (text ++ rest)
             → IfOk result (λ journal. Holds journal records text []) }
         ensures sure { IfOk result (λ journal. journal.sure ≡ sure) }
+        ensures records { IfOk result (λ journal. journal.records ≡ records) }
         ensures opened { IfOk result (λ journal. BothTold (λ old new. LeavesOnly (IsCutImage sure old.now) old new) (S.disk store) (S.disk journal.store)) }
         ensures crash { IfErr result (λ back. BothTold (λ old new. LeavesOnly (IsCutImage sure old.now) old new) (S.disk store) (S.disk back)) }
         ensures count { IfOk result (λ journal. CountsFaults (S.faults store) (S.faults journal.store) false) }

@@ -82,10 +82,10 @@ pub crash-no_call : {S : Type 0} {G : Ghosts S} (grounds : Grounds) (number : �
 crash-no_call {S} {G} grounds number journal history h = no_call grounds number history h.tail h.tail_is (G.disk journal.store) h.holds.disk_is
 
 -- a shard whose journal has the record, and whose rows stand for it, stands for the history with it
-pub stands-with : {S : Type 0} {G : Ghosts S} (issuer : Setup) (number : ℕ) (journal : Journal S G) (mid rows : ShardRows) (history : List Entry)
+pub stands-with : {S : Type 0} {G : Ghosts S} (issuer : Setup) (number : ℕ) (journal : Journal S G) (mid rows : ShardRows) (told : ℕ) (history : List Entry)
     → mid.shard ≡ number → AreSame mid rows → RowsStandFor issuer rows history → HoldsHistory (grounds_now issuer) number journal history
-    → let shard : Shard S G = record { journal = journal; rows = rows } in StandsFor issuer shard history
-stands-with {S} {G} issuer number journal mid rows history number_is same stands holds = record {
+    → let shard : Shard S G = record { journal = journal; rows = rows; told = told } in StandsFor issuer shard history
+stands-with {S} {G} issuer number journal mid rows told history number_is same stands holds = record {
   rows_stand = stands;
   journal_holds = subst (λ number. HoldsHistory (grounds_now issuer) number journal history) (sym (same.shard_is ∙ number_is)) holds;
 }

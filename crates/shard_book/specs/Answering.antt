@@ -1,5 +1,5 @@
 -- What a shard over a store may answer, and its history afterwards: a turn's answer, or that its store failed.
-use Rattle.std.specs.Prelude.{◌≡◌, ℕ, Bool, true, false, List}
+use Rattle.std.specs.Prelude.{◌≡◌, ℕ, ◌+◌, ◌^◌, nat_lt, if◌then◌else◌, Bool, true, false, List}
 use Rattle.issuer_base.specs.declared.command.Command.{Command}
 use Rattle.issuer_base.specs.declared.request.Request.{Request}
 use Rattle.issuer_base.specs.declared.answer.Reply.{Reply}
@@ -16,6 +16,11 @@ use Rattle.script_queue.specs.CommandQueue.{TakesOneMore}
 abbrev pub is_store_fault : Answer → Bool
 is_store_fault (Refused StoreFault) = true
 is_store_fault _ = false
+
+-- how many answers told that the store failed, after one more answer: they are counted up to 2^62 and no further
+abbrev pub told_after : ℕ → Bool → ℕ
+told_after told true = if nat_lt told (2 ^ 62) then told + 1 else told
+told_after told false = told
 
 -- what may be answered to a request whose claim was won or not
 abbrev pub AnswersClaimed : ℕ → (List Entry → Request → Reply) → Bool → List Entry → Request → Answer → List Entry → Type 0

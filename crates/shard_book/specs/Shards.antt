@@ -44,6 +44,14 @@ module _ {S : Type 0} {G : Ghosts S} where
   abbrev pub sure_in : Shard S G → ℕ
   sure_in shard = shard.journal.sure
 
+  -- how many records it has
+  abbrev pub places_in : Shard S G → ℕ
+  places_in shard = shard.journal.records
+
+  -- how many of its answers told that its store failed
+  abbrev pub told_in : Shard S G → ℕ
+  told_in shard = shard.told
+
   -- what its store tells of its disk, and the store's count of faults
   abbrev pub disk_in : Shard S G → Option Disk
   disk_in shard = G.disk shard.journal.store

@@ -19,8 +19,8 @@ ghost use Rattle.record_store.specs.Images.{IsCutImage};
 ghost use Rattle.shard_book.specs.Loading.{StopsText, is_store_failure};
 ghost use Rattle.shard_book.specs.Grounds.{grounds_now, IsImageOf};
 ghost use Rattle.shard_book.specs.Steps.{IsCardOf};
-ghost use Rattle.shard_book.specs.Shards.{number_in, IsUnder, HasCard, store_in, sure_in, disk_in, faults_in, HoldsHistory, StandsFor, Adds, IsLoaded, IsSomeCutImage};
-ghost use Rattle.shard_book.specs.Answering.{is_store_fault, AnswersClaimed, AnswersQueueing, AnswersSetting};
+ghost use Rattle.shard_book.specs.Shards.{number_in, IsUnder, HasCard, store_in, sure_in, disk_in, faults_in, places_in, told_in, HoldsHistory, StandsFor, Adds, IsLoaded, IsSomeCutImage};
+ghost use Rattle.shard_book.specs.Answering.{is_store_fault, told_after, AnswersClaimed, AnswersQueueing, AnswersSetting};
 
 use crate::replay::{LoadFault, Taken, TakenOver, take_over};
 use crate::rows::Rows;
@@ -32,10 +32,16 @@ use record_store::Journal;
 use row_core::{Outcome, Row, Step};
 use std::alloc::Global;
 
+/// So many faults of its store a shard counts, and no more.
+const MAX_TOLD: u64 = 1 << 62;
+
 /// A shard of an issuer over a store: the rows of its cards, and the journal of its records.
 pub struct Shard<S: Store> {
     journal: Journal<S>,
     rows: Rows,
+
+    /// How many answers since loading told that the store failed, counted up to [`MAX_TOLD`].
+    told: u64,
 }
 
 /// A store that wasn't loaded, and why.
@@ -59,6 +65,8 @@ impl<S: Store> Shard<S> {
         ensures loaded { IfOk result (IsLoaded issuer.now shard (S.bytes store)) }
         ensures under { IfOk result (IsUnder issuer.now) }
         ensures number { IfOk result (λ loaded. number_in loaded ≡ shard) }
+        ensures few { IfOk result (λ loaded. places_in loaded ≤ S.size store) }
+        ensures untold { IfOk result (λ loaded. told_in loaded ≡ 0) }
         ensures stopped { IfErr result (λ back. StopsText issuer.now shard (S.bytes store) back.fault) }
 
         // While it is loaded a crash leaves what it might leave before, or the text of the records.
@@ -90,6 +98,7 @@ impl<S: Store> Shard<S> {
         ensures crash { (history : List Entry) → StandsFor issuer.now self.old history
             → BothTold (LeavesOnly (IsImageOf (grounds_now issuer.now) (number_in self.old) history)) (disk_in self.old) (disk_in self.new) }
         ensures count { CountsFaults (faults_in self.old) (faults_in self.new) (is_store_fault result) }
+        ensures told { told_in self.new ≡ told_after (told_in self.old) (is_store_fault result) }
         ensures under { IsUnder issuer.now self.new }
     {
         let shard = self.rows.shard();
@@ -121,6 +130,7 @@ impl<S: Store> Shard<S> {
         ensures crash { (history : List Entry) → StandsFor issuer.now self.old history
             → BothTold (LeavesOnly (IsImageOf (grounds_now issuer.now) (number_in self.old) history)) (disk_in self.old) (disk_in self.new) }
         ensures count { CountsFaults (faults_in self.old) (faults_in self.new) (is_store_fault result) }
+        ensures told { told_in self.new ≡ told_after (told_in self.old) (is_store_fault result) }
         ensures under { IsUnder issuer.now self.new }
     {
         if !self.rows.takes_command(found.card) {
@@ -158,6 +168,7 @@ impl<S: Store> Shard<S> {
         ensures crash { (history : List Entry) → StandsFor issuer.now self.old history
             → BothTold (LeavesOnly (IsImageOf (grounds_now issuer.now) (number_in self.old) history)) (disk_in self.old) (disk_in self.new) }
         ensures count { CountsFaults (faults_in self.old) (faults_in self.new) (is_store_fault result) }
+        ensures told { told_in self.new ≡ told_after (told_in self.old) (is_store_fault result) }
         ensures under { IsUnder issuer.now self.new }
     {
         let CheckedStatus {
@@ -187,16 +198,28 @@ impl<S: Store> Shard<S> {
 
     /// How many records the shard has.
     pub fn places(&self) -> u64
-        ensures { (issuer : Setup) (history : List Entry) → StandsFor issuer self.now history → result ≡ length history }
+        ensures history { (issuer : Setup) (history : List Entry) → StandsFor issuer self.now history → result ≡ length history }
+        ensures places { result ≡ places_in self.now }
     {
         self.journal.records()
+    }
+
+    /// How many answers since loading told that the store failed, counted up to 2^62 and no further.
+    pub fn faults(&self) -> u64
+        ensures { result ≡ told_in self.now }
+    {
+        self.told
     }
 
     /// The store, with the text of the records, and behind it what is in doubt.
     pub fn into_store(self) -> S
         ensures { result ≡ store_in self }
     {
-        let Shard { journal, rows: _ } = self;
+        let Shard {
+            journal,
+            rows: _,
+            told: _,
+        } = self;
         journal.into_store()
     }
 
@@ -213,6 +236,7 @@ impl<S: Store> Shard<S> {
             → IsLegal (grounds_now issuer) (number_in self.old) history (Entry.Decided found.now.request reply)
             → BothTold (LeavesOnly (IsImageOf (grounds_now issuer) (number_in self.old) history)) (disk_in self.old) (disk_in self.new) }
         ensures count { CountsFaults (faults_in self.old) (faults_in self.new) (is_store_fault result) }
+        ensures told { told_in self.new ≡ told_after (told_in self.old) (is_store_fault result) }
         ensures under { (issuer : Setup) → IsUnder issuer self.old → IsUnder issuer self.new }
     {
         let entry = Entry::Decided {
@@ -243,9 +267,12 @@ impl<S: Store> Shard<S> {
             → IsLegal (grounds_now issuer) (number_in self.old) history entry.now
             → BothTold (LeavesOnly (IsImageOf (grounds_now issuer) (number_in self.old) history)) (disk_in self.old) (disk_in self.new) }
         ensures count { CountsFaults (faults_in self.old) (faults_in self.new) (is_err result) }
+        ensures told { told_in self.new ≡ told_after (told_in self.old) (is_err result) }
     {
         let text = write_entry(entry);
-        self.journal.put(text.as_slice())
+        let written = self.journal.put(text.as_slice());
+        self.told = told_after(self.told, written.is_err());
+        written
     }
 }
 
@@ -255,6 +282,8 @@ fn open<S: Store>(store: S, rows: Rows, taken: Taken) -> Result<Shard<S>, LoadBa
     requires few { taken.records ≤ taken.bytes }
     ensures rows { IfOk result (λ loaded. loaded.rows ≡ rows) }
     ensures sure { IfOk result (λ loaded. sure_in loaded ≡ taken.bytes) }
+    ensures places { IfOk result (λ loaded. places_in loaded ≡ taken.records) }
+    ensures untold { IfOk result (λ loaded. told_in loaded ≡ 0) }
     ensures holds { (text rest : List ℕ) → length text ≡ taken.bytes → Tells (S.bytes store) (text ++ rest)
         → IfOk result (λ loaded. Holds loaded.journal taken.records text []) }
     ensures opened { IfOk result (λ loaded. BothTold (λ old new. LeavesOnly (IsCutImage taken.bytes old.now) old new) (S.disk store) (disk_in loaded)) }
@@ -264,10 +293,24 @@ fn open<S: Store>(store: S, rows: Rows, taken: Taken) -> Result<Shard<S>, LoadBa
     ensures failed { IfErr result (λ back. CountsFaults (S.faults store) (S.faults back.store) true) }
 {
     match Journal::open(store, taken.bytes as u64, taken.records) {
-        Ok(journal) => Ok(Shard { journal, rows }),
+        Ok(journal) => Ok(Shard {
+            journal,
+            rows,
+            told: 0,
+        }),
         Err(store) => Err(LoadBack {
             fault: LoadFault::StoreFault,
             store,
         }),
     }
+}
+
+/// How many answers told that the store failed, after one more answer.
+fn told_after(told: u64, failed: bool) -> u64
+    ensures { result ≡ told_after told failed }
+{
+    if failed && told < MAX_TOLD {
+        return told + 1;
+    }
+    told
 }
