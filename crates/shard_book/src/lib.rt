@@ -8,3 +8,6 @@ mod shard;
 
 pub use replay::LoadFault;
 pub use shard::{LoadBack, Shard};
+
+#[cfg(test)]
+mod tests;

@@ -100,6 +100,7 @@ impl<S: Store> Shard<S> {
         ensures count { CountsFaults (faults_in self.old) (faults_in self.new) (is_store_fault result) }
         ensures told { told_in self.new ≡ told_after (told_in self.old) (is_store_fault result) }
         ensures under { IsUnder issuer.now self.new }
+        ensures number { number_in self.new ≡ number_in self.old }
     {
         let shard = self.rows.shard();
         match self.rows.plan(issuer, found, self.journal.records()) {
@@ -132,6 +133,7 @@ impl<S: Store> Shard<S> {
         ensures count { CountsFaults (faults_in self.old) (faults_in self.new) (is_store_fault result) }
         ensures told { told_in self.new ≡ told_after (told_in self.old) (is_store_fault result) }
         ensures under { IsUnder issuer.now self.new }
+        ensures number { number_in self.new ≡ number_in self.old }
     {
         if !self.rows.takes_command(found.card) {
             return Answer::Refused(Refusal::QueueFull);
@@ -170,6 +172,7 @@ impl<S: Store> Shard<S> {
         ensures count { CountsFaults (faults_in self.old) (faults_in self.new) (is_store_fault result) }
         ensures told { told_in self.new ≡ told_after (told_in self.old) (is_store_fault result) }
         ensures under { IsUnder issuer.now self.new }
+        ensures number { number_in self.new ≡ number_in self.old }
     {
         let CheckedStatus {
             pan,
@@ -238,6 +241,7 @@ impl<S: Store> Shard<S> {
         ensures count { CountsFaults (faults_in self.old) (faults_in self.new) (is_store_fault result) }
         ensures told { told_in self.new ≡ told_after (told_in self.old) (is_store_fault result) }
         ensures under { (issuer : Setup) → IsUnder issuer self.old → IsUnder issuer self.new }
+        ensures number { number_in self.new ≡ number_in self.old }
     {
         let entry = Entry::Decided {
             request: found.request.copy(),
