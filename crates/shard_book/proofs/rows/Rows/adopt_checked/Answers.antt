@@ -16,7 +16,8 @@ returns-clause-exact c issuer card history stands known its =
     subst (λ place. place < length rows.rows) (sym c.index_of.ensures) (c.self.invariant.each number home) in
     let row_is = slice_get_read rows.rows _ c.index_of.result c.index_mut.result.now refl within c.index_mut.ensures.value in
     c.adopt_under.ensures.exact card history
-    (row-inside issuer rows c.args.self.now c.self.view_is number c.index_of.result c.index_of.ensures c.index_mut.result.now c.requires.home row_is card history
+    (row-inside issuer rows c.args.self.now c.self.view_is number c.index_of.result c.index_of.ensures c.index_mut.result.now c.requires.home row_is
+    card history
     stands known) its
 
 pub returns-clause-adopted : goal.returns-clause-adopted

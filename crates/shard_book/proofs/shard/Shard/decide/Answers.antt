@@ -25,11 +25,13 @@ returns-clause-added g c issuer card history stands known next step_is legal =
     (c.apply.ensures.applied issuer card history before known next) in
     let holds =
     subst (λ (reply : Reply). HoldsHistory (grounds_now issuer) number c.put.new.self.journal (history ++ Decided request reply ∷ [])) c.copy-2.ensures
-    (subst (λ (request : Request). HoldsHistory (grounds_now issuer) number c.put.new.self.journal (history ++ Decided request c.copy-2.result ∷ [])) c.copy.ensures
+    (subst (λ (request : Request). HoldsHistory (grounds_now issuer) number c.put.new.self.journal
+    (history ++ Decided request c.copy-2.result ∷ [])) c.copy.ensures
     put.1) in
     let shard_is : c.shard.result ≡ number = c.shard.ensures ∙ c.apply.ensures.same.shard_is ∙ number_is in
     inl (
       ap (λ shard. Fresh shard c.in-Ok.place reply) shard_is ∙ ap (λ place. Fresh number place reply) put.0,
-      stands-with issuer number c.put.new.self.journal c.put.new.self.rows c.apply.new.self c.put.new.self.told (history ++ Decided request reply ∷ []) number_is
+      stands-with issuer number c.put.new.self.journal c.put.new.self.rows c.apply.new.self c.put.new.self.told
+          (history ++ Decided request reply ∷ []) number_is
           c.apply.ensures.same rows holds,
     )

@@ -81,7 +81,8 @@ returns-clause-answer g c history stands =
     subst (λ (command : Command). HoldsHistory (grounds_now issuer) number c.put.new.self.journal (history ++ Queued found.pan found.psn command ∷ []))
     c.copy.ensures put.1 in (
       history ++ Queued found.pan found.psn found.command ∷ [],
-      stands-with issuer number c.put.new.self.journal c.put.new.self.rows c.push.new.self c.put.new.self.told (history ++ Queued found.pan found.psn found.command ∷ [])
+      stands-with issuer number c.put.new.self.journal c.put.new.self.rows c.push.new.self c.put.new.self.told
+          (history ++ Queued found.pan found.psn found.command ∷ [])
           number_is c.push.ensures.same rows holds,
       (room, c.shard.ensures ∙ c.push.ensures.same.shard_is ∙ number_is, put.0, refl),
     )

@@ -27,7 +27,8 @@ returns-clause-answer g c history stands =
     let rows = subst (λ (name : CardName). RowsStandFor issuer c.set_status.new.self (history ++ Status name.pan name.psn found.status ∷ [])) card.named
     (c.set_status.ensures.set issuer card.card history before card.known) in (
       history ++ Status found.pan found.psn found.status ∷ [],
-      stands-with issuer number c.put.new.self.journal c.put.new.self.rows c.set_status.new.self c.put.new.self.told (history ++ Status found.pan found.psn found.status ∷ [])
+      stands-with issuer number c.put.new.self.journal c.put.new.self.rows c.set_status.new.self c.put.new.self.told
+          (history ++ Status found.pan found.psn found.status ∷ [])
           number_is c.set_status.ensures.same rows put.1,
       (c.shard.ensures ∙ c.set_status.ensures.same.shard_is ∙ number_is, put.0, refl),
     )
