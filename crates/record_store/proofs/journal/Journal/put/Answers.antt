@@ -1,0 +1,13 @@
+-- What a crash leaves while a record is put: first what is in doubt is cut away, then the record is written.
+use Rattle.std.proofs.Common.{None}
+use Rattle.record_store.proofs.Passing.{crash-clear, crash-put}
+use Rattle.record_store.proofs.journal.Journal.put.Goals as goal
+
+pub returns-in_err-clear-clause-crash : goal.returns-in_err-clear-clause-crash
+returns-in_err-clear-clause-crash g c count text tail holds =
+    crash-clear text tail c.args.piece.now _ _ None holds.disk_is (c.clear.ensures.passes count text tail holds)
+
+pub returns-clause-crash : goal.returns-clause-crash
+returns-clause-crash g c count text tail holds =
+    crash-put text tail c.args.piece.now _ _ _ holds.disk_is (c.clear.ensures.passes count text tail holds)
+    (c.write.ensures.passes count text (c.in_ok-clear.ensures.holds count text tail holds))

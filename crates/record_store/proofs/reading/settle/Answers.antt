@@ -1,0 +1,12 @@
+-- What a crash leaves while a store is cut to its text.
+use Rattle.record_store.proofs.Passing.{crash-sync, crash-cut, crash-cut_sync}
+use Rattle.record_store.proofs.reading.settle.Goals as goal
+
+pub returns-then-sure-len-clause-crash : goal.returns-then-sure-len-clause-crash
+returns-then-sure-len-clause-crash g c = crash-sync c.args.sure _ _ _ c.sync.ensures.disk
+
+pub returns-in_err-cut-clause-crash : goal.returns-in_err-cut-clause-crash
+returns-in_err-cut-clause-crash g c = crash-cut c.args.sure _ _ _ c.cut.ensures.disk
+
+pub returns-clause-crash : goal.returns-clause-crash
+returns-clause-crash g c = crash-cut_sync c.args.sure _ _ _ _ _ c.cut.ensures.disk c.sync-2.ensures.disk

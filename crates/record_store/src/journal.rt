@@ -1,0 +1,134 @@
+//! A text of records that grows at its end: a record is safe in the store before it counts.
+ghost use Rattle.std.specs.Prelude.{◌≡◌, ◌⊎◌, ◌+◌, ◌<◌, ◌≤◌, ℕ, List, [], ◌++◌, length, false, IfOk, IfErr, IsErr, OnOk, is_err, true};
+ghost use Rattle.issuer_base.specs.OutsideFaults.{CountsFaults};
+ghost use Rattle.issuer_base.specs.Stores.{BothTold, Disk, LeavesOnly, Passes};
+ghost use Rattle.issuer_base.specs.Tells.{Tells};
+ghost use Rattle.record_store.specs.Images.{HasSafeText, IsImage, IsCutImage, IsEitherImage};
+
+use crate::reading::settle;
+use issuer_base::{Store, StoreFail};
+
+/// The text of a shard's records in a store.
+///
+/// A record that a call couldn't make safe is in doubt: some front of it, or all, may stand behind the text, and it is cut
+/// away before the next record is written.
+pub struct Journal<S: Store> {
+    store: S,
+
+    /// How many bytes of the store are sure: those of the text.
+    sure: u64,
+
+    /// How many records the text has.
+    records: u64,
+
+    /// Whether more than the text may stand in the store.
+    in_doubt: bool,
+    ghost within: { sure ≤ S.size store },
+    ghost exact: { in_doubt ≡ false → S.size store ≡ sure },
+    ghost few: { records ≤ sure },
+}
+
+impl<S: Store> Journal<S> {
+    ghost use Rattle.record_store.specs.Holding.{Holds};
+
+    /// The journal of a store whose first `sure` bytes are the text of so many records. What stands behind them is cut away,
+    /// and the text is made safe. Where the store fails it is given back.
+    pub fn open(store: S, sure: u64, records: u64) -> Result<Journal<S>, S>
+        requires within { sure ≤ S.size store }
+        requires few { records ≤ sure }
+        ensures holds { (text rest : List ℕ) → length text ≡ sure → Tells (S.bytes store) (text ++ rest)
+            → IfOk result (λ journal. Holds journal records text []) }
+        ensures sure { IfOk result (λ journal. journal.sure ≡ sure) }
+        ensures records { IfOk result (λ journal. journal.records ≡ records) }
+        ensures opened { IfOk result (λ journal. BothTold (λ old new. LeavesOnly (IsCutImage sure old.now) old new) (S.disk store) (S.disk journal.store)) }
+        ensures crash { IfErr result (λ back. BothTold (λ old new. LeavesOnly (IsCutImage sure old.now) old new) (S.disk store) (S.disk back)) }
+        ensures count { IfOk result (λ journal. CountsFaults (S.faults store) (S.faults journal.store) false) }
+        ensures failed { IfErr result (λ back. CountsFaults (S.faults store) (S.faults back) true) }
+    {
+        let mut store = store;
+        if settle(&mut store, sure).is_err() {
+            return Err(store);
+        }
+        Ok(Journal {
+            store,
+            sure,
+            records,
+            in_doubt: false,
+        })
+    }
+
+    /// How many records the text has.
+    pub fn records(&self) -> u64
+        ensures { result ≡ self.now.records }
+    {
+        self.records
+    }
+
+    /// The store, with the text and what may be in doubt behind it.
+    pub fn into_store(self) -> S
+        ensures { result ≡ self.store }
+    {
+        let Journal {
+            store,
+            sure: _,
+            records: _,
+            in_doubt: _,
+        } = self;
+        store
+    }
+
+    /// Puts a record behind the text and makes it safe, and gives its place. A record that is in doubt is cut away first.
+    pub fn put(&mut self, piece: &[u8]) -> Result<u64, StoreFail>
+        requires { 0 < length piece.now }
+        ensures put { (count : ℕ) (text tail : List ℕ) → Holds self.old count text tail
+            → IfOk result (λ place. (place ≡ count) × Holds self.new (count + 1) (text ++ piece.now) []) }
+        ensures failed { (count : ℕ) (text tail : List ℕ) → Holds self.old count text tail
+            → IsErr result → Holds self.new count text tail ⊎ Holds self.new count text piece.now }
+
+        // A crash since the start of the call leaves the text, and behind it a front of what was in doubt or of the record.
+        ensures crash { (count : ℕ) (text tail : List ℕ) → Holds self.old count text tail
+            → BothTold (LeavesOnly (IsEitherImage text tail piece.now)) (S.disk self.old.store) (S.disk self.new.store) }
+        ensures count { CountsFaults (S.faults self.old.store) (S.faults self.new.store) (is_err result) }
+    {
+        self.clear()?;
+        self.write(piece)
+    }
+
+    /// Cuts away what is in doubt.
+    fn clear(&mut self) -> Result<(), StoreFail>
+        ensures cleared { OnOk result (self.new.in_doubt ≡ false) }
+        ensures holds { (count : ℕ) (text tail : List ℕ) → Holds self.old count text tail → OnOk result (Holds self.new count text []) }
+        ensures failed { (count : ℕ) (text tail : List ℕ) → Holds self.old count text tail → IsErr result → Holds self.new count text tail }
+        ensures passes { (count : ℕ) (text tail : List ℕ) → Holds self.old count text tail
+            → BothTold (Passes (HasSafeText text tail)) (S.disk self.old.store) (S.disk self.new.store) }
+        ensures count { CountsFaults (S.faults self.old.store) (S.faults self.new.store) (is_err result) }
+    {
+        if !self.in_doubt {
+            return Ok(());
+        }
+        self.store.cut(self.sure)?;
+        self.in_doubt = false;
+        Ok(())
+    }
+
+    /// Puts a record behind the text, where nothing is in doubt.
+    fn write(&mut self, piece: &[u8]) -> Result<u64, StoreFail>
+        requires some { 0 < length piece.now }
+        requires cleared { self.old.in_doubt ≡ false }
+        ensures put { (count : ℕ) (text : List ℕ) → Holds self.old count text []
+            → IfOk result (λ place. (place ≡ count) × Holds self.new (count + 1) (text ++ piece.now) []) }
+        ensures failed { (count : ℕ) (text : List ℕ) → Holds self.old count text [] → IsErr result → Holds self.new count text piece.now }
+        ensures passes { (count : ℕ) (text : List ℕ) → Holds self.old count text []
+            → BothTold (Passes (HasSafeText text piece.now)) (S.disk self.old.store) (S.disk self.new.store) }
+        ensures count { CountsFaults (S.faults self.old.store) (S.faults self.new.store) (is_err result) }
+    {
+        self.in_doubt = true;
+        self.store.append(piece)?;
+        self.store.sync()?;
+        self.in_doubt = false;
+        let place = self.records;
+        self.records = place + 1;
+        self.sure += piece.len() as u64;
+        Ok(place)
+    }
+}

@@ -1,0 +1,10 @@
+-- The lemmas of this crate.
+pub mod Places
+pub mod RowsAfter
+pub mod RowPlans
+pub mod ShardSteps
+pub mod LegalNext
+pub mod Adopted
+pub mod Lines
+pub mod Loaded
+pub mod LoadCrash

@@ -1,0 +1,126 @@
+-- The rows of a shard after one more record: only the row of the record's card changes.
+use Rattle.std.proofs.Common.{◌≡◌, ◌≢◌, ℕ, ◌/◌, ◌%◌, ◌<◌, List, [], ◌∷◌, ◌++◌, length, get_or, set, ap, sym, ◌∙◌, subst, inl, inr, Some, Result, Ok, Err, IfOk, IsOk, arith, length-set}
+use Rattle.std.proofs.lemmas.Bool.{cases_eq, cases_lt, false≢true}
+use Rattle.std.proofs.lemmas.List.{get_or-set_same, get_or-set_other}
+use Rattle.std.proofs.lemmas.Option.{same_Some, slice_get_within, slice_get-get_or, get_or_from_slice_get}
+use Rattle.std.specs.List.{slice_get}
+use Rattle.issuer_base.specs.declared.entry.Entry.{Entry}
+use Rattle.card_history.specs.Records.{card_in}
+use Rattle.card_history.specs.Scripts.{waiting, scripts_of}
+use Rattle.issuer_setup.specs.declared.card.CardInfo.{CardInfo}
+use Rattle.issuer_setup.specs.CardList.{name_of, AreCards}
+use Rattle.issuer_setup.specs.IssuerSetup.{Setup}
+use Rattle.row_core.specs.CardRow.{CardRow, KeptScripts, StandsFor as RowStandsFor}
+use Rattle.row_core.proofs.OtherCards.{stands-other}
+use Rattle.shard_book.specs.ShardRows.{ShardRows, IsHome, RowStands, StandsFor}
+use Rattle.shard_book.specs.Steps.{IsCardOf}
+use Rattle.shard_book.proofs.Places.{places-differ}
+
+-- what was written is read again
+there : {X : Type 0} (xs : List X) (place : ℕ) (old new : X) → slice_get xs place ≡ Some old → slice_get (set xs place new) place ≡ Some new
+there xs place old new old_is =
+    let within = slice_get_within xs place old old_is in
+    let long : length (set xs place new) ≡ length xs = length-set xs place new in
+    slice_get-get_or (set xs place new) place new (omega arith) ∙ ap Some (get_or-set_same xs place new new within)
+
+-- and each other place as it was
+elsewhere : {X : Type 0} (xs : List X) (place : ℕ) (new : X) (other : ℕ) (x : X) → other ≢ place → slice_get xs other ≡ Some x
+    → slice_get (set xs place new) other ≡ Some x
+elsewhere xs place new other x not_it is =
+    let within = slice_get_within xs other x is in
+    let long : length (set xs place new) ≡ length xs = length-set xs place new in
+    slice_get-get_or (set xs place new) other x (omega arith)
+    ∙ ap Some (get_or-set_other xs place other new x not_it ∙ get_or_from_slice_get xs other x x is)
+
+-- cards with different numbers have different names
+other-name : (cards : List CardInfo) (number other : ℕ) (card other_card : CardInfo) → AreCards cards → slice_get cards number ≡ Some card
+    → slice_get cards other ≡ Some other_card → other ≢ number → name_of other_card ≢ name_of card
+other-name cards number other card other_card valid card_is other_is not_it same =
+    let named : name_of (get_or cards number card) ≡ name_of card = ap name_of (get_or_from_slice_get cards number card card card_is) in
+    let other_named : name_of (get_or cards other card) ≡ name_of other_card = ap name_of (get_or_from_slice_get cards other other_card card other_is) in
+    let within = slice_get_within cards number card card_is in
+    let other_within = slice_get_within cards other other_card other_is in
+    elim (cases_lt other number) [
+      | inl lower ↦ valid.distinct other number card lower within (other_named ∙ same ∙ sym named)
+      | inr higher ↦ valid.distinct number other card (omega arith) other_within (named ∙ sym same ∙ sym other_named)
+    ]
+
+-- the rows once the row of this card is another one
+abbrev pub after : ShardRows → ℕ → CardRow → ShardRows
+after rows number row = record { shard = rows.shard; shards = rows.shards; cards = rows.cards; rows = set rows.rows (number / rows.shards) row }
+
+module _ (issuer : Setup) (rows : ShardRows) (history : List Entry) (stands : StandsFor issuer rows history) (number : ℕ) (home : IsHome rows number)
+    (row : CardRow) (row_is : slice_get rows.rows (number / rows.shards) ≡ Some row) where
+  -- the row that was found at a card's place stands for the history
+  pub row-there : (card : CardInfo) → slice_get issuer.cards number ≡ Some card → RowStandsFor card row history
+  row-there card card_is =
+      let found = stands.each number card home card_is in
+      subst (λ (row : CardRow). RowStandsFor card row history) (same_Some found.row row (sym found.row_is ∙ row_is)) found.stands
+
+  -- and a card's queue takes a command where its row's queue does
+  pub queue-there : (card : CardInfo) → slice_get issuer.cards number ≡ Some card → row.scripts.commands ≡ waiting (scripts_of (name_of card) history)
+  queue-there card card_is = ap (λ (scripts : KeptScripts). scripts.commands) (row-there card card_is).scripts_are
+
+  -- where the card's row stands for one record more, the rows do
+  pub stands-more : (card : CardInfo) (entry : Entry) (new : CardRow) → IsCardOf issuer number card → card_in entry ≡ name_of card
+      → (RowStandsFor card row history → RowStandsFor card new (history ++ entry ∷ [])) → StandsFor issuer (after rows number new) (history ++ entry ∷ [])
+  stands-more card entry new known its gains = record {
+    of_issuer = record { shards_are = stands.of_issuer.shards_are; cards_are = stands.of_issuer.cards_are };
+    each = λ other other_card other_home other_is.
+        elim (cases_eq other number) [
+          | inl same ↦ subst (λ (other : ℕ). RowStands (after rows number new) other other_card (history ++ entry ∷ [])) (sym same) (
+              let card_is : card ≡ other_card = same_Some card other_card (sym known.card_is ∙ ap (slice_get issuer.cards) (sym same) ∙ other_is) in
+              let gained = gains (row-there card known.card_is) in
+              record {
+                row = new;
+                row_is = there rows.rows (number / rows.shards) row new row_is;
+                stands = subst (λ (card : CardInfo). RowStandsFor card new (history ++ entry ∷ [])) card_is gained;
+              })
+          | inr not_it ↦
+              let found = stands.each other other_card (record { within = other_home.within; home = other_home.home }) other_is in
+              let named : name_of other_card ≢ card_in entry =
+              λ same. other-name issuer.cards number other card other_card known.valid known.card_is other_is not_it (same ∙ its) in
+              let apart = places-differ number other rows.shards rows.shard home.home other_home.home not_it in
+              record {
+                row = found.row;
+                row_is = elsewhere rows.rows (number / rows.shards) new (other / rows.shards) found.row apart found.row_is;
+                stands = stands-other other_card found.row history entry named found.stands;
+              }
+        ];
+  }
+
+-- the row at a card's place is changed so that it stands for one record more
+pub step-more : (issuer : Setup) (rows now : ShardRows) → rows ≡ now → (number place : ℕ) → place ≡ number / rows.shards → (row new : CardRow)
+    → IsHome now number → slice_get rows.rows place ≡ Some row → (card : CardInfo) (history : List Entry) (entry : Entry) → StandsFor issuer now history
+    → IsCardOf issuer number card → card_in entry ≡ name_of card
+    → (RowStandsFor card row history → RowStandsFor card new (history ++ entry ∷ []))
+    → StandsFor issuer (record { shard = rows.shard; shards = rows.shards; cards = rows.cards; rows = set rows.rows place new }) (history ++ entry ∷ [])
+step-more issuer rows now view number place place_is row new home row_is card history entry stands known its gains =
+    let home_inside = subst (λ (rows : ShardRows). IsHome rows number) (sym view) home in
+    let stands_inside = subst (λ (rows : ShardRows). StandsFor issuer rows history) (sym view) stands in
+    let row_there : slice_get rows.rows (number / rows.shards) ≡ Some row = subst (λ place. slice_get rows.rows place ≡ Some row) place_is row_is in
+    subst (λ place. StandsFor issuer (record { shard = rows.shard; shards = rows.shards; cards = rows.cards; rows = set rows.rows place new }) (history ++ entry ∷ []))
+    (sym place_is) (stands-more issuer rows history stands_inside number home_inside row row_there card entry new known its gains)
+
+-- the queue of a card is that of its row
+pub queue-inside : (issuer : Setup) (rows now : ShardRows) → rows ≡ now → (number place : ℕ) → place ≡ number / rows.shards → (row : CardRow)
+    → IsHome now number → slice_get rows.rows place ≡ Some row → (card : CardInfo) (history : List Entry) → StandsFor issuer now history
+    → IsCardOf issuer number card → row.scripts.commands ≡ waiting (scripts_of (name_of card) history)
+queue-inside issuer rows now view number place place_is row home row_is card history stands known =
+    queue-there issuer rows history (subst (λ (rows : ShardRows). StandsFor issuer rows history) (sym view) stands) number
+    (subst (λ (rows : ShardRows). IsHome rows number) (sym view) home) row (subst (λ place. slice_get rows.rows place ≡ Some row) place_is row_is)
+    card known.card_is
+
+-- what an answer says at Ok is so where it is one
+pub ok-then : {X E : Type 0} (result : Result X E) (Q : Type 0) → IfOk result (λ _. Q) → IsOk result → Q
+ok-then (Ok x) Q says ok = says
+ok-then (Err e) Q says ok = absurd (false≢true ok)
+
+-- and the row at a card's place stands for the history
+pub row-inside : (issuer : Setup) (rows now : ShardRows) → rows ≡ now → (number place : ℕ) → place ≡ number / rows.shards → (row : CardRow)
+    → IsHome now number → slice_get rows.rows place ≡ Some row → (card : CardInfo) (history : List Entry) → StandsFor issuer now history
+    → IsCardOf issuer number card → RowStandsFor card row history
+row-inside issuer rows now view number place place_is row home row_is card history stands known =
+    row-there issuer rows history (subst (λ (rows : ShardRows). StandsFor issuer rows history) (sym view) stands) number
+    (subst (λ (rows : ShardRows). IsHome rows number) (sym view) home) row (subst (λ place. slice_get rows.rows place ≡ Some row) place_is row_is)
+    card known.card_is

@@ -1,0 +1,109 @@
+-- A record that is put into the journal of a shard: what is held then, and what a crash may leave.
+use Rattle.std.proofs.Common.{◌≡◌, ◌⊎◌, ℕ, ◌+◌, ◌%◌, List, [], ◌∷◌, ◌++◌, length, append-nil, refl, sym, ap, subst, ◌∙◌, inl, inr, ⊎_elim, Bool, true, Option, None, Some, Result, Ok, Err, IfOk, IfSome}
+use Rattle.std.proofs.lemmas.List.{length_push}
+use Rattle.std.proofs.lemmas.List.Concat.{flat_map-append}
+use Rattle.issuer_base.specs.declared.outside.store.Store.{Ghosts}
+use Rattle.issuer_base.specs.declared.entry.Entry.{Entry}
+use Rattle.issuer_base.specs.Stores.{Disk, Moment, MayLeave, BothTold, LeavesOnly}
+use Rattle.issuer_base.proofs.Moments.{LeavesOnly-passes, LeavesOnly-weaker, Passes-no_call}
+use Rattle.issuer_base.proofs.ToldTwice.{BothTold-weaker}
+use Rattle.card_history.specs.LegalRecords.{Grounds, IsLegal}
+use Rattle.issuer_setup.specs.IssuerSetup.{Setup}
+use Rattle.issuer_base.specs.declared.request.Request.{Request}
+use Rattle.issuer_base.specs.declared.answer.Reply.{Reply}
+use Rattle.issuer_base.specs.declared.answer.Answer.{Answer}
+use Rattle.issuer_base.specs.declared.answer.Answer.TheVariants.{Fresh, Refused}
+use Rattle.issuer_base.specs.declared.answer.Refusal.TheVariants.{StoreFault}
+use Rattle.issuer_base.specs.declared.entry.Entry.TheVariants.{Decided}
+use Rattle.card_history.specs.Turns.{IsUnused, decided_for}
+use Rattle.row_core.specs.Replying.{reply_to}
+use Rattle.shard_book.specs.Answering.{AnswersClaimed}
+use Rattle.journal_rec.specs.RecordText.{text_of, texts_of}
+use Rattle.record_store.specs.declared.journal.Journal.{Journal}
+use Rattle.record_store.specs.Holding.{Holds}
+use Rattle.record_store.specs.Images.{HasSafeText, IsImage, IsEitherImage}
+use Rattle.record_store.proofs.Passing.{leaves-image}
+use Rattle.shard_book.specs.declared.shard.Shard.{Shard}
+use Rattle.shard_book.specs.ShardRows.{ShardRows, AreSame, StandsFor as RowsStandFor}
+use Rattle.shard_book.specs.Grounds.{IsTail, IsImageOf, grounds_now}
+use Rattle.shard_book.specs.Shards.{HoldsHistory, StandsFor, Adds}
+
+-- the text of one more record
+pub texts-more : (history : List Entry) (entry : Entry) → texts_of history ++ text_of entry ≡ texts_of (history ++ entry ∷ [])
+texts-more history entry =
+    ap (λ l. texts_of history ++ l) (sym (append-nil (text_of entry))) ∙ sym (flat_map-append text_of history (entry ∷ []))
+
+module _ {S : Type 0} {G : Ghosts S} (grounds : Grounds) (number : ℕ) (history : List Entry) (entry : Entry) (old new : Journal S G)
+    (h : HoldsHistory grounds number old history) (piece : List ℕ) (its : piece ≡ text_of entry) where
+  -- a record that was put is one of the history's
+  pub put-done : {E : Type 0} (result : Result ℕ E)
+      → IfOk result (λ place. (place ≡ length history) × Holds new (length history + 1) (texts_of history ++ piece) [])
+      → IfOk result (λ place. (place ≡ length history) × HoldsHistory grounds number new (history ++ entry ∷ []))
+  put-done (Err error) done = tt
+  put-done (Ok place) done = (
+    done.0,
+    record {
+      tail = [];
+      tail_is = inl refl;
+      holds =
+          subst (λ (n : ℕ). Holds new n (texts_of (history ++ entry ∷ [])) []) (sym (length_push history entry))
+          (subst (λ (text : List ℕ). Holds new (length history + 1) text []) (ap (λ l. texts_of history ++ l) its ∙ texts-more history entry) done.1);
+    },
+  )
+
+  -- one that was not may be in doubt
+  pub put-failed : IsLegal grounds number history entry
+      → Holds new (length history) (texts_of history) h.tail ⊎ Holds new (length history) (texts_of history) piece → HoldsHistory grounds number new history
+  put-failed legal = ⊎_elim
+      (λ (same : Holds new (length history) (texts_of history) h.tail). record { tail = h.tail; tail_is = h.tail_is; holds = same })
+      (λ (torn : Holds new (length history) (texts_of history) piece). record { tail = piece; tail_is = inr (entry, legal, its); holds = torn })
+
+  -- and a crash leaves the text of the history, and a torn record behind it
+  pub put-crash : IsLegal grounds number history entry → (a b : Option Disk)
+      → BothTold (LeavesOnly (IsEitherImage (texts_of history) h.tail piece)) a b → BothTold (LeavesOnly (IsImageOf grounds number history)) a b
+  put-crash legal a b =
+      BothTold-weaker (LeavesOnly (IsEitherImage (texts_of history) h.tail piece)) (LeavesOnly (IsImageOf grounds number history)) a b
+      (λ x y only. LeavesOnly-weaker (IsEitherImage (texts_of history) h.tail piece) (IsImageOf grounds number history) x y
+      (λ image. ⊎_elim
+      (λ (one : IsImage (texts_of history) h.tail image). (h.tail, h.tail_is, one))
+      (λ (one : IsImage (texts_of history) piece image). (piece, inr (entry, legal, its), one))) only)
+
+-- no call was made
+no_call : (grounds : Grounds) (number : ℕ) (history : List Entry) (tail : List ℕ) → IsTail grounds number history tail → (disk : Option Disk)
+    → IfSome disk (λ disk. HasSafeText (texts_of history) tail disk.now) → BothTold (LeavesOnly (IsImageOf grounds number history)) disk disk
+no_call grounds number history tail tail_is None is = tt
+no_call grounds number history tail tail_is (Some disk) is =
+    LeavesOnly-passes (HasSafeText (texts_of history) tail) (IsImageOf grounds number history) disk disk
+    (λ moment image safe left. (tail, tail_is, leaves-image (texts_of history) tail moment image safe left)) is
+    (Passes-no_call (HasSafeText (texts_of history) tail) disk is)
+
+pub crash-no_call : {S : Type 0} {G : Ghosts S} (grounds : Grounds) (number : ℕ) (journal : Journal S G) (history : List Entry)
+    → HoldsHistory grounds number journal history → BothTold (LeavesOnly (IsImageOf grounds number history)) (G.disk journal.store) (G.disk journal.store)
+crash-no_call {S} {G} grounds number journal history h = no_call grounds number history h.tail h.tail_is (G.disk journal.store) h.holds.disk_is
+
+-- a shard whose journal has the record, and whose rows stand for it, stands for the history with it
+pub stands-with : {S : Type 0} {G : Ghosts S} (issuer : Setup) (number : ℕ) (journal : Journal S G) (mid rows : ShardRows) (told : ℕ) (history : List Entry)
+    → mid.shard ≡ number → AreSame mid rows → RowsStandFor issuer rows history → HoldsHistory (grounds_now issuer) number journal history
+    → let shard : Shard S G = record { journal = journal; rows = rows; told = told } in StandsFor issuer shard history
+stands-with {S} {G} issuer number journal mid rows told history number_is same stands holds = record {
+  rows_stand = stands;
+  journal_holds = subst (λ number. HoldsHistory (grounds_now issuer) number journal history) (sym (same.shard_is ∙ number_is)) holds;
+}
+
+-- a decision that was added, or not, is answered as the history says
+pub answer-added : {S : Type 0} {G : Ghosts S} (issuer : Setup) (new : Shard S G) (number : ℕ) (won : Bool) (history : List Entry) (request : Request)
+    (reply : Reply) (answer : Answer) → won ≡ true → IsUnused (decided_for request history) request → reply ≡ reply_to issuer history request
+    → Adds issuer new history (Decided request reply) (Fresh number (length history) reply) answer
+    → (after : List Entry) × StandsFor issuer new after × AnswersClaimed number (reply_to issuer) won history request answer after
+answer-added issuer new number won history request reply answer is_won unused made = ⊎_elim
+    (λ (good : (answer ≡ Fresh number (length history) reply) × StandsFor issuer new (history ++ Decided request reply ∷ [])). (
+      history ++ Decided request reply ∷ [],
+      good.1,
+      subst (λ (answer : Answer). AnswersClaimed number (reply_to issuer) won history request answer (history ++ Decided request reply ∷ [])) (sym good.0)
+          (is_won, (unused, refl, refl, made, refl)),
+    ))
+    (λ (failed : (answer ≡ Refused StoreFault) × StandsFor issuer new history). (
+      history,
+      failed.1,
+      subst (λ (answer : Answer). AnswersClaimed number (reply_to issuer) won history request answer history) (sym failed.0) (is_won, unused, refl),
+    ))

@@ -1,0 +1,12 @@
+-- The first newline of what is ahead.
+use Rattle.std.proofs.Common.{List, ℕ, length, MatchOption, subst, arith}
+use Rattle.std.proofs.lemmas.Slice.{between_to_end}
+use Rattle.journal_rec.specs.RecordText.{IsUnbroken}
+use Rattle.shard_book.specs.LineAhead.{IsLineAhead}
+use Rattle.shard_book.proofs.Lines.{line-found}
+use Rattle.shard_book.proofs.replay.next_newline.Goals as goal
+
+pub returns : goal.returns
+returns c =
+    subst (λ (bytes : List ℕ). MatchOption c.memchr.result (IsUnbroken bytes) (IsLineAhead bytes))
+    (between_to_end c.args.text.now c.args.from (length c.args.text.now) (omega arith)) (line-found _ _ c.memchr.ensures)

@@ -1,0 +1,22 @@
+-- A record may come next as its kind says.
+use Rattle.std.proofs.Common.{◌≡◌, ◌↔◌, List, [], ◌∷◌, ◌++◌, sym, subst, IsTrue}
+use Rattle.issuer_base.specs.declared.entry.Entry.{Entry}
+use Rattle.card_history.specs.LegalRecords.{IsLegal}
+use Rattle.shard_book.specs.Grounds.{grounds_of}
+use Rattle.shard_book.specs.ShardRows.{StandsFor}
+use Rattle.shard_book.proofs.rows.Rows.adopt.Goals as goal
+
+pub returns-in-Queued-clause-adopted : goal.returns-in-Queued-clause-adopted
+returns-in-Queued-clause-adopted c taken history stands at_end =
+    subst (λ (entry : Entry). StandsFor c.args.issuer.now c.adopt_command.new.self (history ++ entry ∷ [])) (sym c.in-Queued.is)
+    (c.adopt_command.ensures.adopted taken history stands)
+
+pub returns-in-Status-clause-exact : goal.returns-in-Status-clause-exact
+returns-in-Status-clause-exact c history stands =
+    subst (λ (entry : Entry). IsTrue c.adopt_status.result ↔ IsLegal (grounds_of c.args.issuer.now) c.args.self.now.shard history entry) (sym c.in-Status.is)
+    (c.adopt_status.ensures.exact history stands)
+
+pub returns-in-Status-clause-adopted : goal.returns-in-Status-clause-adopted
+returns-in-Status-clause-adopted c taken history stands at_end =
+    subst (λ (entry : Entry). StandsFor c.args.issuer.now c.adopt_status.new.self (history ++ entry ∷ [])) (sym c.in-Status.is)
+    (c.adopt_status.ensures.adopted taken history stands)

@@ -1,0 +1,46 @@
+-- A decision may come next where its request passes the check, its card is one of the shard's, and the card's row accepts it.
+use Rattle.std.proofs.Common.{◌≡◌, ◌↔◌, ◌%◌, List, [], ◌∷◌, ◌++◌, refl, sym, ap, subst, ◌∙◌, Some, Ok, IsTrue}
+use Rattle.issuer_base.specs.declared.request.Request.{Request}
+use Rattle.issuer_base.specs.declared.entry.Entry.TheVariants.{Decided}
+use Rattle.card_history.specs.declared.decision.Asked.TheVariants.{Decide}
+use Rattle.card_history.specs.LegalRecords.{IsLegalDecision}
+use Rattle.card_history.specs.Records.{card_of}
+use Rattle.line_checks.specs.Reading.{checked}
+use Rattle.shard_book.specs.Grounds.{grounds_of}
+use Rattle.shard_book.specs.ShardRows.{StandsFor}
+use Rattle.shard_book.proofs.Adopted.{checked-own, card-at_home, decision-follows, decision-legal}
+use Rattle.shard_book.proofs.LegalNext.{card-found}
+use Rattle.shard_book.proofs.rows.Rows.adopt_decision.Goals as goal
+
+pub returns-clause-exact : goal.returns-clause-exact
+returns-clause-exact c history stands =
+    let issuer = c.args.issuer.now in
+    let found = c.in-Ok.found in
+    let asked : Request = found.request in
+    let shard = c.args.self.now.shard in
+    let at_hand = c.in-Ok.ensures.at_hand in
+    let passes : checked issuer c.args.request ≡ Ok (Decide asked) = sym c.in-Ok.ensures.request in
+    let own : asked ≡ c.args.request = checked-own issuer c.args.request asked passes in
+    let genuine : checked issuer asked ≡ Ok (Decide asked) = subst (λ (r : Request). checked issuer r ≡ Ok (Decide asked)) (sym own) passes in
+    let card = card-found issuer (card_of asked) found.card at_hand.card_is in
+    let its : found.card % issuer.shards ≡ shard = sym c.shard_of.ensures.number ∙ c.if-shard_of-shard.false ∙ c.shard.ensures in
+    let home = card-at_home issuer c.args.self.now c.requires (card_of asked) found.card at_hand.card_is.number_is its in
+    let accepted = c.adopt_checked.ensures.exact issuer card.card history stands card.known (sym card.named) in
+    subst (λ (r : Request). IsTrue c.adopt_checked.result ↔ IsLegalDecision (grounds_of issuer) shard history r c.args.reply) own (
+      λ taken.
+          decision-legal issuer shard history asked c.args.reply found.card card.card found.keys at_hand.card_is.number_is card.known.card_is
+          at_hand.keys_are home genuine (accepted.0 taken),
+      λ legal.
+          accepted.1 (decision-follows issuer shard history asked c.args.reply found.card card.card found.keys at_hand.card_is.number_is
+          card.known.card_is at_hand.keys_are legal),
+    )
+
+pub returns-clause-adopted : goal.returns-clause-adopted
+returns-clause-adopted c taken history stands at_end =
+    let issuer = c.args.issuer.now in
+    let found = c.in-Ok.found in
+    let asked : Request = found.request in
+    let own : asked ≡ c.args.request = checked-own issuer c.args.request asked (sym c.in-Ok.ensures.request) in
+    let card = card-found issuer (card_of asked) found.card c.in-Ok.ensures.at_hand.card_is in
+    subst (λ (r : Request). StandsFor issuer c.adopt_checked.new.self (history ++ Decided r c.args.reply ∷ [])) own
+    (c.adopt_checked.ensures.adopted taken issuer card.card history stands card.known (sym card.named) at_end)

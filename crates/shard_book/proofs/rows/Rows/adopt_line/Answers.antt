@@ -1,0 +1,22 @@
+-- A line is taken over where it is that of a record that may come next.
+use Rattle.std.proofs.Common.{ap, sym, ◌∙◌, ◌+◌}
+use Rattle.std.proofs.lemmas.Bool.{false≢true}
+use Rattle.shard_book.proofs.rows.Rows.adopt_line.Goals as goal
+
+pub returns-then-not-adopt-clause-bad : goal.returns-then-not-adopt-clause-bad
+returns-then-not-adopt-clause-bad c history stands at_end = (
+  ap (λ n. n + 1) at_end,
+  (
+    c.in-Ok.entry,
+    (c.read_entry.ensures c.in-Ok.entry).0 c.in-Ok.is,
+    λ legal. false≢true (sym c.if-not-adopt.true ∙ (c.adopt.ensures.exact history stands).1 legal),
+  ),
+)
+
+pub returns-clause-taken : goal.returns-clause-taken
+returns-clause-taken c history stands at_end = record {
+  entry = c.in-Ok.entry;
+  line_is = (c.read_entry.ensures c.in-Ok.entry).0 c.in-Ok.is;
+  legal = (c.adopt.ensures.exact history stands).0 c.if-not-adopt.false;
+  stands = c.adopt.ensures.adopted c.if-not-adopt.false history stands at_end;
+}

@@ -1,0 +1,21 @@
+-- What was taken over so far is the front of the text.
+use Rattle.std.proofs.Common.{◌≡◌, ◌-◌, ◌≤◌, List, length}
+use Rattle.issuer_base.specs.declared.entry.Entry.{Entry}
+use Rattle.card_history.specs.LegalRecords.{IsLegalHistory}
+use Rattle.shard_book.specs.Grounds.{grounds_of}
+use Rattle.shard_book.specs.ShardRows.{AreRowsOf, AreSame, StandsFor}
+use Rattle.shard_book.specs.Loading.{TakesLines}
+use Rattle.shard_book.proofs.rows.Rows.adopt_lines.Given as goal
+
+abbrev pub invariant-loop-length : goal.invariant-loop-length
+invariant-loop-length l = record {
+  rows : AreRowsOf l.issuer l.self;
+  same : AreSame l.fn.self l.self;
+  within : l.taken.bytes ≤ length l.text;
+  few : l.taken.records ≤ l.taken.bytes;
+  taken : (history : List Entry) → StandsFor l.issuer l.fn.self history → l.place ≡ length history
+      → IsLegalHistory (grounds_of l.issuer) l.fn.self.shard history → TakesLines l.issuer l.fn.self.shard history l.text l.taken l.self;
+}
+
+abbrev pub decreases-loop-length : goal.decreases-loop-length
+decreases-loop-length l = length l.text - l.taken.bytes

@@ -1,0 +1,18 @@
+-- The row of the decided card stands for its decision, and the others for the record of another card.
+use Rattle.std.proofs.Common.{◌≡◌, ◌<◌, ◌/◌, List, length, Some, refl, sym, subst}
+use Rattle.std.proofs.lemmas.Option.{slice_get_read}
+use Rattle.shard_book.specs.ShardRows.{ShardRows, IsHome}
+use Rattle.issuer_base.specs.declared.entry.Entry.TheVariants.{Decided}
+use Rattle.shard_book.proofs.RowsAfter.{step-more}
+use Rattle.shard_book.proofs.rows.Rows.apply.Goals as goal
+
+pub returns-clause-applied : goal.returns-clause-applied
+returns-clause-applied c issuer card history stands known next =
+    let rows : ShardRows =
+    record { shard = c.self.inside.shard; shards = c.self.inside.shards; cards = c.self.inside.cards; rows = c.self.inside.rows.items } in
+    let home : IsHome rows c.args.card = subst (λ (rows : ShardRows). IsHome rows c.args.card) (sym c.self.view_is) c.requires in
+    let within : c.index_of.result < length rows.rows =
+    subst (λ place. place < length rows.rows) (sym c.index_of.ensures) (c.self.invariant.each c.args.card home) in
+    let row_is = slice_get_read rows.rows _ c.index_of.result c.index_mut.result.now refl within c.index_mut.ensures.value in
+    step-more issuer rows c.args.self.now c.self.view_is c.args.card c.index_of.result c.index_of.ensures c.index_mut.result.now c.apply.new.self c.requires
+    row_is card history (Decided c.args.step.request c.args.step.reply) stands known next.of_card (λ before. c.apply.ensures card history before next)

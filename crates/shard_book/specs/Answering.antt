@@ -1,0 +1,47 @@
+-- What a shard over a store may answer, and its history afterwards: a turn's answer, or that its store failed.
+use Rattle.std.specs.Prelude.{◌≡◌, ℕ, ◌+◌, ◌^◌, nat_lt, if◌then◌else◌, Bool, true, false, List}
+use Rattle.issuer_base.specs.declared.command.Command.{Command}
+use Rattle.issuer_base.specs.declared.request.Request.{Request}
+use Rattle.issuer_base.specs.declared.answer.Reply.{Reply}
+use Rattle.issuer_base.specs.declared.answer.Answer.{Answer}
+use Rattle.issuer_base.specs.declared.answer.Answer.TheVariants.{Fresh, Refused}
+use Rattle.issuer_base.specs.declared.answer.Refusal.TheVariants.{Pending, StoreFault}
+use Rattle.issuer_base.specs.declared.entry.Entry.{Entry}
+use Rattle.card_history.specs.Records.{CardName}
+use Rattle.card_history.specs.Scripts.{waiting, scripts_of}
+use Rattle.card_history.specs.Turns.{IsUnused, decided_for, Answers, AnswersCommand, AnswersStatus}
+use Rattle.script_queue.specs.CommandQueue.{TakesOneMore}
+
+-- whether the answer is that the store failed
+abbrev pub is_store_fault : Answer → Bool
+is_store_fault (Refused StoreFault) = true
+is_store_fault _ = false
+
+-- how many answers told that the store failed, after one more answer: they are counted up to 2^62 and no further
+abbrev pub told_after : ℕ → Bool → ℕ
+told_after told true = if nat_lt told (2 ^ 62) then told + 1 else told
+told_after told false = told
+
+-- what may be answered to a request whose claim was won or not
+abbrev pub AnswersClaimed : ℕ → (List Entry → Request → Reply) → Bool → List Entry → Request → Answer → List Entry → Type 0
+-- a new counter is decided for the caller that has claimed it
+AnswersClaimed shard reply_to won before request (Fresh at place reply) after =
+    (won ≡ true) × Answers shard reply_to before request (Fresh at place reply) after
+-- for another caller it is pending
+AnswersClaimed shard reply_to won before request (Refused Pending) after =
+    (won ≡ false) × IsUnused (decided_for request before) request × (after ≡ before)
+-- where the store fails nothing is decided
+AnswersClaimed shard reply_to won before request (Refused StoreFault) after =
+    (won ≡ true) × IsUnused (decided_for request before) request × (after ≡ before)
+-- all else is answered by the history
+AnswersClaimed shard reply_to won before request answer after = Answers shard reply_to before request answer after
+
+-- what may be answered to a command
+abbrev pub AnswersQueueing : ℕ → List Entry → CardName → Command → Answer → List Entry → Type 0
+AnswersQueueing shard before card command (Refused StoreFault) after = TakesOneMore (waiting (scripts_of card before)) × (after ≡ before)
+AnswersQueueing shard before card command answer after = AnswersCommand shard before card command answer after
+
+-- what may be answered to a status
+abbrev pub AnswersSetting : ℕ → List Entry → CardName → ℕ → Answer → List Entry → Type 0
+AnswersSetting shard before card status (Refused StoreFault) after = after ≡ before
+AnswersSetting shard before card status answer after = AnswersStatus shard before card status answer after

@@ -1,0 +1,58 @@
+-- What an issuer asks of the records of its shards, and what may stand behind the text of a history.
+use Rattle.std.specs.Prelude.{◌≡◌, ◌⊎◌, ℕ, ◌%◌, List, [], ◌++◌, slice_get, Option, Some, Ok}
+use Rattle.issuer_base.specs.declared.request.Request.{Request}
+use Rattle.issuer_base.specs.declared.answer.Reply.{Reply}
+use Rattle.issuer_base.specs.declared.entry.Entry.{Entry}
+use Rattle.card_history.specs.declared.decision.Asked.TheVariants.{Decide}
+use Rattle.card_history.specs.LegalRecords.{Grounds, IsLegal}
+use Rattle.card_history.specs.Records.{CardName, card_of}
+use Rattle.card_history.specs.Scripts.{scripts_of}
+use Rattle.key_derive.specs.declared.card.CardKeys.{CardKeys}
+use Rattle.issuer_setup.specs.declared.card.CardInfo.{CardInfo}
+use Rattle.issuer_setup.specs.CardList.{number_of}
+use Rattle.issuer_setup.specs.IssuerSetup.{Setup, keys_of}
+use Rattle.row_core.specs.Accepting.{IsMade}
+use Rattle.row_core.specs.Replying.{reply_to}
+use Rattle.line_checks.specs.Reading.{checked}
+use Rattle.journal_rec.specs.RecordText.{text_of, texts_of}
+use Rattle.record_store.specs.Images.{IsImage}
+
+-- the card of this name is one of the shard's
+pub record IsCardOfShard (issuer : Setup) (shard : ℕ) (name : CardName) : Type 0 where
+  pub number : ℕ
+  pub number_is : number_of name issuer.cards ≡ Some number
+  pub home : number % issuer.shards ≡ shard
+
+-- the reply is one that the issuer makes for its response code after these records, whatever its decision table was then
+pub record IsMadeBy (issuer : Setup) (before : List Entry) (request : Request) (reply : Reply) : Type 0 where
+  pub number : ℕ
+  pub card : CardInfo
+  pub keys : CardKeys
+  pub number_is : number_of (card_of request) issuer.cards ≡ Some number
+  pub card_is : slice_get issuer.cards number ≡ Some card
+  pub keys_are : keys_of issuer number request ≡ Some keys
+  pub made : IsMade card.method keys (scripts_of (card_of request) before) request reply
+
+-- what an issuer asks of records, by what it asks of replies
+abbrev pub grounds_by : Setup → (List Entry → Request → Reply → Type 0) → Grounds
+grounds_by issuer IsReply = record {
+  IsHome = IsCardOfShard issuer;
+  IsGenuine = λ request. checked issuer request ≡ Ok (Decide request);
+  IsReply = IsReply;
+}
+
+-- of the records of earlier runs: the table may have been another one
+abbrev pub grounds_of : Setup → Grounds
+grounds_of issuer = grounds_by issuer (IsMadeBy issuer)
+
+-- of the records of this run: each reply is the issuer's own decision
+abbrev pub grounds_now : Setup → Grounds
+grounds_now issuer = grounds_by issuer (λ before request reply. reply ≡ reply_to issuer before request)
+
+-- the tail is empty, or the text of a record that may come next
+abbrev pub IsTail : Grounds → ℕ → List Entry → List ℕ → Type 0
+IsTail grounds shard history tail = (tail ≡ []) ⊎ ((entry : Entry) × IsLegal grounds shard history entry × (tail ≡ text_of entry))
+
+-- the text of the history, and behind it a front of the text of a record that may come next, or nothing
+abbrev pub IsImageOf : Grounds → ℕ → List Entry → List ℕ → Type 0
+IsImageOf grounds shard history image = (tail : List ℕ) × IsTail grounds shard history tail × IsImage (texts_of history) tail image

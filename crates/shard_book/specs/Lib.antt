@@ -1,0 +1,8 @@
+-- The definitions that the contracts of this crate cite.
+pub mod ShardRows
+pub mod Steps
+pub mod Grounds
+pub mod Shards
+pub mod Answering
+pub mod LineAhead
+pub mod Loading

@@ -1,0 +1,86 @@
+-- The history that a shard over a store stands for.
+use Rattle.std.specs.Prelude.{◌≡◌, ◌⊎◌, ℕ, List, [], ◌∷◌, ◌++◌, length, Option}
+use Rattle.issuer_base.specs.Stores.{Disk, Moment}
+use Rattle.issuer_base.specs.Tells.{Tells}
+use Rattle.record_store.specs.Images.{IsCutImage}
+use Rattle.issuer_base.specs.declared.outside.store.Store.{Ghosts}
+use Rattle.issuer_base.specs.declared.answer.Answer.{Answer}
+use Rattle.issuer_base.specs.declared.answer.Answer.TheVariants.{Refused}
+use Rattle.issuer_base.specs.declared.answer.Refusal.TheVariants.{StoreFault}
+use Rattle.issuer_base.specs.declared.entry.Entry.{Entry}
+use Rattle.card_history.specs.LegalRecords.{Grounds, IsLegalHistory}
+use Rattle.issuer_setup.specs.IssuerSetup.{Setup}
+use Rattle.journal_rec.specs.RecordText.{texts_of, IsUnbroken}
+use Rattle.record_store.specs.declared.journal.Journal.{Journal}
+use Rattle.record_store.specs.Holding.{Holds}
+use Rattle.shard_book.specs.declared.shard.Shard.{Shard}
+use Rattle.shard_book.specs.ShardRows.{AreRowsOf, IsHome, StandsFor as RowsStandFor}
+use Rattle.shard_book.specs.Grounds.{IsTail, grounds_now, grounds_of}
+
+-- the journal has the records of the history; a front of the text of a record that may come next may stand behind them
+pub record HoldsHistory {S : Type 0} {G : Ghosts S} (grounds : Grounds) (number : ℕ) (journal : Journal S G) (history : List Entry) : Type 0 where
+  pub tail : List ℕ
+  pub tail_is : IsTail grounds number history tail
+  pub holds : Holds journal (length history) (texts_of history) tail
+
+module _ {S : Type 0} {G : Ghosts S} where
+  -- the shard's number
+  abbrev pub number_in : Shard S G → ℕ
+  number_in shard = shard.rows.shard
+
+  -- the shard is one of this issuer's
+  abbrev pub IsUnder : Setup → Shard S G → Type 0
+  IsUnder issuer shard = AreRowsOf issuer shard.rows
+
+  -- the number is that of a card of this shard
+  abbrev pub HasCard : Shard S G → ℕ → Type 0
+  HasCard shard number = IsHome shard.rows number
+
+  -- its store
+  abbrev pub store_in : Shard S G → S
+  store_in shard = shard.journal.store
+
+  -- how many bytes of its store are sure
+  abbrev pub sure_in : Shard S G → ℕ
+  sure_in shard = shard.journal.sure
+
+  -- how many records it has
+  abbrev pub places_in : Shard S G → ℕ
+  places_in shard = shard.journal.records
+
+  -- how many of its answers told that its store failed
+  abbrev pub told_in : Shard S G → ℕ
+  told_in shard = shard.told
+
+  -- what its store tells of its disk, and the store's count of faults
+  abbrev pub disk_in : Shard S G → Option Disk
+  disk_in shard = G.disk shard.journal.store
+
+  abbrev pub faults_in : Shard S G → ℕ
+  faults_in shard = G.faults shard.journal.store
+
+-- a shard stands for a history where its rows do and its journal has the history's records
+pub record StandsFor {S : Type 0} {G : Ghosts S} (issuer : Setup) (shard : Shard S G) (history : List Entry) : Type 0 where
+  pub rows_stand : RowsStandFor issuer shard.rows history
+  pub journal_holds : HoldsHistory (grounds_now issuer) shard.rows.shard shard.journal history
+
+-- the record is added and the good answer is given, or the store failed and the history is as it was
+abbrev pub Adds : {S : Type 0} {G : Ghosts S} → Setup → Shard S G → List Entry → Entry → Answer → Answer → Type 0
+Adds issuer new history entry good answer =
+    ((answer ≡ good) × StandsFor issuer new (history ++ entry ∷ [])) ⊎ ((answer ≡ Refused StoreFault) × StandsFor issuer new history)
+
+-- a shard that was loaded: where the bytes were told, they were the text of a legal history and a rest without a newline; the shard
+-- stands for that history, and its journal has just the history's text
+pub record IsLoaded {S : Type 0} {G : Ghosts S} (issuer : Setup) (number : ℕ) (bytes : Option (List ℕ)) (shard : Shard S G) : Type 0 where
+  pub history : List Entry
+  pub rest : List ℕ
+  pub text_is : Tells bytes (texts_of history ++ rest)
+  pub unbroken : IsUnbroken rest
+  pub legal : IsLegalHistory (grounds_of issuer) number history
+  pub number_is : number_in shard ≡ number
+  pub stands : StandsFor issuer shard history
+  pub settled : Holds shard.journal (length history) (texts_of history) []
+
+-- what the moment may leave, or some of its first bytes
+abbrev pub IsSomeCutImage : Moment → List ℕ → Type 0
+IsSomeCutImage moment image = (sure : ℕ) × IsCutImage sure moment image

@@ -1,0 +1,67 @@
+-- What one more record does to the rows of a shard.
+use Rattle.std.specs.Prelude.{◌≡◌, ◌↔◌, ℕ, Bool, List, [], ◌∷◌, ◌++◌, length, slice_get, Some, IsTrue}
+use Rattle.issuer_base.specs.declared.command.Command.{Command}
+use Rattle.issuer_base.specs.declared.entry.Entry.{Entry}
+use Rattle.issuer_base.specs.declared.entry.Entry.TheVariants.{Decided}
+use Rattle.issuer_base.specs.declared.answer.Reply.{Reply}
+use Rattle.card_history.specs.Records.{card_of}
+use Rattle.row_core.specs.Accepting.{MayFollow}
+use Rattle.card_history.specs.declared.decision.Decision.{Decision}
+use Rattle.card_history.specs.Scripts.{waiting, scripts_of}
+use Rattle.card_history.specs.Turns.{Answers}
+use Rattle.script_queue.specs.CommandQueue.{TakesOneMore}
+use Rattle.issuer_setup.specs.declared.card.CardInfo.{CardInfo}
+use Rattle.issuer_setup.specs.CardList.{AreCards, name_of}
+use Rattle.issuer_setup.specs.IssuerSetup.{Setup}
+use Rattle.row_core.specs.Plan.{answer_of, history_after, with_record, with_command_for, with_status_for, IsNext}
+use Rattle.row_core.specs.Replying.{reply_to}
+use Rattle.row_core.specs.declared.row.Outcome.{Outcome}
+use Rattle.line_checks.specs.declared.checked.CheckedRequest.{CheckedRequest}
+use Rattle.shard_book.specs.ShardRows.{ShardRows, StandsFor}
+
+-- the issuer's card with this number
+pub record IsCardOf (issuer : Setup) (number : ℕ) (card : CardInfo) : Type 0 where
+  pub valid : AreCards issuer.cards
+  pub card_is : slice_get issuer.cards number ≡ Some card
+
+-- the plan for this request is the shard's answer to it, after each history that the rows stand for
+abbrev pub IsPlanFor : Setup → ShardRows → CheckedRequest → ℕ → Outcome → Type 0
+IsPlanFor issuer rows found place outcome =
+    (history : List Entry) → StandsFor issuer rows history → place ≡ length history
+    → Answers rows.shard (reply_to issuer) history found.request (answer_of rows.shard outcome) (history_after history outcome)
+
+-- the decision that comes next for this card is added
+abbrev pub Applies : ShardRows → ℕ → Decision → ShardRows → Type 0
+Applies old number step new =
+    (issuer : Setup) (card : CardInfo) (history : List Entry) → StandsFor issuer old history → IsCardOf issuer number card
+    → IsNext card history step → StandsFor issuer new (with_record history step)
+
+-- whether the decision of this request of a card may come next
+abbrev pub Accepts : ShardRows → CheckedRequest → Reply → Bool → Type 0
+Accepts rows found reply accepted =
+    (issuer : Setup) (card : CardInfo) (history : List Entry) → StandsFor issuer rows history → IsCardOf issuer found.card card
+    → card_of found.request ≡ name_of card → (IsTrue accepted ↔ MayFollow card.method found.keys history found.request reply)
+
+-- the decision is taken over
+abbrev pub Adopts : ShardRows → CheckedRequest → Reply → ℕ → ShardRows → Type 0
+Adopts old found reply place new =
+    (issuer : Setup) (card : CardInfo) (history : List Entry) → StandsFor issuer old history → IsCardOf issuer found.card card
+    → card_of found.request ≡ name_of card → place ≡ length history → StandsFor issuer new (history ++ Decided found.request reply ∷ [])
+
+-- whether the card's queue takes one more command
+abbrev pub TakesCommand : ShardRows → ℕ → Bool → Type 0
+TakesCommand rows number takes =
+    (issuer : Setup) (card : CardInfo) (history : List Entry) → StandsFor issuer rows history → IsCardOf issuer number card
+    → (IsTrue takes ↔ TakesOneMore (waiting (scripts_of (name_of card) history)))
+
+-- the command is queued for this card, whose queue takes it
+abbrev pub Queues : ShardRows → ℕ → Command → ShardRows → Type 0
+Queues old number command new =
+    (issuer : Setup) (card : CardInfo) (history : List Entry) → StandsFor issuer old history → IsCardOf issuer number card
+    → TakesOneMore (waiting (scripts_of (name_of card) history)) → StandsFor issuer new (with_command_for history card command)
+
+-- this card has the status
+abbrev pub SetsStatus : ShardRows → ℕ → ℕ → ShardRows → Type 0
+SetsStatus old number status new =
+    (issuer : Setup) (card : CardInfo) (history : List Entry) → StandsFor issuer old history → IsCardOf issuer number card
+    → StandsFor issuer new (with_status_for history card status)

@@ -1,0 +1,175 @@
+//! The rows of a shard's cards.
+ghost use Rattle.std.specs.Prelude.{◌≡◌, ◌↔◌, ℕ, ◌+◌, ◌*◌, ◌/◌, ◌%◌, ◌<◌, ◌≤◌, List, [], ◌∷◌, ◌++◌, length, slice_get, Some, false, IfOk, IsTrue};
+ghost use Rattle.script_queue.specs.CommandQueue.{TakesOneMore};
+ghost use Rattle.issuer_base.specs.declared.entry.Entry.{Entry};
+ghost use Rattle.issuer_base.specs.ScriptCommand.{is_command};
+ghost use Rattle.card_history.specs.LegalRecords.{IsLegal};
+ghost use Rattle.issuer_setup.specs.IssuerSetup.{Setup};
+ghost use Rattle.key_derive.specs.SessionKey.{session_ac};
+ghost use Rattle.row_core.specs.Plan.{IsForRequest};
+ghost use Rattle.line_checks.specs.AtHand.{IsRequestAtHand};
+ghost use Rattle.shard_book.specs.ShardRows.{AreRowsOf, AreSame, IsHome, AreEmpty, StandsFor};
+ghost use Rattle.shard_book.specs.Steps.{IsPlanFor, Applies, Accepts, Adopts, Queues, TakesCommand, SetsStatus};
+
+use issuer_base::{Command, MAX_QUEUED, MAX_STATUS, MAX_UNDONE, NoMemory, Reply};
+use issuer_setup::Issuer;
+use line_checks::CheckedRequest;
+use row_core::{Outcome, Row, Step};
+use std::alloc::Global;
+use std::marker::Model;
+
+/// The rows of the cards of one shard of an issuer.
+///
+/// A contract sees the number of the shard, how many shards and cards the issuer has, and the rows.
+#[derive(Drop)]
+pub(crate) struct Rows {
+    shard: u8,
+    shards: u8,
+    cards: u32,
+
+    /// A row for each card of the shard, in the order of their numbers.
+    rows: Vec<Row>,
+}
+
+impl Model for Rows {
+    ghost use Rattle.shard_book.specs.ShardRows.{ShardRows, Covers};
+
+    ghost Value = { ShardRows };
+
+    ghost view = { λ r. record { shard = r.shard; shards = r.shards; cards = r.cards; rows = r.rows.items } };
+
+    ghost invariant = { λ r. Covers (record { shard = r.shard; shards = r.shards; cards = r.cards; rows = r.rows.items }) };
+}
+
+impl Rows {
+    /// The rows of a shard without records. No other call takes memory.
+    pub(crate) fn new(alloc: Global, issuer: &Issuer, shard: u8) -> Result<Rows, NoMemory>
+        requires { shard < issuer.now.shards }
+        ensures rows { IfOk result (AreRowsOf issuer.now) }
+        ensures shard { IfOk result (λ rows. rows.shard ≡ shard) }
+        ensures empty { IfOk result (λ rows. StandsFor issuer.now rows []) }
+    {
+        let rows = empty_rows(alloc, issuer, shard)?;
+        Ok(Rows {
+            shard,
+            shards: issuer.shards(),
+            cards: issuer.cards(),
+            rows,
+        })
+    }
+
+    /// The number of the shard.
+    pub(crate) fn shard(&self) -> u8
+        ensures { result ≡ self.now.shard }
+    {
+        self.shard
+    }
+
+    /// The row of a card of this shard.
+    pub(crate) fn row(&self, card: u32) -> &Row
+        requires { IsHome self.now card }
+        ensures { slice_get self.now.rows (card / self.now.shards) ≡ Some result.now }
+    {
+        &self.rows[index_of(card, self.shards)]
+    }
+
+    /// What is to be done with a request of a card of this shard, whose record would stand at this place.
+    pub(crate) fn plan(&self, issuer: &Issuer, found: &CheckedRequest, place: u64) -> Outcome
+        requires rows { AreRowsOf issuer.now self.now }
+        requires home { IsHome self.now found.now.card }
+        requires at_hand { IsRequestAtHand issuer.now found.now }
+        ensures plan { IsPlanFor issuer.now self.now found.now place result }
+        ensures some { IsForRequest found.now.request place result }
+    {
+        self.row(found.card).plan_under(
+            &found.session,
+            &found.keys,
+            issuer.table(),
+            &found.request,
+            place,
+        )
+    }
+
+    /// Adds the record of a plan to the row of this card.
+    pub(crate) fn apply(&mut self, card: u32, step: Step)
+        requires { IsHome self.old card }
+        ensures applied { Applies self.old card step self.new }
+        ensures same { AreSame self.old self.new }
+    {
+        self.rows[index_of(card, self.shards)].apply(step);
+    }
+
+    /// Takes over the decision of a request that was checked, where it may come next, and says whether it did.
+    pub(crate) fn adopt_checked(&mut self, found: CheckedRequest, reply: Reply, place: u64) -> bool
+        requires home { IsHome self.old found.card }
+        requires session { found.session ≡ session_ac found.keys.ac.0 found.request.atc }
+        ensures exact { Accepts self.old found reply result }
+        ensures adopted { IsTrue result → Adopts self.old found reply place self.new }
+        ensures same { AreSame self.old self.new }
+    {
+        let CheckedRequest {
+            request,
+            card,
+            keys,
+            session,
+        } = found;
+        self.rows[index_of(card, self.shards)].adopt_under(&session, &keys, request, reply, place)
+    }
+
+    /// Whether the queue of this card takes one more command.
+    pub(crate) fn takes_command(&self, card: u32) -> bool
+        requires { IsHome self.now card }
+        ensures { TakesCommand self.now card result }
+    {
+        takes_one_more(self.row(card))
+    }
+
+    /// Queues a command for this card, whose queue takes one more.
+    pub(crate) fn push(&mut self, card: u32, command: Command)
+        requires home { IsHome self.old card }
+        requires form { IsTrue (is_command command) }
+        ensures queued { Queues self.old card command self.new }
+        ensures same { AreSame self.old self.new }
+    {
+        let _ = self.rows[index_of(card, self.shards)].push(command);
+    }
+
+    /// Gives this card a status.
+    pub(crate) fn set_status(&mut self, card: u32, status: u8)
+        requires home { IsHome self.old card }
+        requires within { status ≤ MAX_STATUS }
+        ensures set { SetsStatus self.old card status self.new }
+        ensures same { AreSame self.old self.new }
+    {
+        self.rows[index_of(card, self.shards)].set_status(status);
+    }
+}
+
+/// Where the row of a card stands among those of its shard.
+fn index_of(card: u32, shards: u8) -> usize
+    requires { 0 < shards }
+    ensures { result ≡ card / shards }
+{
+    (card / u32::from(shards)) as usize
+}
+
+/// Whether the row's queue takes one more command.
+fn takes_one_more(row: &Row) -> bool
+    ensures { IsTrue result ↔ TakesOneMore row.now.scripts.commands }
+{
+    row.queue().undone() < MAX_UNDONE && row.queue().queued() < MAX_QUEUED
+}
+
+/// A row without records for each card of a shard.
+fn empty_rows(alloc: Global, issuer: &Issuer, shard: u8) -> Result<Vec<Row>, NoMemory>
+    requires { shard < issuer.now.shards }
+    ensures { IfOk result (λ rows. AreEmpty issuer.now shard rows.items) }
+{
+    let mut rows = Vec::new(alloc);
+    let mut card = u32::from(shard);
+    while card < issuer.cards() {
+        rows.push(Row::new(alloc, issuer.info(card).method)?)?;
+        card += u32::from(issuer.shards());
+    }
+    Ok(rows)
+}

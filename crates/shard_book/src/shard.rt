@@ -1,0 +1,320 @@
+//! A shard over a store: what it answers, and what it writes before that.
+ghost use Rattle.std.specs.Prelude.{◌≡◌, ℕ, ◌^◌, ◌≤◌, ◌/◌, slice_get, Some, min, if◌then◌else◌, List, [], ◌∷◌, ◌++◌, length, ◌<◌, Ok, IfOk, IfErr, IsErr, false, true, IsTrue, is_err};
+ghost use Rattle.issuer_base.specs.OutsideFaults.{CountsFaults};
+ghost use Rattle.issuer_base.specs.Stores.{BothTold, LeavesOnly};
+ghost use Rattle.issuer_base.specs.declared.entry.Entry.{Entry};
+ghost use Rattle.card_history.specs.declared.decision.Asked.TheVariants.{Decide};
+ghost use Rattle.card_history.specs.LegalRecords.{IsLegal};
+ghost use Rattle.card_history.specs.Records.{card_of, named};
+ghost use Rattle.issuer_setup.specs.declared.card.CardInfo.{CardInfo};
+ghost use Rattle.issuer_setup.specs.IssuerSetup.{Setup};
+ghost use Rattle.row_core.specs.Plan.{IsNext, IsForRequest};
+ghost use Rattle.row_core.specs.Replying.{reply_to};
+ghost use Rattle.line_checks.specs.AtHand.{IsRequestAtHand, IsCommandAtHand, IsStatusAtHand};
+ghost use Rattle.line_checks.specs.Reading.{checked};
+ghost use Rattle.journal_rec.specs.Record.{is_record};
+ghost use Rattle.issuer_base.specs.Tells.{Tells};
+ghost use Rattle.record_store.specs.Holding.{Holds};
+ghost use Rattle.record_store.specs.Images.{IsCutImage};
+ghost use Rattle.shard_book.specs.Loading.{StopsText, is_store_failure};
+ghost use Rattle.shard_book.specs.Grounds.{grounds_now, IsImageOf};
+ghost use Rattle.shard_book.specs.Steps.{IsCardOf};
+ghost use Rattle.shard_book.specs.Shards.{number_in, IsUnder, HasCard, store_in, sure_in, disk_in, faults_in, places_in, told_in, HoldsHistory, StandsFor, Adds, IsLoaded, IsSomeCutImage};
+ghost use Rattle.shard_book.specs.Answering.{is_store_fault, told_after, AnswersClaimed, AnswersQueueing, AnswersSetting};
+
+use crate::replay::{LoadFault, Taken, TakenOver, take_over};
+use crate::rows::Rows;
+use issuer_base::{Answer, Entry, Refusal, Reply, Request, Store, StoreFail};
+use issuer_setup::Issuer;
+use journal_rec::write_entry;
+use line_checks::{CheckedCommand, CheckedRequest, CheckedStatus};
+use record_store::Journal;
+use row_core::{Outcome, Row, Step};
+use std::alloc::Global;
+
+/// So many faults of its store a shard counts, and no more.
+const MAX_TOLD: u64 = 1 << 62;
+
+/// A shard of an issuer over a store: the rows of its cards, and the journal of its records.
+pub struct Shard<S: Store> {
+    journal: Journal<S>,
+    rows: Rows,
+
+    /// How many answers since loading told that the store failed, counted up to [`MAX_TOLD`].
+    told: u64,
+}
+
+/// A store that wasn't loaded, and why.
+pub struct LoadBack<S> {
+    pub fault: LoadFault,
+    pub store: S,
+}
+
+impl<S: Store> Shard<S> {
+    /// Loads the shard with this number of an issuer from its store: takes over the records of the store's whole lines, cuts away
+    /// what stands behind them, and makes them safe. The first bad line stops it, and then the store is as it was.
+    ///
+    /// All memory, that for the store's bytes among it, is taken before the store is read, and no later call takes any.
+    pub fn load(
+        alloc: Global,
+        store: S,
+        shard: u8,
+        issuer: &Issuer,
+    ) -> Result<Shard<S>, LoadBack<S>>
+        requires { shard < issuer.now.shards }
+        ensures loaded { IfOk result (IsLoaded issuer.now shard (S.bytes store)) }
+        ensures under { IfOk result (IsUnder issuer.now) }
+        ensures number { IfOk result (λ loaded. number_in loaded ≡ shard) }
+        ensures few { IfOk result (λ loaded. places_in loaded ≤ S.size store) }
+        ensures untold { IfOk result (λ loaded. told_in loaded ≡ 0) }
+        ensures stopped { IfErr result (λ back. StopsText issuer.now shard (S.bytes store) back.fault) }
+
+        // While it is loaded a crash leaves what it might leave before, or the text of the records.
+        ensures opened { IfOk result (λ loaded. BothTold (λ old new. LeavesOnly (IsCutImage (sure_in loaded) old.now) old new) (S.disk store) (disk_in loaded)) }
+        ensures crash { IfErr result (λ back. BothTold (λ old new. LeavesOnly (IsSomeCutImage old.now) old new) (S.disk store) (S.disk back.store)) }
+        ensures count { IfOk result (λ loaded. CountsFaults (S.faults store) (faults_in loaded) false) }
+        ensures failed { IfErr result (λ back. CountsFaults (S.faults store) (S.faults back.store) (is_store_failure back.fault)) }
+    {
+        let mut store = store;
+        match take_over(alloc, &mut store, issuer, shard) {
+            Ok(TakenOver { rows, taken }) => open(store, rows, taken),
+            Err(fault) => Err(LoadBack { fault, store }),
+        }
+    }
+
+    /// The answer to a request of a card of this shard that was checked. `won` says whether the caller may decide it.
+    ///
+    /// A new decision is safe in the store before it is answered.
+    pub fn answer(&mut self, issuer: &Issuer, found: &CheckedRequest, won: bool) -> Answer
+        requires under { IsUnder issuer.now self.old }
+        requires home { HasCard self.old found.now.card }
+        requires at_hand { IsRequestAtHand issuer.now found.now }
+        requires genuine { checked issuer.now found.now.request ≡ Ok (Decide found.now.request) }
+        ensures answer { (history : List Entry) → StandsFor issuer.now self.old history
+            → (after : List Entry) × StandsFor issuer.now self.new after
+            × AnswersClaimed (number_in self.old) (reply_to issuer.now) won history found.now.request result after }
+
+        // Whatever a crash since the start of the call may leave is the text of the history before it, and a torn record behind it.
+        ensures crash { (history : List Entry) → StandsFor issuer.now self.old history
+            → BothTold (LeavesOnly (IsImageOf (grounds_now issuer.now) (number_in self.old) history)) (disk_in self.old) (disk_in self.new) }
+        ensures count { CountsFaults (faults_in self.old) (faults_in self.new) (is_store_fault result) }
+        ensures told { told_in self.new ≡ told_after (told_in self.old) (is_store_fault result) }
+        ensures under { IsUnder issuer.now self.new }
+        ensures number { number_in self.new ≡ number_in self.old }
+    {
+        let shard = self.rows.shard();
+        match self.rows.plan(issuer, found, self.journal.records()) {
+            Outcome::Fresh(reply, step) => {
+                if !won {
+                    return Answer::Refused(Refusal::Pending);
+                }
+                self.decide(found, reply, step)
+            }
+            Outcome::Kept(reply, place) => Answer::Kept {
+                shard,
+                place,
+                reply,
+            },
+            Outcome::Below(top) => Answer::Refused(Refusal::Below(top)),
+            Outcome::Taken(place) => Answer::Refused(Refusal::Taken { shard, place }),
+        }
+    }
+
+    /// The answer to a command for a card of this shard that was checked.
+    pub fn queue(&mut self, issuer: &Issuer, found: CheckedCommand) -> Answer
+        requires under { IsUnder issuer.now self.old }
+        requires home { HasCard self.old found.card }
+        requires at_hand { IsCommandAtHand issuer.now found }
+        ensures answer { (history : List Entry) → StandsFor issuer.now self.old history
+            → (after : List Entry) × StandsFor issuer.now self.new after
+            × AnswersQueueing (number_in self.old) history (named found.pan found.psn) found.command result after }
+        ensures crash { (history : List Entry) → StandsFor issuer.now self.old history
+            → BothTold (LeavesOnly (IsImageOf (grounds_now issuer.now) (number_in self.old) history)) (disk_in self.old) (disk_in self.new) }
+        ensures count { CountsFaults (faults_in self.old) (faults_in self.new) (is_store_fault result) }
+        ensures told { told_in self.new ≡ told_after (told_in self.old) (is_store_fault result) }
+        ensures under { IsUnder issuer.now self.new }
+        ensures number { number_in self.new ≡ number_in self.old }
+    {
+        if !self.rows.takes_command(found.card) {
+            return Answer::Refused(Refusal::QueueFull);
+        }
+        let CheckedCommand {
+            pan,
+            psn,
+            command,
+            card,
+        } = found;
+        let entry = Entry::Queued {
+            pan,
+            psn,
+            command: command.copy(),
+        };
+        let Ok(place) = self.put(&entry) else {
+            return Answer::Refused(Refusal::StoreFault);
+        };
+        self.rows.push(card, command);
+        Answer::Queued {
+            shard: self.rows.shard(),
+            place,
+        }
+    }
+
+    /// The answer to a status for a card of this shard that was checked.
+    pub fn set_status(&mut self, issuer: &Issuer, found: CheckedStatus) -> Answer
+        requires under { IsUnder issuer.now self.old }
+        requires home { HasCard self.old found.card }
+        requires at_hand { IsStatusAtHand issuer.now found }
+        ensures answer { (history : List Entry) → StandsFor issuer.now self.old history
+            → (after : List Entry) × StandsFor issuer.now self.new after
+            × AnswersSetting (number_in self.old) history (named found.pan found.psn) found.status result after }
+        ensures crash { (history : List Entry) → StandsFor issuer.now self.old history
+            → BothTold (LeavesOnly (IsImageOf (grounds_now issuer.now) (number_in self.old) history)) (disk_in self.old) (disk_in self.new) }
+        ensures count { CountsFaults (faults_in self.old) (faults_in self.new) (is_store_fault result) }
+        ensures told { told_in self.new ≡ told_after (told_in self.old) (is_store_fault result) }
+        ensures under { IsUnder issuer.now self.new }
+        ensures number { number_in self.new ≡ number_in self.old }
+    {
+        let CheckedStatus {
+            pan,
+            psn,
+            status,
+            card,
+        } = found;
+        let entry = Entry::Status { pan, psn, status };
+        let Ok(place) = self.put(&entry) else {
+            return Answer::Refused(Refusal::StoreFault);
+        };
+        self.rows.set_status(card, status);
+        Answer::Set {
+            shard: self.rows.shard(),
+            place,
+        }
+    }
+
+    /// The row of a card of this shard.
+    pub fn row(&self, card: u32) -> &Row
+        requires { HasCard self.now card }
+        ensures { slice_get self.now.rows.rows (card / self.now.rows.shards) ≡ Some result.now }
+    {
+        self.rows.row(card)
+    }
+
+    /// How many records the shard has.
+    pub fn places(&self) -> u64
+        ensures history { (issuer : Setup) (history : List Entry) → StandsFor issuer self.now history → result ≡ length history }
+        ensures places { result ≡ places_in self.now }
+    {
+        self.journal.records()
+    }
+
+    /// How many answers since loading told that the store failed, counted up to 2^62 and no further.
+    pub fn faults(&self) -> u64
+        ensures { result ≡ told_in self.now }
+    {
+        self.told
+    }
+
+    /// The store, with the text of the records, and behind it what is in doubt.
+    pub fn into_store(self) -> S
+        ensures { result ≡ store_in self }
+    {
+        let Shard {
+            journal,
+            rows: _,
+            told: _,
+        } = self;
+        journal.into_store()
+    }
+
+    /// Decides a request by its plan.
+    fn decide(&mut self, found: &CheckedRequest, reply: Reply, step: Step) -> Answer
+        requires home { HasCard self.old found.now.card }
+        requires some { 1 ≤ length reply.bytes.items }
+        ensures added { (issuer : Setup) (card : CardInfo) (history : List Entry) → StandsFor issuer self.old history
+            → IsCardOf issuer found.now.card card → IsNext card history step
+            → step ≡ record { request = found.now.request; reply = reply; place = length history }
+            → IsLegal (grounds_now issuer) (number_in self.old) history (Entry.Decided found.now.request reply)
+            → Adds issuer self.new history (Entry.Decided found.now.request reply) (Answer.Fresh (number_in self.old) (length history) reply) result }
+        ensures crash { (issuer : Setup) (history : List Entry) → StandsFor issuer self.old history
+            → IsLegal (grounds_now issuer) (number_in self.old) history (Entry.Decided found.now.request reply)
+            → BothTold (LeavesOnly (IsImageOf (grounds_now issuer) (number_in self.old) history)) (disk_in self.old) (disk_in self.new) }
+        ensures count { CountsFaults (faults_in self.old) (faults_in self.new) (is_store_fault result) }
+        ensures told { told_in self.new ≡ told_after (told_in self.old) (is_store_fault result) }
+        ensures under { (issuer : Setup) → IsUnder issuer self.old → IsUnder issuer self.new }
+        ensures number { number_in self.new ≡ number_in self.old }
+    {
+        let entry = Entry::Decided {
+            request: found.request.copy(),
+            reply: reply.copy(),
+        };
+        let Ok(place) = self.put(&entry) else {
+            return Answer::Refused(Refusal::StoreFault);
+        };
+        self.rows.apply(found.card, step);
+        Answer::Fresh {
+            shard: self.rows.shard(),
+            place,
+            reply,
+        }
+    }
+
+    /// Writes the text of a record and makes it safe, and gives its place.
+    fn put(&mut self, entry: &Entry) -> Result<u64, StoreFail>
+        requires { IsTrue (is_record entry.now) }
+        ensures put { (issuer : Setup) (history : List Entry) → StandsFor issuer self.old history
+            → IfOk result (λ place. (place ≡ length history)
+            × HoldsHistory (grounds_now issuer) (number_in self.old) self.new.journal (history ++ entry.now ∷ [])) }
+        ensures failed { (issuer : Setup) (history : List Entry) → StandsFor issuer self.old history
+            → IsLegal (grounds_now issuer) (number_in self.old) history entry.now → IsErr result → StandsFor issuer self.new history }
+        ensures rows { self.new.rows ≡ self.old.rows }
+        ensures crash { (issuer : Setup) (history : List Entry) → StandsFor issuer self.old history
+            → IsLegal (grounds_now issuer) (number_in self.old) history entry.now
+            → BothTold (LeavesOnly (IsImageOf (grounds_now issuer) (number_in self.old) history)) (disk_in self.old) (disk_in self.new) }
+        ensures count { CountsFaults (faults_in self.old) (faults_in self.new) (is_err result) }
+        ensures told { told_in self.new ≡ told_after (told_in self.old) (is_err result) }
+    {
+        let text = write_entry(entry);
+        let written = self.journal.put(text.as_slice());
+        self.told = told_after(self.told, written.is_err());
+        written
+    }
+}
+
+/// Opens the journal of a store whose front was taken over.
+fn open<S: Store>(store: S, rows: Rows, taken: Taken) -> Result<Shard<S>, LoadBack<S>>
+    requires within { taken.bytes ≤ S.size store }
+    requires few { taken.records ≤ taken.bytes }
+    ensures rows { IfOk result (λ loaded. loaded.rows ≡ rows) }
+    ensures sure { IfOk result (λ loaded. sure_in loaded ≡ taken.bytes) }
+    ensures places { IfOk result (λ loaded. places_in loaded ≡ taken.records) }
+    ensures untold { IfOk result (λ loaded. told_in loaded ≡ 0) }
+    ensures holds { (text rest : List ℕ) → length text ≡ taken.bytes → Tells (S.bytes store) (text ++ rest)
+        → IfOk result (λ loaded. Holds loaded.journal taken.records text []) }
+    ensures opened { IfOk result (λ loaded. BothTold (λ old new. LeavesOnly (IsCutImage taken.bytes old.now) old new) (S.disk store) (disk_in loaded)) }
+    ensures crash { IfErr result (λ back. BothTold (λ old new. LeavesOnly (IsCutImage taken.bytes old.now) old new) (S.disk store) (S.disk back.store)) }
+    ensures fault { IfErr result (λ back. back.fault ≡ LoadFault.StoreFault) }
+    ensures count { IfOk result (λ loaded. CountsFaults (S.faults store) (faults_in loaded) false) }
+    ensures failed { IfErr result (λ back. CountsFaults (S.faults store) (S.faults back.store) true) }
+{
+    match Journal::open(store, taken.bytes as u64, taken.records) {
+        Ok(journal) => Ok(Shard {
+            journal,
+            rows,
+            told: 0,
+        }),
+        Err(store) => Err(LoadBack {
+            fault: LoadFault::StoreFault,
+            store,
+        }),
+    }
+}
+
+/// How many answers told that the store failed, after one more answer.
+fn told_after(told: u64, failed: bool) -> u64
+    ensures { result ≡ told_after told failed }
+{
+    if failed && told < MAX_TOLD {
+        return told + 1;
+    }
+    told
+}
