@@ -1,9 +1,11 @@
 -- What the moments of a text that grows, and of one that is cut, hold; and what they may leave.
-use Rattle.std.proofs.Common.{◌≡◌, ◌⊎◌, ◌≤◌, ℕ, zero, suc, min, Bool, false, true, List, [], ◌∷◌, ◌++◌, length, take, append-nil, length-take, length-append, refl, sym, ap, subst, ◌∙◌}
+use Rattle.std.proofs.Common.{◌≡◌, ◌⊎◌, ◌≤◌, ℕ, zero, suc, min, Bool, false, true, List, [], ◌∷◌, ◌++◌, length, take, append-nil, length-take}
+use Rattle.std.proofs.Common.{length-append, refl, sym, ap, subst, ◌∙◌}
 use Rattle.std.proofs.Common.{inl, inr, ⊎_elim, arith, Option, None, Some, IfSome}
 use Rattle.std.proofs.lemmas.Bool.{cases_lt}
 use Rattle.std.proofs.lemmas.List.{take-take, take_all, take_at}
-use Rattle.issuer_base.specs.Stores.{Disk, Moment, MayLeave, Passes, WhileAppended, WhileCut, WhileKept, AppendsToBytes, AppendsToDisk, CutsBytes, CutsDisk, KeepsDisk, SyncsDisk, BothTold, LeavesOnly, HasSafe}
+use Rattle.issuer_base.specs.Stores.{Disk, Moment, MayLeave, Passes, WhileAppended, WhileCut, WhileKept, AppendsToBytes, AppendsToDisk, CutsBytes}
+use Rattle.issuer_base.specs.Stores.{CutsDisk, KeepsDisk, SyncsDisk, BothTold, LeavesOnly, HasSafe}
 use Rattle.issuer_base.proofs.Moments.{Passes-no_call, Passes-then, Passes-weaker, LeavesOnly-passes, MayLeave-behind}
 use Rattle.issuer_base.proofs.ToldTwice.{BothTold-given, BothTold-second, BothTold-then, BothTold-weaker}
 use Rattle.record_store.specs.Images.{HasSafeText, IsImage, IsEitherImage, IsCutImage}
@@ -50,7 +52,8 @@ module _ (text tail : List ℕ) where
       }) during
 
   -- the moments of an append, of a sync and of a cut
-  pub append-passes : (failed : Bool) (old new : Disk) → HasSafeText text [] old.now → AppendsToDisk tail failed old new → Passes (HasSafeText text tail) old new
+  pub append-passes : (failed : Bool) (old new : Disk) → HasSafeText text [] old.now → AppendsToDisk tail failed old new → Passes (HasSafeText text tail) old
+      new
   append-passes failed old new is appends =
       Passes-weaker (WhileAppended tail old.now) (HasSafeText text tail) old new (λ moment. during_append old.now moment is) appends.passes
 
@@ -142,7 +145,8 @@ module _ (text tail other : List ℕ) (a b c : Option Disk) (is : IfSome a (λ d
   leaves : (old new : Disk) → HasSafeText text tail old.now → Passes (IsEither text tail other) old new → LeavesOnly (IsEitherImage text tail other) old new
   leaves old new first passes =
       LeavesOnly-passes (IsEither text tail other) (IsEitherImage text tail other) old new
-      (λ moment image is left. ⊎_elim (λ one. inl (leaves-image text tail moment image one left)) (λ one. inr (leaves-image text other moment image one left)) is)
+      (λ moment image is left. ⊎_elim (λ one. inl (leaves-image text tail moment image one left)) (λ one. inr (leaves-image text other moment image one left))
+      is)
       (inl first) passes
 
   -- what a crash leaves while what is in doubt is cut away

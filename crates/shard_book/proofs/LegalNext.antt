@@ -1,5 +1,6 @@
 -- What is at hand for a line that was checked makes its record one that may come next.
-use Rattle.std.proofs.Common.{◌≡◌, ◌≤◌, ℕ, ◌%◌, ◌&&◌, nat_le, List, [], ◌∷◌, ◌++◌, length, get_or, refl, sym, ap, subst, ◌∙◌, Bool, true, IsTrue, Some, Ok, arith}
+use Rattle.std.proofs.Common.{◌≡◌, ◌≤◌, ℕ, ◌%◌, ◌&&◌, nat_le, List, [], ◌∷◌, ◌++◌, length, get_or, refl, sym, ap, subst, ◌∙◌, Bool, true, IsTrue, Some, Ok}
+use Rattle.std.proofs.Common.{arith}
 use Rattle.std.proofs.lemmas.Option.{slice_get_within, get_or_from_slice_get}
 use Rattle.std.specs.List.{slice_get}
 use Rattle.issuer_base.specs.declared.limits.TheConstants.{MAX_STATUS}
@@ -61,7 +62,8 @@ card-found issuer name number at_hand =
     let found = number_of-found name issuer.cards number at_hand.number_is in
     let within = slice_get_within issuer.cards number found.0 found.1 in
     let decimal : IsTrue (is_bcd (get_or issuer.cards number found.0).psn) = at_hand.valid.decimal number found.0 within in
-    let psn_is = ap (λ (card : CardInfo). card.psn) (get_or_from_slice_get issuer.cards number found.0 found.0 found.1) ∙ ap (λ (name : CardName). name.psn) found.2 in
+    let psn_is = ap (λ (card : CardInfo). card.psn) (get_or_from_slice_get issuer.cards number found.0 found.0 found.1) ∙ ap (λ (name : CardName). name.psn)
+    found.2 in
     record {
       card = found.0;
       known = record { valid = at_hand.valid; card_is = found.1 };

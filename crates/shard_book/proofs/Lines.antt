@@ -1,9 +1,11 @@
 -- The lines of a journal, taken over one after another.
-use Rattle.std.proofs.Common.{◌≡◌, ◌≢◌, ℕ, ◌+◌, ◌<◌, ◌≤◌, List, [], ◌∷◌, ◌++◌, length, take, drop, get_or, refl, sym, ap, subst, ◌∙◌, inl, inr, arith, Option, None, Some, MatchOption, eq-eqb}
+use Rattle.std.proofs.Common.{◌≡◌, ◌≢◌, ℕ, ◌+◌, ◌<◌, ◌≤◌, List, [], ◌∷◌, ◌++◌, length, take, drop, get_or, refl, sym, ap, subst, ◌∙◌, inl, inr, arith}
+use Rattle.std.proofs.Common.{Option, None, Some, MatchOption, eq-eqb}
 use Rattle.std.proofs.Common.{append-nil, append_assoc, length-append, length-take}
 use Rattle.std.proofs.Math.Seq.{take-add}
 use Rattle.std.proofs.lemmas.Bool.{cases_lt, cases_eq, eqb-true}
-use Rattle.std.proofs.lemmas.List.{length_push, take_more, take_at, take-append-le, take-append-drop, get_or-take, get_or_append_left, get_or_push, get_or_default, drop-drop}
+use Rattle.std.proofs.lemmas.List.{length_push, take_more, take_at, take-append-le, take-append-drop, get_or-take, get_or_append_left, get_or_push}
+use Rattle.std.proofs.lemmas.List.{get_or_default, drop-drop}
 use Rattle.std.proofs.lemmas.Option.{same_Some, slice_get_within, slice_get-get_or, get_or_from_slice_get}
 use Rattle.std.specs.List.{slice_get}
 use Rattle.memchr.specs.Find.{IsFirstByte, is_byte}
@@ -105,7 +107,8 @@ module _ (issuer : Setup) (shard : ℕ) (history : List Entry) (text : List ℕ)
     text_is =
         sym (take-append-drop taken.bytes text)
         ∙ ap (λ l. l ++ drop taken.bytes text) before.text_is
-        ∙ ap (λ l. texts_of before.entries ++ l) (sym (take-append-drop (count + 1) (drop taken.bytes text)) ∙ ap (λ l. l ++ drop (count + 1) (drop taken.bytes text)) front
+        ∙ ap (λ l. texts_of before.entries ++ l)
+        (sym (take-append-drop (count + 1) (drop taken.bytes text)) ∙ ap (λ l. l ++ drop (count + 1) (drop taken.bytes text)) front
         ∙ append_assoc line (newline ∷ []) (drop (count + 1) (drop taken.bytes text)))
         ∙ sym (append_assoc (texts_of before.entries) line (newline ∷ drop (count + 1) (drop taken.bytes text)));
     unbroken = subst IsUnbroken (sym line_is) ahead.unbroken;

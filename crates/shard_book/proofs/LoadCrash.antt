@@ -1,5 +1,6 @@
 -- What a crash leaves while a store is read, and then cut to the text of its records.
-use Rattle.std.proofs.Common.{◌≡◌, ◌⊎◌, ℕ, List, length, take, refl, ap, sym, subst, ◌∙◌, inl, inr, ⊎_elim, arith, Option, None, Some, Result, Ok, Err, IfOk, IfErr}
+use Rattle.std.proofs.Common.{◌≡◌, ◌⊎◌, ℕ, List, length, take, refl, ap, sym, subst, ◌∙◌, inl, inr, ⊎_elim, arith, Option, None, Some, Result, Ok, Err}
+use Rattle.std.proofs.Common.{IfOk, IfErr}
 use Rattle.issuer_base.specs.Stores.{Disk, Moment, MayLeave, BothTold, LeavesOnly}
 use Rattle.issuer_base.specs.declared.outside.store.Store.{Ghosts}
 use Rattle.issuer_base.proofs.Moments.{LeavesOnly-passes, LeavesOnly-then, LeavesOnly-weaker}
@@ -40,7 +41,8 @@ crash-read a b = BothTold-weaker OnlyReads (λ old new. LeavesOnly (IsSomeCutIma
 -- and then it is cut
 crash-cut : (sure : ℕ) (a b c : Option Disk) → BothTold OnlyReads a b → BothTold (λ old new. LeavesOnly (IsCutImage sure old.now) old new) b c
     → BothTold (λ old new. LeavesOnly (IsCutImage sure old.now) old new) a c
-crash-cut sure a b c = BothTold-then OnlyReads (λ old new. LeavesOnly (IsCutImage sure old.now) old new) (λ old new. LeavesOnly (IsCutImage sure old.now) old new)
+crash-cut sure a b c = BothTold-then OnlyReads (λ old new. LeavesOnly (IsCutImage sure old.now) old new)
+    (λ old new. LeavesOnly (IsCutImage sure old.now) old new)
     a b c (λ x y z reads cuts. cuts-leave sure x y z reads cuts)
 
 module _ {S : Type 0} {G : Ghosts S} (sure : ℕ) (a b : Option Disk) (reads : BothTold OnlyReads a b) where

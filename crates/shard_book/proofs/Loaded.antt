@@ -1,5 +1,6 @@
 -- What is known of a store's text once all its bytes are read.
-use Rattle.std.proofs.Common.{◌≡◌, ◌-◌, ◌≤◌, ℕ, min, List, [], ◌++◌, length, take, drop, refl, sym, ap, subst, ◌∙◌, arith, Option, None, Some, IfSome, IfOk, IfErr, Result, Ok, Err}
+use Rattle.std.proofs.Common.{◌≡◌, ◌-◌, ◌≤◌, ℕ, min, List, [], ◌++◌, length, take, drop, refl, sym, ap, subst, ◌∙◌, arith, Option, None, Some, IfSome}
+use Rattle.std.proofs.Common.{IfOk, IfErr, Result, Ok, Err}
 use Rattle.std.proofs.lemmas.List.{take_all, take-append-drop, length-take-le}
 use Rattle.issuer_base.specs.Tells.{Tells}
 use Rattle.issuer_setup.specs.IssuerSetup.{Setup}
@@ -43,12 +44,14 @@ module _ (issuer : Setup) (shard : ℕ) (bytes : Option (List ℕ)) (text : List
       }
 
   pub reads : (result : Result TakenOver LoadFault) → IfOk result (λ over. TakesLines issuer shard [] text over.taken over.rows)
-      → IfOk result (λ over. IsUnbroken (drop over.taken.bytes text)) → IfOk result (λ over. (over.taken.records ≤ over.taken.bytes) × (over.taken.bytes ≤ length text))
+      → IfOk result (λ over. IsUnbroken (drop over.taken.bytes text)) → IfOk result
+      (λ over. (over.taken.records ≤ over.taken.bytes) × (over.taken.bytes ≤ length text))
       → IfOk result (λ over. ReadsText issuer shard bytes over.rows over.taken)
   reads (Ok over) takes unbroken within = reads-text over.rows over.taken takes unbroken within.1
   reads (Err fault) takes unbroken within = tt
 
-  stops-told : (b : Option (List ℕ)) → Tells b text → (fault : LoadFault) → StopsAt issuer shard [] text fault → IfSome b (λ text. StopsAt issuer shard [] text fault)
+  stops-told : (b : Option (List ℕ)) → Tells b text → (fault : LoadFault) → StopsAt issuer shard [] text fault → IfSome b
+      (λ text. StopsAt issuer shard [] text fault)
   stops-told None told fault bad = tt
   stops-told (Some whole) told fault bad = subst (λ text. StopsAt issuer shard [] text fault) (sym told) bad
 

@@ -60,7 +60,8 @@ empty-more issuer shard rows longer card row number each number_is card_is stand
     let long : length longer ≡ length rows + 1 = ap length longer_is ∙ length_push rows row in
     elim (cases_eq place (length rows)) [
       | inl same ↦
-          let its : card ≡ other = same_Some card other (sym card_is ∙ ap (slice_get issuer.cards) (number_is ∙ ap (λ place. shard + place * issuer.shards) (sym same))
+          let its : card ≡ other = same_Some card other
+          (sym card_is ∙ ap (slice_get issuer.cards) (number_is ∙ ap (λ place. shard + place * issuer.shards) (sym same))
           ∙ other_is) in
           let read : slice_get longer place ≡ Some row =
           ap (λ rows. slice_get rows place) longer_is

@@ -1,5 +1,6 @@
 -- The rows of a shard after one more record: only the row of the record's card changes.
-use Rattle.std.proofs.Common.{◌≡◌, ◌≢◌, ℕ, ◌/◌, ◌%◌, ◌<◌, List, [], ◌∷◌, ◌++◌, length, get_or, set, ap, sym, ◌∙◌, subst, inl, inr, Some, Result, Ok, Err, IfOk, IsOk, arith, length-set}
+use Rattle.std.proofs.Common.{◌≡◌, ◌≢◌, ℕ, ◌/◌, ◌%◌, ◌<◌, List, [], ◌∷◌, ◌++◌, length, get_or, set, ap, sym, ◌∙◌, subst, inl, inr, Some, Result, Ok, Err}
+use Rattle.std.proofs.Common.{IfOk, IsOk, arith, length-set}
 use Rattle.std.proofs.lemmas.Bool.{cases_eq, cases_lt, false≢true}
 use Rattle.std.proofs.lemmas.List.{get_or-set_same, get_or-set_other}
 use Rattle.std.proofs.lemmas.Option.{same_Some, slice_get_within, slice_get-get_or, get_or_from_slice_get}
@@ -99,7 +100,8 @@ step-more issuer rows now view number place place_is row new home row_is card hi
     let home_inside = subst (λ (rows : ShardRows). IsHome rows number) (sym view) home in
     let stands_inside = subst (λ (rows : ShardRows). StandsFor issuer rows history) (sym view) stands in
     let row_there : slice_get rows.rows (number / rows.shards) ≡ Some row = subst (λ place. slice_get rows.rows place ≡ Some row) place_is row_is in
-    subst (λ place. StandsFor issuer (record { shard = rows.shard; shards = rows.shards; cards = rows.cards; rows = set rows.rows place new }) (history ++ entry ∷ []))
+    subst (λ place. StandsFor issuer (record { shard = rows.shard; shards = rows.shards; cards = rows.cards; rows = set rows.rows place new })
+    (history ++ entry ∷ []))
     (sym place_is) (stands-more issuer rows history stands_inside number home_inside row row_there card entry new known its gains)
 
 -- the queue of a card is that of its row

@@ -31,7 +31,8 @@ loop-count-preserved g c =
       room_is = omega (arith, before.room_is, ok.size, longer);
       size_is = ok.size ∙ before.size_is;
       bytes_are = ok.bytes ∙ before.bytes_are;
-      given = told-read c.args.at c.loop-count.count c.in_ok-count.field-0 _ c.loop-count.into c.read_at.new.into _ _ before.bytes_are short ok.bound.0 before.given ok.given;
+      given = told-read c.args.at c.loop-count.count c.in_ok-count.field-0 _ c.loop-count.into c.read_at.new.into _ _ before.bytes_are short ok.bound.0
+          before.given ok.given;
       disk = reads-more _ _ _ before.disk ok.disk;
       counts = CountsFaults-then _ _ _ _ _ before.counts ok.count;
     }
