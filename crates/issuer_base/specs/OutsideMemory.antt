@@ -1,8 +1,6 @@
--- What a source, a sink and a desk in memory are seen as.
-use Rattle.std.specs.Prelude.{ℕ, ◌+◌, ◌-◌, ◌^◌, ◌==◌, min, Bool, List, Option, Some, find, reverse, if◌then◌else◌}
+-- What a source and a sink in memory are seen as.
+use Rattle.std.specs.Prelude.{ℕ, ◌+◌, ◌-◌, ◌^◌, ◌==◌, min, Bool, List, if◌then◌else◌}
 use Rattle.std.specs.List.{list_any}
-use Rattle.std.specs.Option.{option_map}
-use Rattle.std.specs.Str.{bytes_eq}
 
 -- the calls of an object in memory: the numbers of those that fail, how many were made, and how many failed
 pub record Calls : Type 0 where
@@ -37,27 +35,3 @@ pub record SinkState : Type 0 where
   pub held : List ℕ
   pub room : ℕ
   pub calls : Calls
-
--- an input of a desk in memory: its name, its bytes, and the numbers of the reads that fail
-pub record HeldInput : Type 0 where
-  pub name : List ℕ
-  pub bytes : List ℕ
-  pub fails : List ℕ
-
--- a desk in memory: its inputs in the order in which they were put there, its calls, and the name in the last one that failed
-pub record DeskState : Type 0 where
-  pub inputs : List HeldInput
-  pub calls : Calls
-  pub last_fault : Option (List ℕ)
-
--- the input that was put under the name last
-abbrev pub input_under : List HeldInput → List ℕ → Option HeldInput
-input_under inputs name = find (λ input. bytes_eq input.name name) (reverse inputs)
-
--- the bytes that stand under each name, if there are some
-abbrev pub bytes_under : List HeldInput → List ℕ → Option (Option (List ℕ))
-bytes_under inputs name = Some (option_map (λ input. input.bytes) (input_under inputs name))
-
--- a new source over an input
-abbrev pub source_over : HeldInput → SourceState
-source_over input = record { left = input.bytes; step = 2 ^ 64 - 1; calls = no_calls input.fails }

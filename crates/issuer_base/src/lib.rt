@@ -21,11 +21,11 @@ pub use faults::{
 };
 pub use limits::{
     BARE_COMMAND_BYTES, BARE_TEMPLATE_BYTES, KEPT_BYTES, MAX_BODY_BYTES, MAX_CARDS, MAX_CHIP_BYTES,
-    MAX_KEY_SETS, MAX_PAN_DIGITS, MAX_QUEUED, MAX_REPLY_BYTES, MAX_SHARDS, MAX_STATUS,
+    MAX_FAULTS_TOLD, MAX_KEY_SETS, MAX_PAN_DIGITS, MAX_QUEUED, MAX_REPLY_BYTES, MAX_SHARDS, MAX_STATUS,
     MAX_STORE_BYTES, MAX_TABLE_ROWS, MAX_TEMPLATE_BYTES, MAX_UNDONE, MIN_PAN_DIGITS, WINDOW,
 };
 pub use outside::{
-    Desk, DeskFault, FailingCalls, MemoryDesk, MemorySink, MemorySource, Sink, Source, Store,
+    Desk, DeskCall, DeskFault, FailingCalls, MemorySink, MemorySource, Sink, Source, Store,
     write_all,
 };
 pub use pan::Pan;

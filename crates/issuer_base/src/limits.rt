@@ -55,3 +55,6 @@ pub const BARE_COMMAND_BYTES: usize = 2 + 4 + 1 + 8;
 
 /// How many bytes a store takes at most.
 pub const MAX_STORE_BYTES: u64 = 1 << 62;
+
+/// How many faults of its store a shard tells at most; it counts no further.
+pub const MAX_FAULTS_TOLD: u64 = 1 << 62;

@@ -1,15 +1,15 @@
-//! The traits of what lies outside the host: inputs, the output, and the desk that opens inputs by name.
-ghost use Rattle.std.specs.Prelude.{◌≡◌, ℕ, ◌<◌, List, length, Option, None, Some, is_err, IfOk, IsErr, if◌then◌else◌};
+//! The traits of what lies outside the host: inputs, the output, and the desk that opens inputs and journals by name.
+ghost use Rattle.std.specs.Prelude.{◌≡◌, ℕ, ◌<◌, List, [], length, Option, None, Some, is_err, IfOk, IfSome, IsErr};
 ghost use Rattle.std.specs.Io.{ReadsAtMost, WritesAtMost};
 ghost use Rattle.std.specs.Io.KnownBytes.{ReadConsumes, WriteAppends};
 ghost use Rattle.issuer_base.specs.OutsideFaults.{CountsFaults};
 ghost use Rattle.issuer_base.specs.Sink.{WritesAll};
 ghost use Rattle.issuer_base.specs.Tells.{Tells};
-ghost use Rattle.issuer_base.specs.Desk.{is_fault};
+ghost use Rattle.issuer_base.specs.Desk.{FailedCall, is_fault, last_after};
+ghost use Rattle.issuer_base.specs.declared.outside.DeskCall.TheVariants.{Log, Read};
 ghost use Rattle.issuer_base.specs.declared.outside.DeskFault.TheVariants.{NoMemory};
 
 mod failing_calls;
-mod memory_desk;
 mod memory_sink;
 mod memory_source;
 mod store;
@@ -18,7 +18,6 @@ mod tests;
 
 use crate::faults::{ReadFault, WriteFault};
 pub use failing_calls::FailingCalls;
-pub use memory_desk::MemoryDesk;
 pub use memory_sink::MemorySink;
 pub use memory_source::MemorySource;
 use std::alloc::AllocError;
@@ -66,10 +65,10 @@ pub trait Sink {
         ensures count { CountsFaults (faults self.old) (faults self.new) (is_err result) };
 }
 
-/// Why a desk gave no input.
+/// Why a desk gave no input or journal.
 #[derive(Clone, Copy, PartialEq, Eq, Debug)]
 pub enum DeskFault {
-    /// The fault is the desk's: nothing stands under the name, or it could not be opened.
+    /// The fault is the desk's: no input stands under the name, or what stands there could not be opened.
     Fault,
     /// No memory was left.
     NoMemory,
@@ -83,18 +82,31 @@ impl From<AllocError> for DeskFault {
     }
 }
 
-/// Opens inputs by their names.
+/// The two calls of a desk.
+#[derive(Clone, Copy, PartialEq, Eq, Debug)]
+pub enum DeskCall {
+    /// To open an input.
+    Read,
+    /// To open a journal.
+    Log,
+}
+
+/// Opens inputs and journals by their names.
 pub trait Desk {
     type Input: Source;
+    type Journal: Store + Send;
 
     // What stands under a name: `None` where the desk does not tell, and else the bytes, if there is an input.
     ghost holds: { Self → List ℕ → Option (Option (List ℕ)) } = { λ _ _. None };
 
+    // The bytes of the journal under a name, where the desk tells; a journal that isn't there yet has none.
+    ghost logs: { Self → List ℕ → Option (List ℕ) } = { λ _ _. None };
+
     // How many of its calls answered `Fault`, counted up to 2^64 - 1.
     ghost faults: { Self → ℕ };
 
-    // The name in the last call of `read` that answered `Fault`, none at first.
-    ghost last_fault: { Self → Option (List ℕ) };
+    // Its last call that answered `Fault`, none at first.
+    ghost last_fault: { Self → Option FailedCall };
 
     /// Opens the input that stands under a name, at its front and with no fault counted.
     ///
@@ -104,8 +116,22 @@ pub trait Desk {
         ensures absent { holds self.old name.now ≡ Some None → IsErr result }
         ensures new { IfOk result (λ input. Self.Input.faults input ≡ 0) }
         ensures kept { holds self.new ≡ holds self.old }
+        ensures kept_logs { logs self.new ≡ logs self.old }
         ensures count { CountsFaults (faults self.old) (faults self.new) (is_fault result) }
-        ensures last { last_fault self.new ≡ (if is_fault result then Some name.now else last_fault self.old) };
+        ensures last { last_fault self.new ≡ last_after Read name.now (is_fault result) (last_fault self.old) };
+
+    /// Opens the journal under a name, with no fault counted and nothing done to it since. A journal that isn't there yet is
+    /// an empty one.
+    ///
+    /// What the other names hold stays as it was.
+    fn log(&mut self, name: &str) -> Result<Self::Journal, DeskFault>
+        ensures journal { IfOk result (λ journal. IfSome (logs self.old name.now) (λ held. Self.Journal.bytes journal ≡ Some held)) }
+        ensures untouched { IfOk result (λ journal. IfSome (Self.Journal.disk journal) (λ disk. disk.past ≡ [])) }
+        ensures new { IfOk result (λ journal. Self.Journal.faults journal ≡ 0) }
+        ensures kept { holds self.new ≡ holds self.old }
+        ensures others { (other : List ℕ) → (other ≡ name.now → ⊥) → logs self.new other ≡ logs self.old other }
+        ensures count { CountsFaults (faults self.old) (faults self.new) (is_fault result) }
+        ensures last { last_fault self.new ≡ last_after Log name.now (is_fault result) (last_fault self.old) };
 }
 
 /// Writes all of a piece, in as many calls as the sink needs for it.

@@ -12,14 +12,6 @@ fn next_byte<S: Source>(source: &mut S) -> Result<Option<u8>, ReadFault> {
     Ok((count > 0).then_some(byte[0]))
 }
 
-// The first byte that stands under a name.
-fn first_byte<D: Desk>(desk: &mut D, name: &str) -> Result<Result<Option<u8>, ReadFault>, DeskFault>
-where
-    D::Input: Drop,
-{
-    Ok(next_byte(&mut desk.read(name)?))
-}
-
 // A sink that takes one byte at a time.
 #[derive(Drop)]
 struct Sipping(MemorySink);
@@ -81,26 +73,5 @@ fn a_fault_leaves_a_front_of_the_piece(rt: HostRuntime) -> Result<(), Fail> {
     assert_eq!(rt; write_all(&mut sink, b"abc"), Ok(()));
     assert_eq!(rt; write_all(&mut sink, b"defg"), Err(WriteFault));
     assert_eq!(rt; sink.0.bytes(), b"abcde".as_slice());
-    Ok(())
-}
-
-#[test]
-fn desk_gives_what_its_names_hold(rt: HostRuntime) -> Result<(), Fail> {
-    let mut desk = MemoryDesk::new(rt.alloc(), vec![in rt.alloc(); 3]?);
-    for (name, byte) in [("one", b'1'), ("two", b'2'), ("one", b'3')] {
-        let name = String::from_str(rt.alloc(), name)?;
-        let bytes = vec![in rt.alloc(); byte]?;
-        desk.input(name, bytes, vec![in rt.alloc(); 1]?)?;
-    }
-    let calls = [
-        ("one", Ok(Ok(Some(b'3')))),
-        ("three", Err(DeskFault::Fault)),
-        ("two", Ok(Ok(Some(b'2')))),
-        ("two", Err(DeskFault::Fault)),
-        ("one", Ok(Ok(Some(b'3')))),
-    ];
-    for (name, answer) in calls {
-        assert_eq!(rt; first_byte(&mut desk, name), answer, "{name}");
-    }
     Ok(())
 }
