@@ -94,6 +94,7 @@ pub enum DeskCall {
 /// Opens inputs and journals by their names.
 pub trait Desk {
     type Input: Source;
+
     type Journal: Store + Send;
 
     // What stands under a name: `None` where the desk does not tell, and else the bytes, if there is an input.
