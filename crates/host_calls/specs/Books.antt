@@ -1,0 +1,13 @@
+-- What a host's shards hold: a book for each of them.
+use Rattle.std.specs.Prelude.{ℕ, List, map}
+use Rattle.issuer_base.specs.declared.entry.Entry.{Entry}
+
+-- a shard's history, its store's count of faults, and how many of the shard's answers since it was loaded told that the store failed
+pub record Book : Type 0 where
+  pub history : List Entry
+  pub faults : ℕ
+  pub told : ℕ
+
+-- the histories alone
+abbrev pub histories_of : List Book → List (List Entry)
+histories_of books = map (λ book. book.history) books

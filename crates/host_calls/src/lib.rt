@@ -1,0 +1,15 @@
+//! The host over stores: a shard for each store, and the answer to each line.
+//!
+//! `specs/Turns.antt` says what one caller may be answered, `specs/OneHistory.antt` what is sure after any run of turns: it is the contract of
+//! [`every_run_is_one_history`]. `specs/Runs.antt` says what a crash may leave meanwhile.
+#![tactic(auto)]
+
+mod law;
+mod solo;
+mod view;
+
+pub use law::every_run_is_one_history;
+pub use shard_book::LoadFault;
+pub use solo::{HostBack, Solo};
+pub use view::CardView;
+
