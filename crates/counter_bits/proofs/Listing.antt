@@ -3,7 +3,7 @@ use Rattle.std.proofs.Common.{◌≡◌, ℕ, ◌+◌, ◌≤◌, List, [], ◌�
 use Rattle.std.proofs.Common.{Bool, true, false, ◌&&◌, eqb, ltb, arith}
 use Rattle.std.proofs.lemmas.Bool.{cases_eq, cases_lt, cases_order, and_left, and_right, eq-eqb, ne_eqb, lt-ltb, le-ltb}
 use Rattle.std.proofs.lemmas.List.{take-take}
-use Rattle.std.proofs.lemmas.List.Sums.{sum_by_push}
+use Rattle.std.proofs.lemmas.List.Sums.{sum_by_push, sum_by-append}
 use Rattle.counter_bits.specs.declared.counter_bits.TheConstants.{COUNTERS}
 use Rattle.counter_bits.specs.CounterSets.{CounterSets, has, times, one_if}
 
@@ -12,6 +12,12 @@ pub times-push : (number counter : ℕ) (pairs : List (ℕ × ℕ)) (pair : ℕ 
     → times number counter (pairs ++ pair ∷ []) ≡ times number counter pairs + one_if (eqb pair.0 number && eqb pair.1 counter)
 unfolding times
 times-push number counter pairs pair = sum_by_push (λ (pair : ℕ × ℕ). one_if (eqb pair.0 number && eqb pair.1 counter)) pairs pair
+
+-- one list behind another
+pub times-append : (number counter : ℕ) (first second : List (ℕ × ℕ))
+    → times number counter (first ++ second) ≡ times number counter first + times number counter second
+unfolding times
+times-append number counter first second = sum_by-append (λ (pair : ℕ × ℕ). one_if (eqb pair.0 number && eqb pair.1 counter)) first second
 
 -- ---- one number more is below the next
 steps-below : (its has_it : Bool) → one_if (its && (true && has_it)) + one_if (its && (false && has_it)) ≡ one_if (its && (true && has_it))

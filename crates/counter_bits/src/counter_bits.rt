@@ -48,6 +48,13 @@ impl CounterBits {
         })
     }
 
+    /// How many cards there is a set for.
+    pub fn cards(&self) -> u32
+        ensures { result ≡ self.now.cards }
+    {
+        self.cards
+    }
+
     /// Adds a counter to the set of this card.
     pub fn add(&mut self, index: usize, counter: u16)
         requires { index < self.old.cards }
