@@ -4,3 +4,6 @@
 mod counter_bits;
 
 pub use counter_bits::{COUNTERS, CounterBits};
+
+#[cfg(test)]
+mod tests;
