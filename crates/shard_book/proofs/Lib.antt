@@ -8,3 +8,5 @@ pub mod Adopted
 pub mod Lines
 pub mod Loaded
 pub mod LoadCrash
+pub mod OwnDecisions
+pub mod Exactly
