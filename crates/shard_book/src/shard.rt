@@ -328,8 +328,15 @@ fn whole_updates(rows: &[TableRow])
     ensures { All (λ row. length row.csu ≡ 4) rows.now }
 {
     for row in rows {
-        let _update = row.csu;
+        update_of(row);
     }
+}
+
+/// The card status update of a row.
+fn update_of(row: &TableRow) -> [u8; 4]
+    ensures { length row.now.csu ≡ 4 }
+{
+    row.csu
 }
 
 /// How many answers told that the store failed, after one more answer.
