@@ -117,7 +117,7 @@ fn set_status(shard: &mut Shard<MemoryStore>, issuer: &Issuer, status: u8) -> Op
 fn text_of(shard: Shard<MemoryStore>) -> Result<Vec<u8>, Fail> {
     let store = shard.into_store();
     let whole = store.image(store.len()).map_err(|_| "an image")?;
-    whole.ok_or("the whole text".into())
+    Ok(whole.ok_or("the whole text")?)
 }
 
 /// How many records a store with these bytes is loaded with.
@@ -138,7 +138,7 @@ struct Run {
     in_hand: bool,
 }
 
-fn run(alloc: Global, issuer: &Issuer, lines: u8, fails: u64) -> Result<Run, Fail>
+fn make_run(alloc: Global, issuer: &Issuer, lines: u8, fails: u64) -> Result<Run, Fail>
     requires { issuer.now.shards ≡ 1 }
 {
     let mut listed = Vec::new(alloc);
@@ -308,7 +308,7 @@ fn loads_each_image_before_a_sync(rt: HostRuntime) -> Result<(), Fail> {
     let alloc = rt.alloc();
     let issuer = issuer(alloc)?;
     // the calls are the sync of the load, an append, and the sync that fails
-    let run = run(alloc, &issuer, 1, 2)?;
+    let run = make_run(alloc, &issuer, 1, 2)?;
     assert!(rt; run.in_hand);
     assert_eq!(rt; run.store.len(), 28);
     for length in 0..29 {
@@ -326,7 +326,7 @@ fn keeps_what_it_acknowledged(rt: HostRuntime) -> Result<(), Fail> {
     // a load and three lines make seven calls where none fails
     for fails in 0..8 {
         for lines in 1..4 {
-            let run = run(alloc, &issuer, lines, fails)?;
+            let run = make_run(alloc, &issuer, lines, fails)?;
             assert!(rt; is_kept(alloc, &issuer, &run)?, "{fails} {lines}");
             if fails == 7 {
                 assert_eq!(rt; run.acknowledged, u64::from(lines));
