@@ -10,3 +10,5 @@ pub mod Adopted
 pub mod Lines
 pub mod Loaded
 pub mod LoadCrash
+pub mod OwnDecisions
+pub mod Exactly
