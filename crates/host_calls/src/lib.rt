@@ -6,10 +6,9 @@
 
 mod law;
 mod solo;
-mod view;
 
 pub use law::every_run_is_one_history;
 pub use shard_book::LoadFault;
+pub use show_text::CardView;
 pub use solo::{HostBack, Solo};
-pub use view::CardView;
 

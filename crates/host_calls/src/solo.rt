@@ -12,11 +12,11 @@ ghost use Rattle.host_calls.specs.Runs.{LeaveBetween};
 ghost use Rattle.host_calls.specs.Turns.{Turn};
 ghost use Rattle.host_calls.specs.Views.{view_of};
 
-use crate::view::CardView;
 use issuer_base::{Answer, Store};
 use issuer_setup::Issuer;
 use line_checks::{Checked, CheckedCommand, CheckedRequest, CheckedStatus, check_line};
 use shard_book::{LoadBack, LoadFault, Shard};
+use show_text::CardView;
 use std::alloc::Global;
 
 /// The host of one caller over stores: it answers line after line, and each record is safe in its shard's store before it is answered.
