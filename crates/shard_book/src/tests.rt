@@ -134,7 +134,11 @@ fn records_of(alloc: Global, issuer: &Issuer, text: Vec<u8>) -> Result<u64, Fail
 fn three_records(alloc: Global, issuer: &Issuer) -> Result<Vec<u8>, Fail>
     requires { issuer.now.shards ≡ 1 }
 {
-    let mut shard = load(alloc, issuer, store(alloc, Vec::new(alloc), Vec::new(alloc))?)?;
+    let mut shard = load(
+        alloc,
+        issuer,
+        store(alloc, Vec::new(alloc), Vec::new(alloc))?,
+    )?;
     set_status(&mut shard, issuer, 3);
     decide(&mut shard, issuer);
     set_status(&mut shard, issuer, 4);
@@ -317,7 +321,11 @@ fn finds_a_changed_record(rt: HostRuntime) -> Result<(), Fail> {
     assert_eq!(rt; records_of(alloc, &issuer, text.clone()?)?, 3);
     let changed = store(alloc, with_changed_digit(alloc, &text)?, Vec::new(alloc))?;
     assert!(rt; fault(alloc, &issuer, changed) == Some(LoadFault::BadRecord(2)));
-    let repeated = store(alloc, with_repeated_decision(alloc, &text)?, Vec::new(alloc))?;
+    let repeated = store(
+        alloc,
+        with_repeated_decision(alloc, &text)?,
+        Vec::new(alloc),
+    )?;
     assert!(rt; fault(alloc, &issuer, repeated) == Some(LoadFault::BadRecord(2)));
     Ok(())
 }
@@ -333,7 +341,11 @@ fn loads_each_image_before_a_sync(rt: HostRuntime) -> Result<(), Fail> {
     for length in 0..29 {
         let image = run.store.image(length).map_err(|_| "an image")?;
         let image = image.ok_or("one of this length")?;
-        assert_eq!(rt; records_of(alloc, &issuer, image)?, u64::from(length == 28), "{length}");
+        assert_eq!(rt;
+            records_of(alloc, &issuer, image)?,
+            u64::from(length == 28),
+            "{length}"
+        );
     }
     Ok(())
 }
