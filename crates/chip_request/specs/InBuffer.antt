@@ -1,5 +1,5 @@
 -- What a line asks for, whose data lie in a buffer.
-use Rattle.std.specs.Prelude.{ℕ, Bool, true, List, take, nat_le}
+use Rattle.std.specs.Prelude.{ℕ, Bool, List, take, nat_le}
 use Rattle.issuer_base.specs.declared.limits.TheConstants.{MAX_CHIP_BYTES}
 use Rattle.chip_request.specs.declared.line.TheConstants.{MAX_QUEUE_BYTES}
 use Rattle.chip_request.specs.declared.line.LineForm.{LineForm}
@@ -13,8 +13,8 @@ kind_in buffer (IsAsk count) = Ask (record { items = take count buffer })
 kind_in buffer (IsQueue pan psn count) = Queue pan psn (record { items = take count buffer })
 kind_in buffer (IsSet pan psn status) = Set pan psn status
 
--- no more data than a line has
+-- no more data than a line has, and a status of one digit
 abbrev pub is_within : LineForm → Bool
 is_within (IsAsk count) = nat_le count MAX_CHIP_BYTES
 is_within (IsQueue pan psn count) = nat_le count MAX_QUEUE_BYTES
-is_within (IsSet pan psn status) = true
+is_within (IsSet pan psn status) = nat_le status 9

@@ -65,7 +65,8 @@ fn leading_digits(text: &[u8]) -> (ArrayVec<u8, MAX_PAN_DIGITS>, &[u8])
 /// One decimal digit, and then the end of the text.
 #[tactic(auto, unfolding(crate::specs::LineParts::last_digit_at))]
 pub(crate) fn read_last_digit(text: &[u8]) -> Result<u8, &[u8]>
-    ensures { result_map_both (λ digit. digit) (λ rest. rest.now) result ≡ last_digit_at text.now }
+    ensures found { result_map_both (λ digit. digit) (λ rest. rest.now) result ≡ last_digit_at text.now }
+    ensures small { IfOk result (λ digit. digit < 10) }
 {
     let (digit, rest) = read_digit(text)?;
     if !rest.is_empty() {
