@@ -1,5 +1,6 @@
 -- The laws of this crate.
 pub mod Walk
+pub mod DecimalValues
 pub mod HexTable
 pub mod PairLoop
 pub mod Found
