@@ -42,7 +42,9 @@ pub enum LineKind {
 #[derive(Clone, Debug, PartialEq, Eq, Drop)]
 pub enum LineForm {
     /// As [`LineKind::Ask`].
-    Ask { count: usize },
+    Ask {
+        count: usize,
+    },
     /// As [`LineKind::Queue`].
     Queue {
         pan: Pan,
@@ -111,10 +113,7 @@ fn vector_of<const N: usize>(bytes: &[u8]) -> ArrayVec<u8, N>
 
 // What a line asks for, or what is left of it from the first byte on that no line has there.
 #[tactic(auto, unfolding(crate::specs::LineParts::kind_at))]
-fn form_of<'a>(
-    line: &'a [u8],
-    bytes: &mut [u8; MAX_CHIP_BYTES],
-) -> Result<LineForm, &'a [u8]>
+fn form_of<'a>(line: &'a [u8], bytes: &mut [u8; MAX_CHIP_BYTES]) -> Result<LineForm, &'a [u8]>
     ensures same { result_map_both (kind_in bytes.new) (λ rest. rest.now) result ≡ kind_at line.now }
     ensures within { IfOk result (λ form. is_within form ≡ true) }
 {

@@ -1,6 +1,5 @@
 -- The bytes of pairs of digits.
-use Rattle.std.proofs.Common.{◌≡◌, ◌≤◌, ◌<◌, ◌*◌, ◌+◌, ◌-◌, length, take, drop, is_err, true, Err, refl, sym, ◌∙◌, eqb-true, length-drop, arith}
-use Rattle.chip_request.specs.LineParts.{pair_at, data_at}
+use Rattle.std.proofs.Common.{◌*◌, refl, sym, ◌∙◌, eqb-true, length-drop, arith}
 use Rattle.std.proofs.lemmas.List.{take_rest}
 use Rattle.chip_request.proofs.PairLoop.{no_text, pair_ahead, pair_fails, short_fails, goes_on, goes_beyond, ends_here, no_room, no_pair}
 use Rattle.chip_request.proofs.line_parts.read_data.Goals as goal
