@@ -1,5 +1,6 @@
 -- Reading pairs of digits place by place.
-use Rattle.std.proofs.Common.{◌≡◌, ℕ, ◌+◌, ◌-◌, ◌*◌, ◌<◌, ◌≤◌, ◌==◌, true, false, List, [], ◌∷◌, length, take, drop, get_or, set, Option, Some, None, Ok, Err, is_err, refl, sym, ap, ◌∙◌, length-drop, arith}
+use Rattle.std.proofs.Common.{◌≡◌, ℕ, ◌+◌, ◌-◌, ◌*◌, ◌<◌, ◌≤◌, ◌==◌, true, false, List, [], ◌∷◌, length, take}
+use Rattle.std.proofs.Common.{drop, get_or, set, Option, Some, None, Ok, Err, is_err, refl, sym, ap, ◌∙◌, length-drop, arith}
 use Rattle.std.proofs.lemmas.Bool.{ne_eqb, eqb-false}
 use Rattle.std.proofs.lemmas.List.{drop_more, take_rest}
 use Rattle.std.proofs.lemmas.Grind.{take-set_at}
@@ -40,7 +41,8 @@ second_fails None digit value rest none = refl
 second_fails (Some found) digit value rest none = absurd cc
 
 first_fails : (high : Option ℕ) (digit low : ℕ) (rest : List ℕ) → pair_of high (hex_digit_value low) ≡ None
-    → is_err {T = ℕ × List ℕ} (value_in_front high digit (low ∷ rest) >>= λ found. hex_digit_at found.1 >>= λ behind. Ok (16 * found.0 + behind.0, behind.1)) ≡ true
+    → is_err {T = ℕ × List ℕ} (value_in_front high digit (low ∷ rest)
+    >>= λ found. hex_digit_at found.1 >>= λ behind. Ok (16 * found.0 + behind.0, behind.1)) ≡ true
 unfolding hex_digit_at
 first_fails None digit low rest none = refl
 first_fails (Some value) digit low rest none = second_fails (hex_digit_value low) low value rest (none_behind (hex_digit_value low) value none)

@@ -4,7 +4,7 @@ ghost use Rattle.hex.specs.Hex.{hex_digit_value};
 ghost use Rattle.chip_request.specs.HexDigits.{value_below, pair_of};
 
 /// 16 times the value of each byte as a digit of either case, and 256 where it is none.
-const HIGH_DIGITS: [u32; 256] = [
+const HIGH_DIGITS: [u16; 256] = [
     256, 256, 256, 256, 256, 256, 256, 256, 256, 256, 256, 256, 256, 256, 256, 256, 256, 256, 256,
     256, 256, 256, 256, 256, 256, 256, 256, 256, 256, 256, 256, 256, 256, 256, 256, 256, 256, 256,
     256, 256, 256, 256, 256, 256, 256, 256, 256, 256, 0, 16, 32, 48, 64, 80, 96, 112, 128, 144,
@@ -22,7 +22,7 @@ const HIGH_DIGITS: [u32; 256] = [
 ];
 
 /// The value of each byte as a digit of either case, and 256 where it is none.
-const LOW_DIGITS: [u32; 256] = [
+const LOW_DIGITS: [u16; 256] = [
     256, 256, 256, 256, 256, 256, 256, 256, 256, 256, 256, 256, 256, 256, 256, 256, 256, 256, 256,
     256, 256, 256, 256, 256, 256, 256, 256, 256, 256, 256, 256, 256, 256, 256, 256, 256, 256, 256,
     256, 256, 256, 256, 256, 256, 256, 256, 256, 256, 0, 1, 2, 3, 4, 5, 6, 7, 8, 9, 256, 256, 256,
@@ -40,7 +40,7 @@ const LOW_DIGITS: [u32; 256] = [
 ];
 
 /// The byte that two digits of either case spell, the high one first, and 256 or more where one is none.
-pub(crate) fn pair_value(high: u8, low: u8) -> u32
+pub(crate) fn pair_value(high: u8, low: u8) -> u16
     ensures { value_below 256 result ≡ pair_of (hex_digit_value high) (hex_digit_value low) }
 {
     HIGH_DIGITS[usize::from(high)] + LOW_DIGITS[usize::from(low)]

@@ -87,9 +87,6 @@ fn read_digit(text: &[u8]) -> Result<(u8, &[u8]), &[u8]>
 }
 
 /// The bytes of 1 to `limit` pairs of hexadecimal digits, up to the end of the text: they are written in front of `bytes`, and counted.
-///
-/// It is a function of its own in the built program, so that the tables' addresses stay in registers along the loop.
-#[inline(never)]
 pub(crate) fn read_data<'a>(
     text: &'a [u8],
     limit: usize,
