@@ -1,1 +1,8 @@
 -- The lemmas of this crate.
+pub mod Places
+pub mod OneShard
+pub mod Asked
+pub mod TurnSteps
+pub mod LegalBooks
+pub mod OneRun
+pub mod Loads

@@ -38,6 +38,11 @@ GoOnLegally issuer first last =
 abbrev pub AreLegalBooks : Setup → List Book → Type 0
 AreLegalBooks issuer books = (shard : ℕ) (book : Book) → slice_get books shard ≡ Some book → IsLegalHistory (grounds_of issuer) shard book.history
 
+-- what the issuer decides after a history is a reply that it makes: so the records of this run are legal for later ones
+abbrev pub MakesItsReplies : Setup → Type 0
+MakesItsReplies issuer =
+    (shard : ℕ) (before : List Entry) (entry : Entry) → IsLegal (grounds_now issuer) shard before entry → IsLegal (grounds_of issuer) shard before entry
+
 -- line number `index` was read as this request, and was given this answer
 pub record IsAnswered (issuer : Setup) (lines : List (List ℕ)) (answers : List Answer) (index : ℕ) (request : Request) (answer : Answer) : Type 0 where
   pub line : List ℕ
