@@ -2,6 +2,7 @@
 use Rattle.std.specs.Prelude.{◌≡◌, ℕ, ◌<◌, ◌⊎◌, Bool, true, false, List, length, ◌++◌, Some, is_some, IsSomeAnd, Ok, Err}
 use Rattle.std.specs.Io.KnownBytes.{Appends}
 use Rattle.issuer_base.specs.OutsideFaults.{Rose}
+use Rattle.issuer_base.specs.declared.outside.DeskCall.TheVariants.{Read}
 use Rattle.issuer_base.specs.Sink.{AppendsFront}
 use Rattle.issuer_base.specs.Tells.{Tells}
 use Rattle.line_reader.specs.Lines.{lines}
@@ -27,12 +28,12 @@ pub record HasOpened (seen : Seen) (config requests : Bool) : Type 0 where
   pub requests_is : is_some seen.requests ≡ requests
   pub desk_stood : seen.desk.faults_after ≡ seen.desk.faults_before
 
--- the desk failed at this name, and the request file was not opened; the configuration was, or was not
+-- the desk failed to read this name, and the request file was not opened; the configuration was, or was not
 pub record FailsToOpen (seen : Seen) (name : List ℕ) (config : Bool) : Type 0 where
   pub config_is : is_some seen.config ≡ config
   pub requests_is : is_some seen.requests ≡ false
   pub rose : Rose seen.desk.faults_before seen.desk.faults_after
-  pub name_is : seen.desk.last_fault ≡ Some name
+  pub last_is : seen.desk.last_fault ≡ Some (record { call = Read; name = name })
 
 -- the words are the command, with this name of a request file, and the configuration says this issuer
 pub record IsSetUp (seen : Seen) (requests : List ℕ) (issuer : Setup) : Type 0 where

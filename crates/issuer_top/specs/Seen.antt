@@ -1,6 +1,7 @@
 -- What a run sees of the outside: its words, the desk, the inputs that it opened, and the sink.
 use Rattle.std.specs.Prelude.{ℕ, List, Option}
 use Rattle.std.specs.Option.{option_map}
+use Rattle.issuer_base.specs.Desk.{FailedCall}
 use Rattle.issuer_base.specs.declared.outside.Desk.{Ghosts as Desk}
 use Rattle.issuer_base.specs.declared.outside.Source.{Ghosts as Source}
 use Rattle.issuer_base.specs.declared.outside.Sink.{Ghosts as Sink}
@@ -10,12 +11,12 @@ use Rattle.issuer_top.specs.declared.top_call.Ended.{Ended}
 abbrev pub Told : Type 0
 Told = List ℕ → Option (Option (List ℕ))
 
--- the desk: what it tells of its names, its count of faults before and after the run, and the name in its last fault
+-- the desk: what it tells of its names, its count of faults before and after the run, and its last call that failed
 pub record SeenDesk : Type 0 where
   pub tells : Told
   pub faults_before : ℕ
   pub faults_after : ℕ
-  pub last_fault : Option (List ℕ)
+  pub last_fault : Option FailedCall
 
 -- an input that was opened, after the run: its count of faults, and what it has left, where it tells
 pub record SeenInput : Type 0 where
@@ -38,7 +39,7 @@ pub record Seen : Type 0 where
   pub sink : SeenSink
 
 -- the desk before and after
-abbrev pub desk_seen : {D I : Type 0} → Desk D I → D → D → SeenDesk
+abbrev pub desk_seen : {D I J : Type 0} → Desk D I J → D → D → SeenDesk
 desk_seen desk before after = record {
   tells = desk.holds before;
   faults_before = desk.faults before;
@@ -65,7 +66,7 @@ seen_of words desk config requests sink =
     record { words = words; desk = desk; config = config; requests = requests; sink = sink }
 
 -- all that was seen of the words, of the desk that was given and of what was given back, and of the sink before and after
-abbrev pub seen_by : {D I W : Type 0} → Desk D I → Source I → Sink W → List (List ℕ) → D → Ended D I → W → W → Seen
+abbrev pub seen_by : {D I J W : Type 0} → Desk D I J → Source I → Sink W → List (List ℕ) → D → Ended D I J → W → W → Seen
 seen_by desk source sink words given ended before after =
     seen_of words (desk_seen desk given ended.desk) (option_map (input_seen source) ended.config)
     (option_map (input_seen source) ended.requests) (sink_seen sink before after)

@@ -1,7 +1,9 @@
 -- The lemmas of this crate.
 pub mod Places
+pub mod Marks
 pub mod RowsAfter
 pub mod RowPlans
+pub mod Recorded
 pub mod ShardSteps
 pub mod LegalNext
 pub mod Adopted

@@ -1,5 +1,5 @@
 -- What is known of a store's text once all its bytes are read.
-use Rattle.std.proofs.Common.{◌≡◌, ◌-◌, ◌≤◌, ℕ, min, List, [], ◌++◌, length, take, drop, refl, sym, ap, subst, ◌∙◌, arith, Option, None, Some, IfSome}
+use Rattle.std.proofs.Common.{◌≡◌, ◌-◌, ◌≤◌, ℕ, min, List, [], ◌++◌, length, take, drop, sym, ap, subst, ◌∙◌, arith, Option, None, Some, IfSome}
 use Rattle.std.proofs.Common.{IfOk, IfErr, Result, Ok, Err}
 use Rattle.std.proofs.lemmas.List.{take_all, take-append-drop, length-take-le}
 use Rattle.issuer_base.specs.Tells.{Tells}

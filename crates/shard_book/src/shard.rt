@@ -20,11 +20,12 @@ ghost use Rattle.shard_book.specs.Loading.{StopsText, is_store_failure};
 ghost use Rattle.shard_book.specs.Grounds.{grounds_now, IsImageOf};
 ghost use Rattle.shard_book.specs.Steps.{IsCardOf};
 ghost use Rattle.shard_book.specs.Shards.{number_in, IsUnder, HasCard, store_in, sure_in, disk_in, faults_in, places_in, told_in, IsUndoubted, HoldsHistory, StandsFor, Adds, IsLoaded, IsSomeCutImage};
+ghost use Rattle.shard_book.specs.Recorded.{AddsRecorded};
 ghost use Rattle.shard_book.specs.Answering.{is_store_fault, told_after, AnswersClaimed, AnswersQueueing, AnswersSetting};
 
 use crate::replay::{LoadFault, Taken, TakenOver, take_over};
 use crate::rows::Rows;
-use issuer_base::{Answer, Entry, Refusal, Reply, Request, Store, StoreFail};
+use issuer_base::{Answer, Entry, NoMemory, Refusal, Reply, Request, Store, StoreFail};
 use issuer_setup::Issuer;
 use journal_rec::write_entry;
 use line_checks::{CheckedCommand, CheckedRequest, CheckedStatus};
@@ -218,6 +219,21 @@ impl<S: Store> Shard<S> {
         self.told
     }
 
+    /// Lists all recorded counters of the shard's cards, each once beside the number of its card, behind what the list has. Where
+    /// memory runs out the list stays as it was.
+    pub fn recorded(&self, list: &mut Vec<(u32, u16)>) -> Result<(), NoMemory>
+        ensures recorded { (issuer : Setup) (history : List Entry) → StandsFor issuer self.now history
+            → IfOk result (λ _. AddsRecorded issuer (number_in self.now) history list.old.items list.new.items) }
+        ensures unchanged { IfErr result (λ _. list.new.items ≡ list.old.items) }
+    {
+        let count = list.len();
+        let listed = self.rows.list_recorded(list);
+        if listed.is_err() {
+            list.truncate(count);
+        }
+        listed
+    }
+
     /// The store, with the text of the records, and behind it what is in doubt.
     pub fn into_store(self) -> S
         ensures { result ≡ store_in self }
@@ -255,7 +271,7 @@ impl<S: Store> Shard<S> {
         let Ok(place) = self.put(&entry) else {
             return Answer::Refused(Refusal::StoreFault);
         };
-        self.rows.apply(found.card, step);
+        self.rows.apply(found, step);
         Answer::Fresh {
             shard: self.rows.shard(),
             place,

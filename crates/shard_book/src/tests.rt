@@ -2,6 +2,8 @@
 ghost use Rattle.std.specs.Prelude.{◌≡◌, ◌<◌, ◌%◌, length, IfOk, IsTrue};
 ghost use Rattle.shard_book.specs.Shards.{number_in, IsUnder};
 
+mod recorded;
+
 use super::*;
 use arrayvec::ArrayVec;
 use decision_table::{Table, TableRow};

@@ -7,13 +7,14 @@ use std::io::Write;
 
 /// The standard output. It tells nothing of its bytes, and counts its faults.
 #[derive(Drop)]
-pub(crate) struct FileSink {
+pub struct FileSink {
     rt: HostRuntime,
     faults: u64,
 }
 
 impl FileSink {
-    pub(crate) fn new(rt: HostRuntime) -> Self {
+    /// A sink over the standard output.
+    pub fn new(rt: HostRuntime) -> FileSink {
         FileSink { rt, faults: 0 }
     }
 }
