@@ -6,3 +6,5 @@ pub mod TurnSteps
 pub mod LegalBooks
 pub mod OneRun
 pub mod Loads
+pub mod Shown
+pub mod Running

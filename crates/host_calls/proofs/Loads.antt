@@ -5,6 +5,7 @@ use Rattle.std.proofs.lemmas.Bool.{cases_lt}
 use Rattle.std.proofs.lemmas.List.{reverse-append, length_push, length-map}
 use Rattle.std.proofs.lemmas.Option.{same_Some, slice_get_within}
 use Rattle.std.specs.List.{slice_get}
+use Rattle.std.specs.Option.{option_to_list}
 use Rattle.issuer_base.specs.OutsideFaults.{CountsFaults}
 use Rattle.issuer_base.specs.Stores.{BothTold, Disk, LeavesOnly}
 use Rattle.issuer_base.specs.Tells.{Tells}
@@ -118,14 +119,15 @@ module _ {S : Type 0} {G : Ghosts S} (issuer : Setup) where
   -- one isn't loaded, and the stores come back
   pub come-back : (stores : List S) (shards : List (Shard S G)) (store : S) (ahead : List S) (fault : LoadFault) (after : S)
       → IsLoading stores shards (store ∷ ahead) → IsNotLoaded G.bytes G.disk G.faults issuer (length shards) store fault after
-      → ComeBack G.bytes G.disk G.faults issuer stores (length shards) fault (map store_in shards ++ after ∷ ahead)
+      → ComeBack G.bytes G.disk G.faults issuer stores (length shards) fault (map (λ (shard : Shard S G). store_in shard) shards ++ after ∷ ahead)
   come-back stores shards store ahead fault after before not_loaded =
+      let kept : Shard S G → S = λ shard. store_in shard in
       let first = before.first in
       let count = before.loaded.count_is in
-      let mapped : length (map store_in shards) ≡ length shards = length-map store_in shards in
-      subst (λ (stores : List S). ComeBack G.bytes G.disk G.faults issuer stores (length shards) fault (map store_in shards ++ after ∷ ahead))
+      let mapped : length (map kept shards) ≡ length shards = length-map shards kept in
+      subst (λ (stores : List S). ComeBack G.bytes G.disk G.faults issuer stores (length shards) fault (map kept shards ++ after ∷ ahead))
       (sym before.stores_are) (record {
-        count_is = length-append (map store_in shards) (after ∷ ahead) ∙ ap (λ n. n + length (after ∷ ahead)) (mapped ∙ count)
+        count_is = length-append (map kept shards) (after ∷ ahead) ∙ ap (λ n. n + length (after ∷ ahead)) (mapped ∙ count)
             ∙ sym (length-append first (store ∷ ahead));
         within = let long = length-append first (store ∷ ahead) in omega arith;
         before = λ number other given below is given_is.
@@ -133,38 +135,23 @@ module _ {S : Type 0} {G : Ghosts S} (issuer : Setup) where
             let there = read-within first number (omega arith) in
             let its : there.0 ≡ other = same_Some there.0 other (sym (read-front first (store ∷ ahead) number there.0 there.1) ∙ is) in
             let its_store : store_in found.0 ≡ given =
-            same_Some (store_in found.0) given (sym (read-front (map store_in shards) (after ∷ ahead) number (store_in found.0)
-            (read-map store_in shards number found.0 found.1)) ∙ given_is) in
+            same_Some (store_in found.0) given (sym (read-front (map kept shards) (after ∷ ahead) number (store_in found.0)
+            (read-map kept shards number found.0 found.1)) ∙ given_is) in
             subst (λ (given : S). IsGivenBack G.bytes G.disk G.faults issuer number other given) its_store
             (given-back number other found.0 (subst (λ (other : S). IsLoadedFrom issuer number other found.0) its
             (before.loaded.each number there.0 found.0 there.1 found.1)));
         at = λ other given is given_is.
             let here : slice_get (first ++ store ∷ ahead) (length shards) ≡ Some store =
             ap (slice_get (first ++ store ∷ ahead)) (count ∙ sym (add-zero (length first))) ∙ read-behind first (store ∷ ahead) 0 in
-            let here_back : slice_get (map store_in shards ++ after ∷ ahead) (length shards) ≡ Some after =
-            ap (slice_get (map store_in shards ++ after ∷ ahead)) (sym mapped ∙ sym (add-zero (length (map store_in shards))))
-            ∙ read-behind (map store_in shards) (after ∷ ahead) 0 in
+            let here_back : slice_get (map kept shards ++ after ∷ ahead) (length shards) ≡ Some after =
+            ap (slice_get (map kept shards ++ after ∷ ahead)) (sym mapped ∙ sym (add-zero (length (map kept shards))))
+            ∙ read-behind (map kept shards) (after ∷ ahead) 0 in
             subst (λ (other : S). IsNotLoaded G.bytes G.disk G.faults issuer (length shards) other fault given) (same_Some store other (sym here ∙ is))
             (subst (λ (given : S). IsNotLoaded G.bytes G.disk G.faults issuer (length shards) store fault given)
             (same_Some after given (sym here_back ∙ given_is)) not_loaded);
         behind = λ number past.
-            behind-alike first (map store_in shards) store after ahead number (mapped ∙ count) (omega (arith, count, past));
+            behind-alike first (map kept shards) store after ahead number (mapped ∙ count) (omega (arith, count, past));
       })
-
-  -- where memory is wanting no store was touched
-  pub none-loaded : (stores : List S) → 0 < length stores → ComeBack G.bytes G.disk G.faults issuer stores 0 NoMemory stores
-  none-loaded stores some = record {
-    count_is = refl;
-    within = some;
-    before = λ number store after below is after_is. absurd (omega arith);
-    at = λ store after is after_is.
-        subst (λ (after : S). IsNotLoaded G.bytes G.disk G.faults issuer 0 store NoMemory after) (same_Some store after (sym is ∙ after_is)) (record {
-          stops = tt;
-          leaves = crash-read (G.disk store) (G.disk store) (reads-none (G.disk store));
-          counts = record { below = λ below. below; never_falls = omega arith; counted = refl };
-        });
-    behind = λ number past. refl;
-  }
 
   -- the shards that were loaded are the issuer's
   pub loaded-are : (stores : List S) (shards : List (Shard S G)) → length stores ≡ issuer.shards → AreLoaded issuer stores shards
@@ -181,3 +168,35 @@ module _ {S : Type 0} {G : Ghosts S} (issuer : Setup) where
         under = λ number shard is. (from number shard is).under;
         undoubted = λ number shard is. (from number shard is).undoubted;
       }
+
+-- where memory is wanting no store was touched
+pub none-loaded : {S : Type 0} (G : Ghosts S) (issuer : Setup) (stores : List S) → 0 < length stores
+    → ComeBack G.bytes G.disk G.faults issuer stores 0 NoMemory stores
+none-loaded {S} G issuer stores some = record {
+  count_is = refl;
+  within = some;
+  before = λ number store after below is after_is. absurd (omega arith);
+  at = λ store after is after_is.
+      subst (λ (after : S). IsNotLoaded G.bytes G.disk G.faults issuer 0 store NoMemory after) (same_Some store after (sym is ∙ after_is)) (record {
+        stops = tt;
+        leaves = crash-read (G.disk store) (G.disk store) (reads-none (G.disk store));
+        counts = record { below = λ below. below; never_falls = omega arith; counted = refl };
+      });
+  behind = λ number past. refl;
+}
+
+-- the store that was taken from behind is the next one ahead
+pub next-ahead : {S : Type 0} (ahead left : List S) (taken : Option S) (store : S) → ahead ≡ left ++ option_to_list taken → taken ≡ Some store
+    → reverse ahead ≡ store ∷ reverse left
+next-ahead {S} ahead left taken store parts is =
+    ap reverse (parts ∙ ap (λ (taken : Option S). left ++ option_to_list taken) is) ∙ reverse-append left (store ∷ [])
+
+-- no store is ahead once there is a shard for each
+pub none-ahead : {S : Type 0} {G : Ghosts S} (issuer : Setup) (stores : List S) (shards : List (Shard S G)) (ahead : List S)
+    → IsLoading issuer stores shards ahead → length stores ≤ length shards → ahead ≡ []
+none-ahead issuer stores shards [] loading all = refl
+none-ahead issuer stores shards (store ∷ ahead) loading all =
+    let whole = ap length loading.stores_are in
+    let long = length-append loading.first (store ∷ ahead) in
+    let count = loading.loaded.count_is in
+    absurd (omega arith)

@@ -1,5 +1,5 @@
 -- What a call of one shard does to the host: the books after it, and what a crash may leave.
-use Rattle.std.proofs.Common.{◌≡◌, ◌≢◌, ℕ, ◌<◌, false, List, [], ◌++◌, length, set, length-set, Some, refl, sym, ap, subst, ◌∙◌, inl, inr, arith, append-nil}
+use Rattle.std.proofs.Common.{◌≡◌, ◌≢◌, ℕ, ◌<◌, ◌%◌, false, List, [], ◌++◌, length, set, length-set, Some, refl, sym, ap, subst, ◌∙◌, inl, inr, arith, append-nil}
 use Rattle.std.proofs.lemmas.Bool.{cases_eq}
 use Rattle.std.proofs.lemmas.Option.{same_Some, slice_get_within}
 use Rattle.std.specs.List.{slice_get}
@@ -17,7 +17,7 @@ use Rattle.record_store.specs.Holding.{Holds}
 use Rattle.shard_book.specs.declared.shard.Shard.{Shard}
 use Rattle.shard_book.specs.Answering.{is_store_fault, told_after}
 use Rattle.shard_book.specs.Grounds.{grounds_now, IsImageOf}
-use Rattle.shard_book.specs.Shards.{number_in, IsUnder, disk_in, faults_in, told_in, IsUndoubted, HoldsHistory, StandsFor}
+use Rattle.shard_book.specs.Shards.{number_in, IsUnder, HasCard, disk_in, faults_in, told_in, IsUndoubted, HoldsHistory, StandsFor}
 use Rattle.shard_book.proofs.ShardSteps.{crash-no_call}
 use Rattle.host_calls.specs.Books.{Book}
 use Rattle.host_calls.specs.Hosts.{AreShards, StandsForBook, Stand}
@@ -48,6 +48,17 @@ module _ {S : Type 0} {G : Ghosts S} where
     pub undoubted : IsUndoubted old → IsUndoubted new
     pub under : IsUnder issuer new
     pub number_is : number_in new ≡ number_in old
+
+  -- a card's number is that of a card of its shard
+  pub card-at_home : (issuer : Setup) (shards : List (Shard S G)) → AreShards issuer shards → (number home : ℕ) (shard : Shard S G)
+      → number < length issuer.cards → slice_get shards home ≡ Some shard → home ≡ number % issuer.shards → HasCard shard number
+  card-at_home issuer shards are number home shard within is home_is =
+      let under = are.under home shard is in
+      let cards = under.cards_are in
+      record {
+        within = omega (arith, cards, within);
+        home = ap (λ (shards : ℕ). number % shards) under.shards_are ∙ sym home_is ∙ sym (are.numbers_are home shard is);
+      }
 
   -- a shard that stands for a history stands for its book
   pub stands-for_book : (issuer : Setup) (shard : Shard S G) (history : List Entry) → StandsFor issuer shard history → IsUndoubted shard

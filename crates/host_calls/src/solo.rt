@@ -101,6 +101,8 @@ impl<S: Store> Solo<S> {
             → slice_get self.now.issuer.cards card ≡ Some info → slice_get books (shard_of self.now.issuer (name_of info)) ≡ Some book
             → result ≡ view_of (name_of info) book.history }
     {
+        let cards = self.issuer.cards();
+        prove!(card < cards);
         let row = self.shards[usize::from(self.issuer.shard_of(card))].row(card);
         CardView {
             hi: row.hi(),
