@@ -1,10 +1,10 @@
 -- Histories that go on legally, record by record, and what is sure of legal histories.
-use Rattle.std.proofs.Common.{◌≡◌, ◌≢◌, ◌⊎◌, ◌≤◌, ◌<◌, ℕ, ◌%◌, zero, suc, min, List, [], ◌∷◌, ◌++◌, length, take, drop, map, None, Some}
+use Rattle.std.proofs.Common.{◌≡◌, ◌≢◌, ◌⊎◌, ◌≤◌, ◌<◌, ℕ, ◌%◌, zero, suc, min, List, [], ◌∷◌, ◌++◌, length, take, drop, All, Some}
 use Rattle.std.proofs.Common.{refl, sym, ap, subst, ◌∙◌, inl, inr, arith, append-nil, append_assoc, length-append, length-take}
 use Rattle.std.proofs.lemmas.Bool.{cases_lt}
 use Rattle.std.proofs.lemmas.List.{length_push, take-append-le, take-append-drop, take_all}
 use Rattle.std.proofs.lemmas.List.Elements.{All-contains}
-use Rattle.std.proofs.lemmas.Option.{same_Some, none-some, slice_get_within}
+use Rattle.std.proofs.lemmas.Option.{same_Some, none-some, slice_get_within, get_or_from_slice_get}
 use Rattle.std.specs.List.{slice_get, slice_index_or}
 use Rattle.issuer_base.specs.declared.request.Request.{Request}
 use Rattle.issuer_base.specs.declared.answer.Reply.{Reply}
@@ -21,10 +21,11 @@ use Rattle.card_history.proofs.CardNames.{is_of-same}
 use Rattle.card_history.proofs.LongerHistories.{slice_get-push}
 use Rattle.card_history.proofs.RecordPlaces.{recorded-decided}
 use Rattle.issuer_setup.specs.IssuerSetup.{Setup}
+use Rattle.journal_rec.specs.Record.{IsRecord}
 use Rattle.shard_book.specs.Grounds.{IsCardOfShard, grounds_of, grounds_now}
 use Rattle.shard_book.proofs.Lines.{legal-more}
 use Rattle.host_calls.specs.Books.{Book, histories_of}
-use Rattle.host_calls.specs.OneHistory.{GoesOn, LegallyGoesOn, GoOnLegally, AreLegalBooks, MakesItsReplies}
+use Rattle.host_calls.specs.OneHistory.{GoesOn, LegallyGoesOn, AreLegalBooks, LoadsAgain}
 use Rattle.host_calls.proofs.Places.{read-front, read-alone, read-within}
 use Rattle.host_calls.proofs.TurnSteps.{AddsAtMostOne}
 
@@ -58,6 +59,11 @@ goes-alone : (first last : List Entry) → GoesOn first last → (place : ℕ) (
 goes-alone first last on place entry within is =
     read-alone first on.0 place entry within (subst (λ (last : List Entry). slice_get last place ≡ Some entry) on.1 is)
 
+-- the entry at a place is a record
+pub recorded-at : (history : List Entry) → All IsRecord history → (place : ℕ) (entry : Entry) → slice_get history place ≡ Some entry → IsRecord entry
+recorded-at history all place entry is =
+    subst IsRecord (get_or_from_slice_get history place entry entry is) (all place entry (slice_get_within history place entry is))
+
 module _ (issuer : Setup) (shard : ℕ) where
   pub legally-none : (history : List Entry) → IsLegalHistory (grounds_of issuer) shard history → LegallyGoesOn issuer shard history history
   legally-none history legal = record {
@@ -66,14 +72,17 @@ module _ (issuer : Setup) (shard : ℕ) where
     by_table = λ place entry past is. let within = slice_get_within history place entry is in absurd (omega arith);
   }
 
-  pub legally-one : (before after : List Entry) → MakesItsReplies issuer → IsLegalHistory (grounds_of issuer) shard before
+  pub legally-one : (before after : List Entry) → LoadsAgain issuer → All IsRecord after → IsLegalHistory (grounds_of issuer) shard before
       → AddsAtMostOne issuer shard before after → LegallyGoesOn issuer shard before after
-  legally-one before after makes legal (inl same) =
+  legally-one before after again recorded legal (inl same) =
       subst (λ (after : List Entry). LegallyGoesOn issuer shard before after) (sym same) (legally-none before legal)
-  legally-one before after makes legal (inr (entry, after_is, next)) =
+  legally-one before after again recorded legal (inr (entry, after_is, next)) =
+      let last : slice_get after (length before) ≡ Some entry =
+      ap (λ (after : List Entry). slice_get after (length before)) after_is ∙ slice_get-push before entry in
+      let record_is = recorded-at after recorded (length before) entry last in
       subst (λ (after : List Entry). LegallyGoesOn issuer shard before after) (sym after_is) (record {
         goes_on = (entry ∷ [], refl);
-        legal = legal-more (grounds_of issuer) shard before entry legal (makes shard before entry next);
+        legal = legal-more (grounds_of issuer) shard before entry legal (again shard before entry record_is next);
         by_table = λ place other past is.
             let within = slice_get_within (before ++ entry ∷ []) place other is in
             let long = length_push before entry in

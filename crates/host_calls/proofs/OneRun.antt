@@ -1,7 +1,7 @@
 -- Every run of turns on legal histories goes on legally, and answers by its records.
-use Rattle.std.proofs.Common.{◌≡◌, ◌≤◌, ◌<◌, ◌^◌, ◌-◌, ◌⊎◌, ℕ, zero, suc, List, [], ◌∷◌, length, None, Some, Result, Ok, Err, refl, sym, ap, subst, ◌∙◌, inl, inr, ⊎_elim, arith}
+use Rattle.std.proofs.Common.{◌≡◌, ◌≤◌, ◌<◌, ◌^◌, ◌-◌, ◌⊎◌, ℕ, zero, suc, List, [], ◌∷◌, length, get_or, None, Some, Result, Ok, Err, refl, sym, ap, subst, ◌∙◌, inl, inr, ⊎_elim, arith}
 use Rattle.std.proofs.lemmas.Bool.{cases_eq}
-use Rattle.std.proofs.lemmas.Option.{same_Some, slice_get_within}
+use Rattle.std.proofs.lemmas.Option.{same_Some, slice_get_within, slice_get-get_or}
 use Rattle.std.specs.List.{slice_get, slice_index_or}
 use Rattle.issuer_base.specs.OutsideFaults.{Rose}
 use Rattle.issuer_base.specs.declared.request.Request.{Request}
@@ -15,11 +15,12 @@ use Rattle.issuer_setup.specs.IssuerSetup.{Setup}
 use Rattle.line_checks.specs.Reading.{reading}
 use Rattle.shard_book.specs.Grounds.{grounds_of}
 use Rattle.host_calls.specs.Books.{Book, histories_of}
-use Rattle.host_calls.specs.OneHistory.{GoesOn, LegallyGoesOn, GoOnLegally, AreLegalBooks, MakesItsReplies, IsAnswered, HasFailed, IsOneHistory}
+use Rattle.host_calls.specs.OneHistory.{GoesOn, LegallyGoesOn, GoOnLegally, AreLegalBooks, AreRecorded, LoadsAgain, IsAnswered, HasFailed, IsOneHistory}
 use Rattle.host_calls.specs.Turns.{Turn, Run}
 use Rattle.host_calls.proofs.Places.{read-within}
+use Rattle.host_calls.proofs.Running.{HistoriesGoOn, run-on}
 use Rattle.host_calls.proofs.TurnSteps.{turn-adds, turn-failed, turn-recorded}
-use Rattle.host_calls.proofs.LegalBooks.{legally-none, legally-one, legally-then, legal-once, recorded-stays, one-reply}
+use Rattle.host_calls.proofs.LegalBooks.{recorded-at, goes-stays, legally-none, legally-one, legally-then, legal-once, recorded-stays, one-reply}
 
 -- ---- books that go on
 
@@ -60,16 +61,26 @@ books-then issuer first second third on more =
           let before = one.1 in let after = two.1 in omega arith);
     }
 
-books-turn : (issuer : Setup) → MakesItsReplies issuer → (before : List Book) (line : List ℕ) (answer : Answer) (after : List Book) → AreLegalBooks issuer before
+books-turn : (issuer : Setup) → LoadsAgain issuer → (before : List Book) (line : List ℕ) (answer : Answer) (after : List Book) → AreRecorded after → AreLegalBooks issuer before
     → Turn issuer before (reading issuer line) answer after → BooksGoOn issuer before after
-books-turn issuer makes before line answer after legal turn =
+books-turn issuer again before line answer after recorded legal turn =
     let adds = turn-adds issuer before line answer after (reading issuer line) refl turn in
     record {
       count_is = adds.count_is;
       on = λ shard was is was_is is_is.
-          (legally-one issuer shard was.history is.history makes (legal shard was was_is) (adds.adds shard was is was_is is_is),
+          (legally-one issuer shard was.history is.history again (recorded shard is is_is) (legal shard was was_is) (adds.adds shard was is was_is is_is),
           adds.counts shard was is was_is is_is);
     }
+
+-- histories whose later ones have records alone have records alone
+recorded-before : (before after : List Book) → HistoriesGoOn before after → AreRecorded after → AreRecorded before
+recorded-before before after on recorded shard book book_is place default within =
+    let below = slice_get_within before shard book book_is in
+    let count = on.count_is in
+    let now = read-within after shard (omega arith) in
+    let there = slice_get-get_or book.history place default within in
+    recorded-at now.0.history (recorded shard now.0 now.1) place (get_or book.history place default)
+    (goes-stays book.history now.0.history (on.on shard book now.0 book_is now.1) place (get_or book.history place default) there)
 
 -- ---- a store that failed
 
@@ -105,7 +116,7 @@ failed-within issuer first before after last on during more failed =
 
 -- ---- the run
 
-module _ (issuer : Setup) (makes : MakesItsReplies issuer) where
+module _ (issuer : Setup) (again : LoadsAgain issuer) where
   -- what a run keeps
   record RunKeeps (first : List Book) (lines : List (List ℕ)) (answers : List Answer) (last : List Book) : Type 0 where
     on : BooksGoOn issuer first last
@@ -113,19 +124,20 @@ module _ (issuer : Setup) (makes : MakesItsReplies issuer) where
         → IsOfItsRecord (histories_of last) request answer
     blamed : (index : ℕ) → slice_get answers index ≡ Some (Refused StoreFault) → HasFailed first last
 
-  run-keeps : (first : List Book) (lines : List (List ℕ)) (answers : List Answer) (last : List Book) → AreLegalBooks issuer first
+  run-keeps : (first : List Book) (lines : List (List ℕ)) (answers : List Answer) (last : List Book) → AreRecorded last → AreLegalBooks issuer first
       → Run issuer first lines answers last → RunKeeps first lines answers last
-  run-keeps first [] [] last legal run =
+  run-keeps first [] [] last recorded legal run =
       subst (λ (last : List Book). RunKeeps first [] [] last) (sym run) (record {
         on = books-none issuer first legal;
         recorded = λ index request answer answered. absurd (let none : None ≡ Some answered.line = answered.line_is in cc);
         blamed = λ index is. absurd (cc);
       })
-  run-keeps first [] (answer ∷ answers) last legal run = absurd run
-  run-keeps first (line ∷ lines) [] last legal run = absurd run
-  run-keeps first (line ∷ lines) (answer ∷ answers) last legal (between, turn, rest) =
-      let now = books-turn issuer makes first line answer between legal turn in
-      let others = run-keeps between lines answers last (on-legal issuer first between now) rest in
+  run-keeps first [] (answer ∷ answers) last recorded legal run = absurd run
+  run-keeps first (line ∷ lines) [] last recorded legal run = absurd run
+  run-keeps first (line ∷ lines) (answer ∷ answers) last recorded legal (between, turn, rest) =
+      let earlier = recorded-before between last (run-on issuer between lines answers last rest) recorded in
+      let now = books-turn issuer again first line answer between earlier legal turn in
+      let others = run-keeps between lines answers last recorded (on-legal issuer first between now) rest in
       record {
         on = books-then issuer first between last now others.on;
         recorded = λ index. elim index as (λ index. (request : Request) (given : Answer)
@@ -153,10 +165,10 @@ module _ (issuer : Setup) (makes : MakesItsReplies issuer) where
       }
 
   -- the law
-  pub run-one_history : (first last : List Book) (lines : List (List ℕ)) (answers : List Answer) → AreLegalBooks issuer first
+  pub run-one_history : (first last : List Book) (lines : List (List ℕ)) (answers : List Answer) → AreLegalBooks issuer first → AreRecorded last
       → Run issuer first lines answers last → IsOneHistory issuer lines answers first last
-  run-one_history first last lines answers legal run =
-      let kept = run-keeps first lines answers last legal run in
+  run-one_history first last lines answers legal recorded run =
+      let kept = run-keeps first lines answers last recorded legal run in
       let once = legal-once issuer last (on-legal issuer first last kept.on) in
       record {
         goes_on = kept.on.on;
