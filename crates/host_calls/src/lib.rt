@@ -5,10 +5,14 @@
 #![tactic(auto)]
 
 mod law;
+mod loading;
 mod solo;
 
 pub use law::every_run_is_one_history;
+pub use loading::HostBack;
 pub use shard_book::LoadFault;
 pub use show_text::CardView;
-pub use solo::{HostBack, Solo};
+pub use solo::Solo;
 
+#[cfg(test)]
+mod tests;
