@@ -36,7 +36,8 @@ pub returns-clause-crash : goal.returns-clause-crash
 returns-clause-crash g c issuer history stands legal =
     let h = stands.journal_holds in
     put-crash (grounds_now issuer) c.args.self.now.rows.shard history c.args.entry.now c.args.self.now.journal c.put-written.new.self h c.as_slice.result.now
-    (c.as_slice.ensures.value ∙ c.write_entry-text.ensures.text) c.write_entry-text.ensures.record legal _ _ (c.put-written.ensures.crash (length history) (texts_of history) h.tail h.holds)
+    (c.as_slice.ensures.value ∙ c.write_entry-text.ensures.text) c.write_entry-text.ensures.record legal _ _
+    (c.put-written.ensures.crash (length history) (texts_of history) h.tail h.holds)
 
 pub returns-clause-undoubted : goal.returns-clause-undoubted
 returns-clause-undoubted g c none =
