@@ -15,6 +15,5 @@ pub use shard_book::LoadFault;
 pub use solo::Solo;
 pub use view::CardView;
 
-
 #[cfg(test)]
 mod tests;

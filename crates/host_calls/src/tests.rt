@@ -73,7 +73,13 @@ fn one(alloc: Global, store: MemoryStore) -> Result<Option<Solo<MemoryStore>>, F
     stores.push(store)?;
     match load(alloc, stores)? {
         Ok(host) => Ok(Some(host)),
-        Err(HostBack { fault: _, shard: _, stores: _ }) => Ok(None),
+        Err(
+            HostBack {
+                fault: _,
+                shard: _,
+                stores: _,
+            },
+        ) => Ok(None),
     }
 }
 
@@ -81,7 +87,13 @@ fn one(alloc: Global, store: MemoryStore) -> Result<Option<Solo<MemoryStore>>, F
 fn restart(alloc: Global, host: Solo<MemoryStore>) -> Result<Solo<MemoryStore>, Fail> {
     match load(alloc, host.close())? {
         Ok(host) => Ok(host),
-        Err(HostBack { fault: _, shard: _, stores: _ }) => Err("a host".into()),
+        Err(
+            HostBack {
+                fault: _,
+                shard: _,
+                stores: _,
+            },
+        ) => Err("a host".into()),
     }
 }
 
@@ -157,11 +169,13 @@ fn names_the_first_bad_journal(rt: HostRuntime) -> Result<(), Fail> {
             host.close();
             Err("no host".into())
         }
-        Err(HostBack {
-            fault,
-            shard,
-            stores,
-        }) => {
+        Err(
+            HostBack {
+                fault,
+                shard,
+                stores,
+            },
+        ) => {
             assert!(rt; fault == LoadFault::BadLine(1) && shard == 1);
             assert!(rt; stores.len() == 2 && stores[0].len() == 28 && stores[1].len() == 2);
             Ok(())
