@@ -1,11 +1,11 @@
 -- Histories that go on legally, record by record, and what is sure of legal histories.
-use Rattle.std.proofs.Common.{◌≡◌, ◌≢◌, ◌⊎◌, ◌≤◌, ◌<◌, ℕ, ◌%◌, zero, suc, min, List, [], ◌∷◌, ◌++◌, length, take, drop, All, Some}
-use Rattle.std.proofs.Common.{refl, sym, ap, subst, ◌∙◌, inl, inr, arith, append-nil, append_assoc, length-append, length-take}
+use Rattle.std.proofs.Common.{◌≡◌, ◌≤◌, ◌<◌, ℕ, ◌%◌, zero, suc, List, [], ◌∷◌, ◌++◌, length, take, drop, All, Some}
+use Rattle.std.proofs.Common.{refl, sym, ap, subst, ◌∙◌, inl, inr, arith, append-nil, append_assoc, length-take}
 use Rattle.std.proofs.lemmas.Bool.{cases_lt}
 use Rattle.std.proofs.lemmas.List.{length_push, take-append-le, take-append-drop, take_all}
 use Rattle.std.proofs.lemmas.List.Elements.{All-contains}
 use Rattle.std.proofs.lemmas.Option.{same_Some, none-some, slice_get_within, get_or_from_slice_get}
-use Rattle.std.specs.List.{slice_get, slice_index_or}
+use Rattle.std.specs.List.{slice_get}
 use Rattle.issuer_base.specs.declared.request.Request.{Request}
 use Rattle.issuer_base.specs.declared.answer.Reply.{Reply}
 use Rattle.issuer_base.specs.declared.answer.Answer.{Answer}
@@ -16,7 +16,6 @@ use Rattle.card_history.specs.declared.decision.Decision.{Decision}
 use Rattle.card_history.specs.LegalRecords.{IsLegal, IsLegalHistory}
 use Rattle.card_history.specs.OneReply.{record_at, reply_in, IsOfItsRecord, IsOncePerCounter}
 use Rattle.card_history.specs.Records.{CardName, card_of}
-use Rattle.card_history.specs.Turns.{IsUnused, decided_for}
 use Rattle.card_history.proofs.CardNames.{is_of-same}
 use Rattle.card_history.proofs.LongerHistories.{slice_get-push}
 use Rattle.card_history.proofs.RecordPlaces.{recorded-decided}

@@ -1,15 +1,12 @@
 -- The shards of a host while they are loaded one after another, and the stores as they come back.
-use Rattle.std.proofs.Common.{◌≡◌, ◌⊎◌, ◌<◌, ◌≤◌, ℕ, zero, suc, ◌+◌, false, List, [], ◌∷◌, ◌++◌, length, map, reverse, drop, take, Option, None, Some, IfSome}
+use Rattle.std.proofs.Common.{◌≡◌, ◌⊎◌, ◌<◌, ◌≤◌, ℕ, zero, suc, ◌+◌, List, [], ◌∷◌, ◌++◌, length, map, reverse, Option, None, Some, IfSome}
 use Rattle.std.proofs.Common.{refl, sym, ap, subst, ◌∙◌, inl, inr, arith, append-nil, append_assoc, length-append, add-zero}
-use Rattle.std.proofs.lemmas.Bool.{cases_lt}
 use Rattle.std.proofs.lemmas.List.{reverse-append, length_push, length-map}
 use Rattle.std.proofs.lemmas.Option.{same_Some, slice_get_within}
 use Rattle.std.specs.List.{slice_get}
 use Rattle.std.specs.Option.{option_to_list}
-use Rattle.issuer_base.specs.OutsideFaults.{CountsFaults}
-use Rattle.issuer_base.specs.Stores.{BothTold, Disk, LeavesOnly}
+use Rattle.issuer_base.specs.Stores.{BothTold, LeavesOnly}
 use Rattle.issuer_base.specs.Tells.{Tells}
-use Rattle.issuer_base.specs.declared.entry.Entry.{Entry}
 use Rattle.issuer_base.specs.declared.outside.store.Store.{Ghosts}
 use Rattle.issuer_setup.specs.IssuerSetup.{Setup}
 use Rattle.journal_rec.specs.RecordText.{texts_of}
@@ -18,7 +15,7 @@ use Rattle.record_store.proofs.ReadSoFar.{reads-none}
 use Rattle.shard_book.specs.declared.replay.LoadFault.{LoadFault}
 use Rattle.shard_book.specs.declared.replay.LoadFault.TheVariants.{NoMemory}
 use Rattle.shard_book.specs.declared.shard.Shard.{Shard}
-use Rattle.shard_book.specs.Shards.{store_in, sure_in, disk_in, number_in, IsUnder, IsUndoubted, told_in}
+use Rattle.shard_book.specs.Shards.{store_in}
 use Rattle.shard_book.proofs.LoadCrash.{crash-read}
 use Rattle.host_calls.specs.Hosts.{AreShards}
 use Rattle.host_calls.specs.Loading.{IsLoadedFrom, AreLoaded, IsGivenBack, IsNotLoaded, ComeBack}
@@ -158,10 +155,10 @@ module _ {S : Type 0} {G : Ghosts S} (issuer : Setup) where
       → AreShards issuer shards
   loaded-are stores shards long loaded =
       let from = λ (number : ℕ) (shard : Shard S G) (is : slice_get shards number ≡ Some shard).
-          let below = slice_get_within shards number shard is in
-          let count = loaded.count_is in
-          let store = read-within stores number (omega arith) in
-          loaded.each number store.0 shard store.1 is in
+      let below = slice_get_within shards number shard is in
+      let count = loaded.count_is in
+      let store = read-within stores number (omega arith) in
+      loaded.each number store.0 shard store.1 is in
       record {
         count_is = loaded.count_is ∙ long;
         numbers_are = λ number shard is. (from number shard is).loaded.number_is;

@@ -1,5 +1,5 @@
 -- Every run of turns on legal histories goes on legally, and answers by its records.
-use Rattle.std.proofs.Common.{◌≡◌, ◌≤◌, ◌<◌, ◌^◌, ◌-◌, ◌⊎◌, ℕ, zero, suc, List, [], ◌∷◌, length, get_or, None, Some, Result, Ok, Err, refl, sym, ap, subst, ◌∙◌, inl, inr, ⊎_elim, arith}
+use Rattle.std.proofs.Common.{◌≡◌, ◌≤◌, ◌<◌, ◌^◌, ◌-◌, ℕ, zero, suc, List, [], ◌∷◌, length, get_or, None, Some, Ok, refl, sym, ap, subst, ◌∙◌, inl, inr, ⊎_elim, arith}
 use Rattle.std.proofs.lemmas.Bool.{cases_eq}
 use Rattle.std.proofs.lemmas.Option.{same_Some, slice_get_within, slice_get-get_or}
 use Rattle.std.specs.List.{slice_get, slice_index_or}
@@ -13,9 +13,8 @@ use Rattle.card_history.specs.OneReply.{IsOfItsRecord}
 use Rattle.card_history.proofs.CommandsInOrder.{in_order}
 use Rattle.issuer_setup.specs.IssuerSetup.{Setup}
 use Rattle.line_checks.specs.Reading.{reading}
-use Rattle.shard_book.specs.Grounds.{grounds_of}
 use Rattle.host_calls.specs.Books.{Book, histories_of}
-use Rattle.host_calls.specs.OneHistory.{GoesOn, LegallyGoesOn, GoOnLegally, AreLegalBooks, AreRecorded, LoadsAgain, IsAnswered, HasFailed, IsOneHistory}
+use Rattle.host_calls.specs.OneHistory.{LegallyGoesOn, GoOnLegally, AreLegalBooks, AreRecorded, LoadsAgain, IsAnswered, HasFailed, IsOneHistory}
 use Rattle.host_calls.specs.Turns.{Turn, Run}
 use Rattle.host_calls.proofs.Places.{read-within}
 use Rattle.host_calls.proofs.Running.{HistoriesGoOn, run-on}
@@ -56,9 +55,10 @@ books-then issuer first second third on more =
           let below = slice_get_within first shard was was_is in
           let mid = read-within second shard (omega arith) in
           let one = on.on shard was mid.0 was_is mid.1 in
-          let two = more.on shard mid.0 is mid.1 is_is in
-          (legally-then issuer shard was.history mid.0.history is.history one.0 two.0,
-          let before = one.1 in let after = two.1 in omega arith);
+          let two = more.on shard mid.0 is mid.1 is_is in (
+            legally-then issuer shard was.history mid.0.history is.history one.0 two.0,
+            let before = one.1 in let after = two.1 in omega arith,
+          );
     }
 
 books-turn : (issuer : Setup) → LoadsAgain issuer → (before : List Book) (line : List ℕ) (answer : Answer) (after : List Book) → AreRecorded after → AreLegalBooks issuer before
@@ -67,9 +67,10 @@ books-turn issuer again before line answer after recorded legal turn =
     let adds = turn-adds issuer before line answer after (reading issuer line) refl turn in
     record {
       count_is = adds.count_is;
-      on = λ shard was is was_is is_is.
-          (legally-one issuer shard was.history is.history again (recorded shard is is_is) (legal shard was was_is) (adds.adds shard was is was_is is_is),
-          adds.counts shard was is was_is is_is);
+      on = λ shard was is was_is is_is. (
+        legally-one issuer shard was.history is.history again (recorded shard is is_is) (legal shard was was_is) (adds.adds shard was is was_is is_is),
+        adds.counts shard was is was_is is_is,
+      );
     }
 
 -- histories whose later ones have records alone have records alone
@@ -155,13 +156,13 @@ module _ (issuer : Setup) (again : LoadsAgain issuer) where
                   (record { line = answered.line; line_is = answered.line_is; request_is = answered.request_is; answer_is = answered.answer_is })
             ];
         blamed = λ index. elim index as (λ index. slice_get (answer ∷ answers) index ≡ Some (Refused StoreFault) → HasFailed first last) [
-              | zero ↦ λ is.
-                  let told : answer ≡ Refused StoreFault = let e : Some answer ≡ Some (Refused StoreFault) = is in cc in
-                  failed-within issuer first first between last (books-none issuer first legal) now others.on
-                  (turn-failed issuer first line answer between (reading issuer line) refl turn told)
-              | suc index ↦ λ is.
-                  failed-within issuer first between last last now others.on (books-none issuer last (on-legal issuer between last others.on)) (others.blamed index is)
-            ];
+          | zero ↦ λ is.
+              let told : answer ≡ Refused StoreFault = let e : Some answer ≡ Some (Refused StoreFault) = is in cc in
+              failed-within issuer first first between last (books-none issuer first legal) now others.on
+              (turn-failed issuer first line answer between (reading issuer line) refl turn told)
+          | suc index ↦ λ is.
+              failed-within issuer first between last last now others.on (books-none issuer last (on-legal issuer between last others.on)) (others.blamed index is)
+        ];
       }
 
   -- the law

@@ -1,10 +1,10 @@
 -- A run of a host from its loading on: it begins with the loaded books, goes on line by line, and each store holds its book's journal.
-use Rattle.std.proofs.Common.{◌≡◌, ◌≤◌, ◌<◌, ℕ, zero, suc, false, List, [], ◌∷◌, ◌++◌, length, Option, None, Some, IfSome, refl, sym, ap, subst, ◌∙◌, arith}
+use Rattle.std.proofs.Common.{◌≡◌, ℕ, zero, suc, false, List, [], ◌∷◌, ◌++◌, length, Option, Some, IfSome, refl, sym, subst, ◌∙◌, arith}
 use Rattle.std.proofs.Common.{inl}
 use Rattle.std.proofs.lemmas.Option.{same_Some, slice_get_within}
 use Rattle.std.specs.List.{slice_get}
 use Rattle.issuer_base.specs.OutsideFaults.{CountsFaults}
-use Rattle.issuer_base.specs.Stores.{BothTold, Disk, LeavesOnly}
+use Rattle.issuer_base.specs.Stores.{LeavesOnly}
 use Rattle.issuer_base.specs.Tells.{Tells}
 use Rattle.issuer_base.proofs.Moments.{LeavesOnly-then, LeavesOnly-weaker}
 use Rattle.issuer_base.proofs.ToldTwice.{BothTold-then}
@@ -18,7 +18,7 @@ use Rattle.line_checks.specs.Reading.{reading}
 use Rattle.record_store.specs.Images.{IsImage}
 use Rattle.shard_book.specs.declared.shard.Shard.{Shard}
 use Rattle.shard_book.specs.Grounds.{IsTail, grounds_now, grounds_of}
-use Rattle.shard_book.specs.Shards.{number_in, store_in, disk_in, faults_in}
+use Rattle.shard_book.specs.Shards.{store_in, disk_in, faults_in}
 use Rattle.host_calls.specs.Books.{Book}
 use Rattle.host_calls.specs.Hosts.{AreShards, StandsForBook, Stand}
 use Rattle.host_calls.specs.Loading.{IsLoadedFrom, AreLoaded}
@@ -78,19 +78,19 @@ module _ {S : Type 0} {G : Ghosts S} where
   run-none issuer stores shards long loaded =
       let count = loaded.count_is in
       let P : ℕ → Shard S G → Book → Type 0 = λ number shard book.
-          (store : S) → slice_get stores number ≡ Some store
-          → StandsForBook issuer shard book × IsBookOf G.bytes G.faults issuer number store book in
+      (store : S) → slice_get stores number ≡ Some store
+      → StandsForBook issuer shard book × IsBookOf G.bytes G.faults issuer number store book in
       let made = choose shards P (λ number shard shard_is.
-          let below = slice_get_within shards number shard shard_is in
-          let found = read-within stores number (omega arith) in
-          let from = loaded.each number found.0 shard found.1 shard_is in
-          let book : Book = record { history = from.loaded.history; faults = faults_in shard; told = 0 } in (
-            book,
-            λ store store_is.
-                subst (λ (store : S). StandsForBook issuer shard book × IsBookOf G.bytes G.faults issuer number store book)
-                (same_Some found.0 store (sym found.1 ∙ store_is))
-                (stands-loaded issuer number found.0 shard from, book-loaded issuer number found.0 shard from),
-          )) in
+      let below = slice_get_within shards number shard shard_is in
+      let found = read-within stores number (omega arith) in
+      let from = loaded.each number found.0 shard found.1 shard_is in
+      let book : Book = record { history = from.loaded.history; faults = faults_in shard; told = 0 } in (
+        book,
+        λ store store_is.
+            subst (λ (store : S). StandsForBook issuer shard book × IsBookOf G.bytes G.faults issuer number store book)
+            (same_Some found.0 store (sym found.1 ∙ store_is))
+            (stands-loaded issuer number found.0 shard from, book-loaded issuer number found.0 shard from),
+      )) in
       let stand : Stand issuer shards made.0 = record {
         count_is = made.1;
         each = λ number shard book shard_is book_is.

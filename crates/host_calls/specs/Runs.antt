@@ -1,6 +1,6 @@
 -- A run of a host's calls, from its loading on: what the shards stand for, and what a crash may leave of their stores.
 use Rattle.std.specs.Prelude.{◌≡◌, ℕ, List, [], slice_get, Option, Some, IfSome}
-use Rattle.issuer_base.specs.Stores.{BothTold, Disk, LeavesOnly}
+use Rattle.issuer_base.specs.Stores.{BothTold, LeavesOnly}
 use Rattle.issuer_base.specs.declared.outside.store.Store.{Ghosts}
 use Rattle.issuer_base.specs.declared.answer.Answer.{Answer}
 use Rattle.issuer_base.specs.declared.entry.Entry.{Entry}

@@ -1,5 +1,5 @@
 -- What a host shows of a card.
-use Rattle.std.specs.Prelude.{ℕ, List, length}
+use Rattle.std.specs.Prelude.{List, length}
 use Rattle.issuer_base.specs.declared.entry.Entry.{Entry}
 use Rattle.card_history.specs.Records.{CardName, decided, greatest, status_of}
 use Rattle.card_history.specs.Scripts.{scripts_of}

@@ -41,11 +41,7 @@ impl<S: Store> Solo<S> {
     /// behind them, and makes them safe. The first shard that can't be loaded stops it, and the stores come back in order.
     ///
     /// Where memory is wanting for the host itself, the shard that is named is the first one. No other call takes memory.
-    pub fn load(
-        alloc: Global,
-        stores: Vec<S>,
-        issuer: Issuer,
-    ) -> Result<Solo<S>, HostBack<S>>
+    pub fn load(alloc: Global, stores: Vec<S>, issuer: Issuer) -> Result<Solo<S>, HostBack<S>>
         requires { length stores.items ≡ issuer.shards }
         ensures issuer { IfOk result (λ host. host.issuer ≡ issuer) }
         ensures loaded { IfOk result (λ host. AreLoaded issuer stores.items host.shards.items) }

@@ -1,5 +1,5 @@
 -- The stores so far, and those ahead, are all.
-use Rattle.std.proofs.Common.{◌≡◌, ◌+◌, ◌≤◌, ◌++◌, ◌∷◌, reverse, vec_len, vec_capacity}
+use Rattle.std.proofs.Common.{◌≡◌, ◌+◌, ◌≤◌, ◌++◌, reverse, vec_len, vec_capacity}
 use Rattle.host_calls.proofs.loading.all_stores.Given as goal
 
 abbrev pub invariant-loop-next : goal.invariant-loop-next

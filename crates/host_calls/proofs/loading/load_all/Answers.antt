@@ -1,9 +1,9 @@
 -- One more shard is loaded, or the stores come back.
-use Rattle.std.proofs.Common.{◌≡◌, ◌++◌, ◌∷◌, ℕ, List, length, map, reverse, subst, sym, ap, ◌∙◌, rules}
+use Rattle.std.proofs.Common.{◌≡◌, ◌++◌, ◌∷◌, List, length, map, reverse, subst, sym, ap, ◌∙◌, rules}
 use Rattle.shard_book.specs.declared.shard.Shard.{Shard}
 use Rattle.shard_book.specs.Shards.{store_in}
 use Rattle.host_calls.specs.Loading.{IsLoadedFrom, IsNotLoaded, ComeBack}
-use Rattle.host_calls.proofs.Loads.{IsLoading, loading-more, loading-all, come-back, next-ahead, none-ahead}
+use Rattle.host_calls.proofs.Loads.{IsLoading, loading-more, come-back, next-ahead}
 use Rattle.host_calls.proofs.loading.load_all.Goals as goal
 
 pub returns-in-Err-clause-stopped : goal.returns-in-Err-clause-stopped

@@ -1,5 +1,5 @@
 -- A request is answered in the shard of its card.
-use Rattle.std.proofs.Common.{◌≡◌, ◌<◌, ◌≤◌, length, length-set, vec_capacity, ℕ, List, true, Some, refl, ap, sym, subst, ◌∙◌, arith}
+use Rattle.std.proofs.Common.{◌≡◌, ◌<◌, ◌≤◌, length, length-set, vec_capacity, ℕ, List, true, Some, refl, sym, subst, ◌∙◌, arith}
 use Rattle.std.proofs.lemmas.Option.{slice_get_read}
 use Rattle.std.specs.List.{slice_get}
 use Rattle.issuer_base.specs.declared.entry.Entry.{Entry}
