@@ -1,0 +1,6 @@
+-- The definitions that the contracts of this crate cite.
+pub mod WorldState
+pub mod Allowed
+pub mod WorldSteps
+pub mod WorldRuns
+pub mod Safety

@@ -1,0 +1,10 @@
+//! Worlds: an issuer's host, its cards, its callers and the network between them.
+#![tactic(auto)]
+
+mod event;
+mod law;
+mod parts;
+
+pub use event::Event;
+pub use law::{every_card_runs_its_commands_in_order, every_world_is_safe};
+pub use parts::{Exchange, MadeRequest, OpenClaim};
