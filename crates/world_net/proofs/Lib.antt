@@ -1,1 +1,5 @@
 -- The laws of this crate.
+pub mod Batches
+pub mod CardLaw
+pub mod CardMoves
+pub mod CardKeeps
