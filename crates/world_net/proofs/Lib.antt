@@ -3,3 +3,4 @@ pub mod Batches
 pub mod CardLaw
 pub mod CardMoves
 pub mod CardKeeps
+pub mod CardRecords
