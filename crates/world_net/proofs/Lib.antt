@@ -4,3 +4,4 @@ pub mod CardLaw
 pub mod CardMoves
 pub mod CardKeeps
 pub mod CardRecords
+pub mod Hosts
