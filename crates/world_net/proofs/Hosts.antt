@@ -137,7 +137,7 @@ recorded-later before after sent stays all = record {
 }
 
 -- no records at first
-none-at : (count shard : ℕ) → at (replicate count no_shard) shard ≡ no_shard
+pub none-at : (count shard : ℕ) → at (replicate count no_shard) shard ≡ no_shard
 none-at zero shard = refl
 none-at (suc count) zero = refl
 none-at (suc count) (suc shard) = none-at count shard
@@ -202,3 +202,19 @@ lawful-once issuer shards lawful shard other_shard place other_place request oth
               (sym card) (sym counter))
         ]
     ])
+
+-- and one request has one reply
+pub one-place : (issuer : Setup) (shards : List ShardState) → AreLawful issuer shards → (shard other_shard place other_place : ℕ) (request : Request)
+    (reply other_reply : Reply) → slice_get (at shards shard).history place ≡ Some (Decided request reply)
+    → slice_get (at shards other_shard).history other_place ≡ Some (Decided request other_reply) → reply ≡ other_reply
+one-place issuer shards lawful shard other_shard place other_place request reply other_reply is other_is =
+    let here : get_or (map (λ (state : ShardState). state.history) shards) shard [] ≡ (at shards shard).history = histories-at shards shard in
+    let there : get_or (map (λ (state : ShardState). state.history) shards) other_shard [] ≡ (at shards other_shard).history =
+    histories-at shards other_shard in
+    let same = lawful-once issuer shards lawful shard other_shard place other_place request request reply other_reply
+    (ap (λ (history : List Entry). slice_get history place) here ∙ is)
+    (ap (λ (history : List Entry). slice_get history other_place) there ∙ other_is) refl refl in
+    let moved : slice_get (at shards shard).history place ≡ slice_get (at shards other_shard).history other_place =
+    ap (λ shard. slice_get (at shards shard).history place) same.0 ∙ ap (slice_get (at shards other_shard).history) same.1 in
+    let both : Some (Decided request reply) ≡ Some (Decided request other_reply) = sym is ∙ moved ∙ other_is in
+    cc

@@ -5,3 +5,5 @@ pub mod CardMoves
 pub mod CardKeeps
 pub mod CardRecords
 pub mod Hosts
+pub mod Worlds
+pub mod KeptWorlds
