@@ -289,3 +289,147 @@ module _ (world : WorldState) (sound : IsSound world) where
               (kept-failure (name_of info) card history (Made world.made number) here)
         ])
         (λ other request apart made. made)
+
+-- what is kept of a world
+abbrev pub WorldKept : WorldState → Type 0
+WorldKept world = AreKept world.issuer world.cards world.made world.shards
+
+-- the record that joined a shard decides a request that was made
+joined-made : (world after : WorldState) → IsSound world → (shard : ℕ) (request : Request) (reply : Reply)
+    → IsLegalDecision (grounds_of world.issuer) shard (at world.shards shard).history request reply
+    → after.shards ≡ recorded world.shards shard (Decided request reply) → DecidesMade world after → IsMade world request
+joined-made world after sound shard request reply legal shards_are made =
+    let history = (at world.shards shard).history in
+    let entry = Decided request reply in
+    let new : ShardState = record { history = history ++ entry ∷ []; doubt = None } in
+    let read : at after.shards shard ≡ new =
+    ap (λ (shards : List ShardState). at shards shard) shards_are
+    ∙ get_or-set_same world.shards shard new no_shard (shard-within world sound shard entry legal) in
+    made shard (length history) request reply
+    (ap (λ (state : ShardState). slice_get state.history (length history)) read ∙ slice_get-push history entry)
+
+-- a write
+kept-written : (world : WorldState) → IsSound world → WorldKept world → (stored : Bool) (caller shard : ℕ) (exchange : Exchange) (after : WorldState)
+    → IsLegalDecision (grounds_of world.issuer) shard (at world.shards shard).history exchange.request exchange.reply
+    → after ≡ written stored world caller shard exchange → DecidesMade world after → WorldKept (written stored world caller shard exchange)
+kept-written world sound kept true caller shard exchange after legal after_is made =
+    kept-decision world sound kept shard exchange.request exchange.reply legal
+    (joined-made world after sound shard exchange.request exchange.reply legal (ap (λ (w : WorldState). w.shards) after_is) made)
+kept-written world sound kept false caller shard exchange after legal after_is made =
+    kept-doubt world sound kept shard (Some exchange) (shard-within world sound shard (Decided exchange.request exchange.reply) legal)
+
+-- what a restart makes of a decision in doubt
+kept-settled_at : (world : WorldState) → IsSound world → WorldKept world → (store_kept : Bool) (shard : ℕ) (doubt : Option Exchange) (after : WorldState)
+    → (at world.shards shard).doubt ≡ doubt → after.shards ≡ (settled_at store_kept world shard doubt).shards → DecidesMade world after
+    → WorldKept (settled_at store_kept world shard doubt)
+kept-settled_at world sound kept store_kept shard None after is after_is made = kept
+kept-settled_at world sound kept true shard (Some exchange) after is after_is made =
+    let legal = sound.shards.doubtful shard exchange is in
+    kept-decision world sound kept shard exchange.request exchange.reply legal
+    (joined-made world after sound shard exchange.request exchange.reply legal after_is made)
+kept-settled_at world sound kept false shard (Some exchange) after is after_is made =
+    kept-doubt world sound kept shard None
+    (shard-within world sound shard (Decided exchange.request exchange.reply) (sound.shards.doubtful shard exchange is))
+
+kept-settled_in : (world : WorldState) → IsSound world → WorldKept world → (store_kept : Bool) (shard : Option ℕ) (after : WorldState)
+    → after.shards ≡ (settled_in store_kept world shard).shards → DecidesMade world after → WorldKept (settled_in store_kept world shard)
+kept-settled_in world sound kept store_kept None after after_is made = kept
+kept-settled_in world sound kept store_kept (Some shard) after after_is made =
+    kept-settled_at world sound kept store_kept shard (at world.shards shard).doubt after refl after_is made
+
+-- claims and replies that were sent don't matter
+same-parts : (first second : WorldState) → first.issuer ≡ second.issuer → first.cards ≡ second.cards → first.made ≡ second.made
+    → first.shards ≡ second.shards → WorldKept first → WorldKept second
+same-parts first second issuer cards made shards kept =
+    subst (λ (issuer : Setup). AreKept issuer second.cards second.made second.shards) issuer
+    (subst (λ (cards : List CardState). AreKept first.issuer cards second.made second.shards) cards
+    (subst (λ (made : List MadeRequest). AreKept first.issuer first.cards made second.shards) made
+    (subst (λ (shards : List ShardState). AreKept first.issuer first.cards first.made shards) shards kept)))
+
+-- a genuine step keeps it
+kept-event : (world : WorldState) (event : Event) (after : WorldState) → IsSound world → WorldKept world → IsGenuineStep world event after → WorldKept after
+kept-event world (Tap number terminal) after sound kept genuine =
+    let step = genuine.step in
+    subst WorldKept (sym step.after_is)
+    (kept-tapped world sound kept number step.card step.request step.moved step.card_is
+    (tap-moves step.card terminal step.request step.moved step.step))
+kept-event world (Claim caller bytes) after sound kept genuine = subst WorldKept (sym genuine.step.after_is) kept
+kept-event world (Release caller) after sound kept genuine = subst WorldKept (sym genuine.step.after_is) kept
+kept-event world (Write caller stored) after sound kept genuine =
+    let step = genuine.step in
+    subst WorldKept (sym step.after_is)
+    (kept-written world sound kept stored caller (home_of world step.claim.request) (record { request = step.claim.request; reply = step.reply }) after
+    step.legal step.after_is genuine.decides)
+kept-event world (Send shard place) after sound kept genuine = subst WorldKept (sym genuine.step.after_is) kept
+kept-event world (Authenticate number value arc) after sound kept genuine =
+    let step = genuine.step in
+    subst WorldKept (sym step.after_is)
+    (kept-authenticated world sound kept number value.items arc step.card step.right step.moved step.card_is step.step genuine.accepts)
+kept-event world (Run number bytes) after sound kept genuine =
+    let step = genuine.step in
+    subst WorldKept (sym step.after_is)
+    (kept-run world sound kept number bytes.items step.card step.right step.moved step.card_is step.step genuine.accepts)
+kept-event world (Queue number command) after sound kept genuine =
+    let step = genuine.step in
+    subst WorldKept (sym step.1)
+    (kept-command_for world sound kept (number % world.issuer.shards) number step.0.card command step.0.card_is step.0.legal)
+kept-event world (Status number status) after sound kept genuine =
+    let step = genuine.step in
+    subst WorldKept (sym step.1)
+    (kept-status_of world sound kept (number % world.issuer.shards) step.0.card.pan step.0.card.psn status step.0.legal)
+kept-event world (Restart store_kept) after sound kept genuine =
+    let step = genuine.step in
+    subst WorldKept (sym step)
+    (kept-settled_in world sound kept store_kept (first_doubtful world.shards) after (ap (λ (w : WorldState). w.shards) step) genuine.decides)
+
+-- a card with nothing that happened is kept
+new-kept : (issuer : Setup) (info : CardInfo) (card : CardState) (name : CardName) → IsNewCard issuer info card
+    → IsKept name card (λ request. ⊥) []
+unfolding new_card
+new-kept issuer info card name new =
+    subst (λ (c : CardState). IsKept name c (λ request. ⊥) []) (sym new.card_is) (record {
+      requests = record {
+        counters = λ request none. absurd none;
+        opened = λ request none. absurd (none-some request none);
+        answered = λ chain none. refl;
+        unanswered = λ request none _. absurd (none-some request none);
+        within = omega arith;
+      };
+      untouched = λ none. record { none_done = refl; none_fly = refl; goes_on = refl; register_is = refl; count_is = refl; ran_is = refl };
+      flying = λ top none. absurd (none-some top none);
+      present = λ request none newest. absurd none;
+    })
+
+kept-new : (issuer : Setup) (world : WorldState) → IsNewWorld issuer world → WorldKept world
+kept-new issuer world new =
+    subst (λ (issuer : Setup). AreKept issuer world.cards world.made world.shards) (sym new.issuer_is) (record {
+      each = λ number info card info_is card_is.
+          let found = new.cards number info info_is in
+          let same : found.0 ≡ card = same_Some _ _ (sym found.1 ∙ card_is) in
+          let state : at world.shards (number % issuer.shards) ≡ no_shard =
+          ap (λ (shards : List ShardState). at shards (number % issuer.shards)) new.shards ∙ none-at issuer.shards (number % issuer.shards) in
+          subst (λ (state : ShardState). IsKept (name_of info) card (Made world.made number) state.history) (sym state)
+          (kept-fewer (name_of info) card [] (λ request. ⊥) (Made world.made number)
+          (λ request made.
+          let none : Contains [] (record { card = number; request = request }) =
+          subst (λ (made : List MadeRequest). Contains made (record { card = number; request = request })) new.made made in
+          absurd (omega (arith, none.1)))
+          (subst (λ (c : CardState). IsKept (name_of info) c (λ request. ⊥) []) same (new-kept issuer info found.0 (name_of info) found.2)));
+    })
+
+kept-from : (before : WorldState) (events : List Event) (after : WorldState) → IsSound before → WorldKept before → IsGenuineFrom before events after
+    → WorldKept after
+kept-from before [] after sound kept run = subst WorldKept (sym run) kept
+kept-from before (event ∷ events) after sound kept (between, genuine, rest) =
+    kept-from between events after (sound-step before event between sound genuine.step) (kept-event before event between sound kept genuine) rest
+
+-- so every genuine run's end is kept
+pub kept-run_end : (issuer : Setup) (events : List Event) (world : WorldState) → IsIssuer issuer → IsGenuineRun issuer events world → WorldKept world
+kept-run_end issuer events world valid (start, new, run) =
+    kept-from start events world (sound-new issuer start valid new) (kept-new issuer start new) run
+
+-- and its cards run their commands in order
+pub kept-in_order : (world : WorldState) → WorldKept world → RunsInOrder world
+kept-in_order world kept number info card info_is card_is =
+    kept-order (name_of info) card (Made world.made number) (at world.shards (number % world.issuer.shards)).history
+    (kept.each number info card info_is card_is)
