@@ -1,9 +1,12 @@
 //! Worlds: an issuer's host, its cards, its callers and the network between them.
 #![tactic(auto)]
 
+mod claims;
 mod event;
 mod law;
+mod net;
 mod parts;
+mod shard;
 
 pub use event::Event;
 pub use law::{every_card_runs_its_commands_in_order, every_world_is_safe};

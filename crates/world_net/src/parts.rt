@@ -1,4 +1,5 @@
 //! What a world remembers beside its cards and its host.
+ghost use Rattle.std.specs.Prelude.{◌≡◌};
 
 use issuer_base::{Reply, Request};
 
@@ -25,4 +26,16 @@ pub struct Exchange {
     pub request: Request,
 
     pub reply: Reply,
+}
+
+impl Exchange {
+    /// A copy, which takes no memory.
+    pub fn copy(&self) -> Exchange
+        ensures { result ≡ self.now }
+    {
+        Exchange {
+            request: self.request.copy(),
+            reply: self.reply.copy(),
+        }
+    }
 }
