@@ -53,7 +53,7 @@ pub record AreKept (issuer : Setup) (cards : List CardState) (made : List MadeRe
       → IsKept (name_of info) card (Made made number) (at shards (number % issuer.shards)).history
 
 -- a card's name has the card's number
-number_of-own : (cards : List CardInfo) (number : ℕ) (info : CardInfo) → AreCards cards → slice_get cards number ≡ Some info
+pub number_of-own : (cards : List CardInfo) (number : ℕ) (info : CardInfo) → AreCards cards → slice_get cards number ≡ Some info
     → number_of (name_of info) cards ≡ Some number
 number_of-own cards number info valid is =
     let within = slice_get_within cards number info is in
@@ -337,15 +337,6 @@ kept-settled_in world sound kept store_kept None after after_is made = kept
 kept-settled_in world sound kept store_kept (Some shard) after after_is made =
     kept-settled_at world sound kept store_kept shard (at world.shards shard).doubt after refl after_is made
 
--- claims and replies that were sent don't matter
-same-parts : (first second : WorldState) → first.issuer ≡ second.issuer → first.cards ≡ second.cards → first.made ≡ second.made
-    → first.shards ≡ second.shards → WorldKept first → WorldKept second
-same-parts first second issuer cards made shards kept =
-    subst (λ (issuer : Setup). AreKept issuer second.cards second.made second.shards) issuer
-    (subst (λ (cards : List CardState). AreKept first.issuer cards second.made second.shards) cards
-    (subst (λ (made : List MadeRequest). AreKept first.issuer first.cards made second.shards) made
-    (subst (λ (shards : List ShardState). AreKept first.issuer first.cards first.made shards) shards kept)))
-
 -- a genuine step keeps it
 kept-event : (world : WorldState) (event : Event) (after : WorldState) → IsSound world → WorldKept world → IsGenuineStep world event after → WorldKept after
 kept-event world (Tap number terminal) after sound kept genuine =
@@ -371,12 +362,12 @@ kept-event world (Run number bytes) after sound kept genuine =
     (kept-run world sound kept number bytes.items step.card step.right step.moved step.card_is step.step genuine.accepts)
 kept-event world (Queue number command) after sound kept genuine =
     let step = genuine.step in
-    subst WorldKept (sym step.1)
-    (kept-command_for world sound kept (number % world.issuer.shards) number step.0.card command step.0.card_is step.0.legal)
+    subst WorldKept (sym step.after_is)
+    (kept-command_for world sound kept (number % world.issuer.shards) number step.can.card command step.can.card_is step.can.legal)
 kept-event world (Status number status) after sound kept genuine =
     let step = genuine.step in
-    subst WorldKept (sym step.1)
-    (kept-status_of world sound kept (number % world.issuer.shards) step.0.card.pan step.0.card.psn status step.0.legal)
+    subst WorldKept (sym step.after_is)
+    (kept-status_of world sound kept (number % world.issuer.shards) step.can.card.pan step.can.card.psn status step.can.legal)
 kept-event world (Restart store_kept) after sound kept genuine =
     let step = genuine.step in
     subst WorldKept (sym step)

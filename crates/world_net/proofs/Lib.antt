@@ -7,3 +7,6 @@ pub mod CardRecords
 pub mod Hosts
 pub mod Worlds
 pub mod KeptWorlds
+pub mod Counters
+pub mod NetSteps
+pub mod NetRows

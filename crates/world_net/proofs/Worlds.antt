@@ -221,12 +221,12 @@ sound-step world (Authenticate number value arc) after sound step =
 sound-step world (Run number bytes) after sound step =
     subst IsSound (sym step.after_is)
     (sound-card world sound number step.card step.moved step.card_is (run-same step.card bytes.items step.right step.moved step.step))
-sound-step world (Queue number command) after sound (can, after_is) =
-    subst IsSound (sym after_is)
-    (sound-record world sound (number % world.issuer.shards) (IsQueued can.card.pan can.card.psn command) can.legal)
-sound-step world (Status number status) after sound (can, after_is) =
-    subst IsSound (sym after_is)
-    (sound-record world sound (number % world.issuer.shards) (IsStatus can.card.pan can.card.psn status) can.legal)
+sound-step world (Queue number command) after sound step =
+    subst IsSound (sym step.after_is)
+    (sound-record world sound (number % world.issuer.shards) (IsQueued step.can.card.pan step.can.card.psn command) step.can.legal)
+sound-step world (Status number status) after sound step =
+    subst IsSound (sym step.after_is)
+    (sound-record world sound (number % world.issuer.shards) (IsStatus step.can.card.pan step.can.card.psn status) step.can.legal)
 sound-step world (Restart kept) after sound step = subst IsSound (sym step) (sound-restarted world sound kept)
 
 -- a new card has the name of the issuer's card

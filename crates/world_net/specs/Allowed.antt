@@ -28,7 +28,7 @@ pub record CanTap (world : WorldState) (number : ℕ) (terminal : Terminal) : Ty
   pub card : CardState
   pub card_is : slice_get world.cards number ≡ Some card
   pub decimal : IsTrue (list_all is_bcd terminal.amount)
-  pub counts : card.atc ≢ LAST_COUNTER
+  pub more : card.atc ≢ LAST_COUNTER
 
 -- the card and counter of the request are neither recorded nor claimed
 pub record IsFree (world : WorldState) (request : Request) : Type 0 where

@@ -1,5 +1,5 @@
 -- What a world is: an issuer with the shards of its host, the issuer's cards, and what passed between them.
-use Rattle.std.specs.Prelude.{ℕ, not, ◌==◌, ◌++◌, List, [], ◌∷◌, map, filter, slice_get, slice_set, slice_index_or, Option, None}
+use Rattle.std.specs.Prelude.{ℕ, ◌%◌, not, ◌==◌, ◌++◌, List, [], ◌∷◌, map, filter, slice_get, slice_set, slice_index_or, Option, None}
 use Rattle.std.specs.List.{find}
 use Rattle.issuer_base.specs.declared.request.Request.{Request}
 use Rattle.issuer_base.specs.declared.entry.Entry.{Entry}
@@ -48,6 +48,10 @@ home_of world request = shard_of world.issuer (card_of request)
 -- the history of the shard of a request's card
 abbrev pub history_for : WorldState → Request → List Entry
 history_for world request = (shard_at world (home_of world request)).history
+
+-- the history of the shard of the card with this number
+abbrev pub history_at : WorldState → ℕ → List Entry
+history_at world number = (shard_at world (number % world.issuer.shards)).history
 
 -- the caller's open claim, or none
 abbrev pub claim_of : ℕ → List OpenClaim → Option OpenClaim

@@ -1,6 +1,7 @@
 -- What an event makes of a world that allows it.
 use Rattle.std.specs.Prelude.{◌≡◌, ℕ, ◌%◌, Bool, true, false, is_some, if◌then◌else◌, List, [], ◌∷◌, ◌++◌, slice_get, position, Option, Some, None, IsTrue}
 use Rattle.std.specs.List.{list_all}
+use Rattle.issuer_base.specs.declared.command.Command.{Command}
 use Rattle.issuer_base.specs.declared.request.Request.{Request}
 use Rattle.issuer_base.specs.declared.answer.Reply.{Reply}
 use Rattle.issuer_base.specs.declared.entry.Entry.TheVariants.{Decided, Queued as IsQueued, Status as IsStatus}
@@ -75,6 +76,16 @@ pub record Runs (world : WorldState) (number : ℕ) (bytes : List ℕ) (after : 
   pub step : CardStep card (IsRun bytes right) moved
   pub after_is : after ≡ with_card world number moved
 
+-- a command is queued for a card
+pub record Queues (world : WorldState) (number : ℕ) (command : Command) (after : WorldState) : Type 0 where
+  pub can : CanQueue world number command
+  pub after_is : after ≡ with_record world (number % world.issuer.shards) (IsQueued can.card.pan can.card.psn command)
+
+-- a card is given a status
+pub record Sets (world : WorldState) (number status : ℕ) (after : WorldState) : Type 0 where
+  pub can : CanSet world number status
+  pub after_is : after ≡ with_record world (number % world.issuer.shards) (IsStatus can.card.pan can.card.psn status)
+
 -- the lowest shard with a decision in doubt, or none
 abbrev pub first_doubtful : List ShardState → Option ℕ
 first_doubtful shards = position (λ shard. is_some shard.doubt) shards
@@ -104,8 +115,6 @@ IsStep world (Write caller stored) after = Writes world caller stored after
 IsStep world (Send shard place) after = Sends world shard place after
 IsStep world (Authenticate number value arc) after = Authenticates world number value.items arc after
 IsStep world (Run number bytes) after = Runs world number bytes.items after
-IsStep world (Queue number command) after =
-    (can : CanQueue world number command) × (after ≡ with_record world (number % world.issuer.shards) (IsQueued can.card.pan can.card.psn command))
-IsStep world (Status number status) after =
-    (can : CanSet world number status) × (after ≡ with_record world (number % world.issuer.shards) (IsStatus can.card.pan can.card.psn status))
+IsStep world (Queue number command) after = Queues world number command after
+IsStep world (Status number status) after = Sets world number status after
 IsStep world (Restart kept) after = after ≡ restarted kept world

@@ -1,13 +1,18 @@
 //! The parts of a world, and what each event does to them.
 ghost use Rattle.std.specs.Prelude.{◌≡◌, ◌<◌, ◌≤◌, ◌%◌, ℕ, length, slice_get, Some, Ok, IsTrue, ◌↔◌, MatchOption, OnOk, OnErr};
+ghost use Rattle.issuer_base.specs.ScriptCommand.{is_command};
 ghost use Rattle.issuer_base.specs.declared.request.Request.{Request};
 ghost use Rattle.issuer_base.specs.declared.answer.Reply.{Reply};
 ghost use Rattle.card_history.specs.declared.decision.Asked.TheVariants.{Decide};
 ghost use Rattle.chip_request.specs.Reading.{request_of};
 ghost use Rattle.line_checks.specs.Reading.{checked};
-ghost use Rattle.world_net.specs.Allowed.{CanTap, CanClaim, CanRelease, CanSend, IsFree};
-ghost use Rattle.world_net.specs.WorldState.{record_in, home_of};
-ghost use Rattle.world_net.specs.WorldSteps.{Taps, Claims, Releases, Sends, Authenticates, Runs};
+ghost use Rattle.card_history.specs.Scripts.{waiting, scripts_of};
+ghost use Rattle.script_queue.specs.CommandQueue.{TakesOneMore};
+ghost use Rattle.issuer_setup.specs.declared.card.CardInfo.{CardInfo};
+ghost use Rattle.issuer_setup.specs.CardList.{name_of};
+ghost use Rattle.world_net.specs.Allowed.{CanTap, CanClaim, CanRelease, CanSend, CanQueue, CanSet, IsFree};
+ghost use Rattle.world_net.specs.WorldState.{record_in, home_of, history_at};
+ghost use Rattle.world_net.specs.WorldSteps.{Taps, Claims, Releases, Sends, Authenticates, Runs, Queues, Sets};
 ghost use Rattle.world_net.specs.WorldRuns.{IsIssuer};
 ghost use Rattle.world_net.specs.Stepping.{world_of, Stands, IsTaken};
 
@@ -16,10 +21,13 @@ use crate::parts::{Exchange, MadeRequest, OpenClaim};
 use crate::shard::ShardRecords;
 use card_model::{Card, Terminal};
 use chip_request::read_request;
-use issuer_base::{Entry, MAX_CHIP_BYTES, NoMemory, Request, are_decimal};
+use issuer_base::{Command, Entry, MAX_CHIP_BYTES, MAX_QUEUED, MAX_STATUS, MAX_UNDONE, NoMemory, Request, are_decimal};
 use issuer_setup::Issuer;
 use line_checks::check_request;
 use row_core::Row;
+
+/// Card block, application unblock, application block, PIN change/unblock, put data, update record.
+const INSTRUCTIONS: [u8; 6] = [0x16, 0x18, 0x1E, 0x24, 0xDA, 0xDC];
 
 /// The parts of a world, and a row for each card, which stands for the history of the card's shard.
 #[derive(Drop)]
@@ -139,6 +147,63 @@ impl Net {
         Ok(true)
     }
 
+    /// Queues a command for the card with this number.
+    pub(crate) fn queue(&mut self, number: u32, command: &Command) -> Result<bool, NoMemory>
+        requires shards { length self.old.shards.items ≡ self.old.issuer.shards }
+        requires rows { Stands self.old }
+        ensures taken { IsTaken (CanQueue (world_of self.old) number command.now) (Queues (world_of self.old) number command.now (world_of self.new))
+            (world_of self.old) (world_of self.new) result }
+        ensures rows { Stands self.new }
+    {
+        if number >= self.issuer.cards() || !is_command(command) {
+            return Ok(false);
+        }
+        if !self.takes_command(number) {
+            return Ok(false);
+        }
+        let info = self.issuer.info(number);
+        let home = usize::from(self.issuer.shard_of(number));
+        self.shards[home].add(Entry::Queued {
+            pan: info.pan.copy(),
+            psn: info.psn,
+            command: command.copy(),
+        })?;
+        let _ = self.rows[number as usize].push(command.copy());
+        Ok(true)
+    }
+
+    /// Gives the card with this number a status.
+    pub(crate) fn set_status(&mut self, number: u32, status: u8) -> Result<bool, NoMemory>
+        requires shards { length self.old.shards.items ≡ self.old.issuer.shards }
+        requires rows { Stands self.old }
+        ensures taken { IsTaken (CanSet (world_of self.old) number status) (Sets (world_of self.old) number status (world_of self.new))
+            (world_of self.old) (world_of self.new) result }
+        ensures rows { Stands self.new }
+    {
+        if number >= self.issuer.cards() || status > MAX_STATUS {
+            return Ok(false);
+        }
+        let info = self.issuer.info(number);
+        let home = usize::from(self.issuer.shard_of(number));
+        self.shards[home].add(Entry::Status {
+            pan: info.pan.copy(),
+            psn: info.psn,
+            status,
+        })?;
+        self.rows[number as usize].set_status(status);
+        Ok(true)
+    }
+
+    /// Whether the queue of the card with this number takes one more command.
+    fn takes_command(&self, number: u32) -> bool
+        requires card { number < length self.now.issuer.cards }
+        requires rows { Stands self.now }
+        ensures { (info : CardInfo) → slice_get self.now.issuer.cards number ≡ Some info
+            → (IsTrue result ↔ TakesOneMore (waiting (scripts_of (name_of info) (history_at (world_of self.now) number)))) }
+    {
+        takes_one_more(&self.rows[number as usize])
+    }
+
     /// The request that chip data say, where the issuer decides it.
     fn read(&self, bytes: &[u8]) -> Option<Request>
         requires { length bytes.now ≤ MAX_CHIP_BYTES }
@@ -199,4 +264,20 @@ fn decision_in(entry: &Entry) -> Option<Exchange>
         }),
         _ => None,
     }
+}
+
+/// Whether the row's queue takes one more command.
+fn takes_one_more(row: &Row) -> bool
+    ensures { IsTrue result ↔ TakesOneMore row.now.scripts.commands }
+{
+    row.queue().undone() < MAX_UNDONE && row.queue().queued() < MAX_QUEUED
+}
+
+/// Whether the host sends such a command: secure messaging in the low nibble of its class, and one of the host's instructions. EMV 4.3
+/// Book 3, section 6.5.
+#[tactic(auto, unfolding(issuer_base::specs::ScriptCommand::is_command))]
+fn is_command(command: &Command) -> bool
+    ensures { result ≡ is_command command.now }
+{
+    command.cla & 0x0F == 0x04 && INSTRUCTIONS.contains(&command.ins)
 }
