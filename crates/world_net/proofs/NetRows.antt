@@ -1,20 +1,26 @@
 -- The rows of a world's cards, before and after one more record of a shard.
-use Rattle.std.proofs.Common.{◌≡◌, ◌≢◌, ℕ, ◌%◌, ◌<◌, List, [], ◌∷◌, ◌++◌, length, get_or, set, Some, refl, ap, sym, ◌∙◌, subst, inl, inr, arith, length-set, Option, None}
+use Rattle.std.proofs.Common.{◌≡◌, ◌≢◌, ℕ, ◌%◌, ◌<◌, List, [], ◌∷◌, ◌++◌, length, get_or, set, Some, refl, ap, sym, ◌∙◌, subst, inl, inr, arith, length-set, Option, None, IsTrue, ◌≤◌}
 use Rattle.std.proofs.lemmas.Bool.{cases_eq}
 use Rattle.std.proofs.lemmas.List.{get_or-set_same, get_or-set_other}
 use Rattle.std.proofs.lemmas.Option.{same_Some, slice_get_within, slice_get-get_or, get_or_from_slice_get, slice_get_cases}
 use Rattle.std.specs.List.{slice_get}
+use Rattle.issuer_base.specs.declared.command.Command.{Command}
+use Rattle.issuer_base.specs.declared.limits.TheConstants.{MAX_STATUS}
+use Rattle.issuer_base.specs.ScriptCommand.{is_command}
 use Rattle.issuer_base.specs.declared.entry.Entry.{Entry}
+use Rattle.issuer_base.specs.declared.entry.Entry.TheVariants.{Queued, Status}
 use Rattle.card_history.specs.Records.{card_in}
 use Rattle.card_history.specs.Scripts.{waiting, scripts_of}
 use Rattle.issuer_setup.specs.declared.card.CardInfo.{CardInfo}
 use Rattle.issuer_setup.specs.CardList.{AreCards, name_of, number_of}
 use Rattle.issuer_setup.specs.IssuerSetup.{Setup}
+use Rattle.script_queue.specs.CommandQueue.{TakesOneMore}
 use Rattle.row_core.specs.CardRow.{CardRow, KeptScripts, StandsFor}
 use Rattle.row_core.proofs.OtherCards.{stands-other}
 use Rattle.world_net.specs.declared.parts.Exchange.{Exchange}
-use Rattle.world_net.specs.WorldState.{ShardState, no_shard}
-use Rattle.world_net.specs.WorldRuns.{IsIssuer}
+use Rattle.world_net.specs.Allowed.{CanQueue, CanSet}
+use Rattle.world_net.specs.WorldSteps.{Queues, Sets}
+use Rattle.world_net.specs.WorldState.{WorldState, ShardState, no_shard, history_at}
 use Rattle.world_net.specs.Stepping.{RowsStand}
 use Rattle.world_net.proofs.Hosts.{at, recorded, doubted}
 use Rattle.world_net.proofs.KeptWorlds.{number_of-own}
@@ -59,7 +65,7 @@ module _ (issuer : Setup) (rows : List CardRow) (shards : List ShardState) (stan
       (sym (get_or_from_slice_get rows number found.0 row found.1) ∙ sym row_is) found.2
 
   -- one more record of the shard of the card with this number, for which its row is another one
-  pub rows-record : (number : ℕ) (info : CardInfo) (entry : Entry) (new : CardRow) → IsIssuer issuer → length shards ≡ issuer.shards
+  pub rows-record : (number : ℕ) (info : CardInfo) (entry : Entry) (new : CardRow) → AreCards issuer.cards → length shards ≡ issuer.shards
       → number % issuer.shards < length shards → slice_get issuer.cards number ≡ Some info → card_in entry ≡ name_of info
       → StandsFor info new ((at shards (number % issuer.shards)).history ++ entry ∷ [])
       → RowsStand issuer (set rows number new) (recorded shards (number % issuer.shards) entry)
@@ -82,8 +88,8 @@ module _ (issuer : Setup) (rows : List CardRow) (shards : List ShardState) (stan
                   )
               | inr apart ↦
                   let name : name_of other_info ≢ card_in entry =
-                  λ same. apart (same_Some _ _ (sym (number_of-own issuer.cards other other_info valid.cards other_is)
-                  ∙ ap (λ name. number_of name issuer.cards) (same ∙ its) ∙ number_of-own issuer.cards number info valid.cards info_is)) in
+                  λ same. apart (same_Some _ _ (sym (number_of-own issuer.cards other other_info valid other_is)
+                  ∙ ap (λ name. number_of name issuer.cards) (same ∙ its) ∙ number_of-own issuer.cards number info valid info_is)) in
                   (
                     found.0,
                     put-stays rows number other new found.0 apart found.1,
@@ -123,3 +129,48 @@ module _ (issuer : Setup) (rows : List CardRow) (shards : List ShardState) (stan
           ],
         );
   }
+
+-- a shard that got one more record, among the shards
+pub shards-record : (shards : List ShardState) (home place : ℕ) (entry made : Entry) (old new : ShardState) → home ≡ place → home < length shards
+    → old ≡ get_or shards home old → made ≡ entry → new ≡ record { history = old.history ++ made ∷ []; doubt = None }
+    → set shards home new ≡ recorded shards place entry
+shards-record shards home place entry made old new at_home within old_is made_is new_is =
+    let read : old ≡ at shards home =
+    sym (get_or_from_slice_get shards home old no_shard (slice_get-get_or shards home old within ∙ ap Some (sym old_is))) in
+    let new_here : new ≡ record { history = (at shards home).history ++ entry ∷ []; doubt = None } =
+    new_is ∙ (λ i. record { history = (read i).history ++ made_is i ∷ []; doubt = None }) in
+    ap (set shards home) new_here ∙ ap (λ n. recorded shards n entry) at_home
+
+-- a card's command is queued
+pub queue-taken : (world : WorldState) (number : ℕ) (command : Command) (info : CardInfo) (shards : List ShardState) → AreCards world.issuer.cards
+    → slice_get world.issuer.cards number ≡ Some info → IsTrue (is_command command)
+    → TakesOneMore (waiting (scripts_of (name_of info) (history_at world number)))
+    → shards ≡ recorded world.shards (number % world.issuer.shards) (Queued info.pan info.psn command)
+    → CanQueue world number command × Queues world number command (record world { shards = shards })
+queue-taken world number command info shards valid info_is form takes shards_are =
+    let can : CanQueue world number command = record {
+      card = info;
+      card_is = info_is;
+      legal = record {
+        home = record { number = number; number_is = number_of-own world.issuer.cards number info valid info_is; home = refl };
+        form = form;
+        room = takes;
+      };
+    } in
+    (can, record { can = can; after_is = ap (λ (shards : List ShardState). record world { shards = shards }) shards_are })
+
+-- a card is given a status
+pub set-taken : (world : WorldState) (number status : ℕ) (info : CardInfo) (shards : List ShardState) → AreCards world.issuer.cards
+    → slice_get world.issuer.cards number ≡ Some info → status ≤ MAX_STATUS
+    → shards ≡ recorded world.shards (number % world.issuer.shards) (Status info.pan info.psn status)
+    → CanSet world number status × Sets world number status (record world { shards = shards })
+set-taken world number status info shards valid info_is within shards_are =
+    let can : CanSet world number status = record {
+      card = info;
+      card_is = info_is;
+      legal = record {
+        home = record { number = number; number_is = number_of-own world.issuer.cards number info valid info_is; home = refl };
+        within = within;
+      };
+    } in
+    (can, record { can = can; after_is = ap (λ (shards : List ShardState). record world { shards = shards }) shards_are })
