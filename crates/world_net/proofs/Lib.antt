@@ -10,3 +10,5 @@ pub mod KeptWorlds
 pub mod Counters
 pub mod NetSteps
 pub mod NetRows
+pub mod Replies
+pub mod NetWrites

@@ -1,5 +1,5 @@
 //! The parts of a world, and what each event does to them.
-ghost use Rattle.std.specs.Prelude.{◌≡◌, ◌<◌, ◌≤◌, ◌%◌, ℕ, length, slice_get, Some, Ok, IsTrue, ◌↔◌, MatchOption, OnOk, OnErr};
+ghost use Rattle.std.specs.Prelude.{◌≡◌, ◌<◌, ◌≤◌, ◌%◌, ℕ, length, slice_get, Some, Ok, IsTrue, ◌↔◌, MatchOption, OnOk, OnErr, IfOk, IfSome, true};
 ghost use Rattle.issuer_base.specs.ScriptCommand.{is_command};
 ghost use Rattle.issuer_base.specs.declared.request.Request.{Request};
 ghost use Rattle.issuer_base.specs.declared.answer.Reply.{Reply};
@@ -10,21 +10,30 @@ ghost use Rattle.card_history.specs.Scripts.{waiting, scripts_of};
 ghost use Rattle.script_queue.specs.CommandQueue.{TakesOneMore};
 ghost use Rattle.issuer_setup.specs.declared.card.CardInfo.{CardInfo};
 ghost use Rattle.issuer_setup.specs.CardList.{name_of};
-ghost use Rattle.world_net.specs.Allowed.{CanTap, CanClaim, CanRelease, CanSend, CanQueue, CanSet, IsFree};
-ghost use Rattle.world_net.specs.WorldState.{record_in, home_of, history_at};
-ghost use Rattle.world_net.specs.WorldSteps.{Taps, Claims, Releases, Sends, Authenticates, Runs, Queues, Sets};
+ghost use Rattle.world_net.specs.Allowed.{CanTap, CanClaim, CanRelease, CanWrite, CanSend, CanQueue, CanSet, IsFree};
+ghost use Rattle.world_net.specs.WorldState.{record_in, shard_at, home_of, history_at, history_for, claim_of, with_record};
+ghost use Rattle.std.specs.Option.{option_map};
+ghost use Rattle.card_history.specs.LegalRecords.{IsLegalDecision};
+ghost use Rattle.card_history.specs.Turns.{IsUnused, decided_for};
+ghost use Rattle.decision_table.specs.Fitting.{decision};
+ghost use Rattle.decision_table.specs.Tables.{is_table};
+ghost use Rattle.issuer_base.specs.declared.entry.Entry.{Entry};
+ghost use Rattle.shard_book.specs.Grounds.{grounds_of};
+ghost use Rattle.world_net.specs.WorldSteps.{Taps, Claims, Releases, Writes, Sends, Authenticates, Runs, Queues, Sets};
+ghost use Rattle.world_net.specs.WorldSteps.{first_doubtful, settled_at, restarted};
 ghost use Rattle.world_net.specs.WorldRuns.{IsIssuer};
-ghost use Rattle.world_net.specs.Stepping.{world_of, Stands, IsTaken};
+ghost use Rattle.world_net.specs.Stepping.{world_of, Stands, IsReached, IsTaken};
 
 use crate::claims::{claim_of, end_claim, is_unclaimed, is_unrecorded};
 use crate::parts::{Exchange, MadeRequest, OpenClaim};
 use crate::shard::ShardRecords;
 use card_model::{Card, Terminal};
 use chip_request::read_request;
+use decision_table::{Table, TableRow, decide};
 use issuer_base::{Command, Entry, MAX_CHIP_BYTES, MAX_QUEUED, MAX_STATUS, MAX_UNDONE, NoMemory, Request, are_decimal};
 use issuer_setup::Issuer;
-use line_checks::check_request;
-use row_core::Row;
+use line_checks::{CheckedRequest, check_request};
+use row_core::{Outcome, Row};
 
 /// Card block, application unblock, application block, PIN change/unblock, put data, update record.
 const INSTRUCTIONS: [u8; 6] = [0x16, 0x18, 0x1E, 0x24, 0xDA, 0xDC];
@@ -194,6 +203,135 @@ impl Net {
         Ok(true)
     }
 
+    /// Writes the decision of the request that this caller claimed.
+    pub(crate) fn write(&mut self, caller: u8, stored: bool) -> Result<bool, NoMemory>
+        requires reached { IsReached (world_of self.old) }
+        requires shards { length self.old.shards.items ≡ self.old.issuer.shards }
+        requires rows { Stands self.old }
+        ensures taken { IsTaken (CanWrite (world_of self.old) caller) (Writes (world_of self.old) caller stored (world_of self.new))
+            (world_of self.old) (world_of self.new) result }
+        ensures rows { Stands self.new }
+    {
+        let Some(request) = self.claimed(caller) else {
+            return Ok(false);
+        };
+        let Some(exchange) = self.planned(&request) else {
+            return Ok(false);
+        };
+        if !stored {
+            let home = self.home_of(&request);
+            self.shards[home].set_doubt(Some(exchange));
+            return Ok(true);
+        }
+        self.join(&exchange)?;
+        end_claim(&mut self.claims, caller);
+        Ok(true)
+    }
+
+    /// Ends all claims, and settles the first shard with a decision in doubt.
+    pub(crate) fn restart(&mut self, kept: bool) -> Result<bool, NoMemory>
+        requires reached { IsReached (world_of self.old) }
+        requires shards { length self.old.shards.items ≡ self.old.issuer.shards }
+        requires rows { Stands self.old }
+        ensures done { OnOk result (world_of self.new ≡ restarted kept (world_of self.old)) }
+        ensures unchanged { OnErr result (world_of self.new ≡ world_of self.old) }
+        ensures always { IfOk result (λ done. done ≡ true) }
+        ensures rows { Stands self.new }
+    {
+        if let Some(home) = first_doubtful(self.shards.as_slice()) {
+            self.settle(home, kept)?;
+        }
+        self.claims.clear();
+        Ok(true)
+    }
+
+    /// Settles the decision in doubt of this shard: it is recorded where it was kept.
+    fn settle(&mut self, home: usize, kept: bool) -> Result<(), NoMemory>
+        requires reached { IsReached (world_of self.old) }
+        requires home { home < length self.old.shards.items }
+        requires shards { length self.old.shards.items ≡ self.old.issuer.shards }
+        requires rows { Stands self.old }
+        ensures done { OnOk result (world_of self.new ≡ settled_at kept (world_of self.old) home (shard_at (world_of self.old) home).doubt) }
+        ensures unchanged { OnErr result (world_of self.new ≡ world_of self.old) }
+        ensures rows { Stands self.new }
+    {
+        let Some(exchange) = self.shards[home].doubt() else {
+            return Ok(());
+        };
+        if kept {
+            return self.join(&exchange);
+        }
+        self.shards[home].set_doubt(None);
+        Ok(())
+    }
+
+    /// The request that this caller claimed.
+    fn claimed(&self, caller: u8) -> Option<Request>
+        ensures { option_map (λ request. request) result ≡ option_map (λ claim. claim.request) (claim_of caller self.now.claims.items) }
+    {
+        let claim = claim_of(self.claims.as_slice(), caller)?;
+        Some(claim.request.copy())
+    }
+
+    /// The reply that the issuer makes to a request that it decides, where its counter is in the window and unused.
+    fn planned(&self, request: &Request) -> Option<Exchange>
+        requires shards { length self.now.shards.items ≡ self.now.issuer.shards }
+        requires rows { Stands self.now }
+        requires genuine { checked self.now.issuer request.now ≡ Ok (Decide request.now) }
+        ensures { MatchOption result
+            (IsUnused (decided_for request.now (history_for (world_of self.now) request.now)) request.now → ⊥)
+            (λ exchange. (exchange.request ≡ request.now) × IsLegalDecision (grounds_of self.now.issuer) (home_of (world_of self.now) request.now)
+                (history_for (world_of self.now) request.now) request.now exchange.reply) }
+    {
+        let Ok(found) = check_request(&self.issuer, request.copy()) else {
+            return None;
+        };
+        let home = usize::from(self.issuer.shard_of(found.card));
+        let place = self.shards[home].history().len() as u64;
+        let row = &self.rows[found.card as usize];
+        let table = self.issuer.table();
+        deciding_row(table, row.status(), request);
+        let outcome = row.plan_under(&found.session, &found.keys, table, &found.request, place);
+        match outcome {
+            Outcome::Fresh(reply, _) => Some(Exchange {
+                request: found.request,
+                reply,
+            }),
+            _ => None,
+        }
+    }
+
+    /// Records a decision that may come next, in the shard and the row of its card.
+    fn join(&mut self, exchange: &Exchange) -> Result<(), NoMemory>
+        requires shards { length self.old.shards.items ≡ self.old.issuer.shards }
+        requires rows { Stands self.old }
+        requires legal { IsLegalDecision (grounds_of self.old.issuer) (home_of (world_of self.old) exchange.now.request)
+            (history_for (world_of self.old) exchange.now.request) exchange.now.request exchange.now.reply }
+        ensures done { OnOk result (world_of self.new ≡ with_record (world_of self.old) (home_of (world_of self.old) exchange.now.request)
+            (Entry.Decided exchange.now.request exchange.now.reply)) }
+        ensures unchanged { OnErr result (world_of self.new ≡ world_of self.old) }
+        ensures rows { Stands self.new }
+    {
+        let Ok(found) = check_request(&self.issuer, exchange.request.copy()) else {
+            return Ok(());
+        };
+        let CheckedRequest {
+            request,
+            card,
+            keys,
+            session,
+        } = found;
+        let home = usize::from(self.issuer.shard_of(card));
+        let place = self.shards[home].history().len() as u64;
+        self.shards[home].add(Entry::Decided {
+            request: exchange.request.copy(),
+            reply: exchange.reply.copy(),
+        })?;
+        let reply = exchange.reply.copy();
+        self.rows[card as usize].adopt_under(&session, &keys, request, reply, place);
+        Ok(())
+    }
+
     /// Whether the queue of the card with this number takes one more command.
     fn takes_command(&self, number: u32) -> bool
         requires card { number < length self.now.issuer.cards }
@@ -280,4 +418,32 @@ fn is_command(command: &Command) -> bool
     ensures { result ≡ is_command command.now }
 {
     command.cla & 0x0F == 0x04 && INSTRUCTIONS.contains(&command.ins)
+}
+
+/// The place of the first shard with a decision in doubt.
+fn first_doubtful(shards: &[ShardRecords]) -> Option<usize>
+    ensures place { result ≡ first_doubtful shards.now }
+    ensures within { IfSome result (λ place. place < length shards.now) }
+{
+    shards.iter().position(|shard| shard.is_doubtful())
+}
+
+/// The row of the table that decides a request of a card with this status, which tells its approval.
+fn deciding_row<'a>(table: &'a Table, status: u8, request: &Request) -> &'a TableRow
+    ensures row { decision table.now status request.now ≡ Some result.now }
+    ensures table { IsTrue (is_table table.now) }
+    ensures widths { (length result.now.arc ≡ 2) × (length result.now.csu ≡ 4) }
+{
+    let _rows = table.rows();
+    let row = decide(table, status, request);
+    widths(row);
+    row
+}
+
+/// A row's response code has two bytes, and its card status update four.
+fn widths(row: &TableRow)
+    ensures { (length row.now.arc ≡ 2) × (length row.now.csu ≡ 4) }
+{
+    let _code = row.arc;
+    let _update = row.csu;
 }

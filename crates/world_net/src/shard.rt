@@ -1,5 +1,5 @@
 //! The shards of a world's host.
-ghost use Rattle.std.specs.Prelude.{◌≡◌, List, [], ◌∷◌, ◌++◌, None, Some, IsOk, OnOk, OnErr};
+ghost use Rattle.std.specs.Prelude.{◌≡◌, List, [], ◌∷◌, ◌++◌, None, Some, is_some, IsOk, OnOk, OnErr};
 ghost use Rattle.world_net.specs.WorldState.{no_shard};
 
 use crate::parts::Exchange;
@@ -40,6 +40,13 @@ impl ShardRecords {
         ensures { result.now ≡ self.now.history }
     {
         self.history.as_slice()
+    }
+
+    /// Whether a decision is in doubt.
+    pub(crate) fn is_doubtful(&self) -> bool
+        ensures { result ≡ is_some self.now.doubt }
+    {
+        self.doubt.is_some()
     }
 
     /// A copy of the decision in doubt.
