@@ -1,7 +1,7 @@
 -- What a write and a restart do to a world and to the rows of its cards.
 use Rattle.std.proofs.Common.{◌≡◌, ◌≢◌, ℕ, ◌%◌, ◌<◌, Bool, true, false, not, ◌==◌, cond, List, [], ◌∷◌, ◌++◌, length, get_or, set, Option, Some, None, Ok, IsTrue, ◌↔◌}
-use Rattle.std.proofs.Common.{refl, ap, sym, ◌∙◌, subst, inl, inr, arith}
-use Rattle.std.proofs.lemmas.Bool.{cases_Bool, cond-true, cond-false}
+use Rattle.std.proofs.Common.{refl, ap, sym, ◌∙◌, subst, inl, inr, arith, Result, Err, OnOk, OnErr, IfOk}
+use Rattle.std.proofs.lemmas.Bool.{cases_Bool, cond-true, cond-false, false≢true}
 use Rattle.std.proofs.lemmas.List.{set-get_or}
 use Rattle.std.proofs.lemmas.List.Elements.{All-tail}
 use Rattle.std.proofs.lemmas.Option.{none-some, same_Some, slice_get-get_or, get_or_from_slice_get}
@@ -11,7 +11,6 @@ use Rattle.issuer_base.specs.declared.request.Request.{Request}
 use Rattle.issuer_base.specs.declared.answer.Reply.{Reply}
 use Rattle.issuer_base.specs.declared.entry.Entry.{Entry}
 use Rattle.issuer_base.specs.declared.entry.Entry.TheVariants.{Decided}
-use Rattle.card_history.specs.declared.decision.Asked.{Asked}
 use Rattle.card_history.specs.declared.decision.Asked.TheVariants.{Decide}
 use Rattle.card_history.specs.LegalRecords.{IsLegalDecision}
 use Rattle.card_history.specs.Records.{card_of}
@@ -30,13 +29,17 @@ use Rattle.shard_book.specs.Grounds.{IsCardOfShard, grounds_of}
 use Rattle.shard_book.proofs.Adopted.{decision-follows}
 use Rattle.world_net.specs.declared.parts.Exchange.{Exchange}
 use Rattle.world_net.specs.declared.parts.OpenClaim.{OpenClaim}
-use Rattle.world_net.specs.Allowed.{CanWrite}
+use Rattle.world_net.specs.Allowed.{CanWrite, IsAllowed}
 use Rattle.world_net.specs.WorldState.{WorldState, ShardState, no_shard, shard_at, home_of, history_for, claim_of, with_record}
-use Rattle.world_net.specs.WorldSteps.{Writes, written, settled_at}
-use Rattle.world_net.specs.Stepping.{RowsStand, IsReached}
+use Rattle.world_net.specs.WorldSteps.{Writes, written, settled_at, IsStep}
+use Rattle.world_net.specs.declared.event.Event.{Event}
+use Rattle.world_net.specs.declared.net.Net.{Net}
+use Rattle.world_net.specs.Stepping.{RowsStand, Stands, IsReached, IsHeld, IsTaken, world_of}
+use Rattle.world_net.specs.WorldRuns.{IsIssuer, IsNewWorld, IsRunFrom}
+use Rattle.world_net.specs.Safety.{IsSafe}
 use Rattle.world_net.proofs.Hosts.{at, recorded, doubted}
 use Rattle.world_net.proofs.NetRows.{row-stands, rows-record}
-use Rattle.world_net.proofs.Worlds.{IsSound, sound-run}
+use Rattle.world_net.proofs.Worlds.{IsSound, sound-run, sound-safe, step-issuer}
 
 -- what is put back where it was changes nothing
 pub put-same : {X : Type 0} (xs : List X) (place : ℕ) (new old : X) → new ≡ old → old ≡ get_or xs place old → set xs place new ≡ xs
@@ -45,10 +48,6 @@ put-same xs place new old stays read = ap (set xs place) (stays ∙ read) ∙ se
 -- a run's end is sound
 pub reached-sound : (world : WorldState) → IsReached world → IsSound world
 reached-sound world reached = sound-run world.issuer reached.events world reached.issuer reached.run
-
--- a request that passed the check is the one that was checked
-pub same-request : (request found : Request) (said : Asked) → Ok (Decide found) ≡ Ok said → said ≡ Decide request → found ≡ request
-same-request request found said passed is = cc
 
 -- the shard of a request whose card has this number
 pub home-card : (world : WorldState) (request : Request) (number : ℕ) → number_of (card_of request) world.issuer.cards ≡ Some number
@@ -166,3 +165,53 @@ writes-taken world after caller stored claim request reply claim_is same legal a
         after_is = after_is ∙ ap (λ (q : Request). written stored world caller (home_of world q) (record { request = q; reply = reply })) (sym same);
       },
     )
+
+-- one step more
+run-more : (before : WorldState) (events : List Event) (world after : WorldState) (event : Event) → IsRunFrom before events world → IsStep world event after
+    → IsRunFrom before (events ++ event ∷ []) after
+run-more before [] world after event run step = (after, subst (λ (w : WorldState). IsStep w event after) run step, refl)
+run-more before (first ∷ events) world after event (between, here, rest) step = (between, here, run-more between events world after event rest step)
+
+reached-more : (world after : WorldState) (event : Event) → IsReached world → IsStep world event after → IsReached after
+reached-more world after event reached step =
+    let same : after.issuer ≡ world.issuer = step-issuer world event after step in
+    let run = reached.run in
+    record {
+      issuer = subst IsIssuer (sym same) reached.issuer;
+      events = reached.events ++ event ∷ [];
+      run = (run.0, subst (λ (issuer : Setup). IsNewWorld issuer run.0) (sym same) run.1, run-more run.0 reached.events world after event run.2 step);
+    }
+
+-- what a call that always does it answers
+pub always-taken : {E : Type 0} (Done : Type 0) (before after : WorldState) (result : Result Bool E) → OnOk result Done → OnErr result (after ≡ before)
+    → IfOk result (λ done. done ≡ true) → IsTaken (Unit {0}) Done before after result
+always-taken Done before after (Ok true) done stays always = (tt, done)
+always-taken Done before after (Ok false) done stays always = absurd (false≢true always)
+always-taken Done before after (Err fault) done stays always = stays
+
+-- a step of a run's end is a run's end, with rows that stand
+pub held-step : {E : Type 0} (old new : Net) (event : Event) (result : Result Bool E) → IsHeld old
+    → IsTaken (IsAllowed (world_of old) event) (IsStep (world_of old) event (world_of new)) (world_of old) (world_of new) result → Stands new
+    → IsHeld new
+held-step old new event (Ok true) held taken rows = record { reached = reached-more (world_of old) (world_of new) event held.reached taken.1; rows = rows }
+held-step old new event (Ok false) held taken rows = record { reached = subst IsReached (sym taken.1) held.reached; rows = rows }
+held-step old new event (Err fault) held taken rows = record { reached = subst IsReached (sym taken) held.reached; rows = rows }
+
+-- so there are as many shards as the issuer has
+pub held-count : (net : Net) → IsHeld net → length net.shards.items ≡ net.issuer.shards
+held-count net held = (reached-sound (world_of net) held.reached).shards.count
+
+-- a new world is a run's end
+pub held-new : (issuer : Setup) (net : Net) → IsIssuer issuer → IsNewWorld issuer (world_of net) → Stands net → IsHeld net
+held-new issuer net valid new rows = record {
+  reached = record {
+    issuer = subst IsIssuer (sym new.issuer_is) valid;
+    events = [];
+    run = (world_of net, subst (λ (issuer : Setup). IsNewWorld issuer (world_of net)) (sym new.issuer_is) new, refl);
+  };
+  rows = rows;
+}
+
+-- and a run's end is safe
+pub reached-safe : (world : WorldState) → IsReached world → IsSafe world
+reached-safe world reached = sound-safe world (reached-sound world reached)

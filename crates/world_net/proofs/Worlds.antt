@@ -229,6 +229,33 @@ sound-step world (Status number status) after sound step =
     (sound-record world sound (number % world.issuer.shards) (IsStatus step.can.card.pan step.can.card.psn status) step.can.legal)
 sound-step world (Restart kept) after sound step = subst IsSound (sym step) (sound-restarted world sound kept)
 
+-- no step changes the issuer
+issuer-settled : (world : WorldState) (kept : Bool) (shard : ℕ) (doubt : Option Exchange) → (settled_at kept world shard doubt).issuer ≡ world.issuer
+issuer-settled world kept shard None = refl
+issuer-settled world true shard (Some exchange) = refl
+issuer-settled world false shard (Some exchange) = refl
+
+issuer-settled_in : (world : WorldState) (kept : Bool) (shard : Option ℕ) → (settled_in kept world shard).issuer ≡ world.issuer
+issuer-settled_in world kept None = refl
+issuer-settled_in world kept (Some shard) = issuer-settled world kept shard (at world.shards shard).doubt
+
+issuer-written : (stored : Bool) (world : WorldState) (caller shard : ℕ) (exchange : Exchange)
+    → (written stored world caller shard exchange).issuer ≡ world.issuer
+issuer-written true world caller shard exchange = refl
+issuer-written false world caller shard exchange = refl
+
+pub step-issuer : (world : WorldState) (event : Event) (after : WorldState) → IsStep world event after → after.issuer ≡ world.issuer
+step-issuer world (Tap number terminal) after step = ap (λ (w : WorldState). w.issuer) step.after_is
+step-issuer world (Claim caller bytes) after step = ap (λ (w : WorldState). w.issuer) step.after_is
+step-issuer world (Release caller) after step = ap (λ (w : WorldState). w.issuer) step.after_is
+step-issuer world (Write caller stored) after step = ap (λ (w : WorldState). w.issuer) step.after_is ∙ issuer-written stored world caller _ _
+step-issuer world (Send shard place) after step = ap (λ (w : WorldState). w.issuer) step.after_is
+step-issuer world (Authenticate number value arc) after step = ap (λ (w : WorldState). w.issuer) step.after_is
+step-issuer world (Run number bytes) after step = ap (λ (w : WorldState). w.issuer) step.after_is
+step-issuer world (Queue number command) after step = ap (λ (w : WorldState). w.issuer) step.after_is
+step-issuer world (Status number status) after step = ap (λ (w : WorldState). w.issuer) step.after_is
+step-issuer world (Restart kept) after step = ap (λ (w : WorldState). w.issuer) step ∙ issuer-settled_in world kept (first_doubtful world.shards)
+
 -- a new card has the name of the issuer's card
 new-named : (issuer : Setup) (info : CardInfo) (card : CardState) → IsNewCard issuer info card → named card.pan card.psn ≡ name_of info
 unfolding new_card

@@ -6,3 +6,4 @@ pub mod WorldSteps
 pub mod WorldRuns
 pub mod Safety
 pub mod Stepping
+pub mod NewWorld

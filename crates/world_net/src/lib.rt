@@ -7,7 +7,9 @@ mod law;
 mod net;
 mod parts;
 mod shard;
+mod world;
 
 pub use event::Event;
 pub use law::{every_card_runs_its_commands_in_order, every_world_is_safe};
 pub use parts::{Exchange, MadeRequest, OpenClaim};
+pub use world::World;

@@ -1,5 +1,5 @@
 //! The parts of a world, and what each event does to them.
-ghost use Rattle.std.specs.Prelude.{◌≡◌, ◌<◌, ◌≤◌, ◌%◌, ℕ, length, slice_get, Some, Ok, IsTrue, ◌↔◌, MatchOption, OnOk, OnErr, IfOk, IfSome, true};
+ghost use Rattle.std.specs.Prelude.{◌≡◌, ◌<◌, ◌≤◌, ◌%◌, ℕ, length, slice_get, Some, Ok, IsTrue, ◌↔◌, MatchOption, OnOk, OnErr, IfOk, IfSome, true, replicate};
 ghost use Rattle.issuer_base.specs.ScriptCommand.{is_command};
 ghost use Rattle.issuer_base.specs.declared.request.Request.{Request};
 ghost use Rattle.issuer_base.specs.declared.answer.Reply.{Reply};
@@ -11,7 +11,7 @@ ghost use Rattle.script_queue.specs.CommandQueue.{TakesOneMore};
 ghost use Rattle.issuer_setup.specs.declared.card.CardInfo.{CardInfo};
 ghost use Rattle.issuer_setup.specs.CardList.{name_of};
 ghost use Rattle.world_net.specs.Allowed.{CanTap, CanClaim, CanRelease, CanWrite, CanSend, CanQueue, CanSet, IsFree};
-ghost use Rattle.world_net.specs.WorldState.{record_in, shard_at, home_of, history_at, history_for, claim_of, with_record};
+ghost use Rattle.world_net.specs.WorldState.{record_in, shard_at, home_of, history_at, history_for, claim_of, with_record, no_shard};
 ghost use Rattle.std.specs.Option.{option_map};
 ghost use Rattle.card_history.specs.LegalRecords.{IsLegalDecision};
 ghost use Rattle.card_history.specs.Turns.{IsUnused, decided_for};
@@ -21,19 +21,28 @@ ghost use Rattle.issuer_base.specs.declared.entry.Entry.{Entry};
 ghost use Rattle.shard_book.specs.Grounds.{grounds_of};
 ghost use Rattle.world_net.specs.WorldSteps.{Taps, Claims, Releases, Writes, Sends, Authenticates, Runs, Queues, Sets};
 ghost use Rattle.world_net.specs.WorldSteps.{first_doubtful, settled_at, restarted};
-ghost use Rattle.world_net.specs.WorldRuns.{IsIssuer};
-ghost use Rattle.world_net.specs.Stepping.{world_of, Stands, IsReached, IsTaken};
+ghost use Rattle.issuer_base.specs.ChipData.{is_bcd};
+ghost use Rattle.key_derive.specs.CardKey.{card_keys};
+ghost use Rattle.card_model.specs.CardSteps.{new_card};
+ghost use Rattle.world_net.specs.Allowed.{IsAllowed};
+ghost use Rattle.world_net.specs.WorldSteps.{IsStep};
+ghost use Rattle.world_net.specs.NewWorld.{AreNew, AreEmpty};
+ghost use Rattle.world_net.specs.WorldRuns.{IsIssuer, IsNewWorld};
+ghost use Rattle.world_net.specs.Stepping.{world_of, Stands, IsReached, IsHeld, IsTaken};
 
 use crate::claims::{claim_of, end_claim, is_unclaimed, is_unrecorded};
+use crate::event::Event;
 use crate::parts::{Exchange, MadeRequest, OpenClaim};
 use crate::shard::ShardRecords;
 use card_model::{Card, Terminal};
 use chip_request::read_request;
 use decision_table::{Table, TableRow, decide};
 use issuer_base::{Command, Entry, MAX_CHIP_BYTES, MAX_QUEUED, MAX_STATUS, MAX_UNDONE, NoMemory, Request, are_decimal};
-use issuer_setup::Issuer;
+use issuer_setup::{CardInfo, Issuer};
+use key_derive::{KeySet, card_keys};
 use line_checks::{CheckedRequest, check_request};
 use row_core::{Outcome, Row};
+use std::alloc::Global;
 
 /// Card block, application unblock, application block, PIN change/unblock, put data, update record.
 const INSTRUCTIONS: [u8; 6] = [0x16, 0x18, 0x1E, 0x24, 0xDA, 0xDC];
@@ -51,6 +60,61 @@ pub(crate) struct Net {
 }
 
 impl Net {
+    /// The parts of a world in which nothing happened.
+    pub(crate) fn new(alloc: Global, issuer: Issuer) -> Result<Net, NoMemory>
+        ensures held { IfOk result IsHeld }
+        ensures new { IfOk result (λ net. IsNewWorld issuer (world_of net)) }
+    {
+        let cards = new_cards(alloc, &issuer)?;
+        let rows = empty_rows(alloc, &issuer)?;
+        let shards = no_shards(alloc, issuer.shards())?;
+        Ok(Net {
+            issuer,
+            cards,
+            rows,
+            made: Vec::new(alloc),
+            shards,
+            claims: Vec::new(alloc),
+            sent: Vec::new(alloc),
+        })
+    }
+
+    /// Takes the event where it is allowed.
+    pub(crate) fn step(&mut self, event: &Event) -> Result<bool, NoMemory>
+        requires { IsHeld self.old }
+        ensures taken { IsTaken (IsAllowed (world_of self.old) event.now) (IsStep (world_of self.old) event.now (world_of self.new))
+            (world_of self.old) (world_of self.new) result }
+        ensures held { IsHeld self.new }
+    {
+        self.take(event)
+    }
+
+    /// As `step`.
+    fn take(&mut self, event: &Event) -> Result<bool, NoMemory>
+        requires issuer { IsIssuer self.old.issuer }
+        requires reached { IsReached (world_of self.old) }
+        requires shards { length self.old.shards.items ≡ self.old.issuer.shards }
+        requires rows { Stands self.old }
+        ensures taken { IsTaken (IsAllowed (world_of self.old) event.now) (IsStep (world_of self.old) event.now (world_of self.new))
+            (world_of self.old) (world_of self.new) result }
+        ensures rows { Stands self.new }
+    {
+        match event {
+            Event::Tap { card, terminal } => self.tap(*card, terminal),
+            Event::Claim { caller, bytes } => self.claim(*caller, bytes.as_slice()),
+            Event::Release { caller } => self.release(*caller),
+            Event::Write { caller, stored } => self.write(*caller, *stored),
+            Event::Send { shard, place } => self.send(*shard, *place),
+            Event::Authenticate { card, value91, arc } => {
+                self.authenticate(*card, value91.as_slice(), *arc)
+            }
+            Event::Run { card, bytes } => self.run(*card, bytes.as_slice()),
+            Event::Queue { card, command } => self.queue(*card, command),
+            Event::Status { card, status } => self.set_status(*card, *status),
+            Event::Restart { kept } => self.restart(*kept),
+        }
+    }
+
     /// Taps the card with this number.
     pub(crate) fn tap(&mut self, number: u32, terminal: &Terminal) -> Result<bool, NoMemory>
         ensures taken { IsTaken (CanTap (world_of self.old) number terminal.now) (Taps (world_of self.old) number terminal.now (world_of self.new))
@@ -446,4 +510,53 @@ fn widths(row: &TableRow)
 {
     let _code = row.arc;
     let _update = row.csu;
+}
+
+/// A new card for each of the issuer's, under its first key set.
+fn new_cards(alloc: Global, issuer: &Issuer) -> Result<Vec<Card>, NoMemory>
+    ensures { IfOk result (λ cards. AreNew issuer.now (length issuer.now.cards) cards.items) }
+{
+    let keys = issuer.first_key();
+    let mut cards = Vec::new(alloc);
+    for number in 0..issuer.cards() {
+        cards.push(new_card(alloc, issuer.info(number), keys))?;
+    }
+    Ok(cards)
+}
+
+/// A new card under this key set.
+fn new_card(alloc: Global, info: &CardInfo, keys: &KeySet) -> Card
+    requires { IsTrue (is_bcd info.now.psn) }
+    ensures { result ≡ new_card info.now.pan info.now.psn keys.now.dki info.now.method (card_keys keys.now info.now.pan info.now.psn) }
+{
+    Card::new(
+        alloc,
+        info.pan.copy(),
+        info.psn,
+        keys.dki,
+        info.method,
+        card_keys(keys, &info.pan, info.psn),
+    )
+}
+
+/// A row without records for each card.
+fn empty_rows(alloc: Global, issuer: &Issuer) -> Result<Vec<Row>, NoMemory>
+    ensures { IfOk result (λ rows. AreEmpty issuer.now.cards (length issuer.now.cards) rows.items) }
+{
+    let mut rows = Vec::new(alloc);
+    for number in 0..issuer.cards() {
+        rows.push(Row::new(alloc, issuer.info(number).method)?)?;
+    }
+    Ok(rows)
+}
+
+/// So many shards without records.
+fn no_shards(alloc: Global, count: u8) -> Result<Vec<ShardRecords>, NoMemory>
+    ensures { IfOk result (λ shards. shards.items ≡ replicate count no_shard) }
+{
+    let mut shards = Vec::new(alloc);
+    for _ in 0..count {
+        shards.push(ShardRecords::new(alloc))?;
+    }
+    Ok(shards)
 }
