@@ -12,3 +12,4 @@ pub mod NetSteps
 pub mod NetRows
 pub mod Replies
 pub mod NetWrites
+pub mod NewWorlds

@@ -9,7 +9,7 @@ ghost use Rattle.line_checks.specs.Reading.{checked};
 ghost use Rattle.card_history.specs.Scripts.{waiting, scripts_of};
 ghost use Rattle.script_queue.specs.CommandQueue.{TakesOneMore};
 ghost use Rattle.issuer_setup.specs.declared.card.CardInfo.{CardInfo};
-ghost use Rattle.issuer_setup.specs.CardList.{name_of};
+ghost use Rattle.issuer_setup.specs.CardList.{AreCards, name_of};
 ghost use Rattle.world_net.specs.Allowed.{CanTap, CanClaim, CanRelease, CanWrite, CanSend, CanQueue, CanSet, IsFree};
 ghost use Rattle.world_net.specs.WorldState.{record_in, shard_at, home_of, history_at, history_for, claim_of, with_record, no_shard};
 ghost use Rattle.std.specs.Option.{option_map};
@@ -514,7 +514,8 @@ fn widths(row: &TableRow)
 
 /// A new card for each of the issuer's, under its first key set.
 fn new_cards(alloc: Global, issuer: &Issuer) -> Result<Vec<Card>, NoMemory>
-    ensures { IfOk result (λ cards. AreNew issuer.now (length issuer.now.cards) cards.items) }
+    ensures new { IfOk result (λ cards. AreNew issuer.now (length issuer.now.cards) cards.items) }
+    ensures valid { AreCards issuer.now.cards }
 {
     let keys = issuer.first_key();
     let mut cards = Vec::new(alloc);
