@@ -173,7 +173,7 @@ never-again history first second request other reply below is unused card counte
     (is_of-same other request (sym card))) counter
 
 -- the history of a shard among the histories of all
-histories-at : (shards : List ShardState) (shard : ℕ) → get_or (map (λ (state : ShardState). state.history) shards) shard [] ≡ (at shards shard).history
+pub histories-at : (shards : List ShardState) (shard : ℕ) → get_or (map (λ (state : ShardState). state.history) shards) shard [] ≡ (at shards shard).history
 histories-at [] shard = refl
 histories-at (first ∷ shards) zero = refl
 histories-at (first ∷ shards) (suc shard) = histories-at shards shard

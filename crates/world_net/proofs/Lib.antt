@@ -13,3 +13,4 @@ pub mod NetRows
 pub mod Replies
 pub mod NetWrites
 pub mod NewWorlds
+pub mod FilledRuns

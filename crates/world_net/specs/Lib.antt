@@ -7,3 +7,5 @@ pub mod WorldRuns
 pub mod Safety
 pub mod Stepping
 pub mod NewWorld
+pub mod Histories
+pub mod Fate
