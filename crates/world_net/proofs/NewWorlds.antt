@@ -1,0 +1,72 @@
+-- The rows of a world in which nothing happened.
+use Rattle.std.proofs.Common.{◌≡◌, ℕ, zero, suc, ◌+◌, ◌%◌, List, [], ◌∷◌, ◌++◌, length, replicate, refl, ap, sym, ◌∙◌, subst, inl, inr, Some, arith}
+use Rattle.std.proofs.lemmas.Bool.{cases_eq}
+use Rattle.std.proofs.lemmas.List.{length_push, get_or_push, get_or_append_left}
+use Rattle.std.proofs.lemmas.Option.{same_Some, slice_get_within, slice_get-get_or, get_or_from_slice_get}
+use Rattle.std.specs.List.{slice_get}
+use Rattle.issuer_setup.specs.declared.card.CardInfo.{CardInfo}
+use Rattle.issuer_setup.specs.IssuerSetup.{Setup}
+use Rattle.row_core.specs.CardRow.{CardRow, StandsFor}
+use Rattle.card_model.specs.Application.{CardState}
+use Rattle.world_net.specs.declared.parts.MadeRequest.{MadeRequest}
+use Rattle.world_net.specs.declared.parts.OpenClaim.{OpenClaim}
+use Rattle.world_net.specs.declared.parts.Exchange.{Exchange}
+use Rattle.world_net.specs.WorldState.{ShardState, no_shard}
+use Rattle.world_net.specs.NewWorld.{AreNew, AreEmpty}
+use Rattle.world_net.specs.WorldRuns.{IsNewWorld}
+use Rattle.world_net.specs.Stepping.{RowsStand}
+use Rattle.world_net.proofs.Hosts.{at, none-at}
+
+-- one more empty row
+pub empty-more : (cards : List CardInfo) (count : ℕ) (rows longer : List CardRow) (card : CardInfo) (row : CardRow) → AreEmpty cards count rows
+    → slice_get cards count ≡ Some card → StandsFor card row [] → longer ≡ rows ++ row ∷ [] → AreEmpty cards (count + 1) longer
+empty-more cards count rows longer card row empty card_is stands longer_is =
+    let long : length (rows ++ row ∷ []) ≡ length rows + 1 = length_push rows row in
+    let counted : length longer ≡ count + 1 = ap length longer_is ∙ long ∙ ap (λ n. n + 1) empty.count_is in
+    record {
+      count_is = counted;
+      each = λ number other below other_is.
+          elim (cases_eq number count) [
+            | inl same ↦
+                let its : card ≡ other = same_Some card other (sym card_is ∙ ap (slice_get cards) (sym same) ∙ other_is) in
+                let at_end : length rows ≡ number = omega (arith, empty.count_is) in
+                let read : slice_get longer number ≡ Some row =
+                ap (λ rows. slice_get rows number) longer_is
+                ∙ slice_get-get_or (rows ++ row ∷ []) number row (omega arith)
+                ∙ ap Some (get_or_push rows row row number at_end) in
+                (row, read, subst (λ (card : CardInfo). StandsFor card row []) its stands)
+            | inr not_it ↦
+                let found = empty.each number other (omega arith) other_is in
+                let within = slice_get_within rows number found.0 found.1 in
+                let read : slice_get longer number ≡ Some found.0 =
+                ap (λ rows. slice_get rows number) longer_is
+                ∙ slice_get-get_or (rows ++ row ∷ []) number row (omega arith)
+                ∙ ap Some (get_or_append_left rows (row ∷ []) row number within ∙ get_or_from_slice_get rows number found.0 row found.1) in
+                (found.0, read, found.2)
+          ];
+    }
+
+-- empty rows stand for shards without records
+pub empty-stand : (issuer : Setup) (rows : List CardRow) (shards : List ShardState) → AreEmpty issuer.cards (length issuer.cards) rows
+    → shards ≡ replicate issuer.shards no_shard → RowsStand issuer rows shards
+empty-stand issuer rows shards empty none = record {
+  each = λ number info info_is.
+      let found = empty.each number info (slice_get_within issuer.cards number info info_is) info_is in
+      let state : at shards (number % issuer.shards) ≡ no_shard =
+      ap (λ (shards : List ShardState). at shards (number % issuer.shards)) none ∙ none-at issuer.shards (number % issuer.shards) in
+      (found.0, found.1, subst (λ (state : ShardState). StandsFor info found.0 state.history) (sym state) found.2);
+}
+
+-- a world of new cards, without anything else
+pub new-world : (issuer : Setup) (cards : List CardState) (shards : List ShardState) (made : List MadeRequest) (claims : List OpenClaim)
+    (sent : List Exchange) → AreNew issuer (length issuer.cards) cards → shards ≡ replicate issuer.shards no_shard → made ≡ [] → claims ≡ []
+    → sent ≡ [] → IsNewWorld issuer (record { issuer = issuer; cards = cards; made = made; shards = shards; claims = claims; sent = sent })
+new-world issuer cards shards made claims sent new none none_made none_claimed none_sent = record {
+  issuer_is = refl;
+  count = new.count_is;
+  cards = λ number info info_is. new.each number info (slice_get_within issuer.cards number info info_is) info_is;
+  made = none_made;
+  shards = none;
+  claims = none_claimed;
+  sent = none_sent;
+}

@@ -1,0 +1,6 @@
+-- Every run's end is sound, and so safe.
+use Rattle.world_net.proofs.Worlds.{sound-run, sound-safe}
+use Rattle.world_net.proofs.law.every_world_is_safe.Goals as goal
+
+pub returns : goal.returns
+returns c issuer events world valid run = sound-safe world (sound-run issuer events world valid run)

@@ -1,0 +1,65 @@
+-- The shard and the row of the request's card have the decision.
+use Rattle.std.proofs.Common.{◌≡◌, ◌<◌, ◌%◌, ℕ, List, length, get_or, set, Some, Ok, ap, sym, ◌∙◌, subst, arith, refl}
+use Rattle.std.proofs.lemmas.Option.{slice_get-get_or, get_or_from_slice_get}
+use Rattle.issuer_base.specs.declared.request.Request.{Request}
+use Rattle.issuer_base.specs.declared.answer.Reply.{Reply}
+use Rattle.issuer_base.specs.declared.entry.Entry.{Entry}
+use Rattle.issuer_base.specs.declared.entry.Entry.TheVariants.{Decided}
+use Rattle.card_history.specs.declared.decision.Asked.TheVariants.{Decide}
+use Rattle.card_history.specs.LegalRecords.{IsLegalDecision}
+use Rattle.card_history.specs.Records.{card_of}
+use Rattle.issuer_setup.specs.CardList.{number_of}
+use Rattle.line_checks.specs.Reading.{checked}
+use Rattle.line_checks.proofs.Numbers.{number-within}
+use Rattle.shard_book.specs.Grounds.{grounds_of}
+use Rattle.world_net.specs.WorldState.{WorldState, ShardState, no_shard, home_of}
+use Rattle.world_net.specs.Stepping.{world_of, RowsStand}
+use Rattle.world_net.proofs.Hosts.{at, recorded}
+use Rattle.world_net.proofs.NetRows.{row-there, shards-record}
+use Rattle.world_net.proofs.NetWrites.{put-same, home-card, rows-join}
+use Rattle.world_net.proofs.net.Net.join.Goals as goal
+
+pub returns-in_err-add-clause-rows : goal.returns-in_err-add-clause-rows
+returns-in_err-add-clause-rows c =
+    subst (RowsStand c.args.self.now.issuer c.args.self.now.rows.items)
+    (sym (put-same c.args.self.now.shards.items c.from-home.result c.add.new.self c.index_mut.result.now c.in_err-add.ensures.unchanged
+    c.index_mut.ensures.value)) c.requires.rows
+
+pub index_mut-requires-2 : goal.index_mut-requires-2
+index_mut-requires-2 c =
+    let found = c.in-Ok.found in
+    let within = row-there c.args.self.now.issuer c.args.self.now.rows.items c.args.self.now.shards.items c.requires.rows found.card
+    (number-within c.args.self.now.issuer.cards (card_of found.request) found.card c.in-Ok.ensures.at_hand.card_is.number_is) in
+    omega (arith, within)
+
+pub returns-clause-rows : goal.returns-clause-rows
+returns-clause-rows c =
+    let world = world_of c.args.self.now in
+    let found = c.in-Ok.found in
+    let at_hand = c.in-Ok.ensures.at_hand in
+    let request = c.args.exchange.now.request in
+    let reply = c.args.exchange.now.reply in
+    let legal = c.requires.legal in
+    let place = found.card % world.issuer.shards in
+    let passed : Ok (Decide found.request) ≡ Ok (Decide request) =
+    c.in-Ok.ensures.request ∙ ap (checked world.issuer) c.copy.ensures ∙ legal.genuine in
+    let same : found.request ≡ request = cc in
+    let at_home : c.from-home.result ≡ place = c.from-home.ensures ∙ c.shard_of.ensures.number in
+    let within : c.from-home.result < length world.shards = omega (arith, c.from-home.ensures, c.shard_of.ensures.below, c.requires.shards) in
+    let home : home_of world request ≡ place =
+    home-card world request found.card (ap (λ (q : Request). number_of (card_of q) world.issuer.cards) (sym same) ∙ at_hand.card_is.number_is) in
+    let made : Decided c.copy-2.result c.copy-3.result ≡ Decided request reply =
+    ap (λ (q : Request). Decided q c.copy-3.result) c.copy-2.ensures ∙ ap (Decided request) c.copy-3.ensures in
+    let shards_are = shards-record world.shards c.from-home.result place (Decided request reply) _ c.index_mut.result.now c.add.new.self at_home within
+    c.index_mut.ensures.value made c.in_ok-add.ensures.added in
+    let read : c.index.result.now ≡ at world.shards c.from-home.result =
+    sym (get_or_from_slice_get world.shards c.from-home.result c.index.result.now no_shard
+    (slice_get-get_or world.shards c.from-home.result c.index.result.now within ∙ ap Some (sym c.index.ensures))) in
+    let at_end : length c.history.result.now ≡ length (at world.shards place).history =
+    ap (λ (l : List Entry). length l) (c.history.ensures ∙ ap (λ (s : ShardState). s.history) (read ∙ ap (at world.shards) at_home)) in
+    subst (RowsStand world.issuer (set c.args.self.now.rows.items found.card c.adopt_under.new.self)) (sym shards_are)
+    (rows-join world.issuer c.args.self.now.rows.items world.shards c.requires.rows c.requires.shards found request reply c.copy-reply.result
+    (length c.history.result.now) c.index_mut-2.result.now c.adopt_under.new.self c.adopt_under.result at_hand same c.copy-reply.ensures
+    (subst (λ home. home < length world.shards) at_home within)
+    (subst (λ shard. IsLegalDecision (grounds_of world.issuer) shard (at world.shards shard).history request reply) home legal)
+    at_end c.index_mut-2.ensures.value c.adopt_under.ensures.exact c.adopt_under.ensures.adopted)

@@ -1,0 +1,28 @@
+-- New cards, empty rows, and nothing else.
+use Rattle.std.proofs.Common.{◌≡◌, ap, ◌∙◌, replicate, List, [], rules}
+use Rattle.issuer_setup.specs.IssuerSetup.{Setup}
+use Rattle.world_net.specs.declared.parts.MadeRequest.{MadeRequest}
+use Rattle.world_net.specs.declared.parts.OpenClaim.{OpenClaim}
+use Rattle.world_net.specs.declared.parts.Exchange.{Exchange}
+use Rattle.world_net.specs.WorldState.{ShardState, no_shard}
+use Rattle.world_net.specs.Stepping.{world_of}
+use Rattle.world_net.proofs.NewWorlds.{new-world, empty-stand}
+use Rattle.world_net.proofs.NetWrites.{held-new}
+use Rattle.world_net.proofs.net.Net.new.Goals as goal
+
+pub returns-clause-new : goal.returns-clause-new
+returns-clause-new c =
+    new-world c.args.issuer c.in_ok-cards.cards.items c.in_ok-shards.shards.items c.new.result.items c.new-2.result.items c.new-3.result.items
+    c.in_ok-cards.ensures.new (c.in_ok-shards.ensures ∙ ap (λ n. replicate n no_shard) c.shards.ensures.count)
+    (let none : c.new.result.items ≡ [] = search rules in none) (let none : c.new-2.result.items ≡ [] = search rules in none)
+    (let none : c.new-3.result.items ≡ [] = search rules in none)
+
+pub returns-clause-held : goal.returns-clause-held
+returns-clause-held c =
+    held-new c.args.issuer _ (record { shards = c.shards.ensures.valid; cards = c.in_ok-cards.ensures.valid })
+    (new-world c.args.issuer c.in_ok-cards.cards.items c.in_ok-shards.shards.items c.new.result.items c.new-2.result.items c.new-3.result.items
+    c.in_ok-cards.ensures.new (c.in_ok-shards.ensures ∙ ap (λ n. replicate n no_shard) c.shards.ensures.count)
+    (let none : c.new.result.items ≡ [] = search rules in none) (let none : c.new-2.result.items ≡ [] = search rules in none)
+    (let none : c.new-3.result.items ≡ [] = search rules in none))
+    (empty-stand c.args.issuer c.in_ok-rows.rows.items c.in_ok-shards.shards.items c.in_ok-rows.ensures
+    (c.in_ok-shards.ensures ∙ ap (λ n. replicate n no_shard) c.shards.ensures.count))

@@ -1,0 +1,22 @@
+//! Worlds: an issuer's host, its cards, its callers and the network between them.
+#![tactic(auto)]
+
+mod claims;
+mod event;
+mod generator;
+mod law;
+mod net;
+mod parts;
+mod shard;
+mod world;
+
+#[cfg(test)]
+mod tests;
+
+pub use event::Event;
+pub use generator::fate;
+pub use law::{
+    every_card_runs_its_commands_in_order, every_legal_history_has_a_run, every_world_is_safe,
+};
+pub use parts::{Exchange, MadeRequest, OpenClaim};
+pub use world::World;

@@ -1,0 +1,41 @@
+//! What a world remembers beside its cards and its host.
+ghost use Rattle.std.specs.Prelude.{◌≡◌};
+
+use issuer_base::{Reply, Request};
+
+/// A request that a card made.
+#[derive(Clone, PartialEq, Eq, Debug, Drop)]
+pub struct MadeRequest {
+    /// The number of the card.
+    pub card: u32,
+
+    pub request: Request,
+}
+
+/// A caller's open claim on the counter of a request.
+#[derive(Clone, PartialEq, Eq, Debug, Drop)]
+pub struct OpenClaim {
+    pub caller: u8,
+
+    pub request: Request,
+}
+
+/// A request and the reply to it.
+#[derive(Clone, PartialEq, Eq, Debug, Drop)]
+pub struct Exchange {
+    pub request: Request,
+
+    pub reply: Reply,
+}
+
+impl Exchange {
+    /// A copy, which takes no memory.
+    pub fn copy(&self) -> Exchange
+        ensures { result ≡ self.now }
+    {
+        Exchange {
+            request: self.request.copy(),
+            reply: self.reply.copy(),
+        }
+    }
+}

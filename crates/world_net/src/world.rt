@@ -1,0 +1,57 @@
+//! A world that takes events.
+ghost use Rattle.std.specs.Prelude.{IfOk};
+ghost use Rattle.world_net.specs.Allowed.{IsAllowed};
+ghost use Rattle.world_net.specs.WorldSteps.{IsStep};
+ghost use Rattle.world_net.specs.WorldRuns.{IsNewWorld};
+ghost use Rattle.world_net.specs.Safety.{IsSafe};
+ghost use Rattle.world_net.specs.Stepping.{IsTaken, IsReached};
+
+use crate::event::Event;
+use crate::net::Net;
+use issuer_base::NoMemory;
+use issuer_setup::Issuer;
+use std::alloc::Global;
+use std::marker::Model;
+
+/// The world of an issuer: its host's shards, its cards, its callers' claims, and what was sent.
+///
+/// A contract sees its `WorldState`. At each moment it is the end of a run, and so safe.
+#[derive(Drop)]
+pub struct World {
+    net: Net,
+}
+
+impl Model for World {
+    ghost use Rattle.world_net.specs.WorldState.{WorldState};
+    ghost use Rattle.world_net.specs.Stepping.{world_of, IsHeld};
+
+    ghost Value = { WorldState };
+
+    ghost view = { λ world. world_of world.net };
+
+    ghost invariant = { λ world. IsHeld world.net };
+}
+
+impl World {
+    /// The world of this issuer in which nothing happened: its cards are new, under the issuer's first key set.
+    pub fn new(alloc: Global, issuer: Issuer) -> Result<World, NoMemory>
+        ensures new { IfOk result (IsNewWorld issuer) }
+        ensures run { IfOk result IsReached }
+        ensures safe { IfOk result IsSafe }
+    {
+        let net = Net::new(alloc, issuer)?;
+        Ok(World { net })
+    }
+
+    /// Takes the event where the world allows it, and says whether it does. Where it doesn't, and where no memory is left, nothing
+    /// changes.
+    pub fn step(&mut self, event: &Event) -> Result<bool, NoMemory>
+        ensures taken { IsTaken (IsAllowed self.old event.now) (IsStep self.old event.now self.new) self.old self.new result }
+
+        // At each moment it is the end of a run, and safe.
+        ensures run { IsReached self.new }
+        ensures safe { IsSafe self.new }
+    {
+        self.net.step(event)
+    }
+}
