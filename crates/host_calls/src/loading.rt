@@ -52,7 +52,8 @@ pub(crate) fn load_all<S: Store>(
     let mut ahead = stores;
     ahead.reverse();
     for number in 0..issuer.shards() {
-        match Shard::load(alloc, ahead.pop().unwrap(), number, issuer) {
+        let store = ahead.pop().unwrap();
+        match Shard::load(alloc, store, number, issuer) {
             Ok(shard) => shards.push_reserved(shard),
             Err(LoadBack { fault, store }) => {
                 return Err(HostBack {
