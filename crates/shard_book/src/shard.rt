@@ -27,7 +27,9 @@ use crate::reading::take_over;
 use crate::replay::{LoadFault, Taken, TakenOver};
 use crate::rows::Rows;
 use decision_table::TableRow;
-use issuer_base::{Answer, Entry, MAX_FAULTS_TOLD, NoMemory, Refusal, Reply, Request, Store, StoreFail};
+use issuer_base::{
+    Answer, Entry, MAX_FAULTS_TOLD, NoMemory, Refusal, Reply, Request, Store, StoreFail,
+};
 use issuer_setup::Issuer;
 use journal_rec::write_entry;
 use line_checks::{CheckedCommand, CheckedRequest, CheckedStatus};
