@@ -1,5 +1,6 @@
 -- The steps of a card keep what a genuine run keeps of it.
-use Rattle.std.proofs.Common.{◌≡◌, ℕ, ◌+◌, ◌≤◌, ◌<◌, true, List, [], ◌∷◌, ◌++◌, length, take, drop, Option, Some, None, refl, ap, sym, ◌∙◌, subst, inl, inr, ◌⊎◌}
+use Rattle.std.proofs.Common.{◌≡◌, ℕ, ◌+◌, ◌≤◌, ◌<◌, true, List, [], ◌∷◌, ◌++◌, length, take}
+use Rattle.std.proofs.Common.{drop, Option, Some, None, refl, ap, sym, ◌∙◌, subst, inl, inr, ◌⊎◌}
 use Rattle.std.proofs.Common.{arith, get_or}
 use Rattle.std.proofs.lemmas.Bool.{ltb-true}
 use Rattle.std.proofs.lemmas.List.{length-take, get_or-take, get_or-drop, take_more}
@@ -168,7 +169,8 @@ module _ (name : CardName) (card : CardState) (history : List Entry) where
                   few = λ here. omega arith;
                   ran_here = λ here.
                       it.ran_below (omega arith)
-                      ∙ ap (λ n. take n (scripts_of name history).queue) (let none : (scripts_of name history).done ≡ (scripts_of name history).done + 0 = omega arith in none);
+                      ∙ ap (λ n. take n (scripts_of name history).queue)
+                      (let none : (scripts_of name history).done ≡ (scripts_of name history).done + 0 = omega arith in none);
                   ran_below = λ below. absurd (omega arith);
                 };
             present = λ other made newest.

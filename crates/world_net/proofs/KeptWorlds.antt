@@ -1,5 +1,6 @@
 -- What a genuine run keeps of a world: of each card what CardLaw says.
-use Rattle.std.proofs.Common.{◌≡◌, ◌≢◌, ℕ, ◌%◌, ◌<◌, Bool, true, false, List, [], ◌∷◌, ◌++◌, length, get_or, set, Option, Some, None, Contains, refl, ap, sym, ◌∙◌, subst}
+use Rattle.std.proofs.Common.{◌≡◌, ◌≢◌, ℕ, ◌%◌, ◌<◌, Bool, true, false, List, [], ◌∷◌, ◌++◌}
+use Rattle.std.proofs.Common.{length, get_or, set, Option, Some, None, Contains, refl, ap, sym, ◌∙◌, subst}
 use Rattle.std.proofs.Common.{inl, inr, arith}
 use Rattle.std.proofs.lemmas.Bool.{cases_eq}
 use Rattle.std.proofs.lemmas.List.{get_or-set_same, get_or-set_other, get_or_push}
@@ -239,8 +240,8 @@ module _ (world : WorldState) (sound : IsSound world) where
         ∙ number_of-own world.issuer.cards number info sound.issuer.cards info_is)) in
         subst (λ (c : CardState). IsKept (name_of info) c (Made world.made number) (at world.shards (number % world.issuer.shards)).history)
         (ap (with_answer card) (sym same) ∙ sym it.moved_is)
-        (kept-answer (name_of info) card (at world.shards (number % world.issuer.shards)).history (Made world.made number) here told.exchange.request told.opened
-        place.1 told.exchange.reply
+        (kept-answer (name_of info) card (at world.shards (number % world.issuer.shards)).history (Made world.made number) here told.exchange.request
+        told.opened place.1 told.exchange.reply
         (ap (λ shard. slice_get (at world.shards shard).history place.1) (sym home) ∙ place.2)
         it.unanswered))
         (λ other request apart made. made)

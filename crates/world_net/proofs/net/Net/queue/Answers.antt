@@ -44,7 +44,8 @@ returns-clause-rows c =
     c.index_mut.ensures.value made c.in_ok-add.ensures.added in
     let takes = (c.takes_command.ensures info c.info-info.ensures).0 c.if-not-takes_command.false in
     let rows = c.args.self.now.rows.items in
-    let stands = row-stands world.issuer rows world.shards c.requires.rows number info c.index_mut-2.result.now c.info-info.ensures c.index_mut-2.ensures.value in
+    let stands =
+    row-stands world.issuer rows world.shards c.requires.rows number info c.index_mut-2.result.now c.info-info.ensures c.index_mut-2.ensures.value in
     let ok : IsOk c.push.result =
     c.push.ensures.taken.1 (subst TakesOneMore (sym (ap (λ (kept : KeptScripts). kept.commands) stands.scripts_are)) takes) in
     let there = ok-then c.push.result _ c.push.ensures.queued ok info (at world.shards (number % world.issuer.shards)).history stands in

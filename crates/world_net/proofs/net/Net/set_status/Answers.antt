@@ -33,7 +33,8 @@ returns-clause-rows c =
     let shards_are = shards-record world.shards c.from-home.result (number % world.issuer.shards) entry _ c.index_mut.result.now c.add.new.self at_home within
     c.index_mut.ensures.value made c.in_ok-add.ensures.added in
     let rows = c.args.self.now.rows.items in
-    let stands = row-stands world.issuer rows world.shards c.requires.rows number info c.index_mut-2.result.now c.info-info.ensures c.index_mut-2.ensures.value in
+    let stands =
+    row-stands world.issuer rows world.shards c.requires.rows number info c.index_mut-2.result.now c.info-info.ensures c.index_mut-2.ensures.value in
     let row = c.set_status.ensures info (at world.shards (number % world.issuer.shards)).history stands in
     subst (RowsStand world.issuer (set rows number c.set_status.new.self)) (sym shards_are)
     (rows-record world.issuer rows world.shards c.requires.rows number info entry c.set_status.new.self c.cards.ensures.valid c.requires.shards
