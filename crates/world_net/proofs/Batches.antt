@@ -1,5 +1,6 @@
 -- The batches in the records of a card, and what one more record of its shard does to them.
-use Rattle.std.proofs.Common.{◌≡◌, ℕ, ◌≤◌, true, List, [], ◌∷◌, ◌++◌, length, take, Option, Some, None, Contains, refl, ap, sym, ◌∙◌, subst, inl, inr, ◌⊎◌, ◌+◌, ◌<◌, suc, max, arith}
+use Rattle.std.proofs.Common.{◌≡◌, ℕ, ◌≤◌, true, List, [], ◌∷◌, ◌++◌, take, Option, Some, None}
+use Rattle.std.proofs.Common.{Contains, refl, ap, sym, ◌∙◌, subst, inl, inr, ◌⊎◌, suc, max, arith}
 use Rattle.std.proofs.lemmas.List.Elements.{All-contains}
 use Rattle.std.proofs.lemmas.Option.{same_Some}
 use Rattle.std.proofs.lemmas.Bool.{cases_lt}
@@ -52,22 +53,22 @@ pub batch-was : (name : CardName) (history : List Entry) (entry : Entry) (reques
 batch-was name history entry request batch has =
     elim (slice_get-push_cases history entry has.place (Decided request has.reply) has.record_is) [
       | inl before ↦ inl (record {
-          place = has.place;
-          reply = has.reply;
-          record_is = before;
-          its = has.its;
-          batch_is = has.batch_is
-              ∙ ap (λ (records : List Entry). batch_of request (scripts_of name records))
-              (before-push history entry has.place (Decided request has.reply) before);
-        })
+        place = has.place;
+        reply = has.reply;
+        record_is = before;
+        its = has.its;
+        batch_is = has.batch_is
+            ∙ ap (λ (records : List Entry). batch_of request (scripts_of name records))
+            (before-push history entry has.place (Decided request has.reply) before);
+      })
       | inr last ↦ inr (record {
-          reply = has.reply;
-          entry_is = last.1;
-          its = has.its;
-          batch_is = has.batch_is
-              ∙ ap (λ (records : List Entry). batch_of request (scripts_of name records))
-              (ap (λ n. take n (history ++ entry ∷ [])) last.0 ∙ before-last history entry);
-        })
+        reply = has.reply;
+        entry_is = last.1;
+        its = has.its;
+        batch_is = has.batch_is
+            ∙ ap (λ (records : List Entry). batch_of request (scripts_of name records))
+            (ap (λ n. take n (history ++ entry ∷ [])) last.0 ∙ before-last history entry);
+      })
     ]
 
 -- a recorded request of the card is one of its decisions

@@ -1,8 +1,9 @@
 -- The steps of a card keep what a genuine run keeps of it.
-use Rattle.std.proofs.Common.{◌≡◌, ℕ, ◌+◌, ◌≤◌, ◌<◌, true, List, [], ◌∷◌, ◌++◌, length, take, drop, Option, Some, None, refl, ap, sym, ◌∙◌, subst, inl, inr, ◌⊎◌}
-use Rattle.std.proofs.Common.{arith, get_or, length-append}
+use Rattle.std.proofs.Common.{◌≡◌, ℕ, ◌+◌, ◌≤◌, ◌<◌, true, List, [], ◌∷◌, ◌++◌, length, take}
+use Rattle.std.proofs.Common.{drop, Option, Some, None, refl, ap, sym, ◌∙◌, subst, inl, inr, ◌⊎◌}
+use Rattle.std.proofs.Common.{arith, get_or}
 use Rattle.std.proofs.lemmas.Bool.{ltb-true}
-use Rattle.std.proofs.lemmas.List.{length-take, length-drop, get_or-take, get_or-drop, take_more}
+use Rattle.std.proofs.lemmas.List.{length-take, get_or-take, get_or-drop, take_more}
 use Rattle.std.proofs.lemmas.Option.{none-some, same_Some, slice_get_within, get_or_from_slice_get}
 use Rattle.std.specs.List.{slice_get}
 use Rattle.issuer_base.specs.declared.command.Command.{Command}
@@ -11,12 +12,12 @@ use Rattle.issuer_base.specs.declared.answer.Reply.{Reply}
 use Rattle.issuer_base.specs.declared.entry.Entry.{Entry}
 use Rattle.issuer_base.specs.declared.entry.Entry.TheVariants.{Decided}
 use Rattle.card_history.specs.Records.{CardName, card_of, is_of}
-use Rattle.card_history.specs.Scripts.{Scripts, is_newest, scripts_of}
+use Rattle.card_history.specs.Scripts.{is_newest, scripts_of}
 use Rattle.card_history.proofs.CardNames.{is_of-card_of}
 use Rattle.card_model.specs.Application.{CardState}
 use Rattle.card_model.specs.CardSteps.{with_open, with_answer, with_command, with_failure}
-use Rattle.world_net.proofs.Batches.{HasBatch, recorded-top, cases_top}
-use Rattle.world_net.proofs.CardLaw.{Carries, KnowsRequests, IsUntouched, IsFlying, IsKept, flying-within}
+use Rattle.world_net.proofs.Batches.{HasBatch, recorded-top}
+use Rattle.world_net.proofs.CardLaw.{Carries, IsKept, flying-within}
 
 -- a request that is above the greatest counter is above this one, if it is the greatest
 pub newest-above : (counter top : ℕ) (hi : Option ℕ) → hi ≡ Some top → is_newest counter hi ≡ true → top < counter
@@ -168,7 +169,8 @@ module _ (name : CardName) (card : CardState) (history : List Entry) where
                   few = λ here. omega arith;
                   ran_here = λ here.
                       it.ran_below (omega arith)
-                      ∙ ap (λ n. take n (scripts_of name history).queue) (let none : (scripts_of name history).done ≡ (scripts_of name history).done + 0 = omega arith in none);
+                      ∙ ap (λ n. take n (scripts_of name history).queue)
+                      (let none : (scripts_of name history).done ≡ (scripts_of name history).done + 0 = omega arith in none);
                   ran_below = λ below. absurd (omega arith);
                 };
             present = λ other made newest.

@@ -1,5 +1,5 @@
 -- What a genuine run keeps of one card, with the history of its shard and the requests that it made.
-use Rattle.std.proofs.Common.{◌≡◌, ℕ, ◌+◌, ◌≤◌, ◌<◌, true, false, List, [], ◌++◌, length, take, drop, Option, Some, None, refl, ap, sym, ◌∙◌, subst, inl, inr}
+use Rattle.std.proofs.Common.{◌≡◌, ℕ, ◌+◌, ◌≤◌, ◌<◌, true, false, List, [], ◌++◌, length, take, drop, Option, Some, None, ap, sym, ◌∙◌, inl, inr}
 use Rattle.std.proofs.Common.{arith}
 use Rattle.std.proofs.lemmas.Bool.{cases_lt}
 use Rattle.std.proofs.lemmas.List.{length-take-le, take-append-drop, length-drop}
@@ -9,8 +9,8 @@ use Rattle.issuer_base.specs.declared.command.Command.{Command}
 use Rattle.issuer_base.specs.declared.request.Request.{Request}
 use Rattle.issuer_base.specs.declared.entry.Entry.{Entry}
 use Rattle.cvr_settle.specs.declared.settlement.Flight.{Flight}
-use Rattle.card_history.specs.Records.{CardName, card_of, queue}
-use Rattle.card_history.specs.Scripts.{Scripts, is_newest, undone, scripts_of}
+use Rattle.card_history.specs.Records.{CardName, card_of}
+use Rattle.card_history.specs.Scripts.{Scripts, is_newest, scripts_of}
 use Rattle.card_history.proofs.ScriptSteps.{scripts-queue, scripts-within}
 use Rattle.card_model.specs.Application.{CardState}
 use Rattle.world_net.specs.Safety.{RanInOrder}

@@ -1,10 +1,10 @@
 -- The records of a card's shard keep what a genuine run keeps of the card.
-use Rattle.std.proofs.Common.{◌≡◌, ◌≢◌, ℕ, ◌+◌, ◌≤◌, ◌<◌, Bool, true, false, cond, ◌&&◌, ◌==◌, nat_le, nat_lt, List, [], ◌∷◌, ◌++◌, length, take, drop, Option, Some, None}
-use Rattle.std.proofs.Common.{refl, ap, sym, ◌∙◌, subst, inl, inr, ◌⊎◌, arith}
-use Rattle.std.proofs.lemmas.Bool.{cases_Bool, cases_lt, cond-true, cond-false, and_from, and_left, eq-eqb, ne_eqb, le-leb, lt-ltb, ltb-true, true≢false}
+use Rattle.std.proofs.Common.{◌≡◌, ◌≢◌, ℕ, ◌+◌, ◌≤◌, ◌<◌, true, false, cond, ◌&&◌, ◌==◌, nat_le}
+use Rattle.std.proofs.Common.{nat_lt, List, [], ◌∷◌, ◌++◌, length, take, drop, Option, Some, None}
+use Rattle.std.proofs.Common.{refl, ap, sym, ◌∙◌, subst, inl, inr, arith}
+use Rattle.std.proofs.lemmas.Bool.{cases_Bool, cases_lt, cond-true, cond-false, and_from, and_left, eq-eqb, ne_eqb, le-leb, lt-ltb, ltb-true}
 use Rattle.std.proofs.lemmas.List.{take-append-le, drop-append-le, length-drop}
 use Rattle.std.proofs.lemmas.Option.{none-some, same_Some}
-use Rattle.std.specs.Option.{option_map_or}
 use Rattle.issuer_base.specs.ChipData.{script_count, last_online}
 use Rattle.issuer_base.specs.declared.command.Command.{Command}
 use Rattle.issuer_base.specs.declared.request.Request.{Request}
@@ -17,16 +17,16 @@ use Rattle.cvr_settle.specs.declared.settlement.Settled.TheVariants.{Ran, Nothin
 use Rattle.cvr_settle.specs.Settlement.{settled}
 use Rattle.script_queue.specs.ScriptTemplate.{fitting_front}
 use Rattle.script_queue.proofs.FittingFronts.{fitting_front-front}
-use Rattle.card_history.specs.Records.{CardName, card_in, card_of, is_of, has_numbers, named, decided}
-use Rattle.card_history.specs.Scripts.{Scripts, undone, in_flight, with_command, settled_by, with_newest, is_newest, with_decision, scripts_of, batch_of}
+use Rattle.card_history.specs.Records.{CardName, card_in, card_of, is_of, has_numbers, decided}
+use Rattle.card_history.specs.Scripts.{Scripts, undone, with_command, settled_by, with_newest, is_newest, scripts_of, batch_of}
 use Rattle.card_history.specs.Turns.{IsUnused}
 use Rattle.card_history.proofs.Batches.{batch_of-newest, in_flight-newest}
 use Rattle.card_history.proofs.CardNames.{is_of-names, is_of-other, has_numbers-other}
 use Rattle.card_history.proofs.ScriptSteps.{scripts-decided, scripts-decided_other, scripts-queued, scripts-queued_other, scripts-status, with_newest-queue}
 use Rattle.card_model.specs.Application.{CardState}
-use Rattle.world_net.proofs.Batches.{HasBatch, IsAdded, batch-was, cases_top, unused-apart, unused-top}
+use Rattle.world_net.proofs.Batches.{batch-was, cases_top, unused-apart, unused-top}
 use Rattle.world_net.proofs.CardKeeps.{newest-above}
-use Rattle.world_net.proofs.CardLaw.{Carries, KnowsRequests, IsUntouched, IsFlying, IsKept, flying-within}
+use Rattle.world_net.proofs.CardLaw.{IsUntouched, IsKept, flying-within}
 
 -- what settlement makes of a flight whose commands the card ran: as many as the count
 settled-took : (top size register count : ℕ) → register ≡ top → count ≤ size

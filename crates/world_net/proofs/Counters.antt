@@ -1,6 +1,6 @@
 -- A counter is free where no record and no claim is on it.
-use Rattle.std.proofs.Common.{◌≡◌, ◌≢◌, ℕ, zero, suc, Bool, true, false, not, ◌&&◌, ◌==◌, List, [], ◌∷◌, Some, IsTrue, ◌↔◌, Contains, refl, ap, sym, ◌∙◌, subst, arith}
-use Rattle.std.proofs.lemmas.Bool.{and_parts, and_from, and_left, and_right, eqb-true, eq-eqb, ne_eqb, cases_Bool, not_from_true, not_from_false, not-true, true≢false}
+use Rattle.std.proofs.Common.{◌≡◌, ◌≢◌, ℕ, zero, suc, true, not, ◌&&◌, ◌==◌, List, [], ◌∷◌, Some, IsTrue, ◌↔◌, refl, ap, sym, ◌∙◌, arith}
+use Rattle.std.proofs.lemmas.Bool.{and_parts, and_from, eqb-true, eq-eqb, not_from_true, not_from_false}
 use Rattle.std.proofs.lemmas.Bool.{false_from_ne_true, both_ways}
 use Rattle.std.proofs.lemmas.List.Elements.{All-contains, All-cons, All-tail, Contains-get_or}
 use Rattle.std.specs.List.{slice_get, list_all, All}
@@ -59,11 +59,11 @@ unrecorded-exact history request = (
       let found = decided-recorded (card_of request) history _ here in
       all-apart history request all _ _ _ found.0 found.1 same,
   λ all. apart-all history request (record {
-        each = λ place other reply is its same.
-            All-contains (λ (decision : Decision). decision.request.atc ≢ request.atc) (decided (card_of request) history)
-            (record { request = other; reply = reply; place = place }) all
-            (recorded-decided (card_of request) history place other reply is its) same;
-      }),
+    each = λ place other reply is its same.
+        All-contains (λ (decision : Decision). decision.request.atc ≢ request.atc) (decided (card_of request) history)
+        (record { request = other; reply = reply; place = place }) all
+        (recorded-decided (card_of request) history place other reply is its) same;
+  }),
 )
 
 -- a claim that is apart
@@ -80,8 +80,7 @@ unclaimed-exact [] request = (λ all k claim below. absurd (omega arith), λ all
 unclaimed-exact (claim ∷ claims) request =
     let P = λ (claim : OpenClaim). card_of claim.request ≡ card_of request → claim.request.atc ≢ request.atc in
     let first = claim-apart request claim.request in
-    let rest = unclaimed-exact claims request in
-    (
+    let rest = unclaimed-exact claims request in (
       λ all. let parts = and_parts _ _ all in All-cons P claim claims (first.0 parts.0) (rest.0 parts.1),
       λ all. and_from _ _ (first.1 (all 0 claim (omega arith))) (rest.1 (All-tail P claim claims all)),
     )

@@ -1,22 +1,19 @@
 -- Each list of legal histories is that of a run: each decided record is a claim and a write of its own bytes, each other record a queue or
 -- a status.
-use Rattle.std.proofs.Common.{◌≡◌, ◌≢◌, ℕ, zero, suc, ◌+◌, ◌%◌, ◌<◌, ◌≤◌, true, false, List, [], ◌∷◌, ◌++◌, length, take, map, replicate, get_or, set, Option, None, Some}
-use Rattle.std.proofs.Common.{Ok, refl, ap, sym, ◌∙◌, subst, inl, inr, arith, append-nil, append_assoc, Contains}
-use Rattle.std.proofs.lemmas.Bool.{cases_eq, cases_lt}
-use Rattle.std.proofs.lemmas.List.{get_or-set_same, get_or-set_other, length-replicate, length_push, take_at, length-map}
+use Rattle.std.proofs.Common.{◌≡◌, ◌≢◌, ℕ, zero, suc, ◌%◌, ◌<◌, ◌≤◌, true, List, [], ◌∷◌, ◌++◌, length, take, map, replicate, get_or, set, None, Some}
+use Rattle.std.proofs.Common.{refl, ap, sym, ◌∙◌, subst, inl, inr, arith, append-nil, append_assoc, Contains}
+use Rattle.std.proofs.lemmas.Bool.{cases_eq}
+use Rattle.std.proofs.lemmas.List.{get_or-set_same, get_or-set_other, take_at, length-map}
 use Rattle.std.proofs.lemmas.Option.{slice_get-map}
 use Rattle.std.specs.Option.{option_map}
 use Rattle.std.specs.List.{slice_get}
-use Rattle.issuer_base.specs.declared.command.Command.{Command}
 use Rattle.issuer_base.specs.declared.request.Request.{Request}
 use Rattle.issuer_base.specs.declared.answer.Reply.{Reply}
 use Rattle.issuer_base.specs.declared.entry.Entry.{Entry}
 use Rattle.issuer_base.specs.declared.entry.Entry.TheVariants.{Decided, Queued as IsQueued, Status as IsStatus}
 use Rattle.card_history.specs.LegalRecords.{IsLegal, IsLegalDecision, IsLegalCommand, IsLegalStatus, IsLegalHistory}
-use Rattle.card_history.specs.OneReply.{record_at}
-use Rattle.card_history.specs.Records.{CardName, card_of, named}
+use Rattle.card_history.specs.Records.{CardName, named}
 use Rattle.issuer_setup.specs.declared.card.CardInfo.{CardInfo}
-use Rattle.issuer_setup.specs.CardList.{name_of}
 use Rattle.issuer_setup.specs.IssuerSetup.{Setup}
 use Rattle.issuer_setup.proofs.CardListLemmas.{number_of-found}
 use Rattle.issuer_setup.specs.KeyList.{AreKeys}
@@ -261,11 +258,11 @@ unfolding cards_under
 cards_under-new issuer keys known = record {
   count_is = length-map issuer.cards _;
   each = λ number info below info_is. (
-        new_card info.pan info.psn keys.dki info.method (card_keys keys info.pan info.psn),
-        slice_get-map (λ (info : CardInfo). new_card info.pan info.psn keys.dki info.method (card_keys keys info.pan info.psn)) issuer.cards number
-            ∙ ap (option_map (λ (info : CardInfo). new_card info.pan info.psn keys.dki info.method (card_keys keys info.pan info.psn))) info_is,
-        record { keys = keys; known = known; card_is = refl },
-      );
+    new_card info.pan info.psn keys.dki info.method (card_keys keys info.pan info.psn),
+    slice_get-map (λ (info : CardInfo). new_card info.pan info.psn keys.dki info.method (card_keys keys info.pan info.psn)) issuer.cards number
+        ∙ ap (option_map (λ (info : CardInfo). new_card info.pan info.psn keys.dki info.method (card_keys keys info.pan info.psn))) info_is,
+    record { keys = keys; known = known; card_is = refl },
+  );
 }
 
 first-key : (keys : List KeySet) → 1 ≤ length keys → (set : KeySet) × Contains keys set

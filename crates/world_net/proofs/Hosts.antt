@@ -1,8 +1,9 @@
 -- What every run keeps of the shards of a host: legal histories, and in doubt only what may come next.
-use Rattle.std.proofs.Common.{◌≡◌, ◌≢◌, ℕ, zero, suc, ◌%◌, ◌<◌, ◌≤◌, List, [], ◌∷◌, ◌++◌, length, take, map, get_or, set, Option, Some, None, Contains, refl, ap, sym}
+use Rattle.std.proofs.Common.{◌≡◌, ◌≢◌, ℕ, zero, suc, ◌%◌, ◌<◌, List, [], ◌∷◌, ◌++◌, length}
+use Rattle.std.proofs.Common.{take, map, get_or, set, Option, Some, None, Contains, refl, ap, sym}
 use Rattle.std.proofs.Common.{◌∙◌, subst, inl, inr, arith, length-set, replicate}
 use Rattle.std.proofs.lemmas.Bool.{cases_eq, cases_lt}
-use Rattle.std.proofs.lemmas.List.{get_or-set_same, get_or-set_other, get_or-replicate, length-replicate, length-take, get_or-take}
+use Rattle.std.proofs.lemmas.List.{get_or-set_same, get_or-set_other, length-replicate, length-take, get_or-take}
 use Rattle.std.proofs.lemmas.List.Elements.{All-contains}
 use Rattle.std.proofs.lemmas.Option.{none-some, same_Some, slice_get_within, slice_get-get_or, get_or_from_slice_get}
 use Rattle.std.specs.List.{slice_get}
@@ -12,15 +13,14 @@ use Rattle.issuer_base.specs.declared.entry.Entry.{Entry}
 use Rattle.issuer_base.specs.declared.entry.Entry.TheVariants.{Decided, Queued, Status}
 use Rattle.card_history.specs.declared.decision.Decision.{Decision}
 use Rattle.card_history.specs.LegalRecords.{IsLegal, IsLegalDecision, IsLegalHistory}
-use Rattle.card_history.specs.OneReply.{IsOncePerCounter, record_at}
-use Rattle.card_history.specs.Records.{CardName, card_of, card_in, decided}
+use Rattle.card_history.specs.OneReply.{IsOncePerCounter}
+use Rattle.card_history.specs.Records.{CardName, card_of, card_in}
 use Rattle.card_history.specs.Turns.{IsUnused, decided_for}
 use Rattle.card_history.proofs.CardNames.{is_of-same}
 use Rattle.card_history.proofs.LongerHistories.{Stays, stays-push}
 use Rattle.card_history.proofs.RecordPlaces.{recorded-decided}
 use Rattle.issuer_setup.specs.CardList.{number_of}
 use Rattle.issuer_setup.specs.IssuerSetup.{Setup}
-use Rattle.issuer_setup.specs.Shards.{are_shards}
 use Rattle.issuer_setup.proofs.Shards.{are_shards-range}
 use Rattle.shard_book.specs.Grounds.{IsCardOfShard, grounds_of}
 use Rattle.shard_book.proofs.Lines.{legal-more}
@@ -193,15 +193,17 @@ lawful-once issuer shards lawful shard other_shard place other_place request oth
     let other_here : slice_get (at shards shard).history other_place ≡ Some (Decided other other_reply) =
     subst (λ shard. slice_get (at shards shard).history other_place ≡ Some (Decided other other_reply)) (sym home) other_there in
     let other_unused : IsUnused (decided_for other (take other_place (at shards shard).history)) other =
-    subst (λ shard. IsUnused (decided_for other (take other_place (at shards shard).history)) other) (sym home) other_legal.unused in
-    (home, elim (cases_eq place other_place) [
-      | inl same ↦ same
-      | inr apart ↦ elim (cases_lt place other_place) [
+    subst (λ shard. IsUnused (decided_for other (take other_place (at shards shard).history)) other) (sym home) other_legal.unused in (
+      home,
+      elim (cases_eq place other_place) [
+        | inl same ↦ same
+        | inr apart ↦ elim (cases_lt place other_place) [
           | inl below ↦ absurd (never-again (at shards shard).history place other_place request other reply below is_there other_unused card counter)
           | inr above ↦ absurd (never-again (at shards shard).history other_place place other request other_reply (omega arith) other_here legal.unused
               (sym card) (sym counter))
         ]
-    ])
+      ],
+    )
 
 -- and one request has one reply
 pub one-place : (issuer : Setup) (shards : List ShardState) → AreLawful issuer shards → (shard other_shard place other_place : ℕ) (request : Request)

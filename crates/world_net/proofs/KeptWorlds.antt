@@ -1,7 +1,8 @@
 -- What a genuine run keeps of a world: of each card what CardLaw says.
-use Rattle.std.proofs.Common.{◌≡◌, ◌≢◌, ℕ, ◌%◌, ◌<◌, Bool, true, false, List, [], ◌∷◌, ◌++◌, length, get_or, set, Option, Some, None, Contains, refl, ap, sym, ◌∙◌, subst}
-use Rattle.std.proofs.Common.{inl, inr, ◌⊎◌, arith}
-use Rattle.std.proofs.lemmas.Bool.{cases_eq, false≢true}
+use Rattle.std.proofs.Common.{◌≡◌, ◌≢◌, ℕ, ◌%◌, ◌<◌, Bool, true, false, List, [], ◌∷◌, ◌++◌}
+use Rattle.std.proofs.Common.{length, get_or, set, Option, Some, None, Contains, refl, ap, sym, ◌∙◌, subst}
+use Rattle.std.proofs.Common.{inl, inr, arith}
+use Rattle.std.proofs.lemmas.Bool.{cases_eq}
 use Rattle.std.proofs.lemmas.List.{get_or-set_same, get_or-set_other, get_or_push}
 use Rattle.std.proofs.lemmas.List.Elements.{Contains-push_cases}
 use Rattle.std.proofs.lemmas.Option.{none-some, same_Some, slice_get_within, slice_get-get_or, get_or_from_slice_get}
@@ -9,38 +10,35 @@ use Rattle.std.specs.List.{slice_get}
 use Rattle.issuer_base.specs.declared.command.Command.{Command}
 use Rattle.issuer_base.specs.declared.request.Request.{Request}
 use Rattle.issuer_base.specs.declared.answer.Reply.{Reply}
-use Rattle.issuer_base.specs.declared.entry.Entry.{Entry}
 use Rattle.issuer_base.specs.declared.entry.Entry.TheVariants.{Decided, Queued as IsQueued, Status as IsStatus}
 use Rattle.card_history.specs.LegalRecords.{IsLegal, IsLegalDecision}
-use Rattle.card_history.specs.Records.{CardName, card_of, card_in, named, decided, is_of, has_numbers}
-use Rattle.card_history.specs.Scripts.{scripts_of}
+use Rattle.card_history.specs.Records.{CardName, card_of, decided, is_of, has_numbers}
 use Rattle.card_history.specs.Turns.{IsUnused}
 use Rattle.card_history.proofs.CardNames.{is_of-card_of, has_numbers-named}
 use Rattle.card_history.proofs.LongerHistories.{slice_get-push}
 use Rattle.issuer_setup.specs.declared.card.CardInfo.{CardInfo}
 use Rattle.issuer_setup.specs.CardList.{AreCards, name_of, number_of}
-use Rattle.issuer_setup.specs.CardOrder.{name_at}
-use Rattle.issuer_setup.specs.IssuerSetup.{Setup, shard_of}
+use Rattle.issuer_setup.specs.IssuerSetup.{Setup}
 use Rattle.issuer_setup.proofs.CardListLemmas.{number_of-first, number_of-found}
-use Rattle.issuer_setup.proofs.Names.{name_at-slice_get, name_at-read}
+use Rattle.issuer_setup.proofs.Names.{name_at-slice_get}
 use Rattle.issuer_setup.proofs.Shards.{shard_of-known}
 use Rattle.card_model.specs.Application.{CardState}
-use Rattle.card_model.specs.CardSteps.{CardStep, Tap as IsTap, Authenticate as IsAuthenticate, Run as IsRun, new_card, with_open, with_answer, with_command, with_failure}
+use Rattle.card_model.specs.CardSteps.{CardStep, Authenticate as IsAuthenticate, Run as IsRun, new_card, with_answer, with_command}
 use Rattle.shard_book.specs.Grounds.{grounds_of}
 use Rattle.world_net.specs.declared.event.Event.{Event}
 use Rattle.world_net.specs.declared.event.Event.TheVariants.{Tap, Claim, Release, Write, Send, Authenticate, Run, Queue, Status, Restart}
 use Rattle.world_net.specs.declared.parts.MadeRequest.{MadeRequest}
 use Rattle.world_net.specs.declared.parts.Exchange.{Exchange}
-use Rattle.world_net.specs.WorldState.{WorldState, ShardState, no_shard, record_in, home_of, history_for, without, with_record, with_doubt, with_card}
-use Rattle.world_net.specs.WorldSteps.{IsStep, written, settled_at, settled_in, restarted, first_doubtful}
+use Rattle.world_net.specs.WorldState.{WorldState, ShardState, no_shard, home_of, history_for}
+use Rattle.world_net.specs.WorldSteps.{written, settled_at, settled_in, first_doubtful}
 use Rattle.world_net.specs.WorldRuns.{IsIssuer, IsNewCard, IsNewWorld, IsMade, DecidesMade, IsAnswered, IsOfBatch, IsGenuineStep, IsGenuineFrom, IsGenuineRun}
 use Rattle.world_net.specs.Safety.{RunsInOrder}
 use Rattle.world_net.proofs.Batches.{HasBatch, sent-batch}
-use Rattle.world_net.proofs.CardLaw.{IsKept, KnowsRequests, IsUntouched, kept-order}
-use Rattle.world_net.proofs.CardMoves.{IsTapped, HasAnswer, HasRun, tap-moves, right-moves, wrong-stays, ran-moves, refused-moves}
+use Rattle.world_net.proofs.CardLaw.{IsKept, kept-order}
+use Rattle.world_net.proofs.CardMoves.{IsTapped, HasRun, tap-moves, right-moves, wrong-stays, ran-moves, refused-moves}
 use Rattle.world_net.proofs.CardKeeps.{kept-tap, kept-fewer, kept-failure, kept-answer, kept-command}
 use Rattle.world_net.proofs.CardRecords.{kept-decided, kept-other, kept-status, kept-queued}
-use Rattle.world_net.proofs.Hosts.{at, recorded, doubted, AreLawful, none-at}
+use Rattle.world_net.proofs.Hosts.{at, recorded, doubted, none-at}
 use Rattle.world_net.proofs.Worlds.{IsSound, shard-within, put-there, put-elsewhere, sound-new, sound-step}
 
 -- the requests that the card with this number made
@@ -242,8 +240,8 @@ module _ (world : WorldState) (sound : IsSound world) where
         ∙ number_of-own world.issuer.cards number info sound.issuer.cards info_is)) in
         subst (λ (c : CardState). IsKept (name_of info) c (Made world.made number) (at world.shards (number % world.issuer.shards)).history)
         (ap (with_answer card) (sym same) ∙ sym it.moved_is)
-        (kept-answer (name_of info) card (at world.shards (number % world.issuer.shards)).history (Made world.made number) here told.exchange.request told.opened
-        place.1 told.exchange.reply
+        (kept-answer (name_of info) card (at world.shards (number % world.issuer.shards)).history (Made world.made number) here told.exchange.request
+        told.opened place.1 told.exchange.reply
         (ap (λ shard. slice_get (at world.shards shard).history place.1) (sym home) ∙ place.2)
         it.unanswered))
         (λ other request apart made. made)

@@ -1,5 +1,6 @@
 -- The rows of a world's cards, before and after one more record of a shard.
-use Rattle.std.proofs.Common.{◌≡◌, ◌≢◌, ℕ, ◌%◌, ◌<◌, List, [], ◌∷◌, ◌++◌, length, get_or, set, Some, refl, ap, sym, ◌∙◌, subst, inl, inr, arith, length-set, Option, None, IsTrue, ◌≤◌}
+use Rattle.std.proofs.Common.{◌≡◌, ◌≢◌, ℕ, ◌%◌, ◌<◌, List, [], ◌∷◌, ◌++◌, length, get_or, set, Some}
+use Rattle.std.proofs.Common.{refl, ap, sym, ◌∙◌, subst, inl, inr, arith, length-set, Option, None, IsTrue, ◌≤◌}
 use Rattle.std.proofs.lemmas.Bool.{cases_eq}
 use Rattle.std.proofs.lemmas.List.{get_or-set_same, get_or-set_other}
 use Rattle.std.proofs.lemmas.Option.{same_Some, slice_get_within, slice_get-get_or, get_or_from_slice_get, slice_get_cases}
@@ -15,7 +16,7 @@ use Rattle.issuer_setup.specs.declared.card.CardInfo.{CardInfo}
 use Rattle.issuer_setup.specs.CardList.{AreCards, name_of, number_of}
 use Rattle.issuer_setup.specs.IssuerSetup.{Setup}
 use Rattle.script_queue.specs.CommandQueue.{TakesOneMore}
-use Rattle.row_core.specs.CardRow.{CardRow, KeptScripts, StandsFor}
+use Rattle.row_core.specs.CardRow.{CardRow, StandsFor}
 use Rattle.row_core.proofs.OtherCards.{stands-other}
 use Rattle.world_net.specs.declared.parts.Exchange.{Exchange}
 use Rattle.world_net.specs.Allowed.{CanQueue, CanSet}
@@ -79,8 +80,7 @@ module _ (issuer : Setup) (rows : List CardRow) (shards : List ShardState) (stan
               | inl same ↦
                   let info_same : info ≡ other_info = same_Some _ _ (sym info_is ∙ ap (slice_get issuer.cards) (sym same) ∙ other_is) in
                   let read : at (recorded shards home entry) (other % issuer.shards) ≡ longer =
-                  ap (λ n. at (recorded shards home entry) (n % issuer.shards)) same ∙ get_or-set_same shards home longer no_shard within in
-                  (
+                  ap (λ n. at (recorded shards home entry) (n % issuer.shards)) same ∙ get_or-set_same shards home longer no_shard within in (
                     new,
                     ap (slice_get (set rows number new)) same ∙ put-read rows number found.0 new (ap (slice_get rows) (sym same) ∙ found.1),
                     subst (λ (state : ShardState). StandsFor other_info new state.history) (sym read)
@@ -89,8 +89,7 @@ module _ (issuer : Setup) (rows : List CardRow) (shards : List ShardState) (stan
               | inr apart ↦
                   let name : name_of other_info ≢ card_in entry =
                   λ same. apart (same_Some _ _ (sym (number_of-own issuer.cards other other_info valid other_is)
-                  ∙ ap (λ name. number_of name issuer.cards) (same ∙ its) ∙ number_of-own issuer.cards number info valid info_is)) in
-                  (
+                  ∙ ap (λ name. number_of name issuer.cards) (same ∙ its) ∙ number_of-own issuer.cards number info valid info_is)) in (
                     found.0,
                     put-stays rows number other new found.0 apart found.1,
                     elim (cases_eq (other % issuer.shards) home) [
@@ -113,8 +112,7 @@ module _ (issuer : Setup) (rows : List CardRow) (shards : List ShardState) (stan
   rows-doubt shard doubt within = record {
     each = λ other info info_is.
         let found = stand.each other info info_is in
-        let new : ShardState = record { history = (at shards shard).history; doubt = doubt } in
-        (
+        let new : ShardState = record { history = (at shards shard).history; doubt = doubt } in (
           found.0,
           found.1,
           elim (cases_eq (other % issuer.shards) shard) [

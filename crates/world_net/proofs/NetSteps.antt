@@ -1,6 +1,6 @@
 -- What a call found makes its event one that is allowed, and what it did a step of the world.
 use Rattle.std.proofs.Common.{◌≡◌, ◌≢◌, ℕ, ◌<◌, Bool, true, false, List, [], ◌∷◌, ◌++◌, length, get_or, set, Option, Some, None, Ok, is_some, IsTrue, ◌↔◌}
-use Rattle.std.proofs.Common.{refl, ap, sym, ◌∙◌, subst, arith}
+use Rattle.std.proofs.Common.{ap, sym, ◌∙◌}
 use Rattle.std.proofs.lemmas.Bool.{false≢true}
 use Rattle.std.proofs.lemmas.List.{set-get_or}
 use Rattle.std.proofs.lemmas.Option.{same_Some, slice_get-get_or, get_or_from_slice_get}
@@ -67,9 +67,9 @@ module _ (world : WorldState) where
       → unclaimed ≡ list_all (λ claim. is_apart request claim.request) world.claims → unrecorded ≡ true → IsTrue unclaimed ↔ IsFree world request
   free-where request unrecorded unclaimed records claims fresh = (
     λ yes. record {
-          unrecorded = (unrecorded-exact (history_for world request) request).0 (sym records ∙ fresh);
-          unclaimed = (unclaimed-exact world.claims request).0 (sym claims ∙ yes);
-        },
+      unrecorded = (unrecorded-exact (history_for world request) request).0 (sym records ∙ fresh);
+      unclaimed = (unclaimed-exact world.claims request).0 (sym claims ∙ yes);
+    },
     λ free. claims ∙ (unclaimed-exact world.claims request).1 free.unclaimed,
   )
 
@@ -91,8 +91,8 @@ module _ (world : WorldState) where
     tap-refused last stays same = (
       λ can. can.more (ap (λ (c : CardState). c.atc) (same_Some _ _ (sym can.card_is ∙ read-card)) ∙ last),
       let cards : set world.cards number moved ≡ world.cards =
-      ap (set world.cards number) (stays ∙ card_is) ∙ set-get_or world.cards number card in
-      λ i. record world { cards = cards i; made = same i },
+          ap (set world.cards number) (stays ∙ card_is) ∙ set-get_or world.cards number card in
+          λ i. record world { cards = cards i; made = same i },
     )
 
     -- any other is

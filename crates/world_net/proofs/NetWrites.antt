@@ -1,11 +1,11 @@
 -- What a write and a restart do to a world and to the rows of its cards.
-use Rattle.std.proofs.Common.{◌≡◌, ◌≢◌, ℕ, ◌%◌, ◌<◌, Bool, true, false, not, ◌==◌, cond, List, [], ◌∷◌, ◌++◌, length, get_or, set, Option, Some, None, Ok, IsTrue, ◌↔◌}
+use Rattle.std.proofs.Common.{◌≡◌, ℕ, ◌%◌, ◌<◌, Bool, true, false, ◌==◌, List, [], ◌∷◌, ◌++◌, length, get_or, set, Option, Some, None, Ok, IsTrue, ◌↔◌}
 use Rattle.std.proofs.Common.{refl, ap, sym, ◌∙◌, subst, inl, inr, arith, Result, Err, OnOk, OnErr, IfOk}
 use Rattle.std.proofs.lemmas.Bool.{cases_Bool, cond-true, cond-false, false≢true}
 use Rattle.std.proofs.lemmas.List.{set-get_or}
 use Rattle.std.proofs.lemmas.List.Elements.{All-tail}
 use Rattle.std.proofs.lemmas.Option.{none-some, same_Some, slice_get-get_or, get_or_from_slice_get}
-use Rattle.std.specs.List.{slice_get, find, All}
+use Rattle.std.specs.List.{find, All}
 use Rattle.std.specs.Option.{option_map}
 use Rattle.issuer_base.specs.declared.request.Request.{Request}
 use Rattle.issuer_base.specs.declared.answer.Reply.{Reply}
@@ -16,10 +16,9 @@ use Rattle.card_history.specs.LegalRecords.{IsLegalDecision}
 use Rattle.card_history.specs.Records.{card_of}
 use Rattle.issuer_setup.specs.declared.card.CardInfo.{CardInfo}
 use Rattle.issuer_setup.specs.CardList.{name_of, number_of}
-use Rattle.issuer_setup.specs.IssuerSetup.{Setup, keys_of, shard_of}
+use Rattle.issuer_setup.specs.IssuerSetup.{Setup, keys_of}
 use Rattle.issuer_setup.proofs.CardListLemmas.{number_of-found}
 use Rattle.issuer_setup.proofs.Shards.{shard_of-known}
-use Rattle.line_checks.proofs.Numbers.{number-within}
 use Rattle.line_checks.specs.AtHand.{IsRequestAtHand}
 use Rattle.line_checks.specs.Reading.{checked}
 use Rattle.line_checks.specs.declared.checked.CheckedRequest.{CheckedRequest}
@@ -154,8 +153,7 @@ pub writes-taken : (world after : WorldState) (caller : ℕ) (stored : Bool) (cl
     → after ≡ written stored world caller (home_of world request) (record { request = request; reply = reply })
     → CanWrite world caller × Writes world caller stored after
 writes-taken world after caller stored claim request reply claim_is same legal after_is =
-    let legal_here = subst (λ (q : Request). IsLegalDecision (grounds_of world.issuer) (home_of world q) (history_for world q) q reply) (sym same) legal in
-    (
+    let legal_here = subst (λ (q : Request). IsLegalDecision (grounds_of world.issuer) (home_of world q) (history_for world q) q reply) (sym same) legal in (
       record { claim = claim; claim_is = claim_is; unused = legal_here.unused },
       record {
         claim = claim;

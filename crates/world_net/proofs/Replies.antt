@@ -1,40 +1,39 @@
 -- A reply that the decision table makes is one that the issuer makes, whatever its table is.
-use Rattle.std.proofs.Common.{◌≡◌, ℕ, suc, Bool, true, false, not, cond, ◌&&◌, ◌==◌, List, [], ◌∷◌, ◌++◌, length, slice_index, Option, Some, None, Ok, IsTrue, refl, ap, sym, ◌∙◌}
-use Rattle.std.proofs.Common.{subst, arith, bit_and, inl, inr}
-use Rattle.std.proofs.lemmas.Bool.{and_parts, cases_Bool, cond-true, cond-false, not-true, true≢false}
+use Rattle.std.proofs.Common.{◌≡◌, ℕ, Bool, true, List, [], ◌∷◌, ◌++◌, length, Option, Some, Ok, IsTrue, refl, ap, sym, ◌∙◌}
+use Rattle.std.proofs.Common.{subst, arith, inl, inr}
+use Rattle.std.proofs.lemmas.Bool.{and_parts, cases_Bool, cond-true, cond-false, not-true}
 use Rattle.std.proofs.lemmas.Option.{none-some, same_Some}
 use Rattle.std.proofs.lemmas.List.Elements.{All-contains}
-use Rattle.std.specs.List.{slice_get, list_all, find, All}
+use Rattle.std.specs.List.{slice_get, list_all, find}
 use Rattle.std.specs.Option.{option_map_or}
 use Rattle.issuer_base.specs.declared.answer.Method.{Method}
 use Rattle.issuer_base.specs.declared.answer.Method.TheVariants.{One, Two}
 use Rattle.issuer_base.specs.declared.answer.Reply.{Reply}
 use Rattle.issuer_base.specs.declared.entry.Entry.{Entry}
 use Rattle.issuer_base.specs.declared.request.Request.{Request}
-use Rattle.arpc_methods.specs.Arpc.{method1, method2, value91}
+use Rattle.arpc_methods.specs.Arpc.{method2, value91}
 use Rattle.arpc_methods.proofs.Lengths.{length-method2}
 use Rattle.card_history.specs.declared.decision.Decision.{Decision}
 use Rattle.card_history.specs.declared.decision.Asked.TheVariants.{Decide}
 use Rattle.card_history.specs.LegalRecords.{IsLegalDecision}
-use Rattle.card_history.specs.Records.{CardName, card_of, status_of, IsBelow}
+use Rattle.card_history.specs.Records.{card_of, status_of, IsBelow}
 use Rattle.card_history.specs.Scripts.{Scripts, scripts_of, batch_of, first_of}
-use Rattle.card_history.specs.Turns.{IsUnused, IsUsed, IsTooOld, decided_for}
+use Rattle.card_history.specs.Turns.{IsUnused, decided_for}
 use Rattle.decision_table.specs.declared.row.TableRow.{TableRow}
 use Rattle.decision_table.specs.Fitting.{fits, decision}
 use Rattle.decision_table.specs.Tables.{tells_approval, is_table}
 use Rattle.issuer_setup.specs.declared.card.CardInfo.{CardInfo}
 use Rattle.issuer_setup.specs.CardList.{name_of, number_of}
 use Rattle.issuer_setup.specs.IssuerSetup.{Setup, keys_of}
-use Rattle.issuer_setup.proofs.CardListLemmas.{number_of-found}
 use Rattle.key_derive.specs.declared.card.CardKeys.{CardKeys}
 use Rattle.key_derive.specs.SessionKey.{session_ac}
 use Rattle.line_checks.specs.AtHand.{IsRequestAtHand}
 use Rattle.line_checks.specs.Reading.{checked}
 use Rattle.line_checks.specs.declared.checked.CheckedRequest.{CheckedRequest}
-use Rattle.row_core.specs.Accepting.{told_update, says_approval, IsMade, MayFollow}
+use Rattle.row_core.specs.Accepting.{told_update, says_approval, IsMade}
 use Rattle.row_core.specs.CardRow.{CardRow, StandsFor}
 use Rattle.row_core.specs.Plan.{IsPlan}
-use Rattle.row_core.specs.Replying.{reply_bytes, reply_by_row, script_bytes, no_reply, reply_after}
+use Rattle.row_core.specs.Replying.{reply_bytes, reply_by_row, script_bytes, no_reply}
 use Rattle.row_core.specs.declared.row.Outcome.{Outcome}
 use Rattle.row_core.specs.declared.row.Outcome.TheVariants.{Fresh, Kept, Below, Taken}
 use Rattle.tlv_objects.specs.Writing.{object_text}

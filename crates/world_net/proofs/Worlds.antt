@@ -1,6 +1,6 @@
 -- What every run keeps of a world.
-use Rattle.std.proofs.Common.{◌≡◌, ◌≢◌, ℕ, ◌%◌, ◌<◌, ◌≤◌, Bool, true, false, is_some, not, ◌==◌, List, [], ◌∷◌, ◌++◌, length, get_or, set, filter, Option, Some, None, Ok}
-use Rattle.std.proofs.Common.{Contains, refl, ap, sym, ◌∙◌, subst, inl, inr, arith, length-set, position}
+use Rattle.std.proofs.Common.{◌≡◌, ◌≢◌, ℕ, ◌%◌, ◌<◌, Bool, true, false, not, ◌==◌, List, [], ◌∷◌, ◌++◌, length, set, Option, Some, None, Ok}
+use Rattle.std.proofs.Common.{Contains, refl, ap, sym, ◌∙◌, subst, inl, inr, arith, length-set}
 use Rattle.std.proofs.lemmas.Bool.{cases_eq}
 use Rattle.std.proofs.lemmas.List.{get_or-set_same, get_or-set_other}
 use Rattle.std.proofs.lemmas.List.Elements.{All-filter, All-push, Contains-push_cases}
@@ -12,8 +12,7 @@ use Rattle.issuer_base.specs.declared.entry.Entry.{Entry}
 use Rattle.issuer_base.specs.declared.entry.Entry.TheVariants.{Decided, Queued as IsQueued, Status as IsStatus}
 use Rattle.card_history.specs.declared.decision.Asked.TheVariants.{Decide}
 use Rattle.card_history.specs.LegalRecords.{IsLegal, IsLegalDecision}
-use Rattle.card_history.specs.OneReply.{IsOncePerCounter}
-use Rattle.card_history.specs.Records.{card_of, named}
+use Rattle.card_history.specs.Records.{named}
 use Rattle.issuer_setup.specs.declared.card.CardInfo.{CardInfo}
 use Rattle.issuer_setup.specs.CardList.{name_of}
 use Rattle.issuer_setup.specs.IssuerSetup.{Setup}
@@ -25,10 +24,10 @@ use Rattle.world_net.specs.declared.event.Event.{Event}
 use Rattle.world_net.specs.declared.event.Event.TheVariants.{Tap, Claim, Release, Write, Send, Authenticate, Run, Queue, Status, Restart}
 use Rattle.world_net.specs.declared.parts.OpenClaim.{OpenClaim}
 use Rattle.world_net.specs.declared.parts.Exchange.{Exchange}
-use Rattle.world_net.specs.WorldState.{WorldState, ShardState, no_shard, shard_at, home_of, history_for, without, with_record, with_doubt, with_card}
+use Rattle.world_net.specs.WorldState.{WorldState, home_of, without, with_record, with_doubt, with_card}
 use Rattle.world_net.specs.WorldSteps.{IsStep, written, settled_at, settled_in, restarted, first_doubtful}
 use Rattle.world_net.specs.WorldRuns.{IsIssuer, IsNewCard, IsNewWorld, IsRunFrom, IsRun}
-use Rattle.world_net.specs.Safety.{HasOneReply, IsSafe}
+use Rattle.world_net.specs.Safety.{IsSafe}
 use Rattle.world_net.proofs.CardMoves.{IsSameCard, tap-same, answer-same, run-same}
 use Rattle.world_net.proofs.Hosts.{at, recorded, doubted, AreLawful, AreRecorded, home-within, legal-home, lawful-record, lawful-doubt}
 use Rattle.world_net.proofs.Hosts.{recorded-stays, doubted-stays, recorded-later, none-lawful, lawful-once, one-place}

@@ -20,7 +20,7 @@ use Rattle.world_net.specs.declared.event.Event.{Event}
 use Rattle.world_net.specs.declared.event.Event.TheVariants.{Authenticate, Run}
 use Rattle.world_net.specs.declared.parts.Exchange.{Exchange}
 use Rattle.world_net.specs.WorldState.{WorldState, no_shard, record_in, history_for}
-use Rattle.world_net.specs.WorldSteps.{Authenticates, Runs, IsStep}
+use Rattle.world_net.specs.WorldSteps.{IsStep}
 
 -- an issuer that can be: 1 to 16 shards, and cards with names of their own
 pub record IsIssuer (issuer : Setup) : Type 0 where

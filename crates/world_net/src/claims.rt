@@ -27,9 +27,7 @@ pub(crate) fn end_claim(claims: &mut Vec<OpenClaim>, caller: u8)
 pub(crate) fn is_unclaimed(claims: &[OpenClaim], request: &Request) -> bool
     ensures { result ≡ list_all (λ claim. is_apart request.now claim.request) claims.now }
 {
-    claims
-        .iter()
-        .all(|claim| is_apart(request, &claim.request))
+    claims.iter().all(|claim| is_apart(request, &claim.request))
 }
 
 /// Whether no record is a decision on the request's counter of its card.

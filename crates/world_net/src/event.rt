@@ -8,7 +8,10 @@ use issuer_base::{Command, MAX_CHIP_BYTES};
 #[derive(Clone, PartialEq, Eq, Debug, Drop)]
 pub enum Event {
     /// The card with this number is tapped at a terminal, and makes a request.
-    Tap { card: u32, terminal: Terminal },
+    Tap {
+        card: u32,
+        terminal: Terminal,
+    },
 
     /// A caller claims the counter of the request that these chip data say.
     Claim {
@@ -17,13 +20,21 @@ pub enum Event {
     },
 
     /// A caller gives its claim back.
-    Release { caller: u8 },
+    Release {
+        caller: u8,
+    },
 
     /// A caller writes the decision of the request that it claimed. Where it isn't `stored`, nobody knows whether the store has it.
-    Write { caller: u8, stored: bool },
+    Write {
+        caller: u8,
+        stored: bool,
+    },
 
     /// The reply of the decision at this place of this shard is sent, maybe once more.
-    Send { shard: u8, place: u64 },
+    Send {
+        shard: u8,
+        place: u64,
+    },
 
     /// A value of tag 91 reaches the card with this number, with a response code.
     Authenticate {
@@ -33,14 +44,25 @@ pub enum Event {
     },
 
     /// A script command reaches the card with this number.
-    Run { card: u32, bytes: ArrayVec<u8, 77> },
+    Run {
+        card: u32,
+        bytes: ArrayVec<u8, 77>,
+    },
 
     /// A command is queued for the card with this number.
-    Queue { card: u32, command: Command },
+    Queue {
+        card: u32,
+        command: Command,
+    },
 
     /// The card with this number is given a status.
-    Status { card: u32, status: u8 },
+    Status {
+        card: u32,
+        status: u8,
+    },
 
     /// The host restarts: no claim outlives it, and a record in doubt was `kept` by its store or not.
-    Restart { kept: bool },
+    Restart {
+        kept: bool,
+    },
 }

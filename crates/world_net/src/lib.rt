@@ -8,10 +8,9 @@ mod law;
 mod net;
 mod parts;
 mod shard;
-mod world;
-
 #[cfg(test)]
 mod tests;
+mod world;
 
 pub use event::Event;
 pub use generator::fate;

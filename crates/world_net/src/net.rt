@@ -37,7 +37,10 @@ use crate::shard::ShardRecords;
 use card_model::{Card, Terminal};
 use chip_request::read_request;
 use decision_table::{Table, TableRow, decide};
-use issuer_base::{Command, Entry, MAX_CHIP_BYTES, MAX_QUEUED, MAX_STATUS, MAX_UNDONE, NoMemory, Request, are_decimal};
+use issuer_base::{
+    Command, Entry, MAX_CHIP_BYTES, MAX_QUEUED, MAX_STATUS, MAX_UNDONE, NoMemory, Request,
+    are_decimal,
+};
 use issuer_setup::{CardInfo, Issuer};
 use key_derive::{KeySet, card_keys};
 use line_checks::{CheckedRequest, check_request};
@@ -345,7 +348,7 @@ impl Net {
         ensures { MatchOption result
             (IsUnused (decided_for request.now (history_for (world_of self.now) request.now)) request.now → ⊥)
             (λ exchange. (exchange.request ≡ request.now) × IsLegalDecision (grounds_of self.now.issuer) (home_of (world_of self.now) request.now)
-                (history_for (world_of self.now) request.now) request.now exchange.reply) }
+            (history_for (world_of self.now) request.now) request.now exchange.reply) }
     {
         let Ok(found) = check_request(&self.issuer, request.copy()) else {
             return None;

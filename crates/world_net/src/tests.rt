@@ -167,7 +167,12 @@ fn keeps_a_record_in_doubt_over_a_restart_as_its_store_did(rt: HostRuntime) -> R
 
 #[test]
 fn counts_fates_round_all_cards(rt: HostRuntime) -> Result<(), Fail> {
-    for (index, cards, seed, expected) in [(0, 1, 0, 0), (7, 1, 0, 7), (8, 1, 0, 0), (201, 200, 7, 1)] {
+    for (index, cards, seed, expected) in [
+        (0, 1, 0, 0),
+        (7, 1, 0, 7),
+        (8, 1, 0, 0),
+        (201, 200, 7, 1),
+    ] {
         assert_eq!(rt; fate(index, cards, seed), expected);
     }
     Ok(())

@@ -1,5 +1,5 @@
 -- Equal numbers are those of the card.
-use Rattle.std.proofs.Common.{◌≡◌, ℕ, Bool, true, false, ◌&&◌, nat_eq, List, ap, sym, ◌∙◌, subst}
+use Rattle.std.proofs.Common.{◌≡◌, false, ◌&&◌, nat_eq, ap, sym, ◌∙◌}
 use Rattle.std.proofs.lemmas.Bool.{false_from_ne_true, both_ways}
 use Rattle.std.specs.Cmp.Lexicographic.{pointwise}
 use lib.Pointwise.{bytes_decides}

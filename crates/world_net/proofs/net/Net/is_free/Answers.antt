@@ -1,11 +1,8 @@
 -- What the tests say of the counter.
-use Rattle.std.proofs.Common.{◌≡◌, ◌<◌, length, List, get_or, arith, ap, sym, ◌∙◌}
-use Rattle.std.proofs.lemmas.Option.{slice_get-get_or}
+use Rattle.std.proofs.Common.{◌<◌, length, arith, ap, ◌∙◌}
 use Rattle.std.specs.List.{list_all}
-use Rattle.issuer_base.specs.declared.entry.Entry.{Entry}
 use Rattle.world_net.specs.declared.parts.OpenClaim.{OpenClaim}
 use Rattle.world_net.specs.Counters.{is_apart, is_apart_in}
-use Rattle.world_net.specs.WorldState.{WorldState, ShardState, no_shard, history_for, home_of}
 use Rattle.world_net.specs.Stepping.{world_of}
 use Rattle.world_net.proofs.NetSteps.{free-where, taken-where, shard-read}
 use Rattle.world_net.proofs.net.Net.is_free.Goals as goal

@@ -1,8 +1,7 @@
 -- The shard and the row of the request's card have the decision.
-use Rattle.std.proofs.Common.{◌≡◌, ◌<◌, ◌%◌, ℕ, List, length, get_or, set, Some, Ok, ap, sym, ◌∙◌, subst, arith, refl}
+use Rattle.std.proofs.Common.{◌≡◌, ◌<◌, ◌%◌, List, length, set, Some, Ok, ap, sym, ◌∙◌, subst, arith}
 use Rattle.std.proofs.lemmas.Option.{slice_get-get_or, get_or_from_slice_get}
 use Rattle.issuer_base.specs.declared.request.Request.{Request}
-use Rattle.issuer_base.specs.declared.answer.Reply.{Reply}
 use Rattle.issuer_base.specs.declared.entry.Entry.{Entry}
 use Rattle.issuer_base.specs.declared.entry.Entry.TheVariants.{Decided}
 use Rattle.card_history.specs.declared.decision.Asked.TheVariants.{Decide}
@@ -12,9 +11,9 @@ use Rattle.issuer_setup.specs.CardList.{number_of}
 use Rattle.line_checks.specs.Reading.{checked}
 use Rattle.line_checks.proofs.Numbers.{number-within}
 use Rattle.shard_book.specs.Grounds.{grounds_of}
-use Rattle.world_net.specs.WorldState.{WorldState, ShardState, no_shard, home_of}
+use Rattle.world_net.specs.WorldState.{ShardState, no_shard, home_of}
 use Rattle.world_net.specs.Stepping.{world_of, RowsStand}
-use Rattle.world_net.proofs.Hosts.{at, recorded}
+use Rattle.world_net.proofs.Hosts.{at}
 use Rattle.world_net.proofs.NetRows.{row-there, shards-record}
 use Rattle.world_net.proofs.NetWrites.{put-same, home-card, rows-join}
 use Rattle.world_net.proofs.net.Net.join.Goals as goal

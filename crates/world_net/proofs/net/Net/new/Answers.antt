@@ -1,11 +1,6 @@
 -- New cards, empty rows, and nothing else.
-use Rattle.std.proofs.Common.{◌≡◌, ap, ◌∙◌, replicate, List, [], rules}
-use Rattle.issuer_setup.specs.IssuerSetup.{Setup}
-use Rattle.world_net.specs.declared.parts.MadeRequest.{MadeRequest}
-use Rattle.world_net.specs.declared.parts.OpenClaim.{OpenClaim}
-use Rattle.world_net.specs.declared.parts.Exchange.{Exchange}
-use Rattle.world_net.specs.WorldState.{ShardState, no_shard}
-use Rattle.world_net.specs.Stepping.{world_of}
+use Rattle.std.proofs.Common.{◌≡◌, ap, ◌∙◌, replicate, [], rules}
+use Rattle.world_net.specs.WorldState.{no_shard}
 use Rattle.world_net.proofs.NewWorlds.{new-world, empty-stand}
 use Rattle.world_net.proofs.NetWrites.{held-new}
 use Rattle.world_net.proofs.net.Net.new.Goals as goal

@@ -1,5 +1,5 @@
 -- What the plan of the card's row is for a request that the issuer decides.
-use Rattle.std.proofs.Common.{◌≡◌, ◌<◌, ◌%◌, ℕ, List, length, get_or, Some, Ok, ap, sym, ◌∙◌, subst, arith, refl, IsTrue}
+use Rattle.std.proofs.Common.{◌≡◌, ◌<◌, ◌%◌, List, length, Some, Ok, ap, sym, ◌∙◌, subst, arith, refl, IsTrue}
 use Rattle.std.proofs.lemmas.Option.{slice_get-get_or, get_or_from_slice_get}
 use Rattle.issuer_base.specs.declared.request.Request.{Request}
 use Rattle.issuer_base.specs.declared.entry.Entry.{Entry}
@@ -17,7 +17,7 @@ use Rattle.line_checks.proofs.Numbers.{number-within}
 use Rattle.row_core.specs.Plan.{IsPlan}
 use Rattle.row_core.specs.declared.row.Outcome.TheVariants.{Fresh}
 use Rattle.shard_book.specs.Grounds.{grounds_of}
-use Rattle.world_net.specs.WorldState.{WorldState, ShardState, no_shard, home_of}
+use Rattle.world_net.specs.WorldState.{ShardState, no_shard, home_of}
 use Rattle.world_net.specs.Stepping.{world_of}
 use Rattle.world_net.proofs.Hosts.{at}
 use Rattle.world_net.proofs.NetRows.{row-there, row-stands}

@@ -1,14 +1,12 @@
 -- The row of the card and its shard have the command.
-use Rattle.std.proofs.Common.{◌≡◌, ◌<◌, ◌≤◌, ◌%◌, ◌++◌, ◌∷◌, [], List, length, get_or, set, Some, IsTrue, IsOk, ap, sym, ◌∙◌, subst, arith, refl, ℕ}
+use Rattle.std.proofs.Common.{◌≡◌, ◌<◌, ◌%◌, ◌++◌, ◌∷◌, [], List, length, set, IsOk, ap, sym, ◌∙◌, subst, arith, refl, ℕ}
 use Rattle.issuer_base.specs.declared.command.Command.{Command}
-use Rattle.issuer_base.specs.declared.entry.Entry.{Entry}
 use Rattle.issuer_base.specs.declared.entry.Entry.TheVariants.{Queued}
-use Rattle.script_queue.specs.CommandQueue.{CommandQueue, TakesOneMore}
+use Rattle.script_queue.specs.CommandQueue.{TakesOneMore}
 use Rattle.row_core.specs.CardRow.{KeptScripts, StandsFor}
 use Rattle.shard_book.proofs.RowsAfter.{ok-then}
-use Rattle.world_net.specs.WorldState.{WorldState, ShardState}
 use Rattle.world_net.specs.Stepping.{world_of, RowsStand}
-use Rattle.world_net.proofs.Hosts.{at, recorded}
+use Rattle.world_net.proofs.Hosts.{at}
 use Rattle.world_net.proofs.NetRows.{row-stands, rows-record, shards-record, queue-taken}
 use Rattle.world_net.proofs.net.Net.queue.Goals as goal
 
@@ -46,7 +44,8 @@ returns-clause-rows c =
     c.index_mut.ensures.value made c.in_ok-add.ensures.added in
     let takes = (c.takes_command.ensures info c.info-info.ensures).0 c.if-not-takes_command.false in
     let rows = c.args.self.now.rows.items in
-    let stands = row-stands world.issuer rows world.shards c.requires.rows number info c.index_mut-2.result.now c.info-info.ensures c.index_mut-2.ensures.value in
+    let stands =
+    row-stands world.issuer rows world.shards c.requires.rows number info c.index_mut-2.result.now c.info-info.ensures c.index_mut-2.ensures.value in
     let ok : IsOk c.push.result =
     c.push.ensures.taken.1 (subst TakesOneMore (sym (ap (λ (kept : KeptScripts). kept.commands) stands.scripts_are)) takes) in
     let there = ok-then c.push.result _ c.push.ensures.queued ok info (at world.shards (number % world.issuer.shards)).history stands in

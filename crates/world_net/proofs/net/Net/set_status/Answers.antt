@@ -1,14 +1,8 @@
 -- The row of the card and its shard have the status.
-use Rattle.std.proofs.Common.{◌≡◌, ◌<◌, ◌≤◌, ◌%◌, ◌++◌, ◌∷◌, [], List, length, get_or, set, Some, IsTrue, IsOk, ap, sym, ◌∙◌, subst, arith, refl, ℕ}
-use Rattle.issuer_base.specs.declared.command.Command.{Command}
-use Rattle.issuer_base.specs.declared.entry.Entry.{Entry}
+use Rattle.std.proofs.Common.{◌≡◌, ◌<◌, ◌%◌, List, length, set, ap, sym, ◌∙◌, subst, arith, refl, ℕ}
 use Rattle.issuer_base.specs.declared.entry.Entry.TheVariants.{Status}
-use Rattle.script_queue.specs.CommandQueue.{CommandQueue, TakesOneMore}
-use Rattle.row_core.specs.CardRow.{KeptScripts, StandsFor}
-use Rattle.shard_book.proofs.RowsAfter.{ok-then}
-use Rattle.world_net.specs.WorldState.{WorldState, ShardState}
 use Rattle.world_net.specs.Stepping.{world_of, RowsStand}
-use Rattle.world_net.proofs.Hosts.{at, recorded}
+use Rattle.world_net.proofs.Hosts.{at}
 use Rattle.world_net.proofs.NetRows.{row-stands, rows-record, shards-record, set-taken}
 use Rattle.world_net.proofs.net.Net.set_status.Goals as goal
 
@@ -39,7 +33,8 @@ returns-clause-rows c =
     let shards_are = shards-record world.shards c.from-home.result (number % world.issuer.shards) entry _ c.index_mut.result.now c.add.new.self at_home within
     c.index_mut.ensures.value made c.in_ok-add.ensures.added in
     let rows = c.args.self.now.rows.items in
-    let stands = row-stands world.issuer rows world.shards c.requires.rows number info c.index_mut-2.result.now c.info-info.ensures c.index_mut-2.ensures.value in
+    let stands =
+    row-stands world.issuer rows world.shards c.requires.rows number info c.index_mut-2.result.now c.info-info.ensures c.index_mut-2.ensures.value in
     let row = c.set_status.ensures info (at world.shards (number % world.issuer.shards)).history stands in
     subst (RowsStand world.issuer (set rows number c.set_status.new.self)) (sym shards_are)
     (rows-record world.issuer rows world.shards c.requires.rows number info entry c.set_status.new.self c.cards.ensures.valid c.requires.shards

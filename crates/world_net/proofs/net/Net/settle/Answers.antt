@@ -1,6 +1,6 @@
 -- The decision in doubt is recorded, or dropped.
-use Rattle.std.proofs.Common.{◌≡◌, ◌<◌, length, Some, sym, subst, OnOk, arith}
-use Rattle.world_net.specs.WorldState.{WorldState, shard_at}
+use Rattle.std.proofs.Common.{◌≡◌, sym, subst, OnOk}
+use Rattle.world_net.specs.WorldState.{WorldState}
 use Rattle.world_net.specs.Stepping.{world_of, RowsStand}
 use Rattle.world_net.proofs.NetRows.{rows-doubt}
 use Rattle.world_net.proofs.NetWrites.{reached-sound, doubt-read, doubt-legal, doubt-settled, shards-doubt}

@@ -1,5 +1,5 @@
 -- The row of the card stands for its queue.
-use Rattle.std.proofs.Common.{◌≡◌, ◌↔◌, IsTrue, ap, subst, arith}
+use Rattle.std.proofs.Common.{◌↔◌, IsTrue, ap, subst, arith}
 use Rattle.script_queue.specs.CommandQueue.{CommandQueue, TakesOneMore}
 use Rattle.row_core.specs.CardRow.{KeptScripts}
 use Rattle.world_net.proofs.NetRows.{row-there, row-stands}

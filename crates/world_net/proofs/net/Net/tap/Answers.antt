@@ -1,5 +1,5 @@
 -- The card's own step.
-use Rattle.std.proofs.Common.{◌≡◌, ◌<◌, length, arith, refl, rules}
+use Rattle.std.proofs.Common.{◌<◌, length, arith, refl, rules}
 use Rattle.std.proofs.lemmas.Bool.{true≢false}
 use Rattle.world_net.specs.Stepping.{world_of}
 use Rattle.world_net.proofs.NetSteps.{tap-refused, tap-taken}

@@ -1,5 +1,5 @@
 -- A write is that of the claim's request.
-use Rattle.std.proofs.Common.{◌≡◌, ◌<◌, ℕ, List, length, Some, Ok, ap, sym, ◌∙◌, subst, arith, refl, Bool}
+use Rattle.std.proofs.Common.{◌≡◌, ◌<◌, List, length, Some, Ok, ap, sym, ◌∙◌, subst, arith, Bool}
 use Rattle.issuer_base.specs.declared.request.Request.{Request}
 use Rattle.issuer_base.specs.declared.entry.Entry.TheVariants.{Decided}
 use Rattle.card_history.specs.declared.decision.Asked.TheVariants.{Decide}
@@ -9,7 +9,6 @@ use Rattle.world_net.specs.declared.parts.OpenClaim.{OpenClaim}
 use Rattle.world_net.specs.WorldState.{WorldState, ShardState, claim_of, home_of, with_record, with_doubt, without}
 use Rattle.world_net.specs.WorldSteps.{written}
 use Rattle.world_net.specs.Stepping.{world_of, RowsStand}
-use Rattle.world_net.proofs.Hosts.{doubted}
 use Rattle.world_net.proofs.NetRows.{rows-doubt}
 use Rattle.world_net.proofs.NetWrites.{reached-sound, claim-there, claim-genuine, writes-taken, shards-doubt}
 use Rattle.world_net.proofs.net.Net.write.Goals as goal
