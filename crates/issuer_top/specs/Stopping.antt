@@ -5,7 +5,7 @@ use Rattle.issuer_base.specs.Sink.{AppendsFront}
 use Rattle.answer_text.specs.StopText.{stop_text}
 use Rattle.answer_text.specs.declared.stop_line.Stop.{Stop}
 use Rattle.issuer_top.specs.declared.ending.Ending.{Ending}
-use Rattle.issuer_top.specs.declared.ending.Ending.TheVariants.{Served, Stopped, WriteFault}
+use Rattle.issuer_top.specs.declared.ending.Ending.TheVariants.{Done, Stopped, WriteFault}
 
 -- the sink took the last line, or a front of it and failed
 abbrev pub StopsBy : Option (List ℕ) → Option (List ℕ) → Stop → Ending → Type 0
@@ -15,6 +15,6 @@ StopsBy held_before held_after stop ending =
 
 -- the sink failed
 abbrev pub is_broken : Ending → Bool
-is_broken Served = false
+is_broken Done = false
 is_broken (Stopped stop) = false
 is_broken WriteFault = true
