@@ -1,16 +1,12 @@
 //! The issuer's authorisation host, over files and the standard output.
 #![tactic(auto)]
 
-mod file_desk;
-mod file_sink;
-
-use file_desk::FileDesk;
-use file_sink::FileSink;
 use issuer_base::{NoMemory, Words};
 use issuer_top::{Ended, issue};
 use std::env;
 use std::io::ErrorKind;
 use std::process::ExitCode;
+use store_edge::{FileDesk, FileSink};
 
 /// The status of a run that has no memory for its words.
 const NO_MEMORY: u8 = 7;

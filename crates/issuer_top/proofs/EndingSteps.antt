@@ -1,5 +1,5 @@
 -- How a run ends, from what its parts did.
-use Rattle.std.proofs.Common.{◌≡◌, ℕ, ◌<◌, ◌≤◌, Bool, true, false, List, [], ◌++◌, Option, None, Some, Err, cond, inl, inr, ⊎_elim}
+use Rattle.std.proofs.Common.{◌≡◌, ℕ, ◌<◌, ◌≤◌, Bool, true, false, List, [], ◌++◌, Option, None, Some, Err, inl, inr, ⊎_elim}
 use Rattle.std.proofs.Common.{refl, sym, subst, ap, ◌∙◌, arith}
 use Rattle.std.specs.Prelude.{is_some, IsSomeAnd}
 use Rattle.std.specs.Io.KnownBytes.{Appends}
@@ -8,7 +8,8 @@ use Rattle.issuer_base.specs.OutsideFaults.{Rose, CountsFaults}
 use Rattle.issuer_base.specs.Sink.{AppendsFront}
 use Rattle.issuer_base.specs.declared.outside.DeskFault.{DeskFault}
 use Rattle.issuer_base.specs.declared.outside.DeskFault.TheVariants.{Fault, NoMemory as NoRoom}
-use Rattle.issuer_base.specs.Desk.{is_fault}
+use Rattle.issuer_base.specs.Desk.{FailedCall, is_fault, last_after}
+use Rattle.issuer_base.specs.declared.outside.DeskCall.TheVariants.{Read}
 use Rattle.issuer_base.proofs.ManyCalls.{AppendsFront-after, Rose-from_none, Rose-since, Tells-from_left}
 use Rattle.answer_text.specs.StopText.{stop_text}
 use Rattle.answer_text.specs.declared.stop_line.Stop.{Stop}
@@ -156,10 +157,10 @@ module _ (seen : Seen) (config requests : List ℕ) (ending : Ending) (serve : I
       stopping
 
   -- the desk gave no configuration
-  pub ends_no_config : (T : Type 0) (other : Option (List ℕ)) (fault : DeskFault)
+  pub ends_no_config : (T : Type 0) (other : Option FailedCall) (fault : DeskFault)
       → is_some seen.config ≡ false → is_some seen.requests ≡ false
       → CountsFaults seen.desk.faults_before seen.desk.faults_after (is_fault {T = T} (Err fault))
-      → seen.desk.last_fault ≡ cond (is_fault {T = T} (Err fault)) (Some config) other
+      → seen.desk.last_fault ≡ last_after Read config (is_fault {T = T} (Err fault)) other
       → Stopping seen (stop_of fault) ending seen.sink.held_before seen.sink.faults_before → EndsBy seen ending
   ends_no_config T other Fault no_config no_requests desk_count last stopping =
       ends_at_once seen ReadFault ending
@@ -167,7 +168,7 @@ module _ (seen : Seen) (config requests : List ℕ) (ending : Ending) (serve : I
         config = config;
         requests = requests;
         serve = serve;
-        fails = record { config_is = no_config; requests_is = no_requests; rose = desk_count.counted; name_is = last };
+        fails = record { config_is = no_config; requests_is = no_requests; rose = desk_count.counted; last_is = last };
         last = refl;
       }))
       stopping
@@ -175,10 +176,10 @@ module _ (seen : Seen) (config requests : List ℕ) (ending : Ending) (serve : I
       ends_no_memory false (record { config_is = no_config; requests_is = no_requests; desk_stood = desk_count.counted }) stopping
 
   -- the desk gave no request file
-  pub ends_no_requests : (T : Type 0) (other : Option (List ℕ)) (between : ℕ) (issuer : Setup) (fault : DeskFault)
+  pub ends_no_requests : (T : Type 0) (other : Option FailedCall) (between : ℕ) (issuer : Setup) (fault : DeskFault)
       → is_some seen.config ≡ true → is_some seen.requests ≡ false → IsSetUp seen requests issuer
       → between ≡ seen.desk.faults_before → CountsFaults between seen.desk.faults_after (is_fault {T = T} (Err fault))
-      → seen.desk.last_fault ≡ cond (is_fault {T = T} (Err fault)) (Some requests) other
+      → seen.desk.last_fault ≡ last_after Read requests (is_fault {T = T} (Err fault)) other
       → Stopping seen (stop_of fault) ending seen.sink.held_before seen.sink.faults_before → EndsBy seen ending
   ends_no_requests T other between issuer Fault with_config no_requests set_up stood desk_count last stopping =
       ends_at_once seen ReadFault ending
@@ -190,7 +191,7 @@ module _ (seen : Seen) (config requests : List ℕ) (ending : Ending) (serve : I
           config_is = with_config;
           requests_is = no_requests;
           rose = subst (λ (n : ℕ). Rose n seen.desk.faults_after) stood desk_count.counted;
-          name_is = last;
+          last_is = last;
         };
         last = refl;
       }))))

@@ -5,12 +5,12 @@ mod scripts;
 
 use super::*;
 use issuer_base::{
-    Desk, DeskFault, MemoryDesk, MemorySink, MemorySource, ReadFault, Sink, Source, Words,
-    WriteFault,
+    Desk, DeskFault, MemorySink, MemorySource, ReadFault, Sink, Source, Words, WriteFault,
 };
 use std::alloc::{AllocError, Global};
 use std::process::Abort;
 use std::test::Fail;
+use store_edge::{MemoryDesk, MemoryStore};
 
 /// One shard, one key set, two cards, and a table that approves up to an amount of 500000.
 const CONFIG: &str = r#"{"shards":1,
@@ -354,6 +354,8 @@ struct SippingDesk {
 impl Desk for SippingDesk {
     type Input = MemorySource;
 
+    type Journal = MemoryStore;
+
     ghost faults = { λ _. 0 };
 
     ghost last_fault = { λ _. None };
@@ -373,6 +375,10 @@ impl Desk for SippingDesk {
             fails.push(self.fails_at).map_err(|_| DeskFault::NoMemory)?;
         }
         Ok(MemorySource::with_step(bytes, fails, 1))
+    }
+
+    fn log(&mut self, _name: &str) -> Result<MemoryStore, DeskFault> {
+        Err(DeskFault::NoMemory)
     }
 }
 
@@ -488,6 +494,8 @@ struct LongDesk {
 impl Desk for LongDesk {
     type Input = Repeated;
 
+    type Journal = MemoryStore;
+
     ghost faults = { λ _. 0 };
 
     ghost last_fault = { λ _. None };
@@ -504,6 +512,10 @@ impl Desk for LongDesk {
                 times: self.lines,
             })
         }
+    }
+
+    fn log(&mut self, _name: &str) -> Result<MemoryStore, DeskFault> {
+        Err(DeskFault::NoMemory)
     }
 }
 

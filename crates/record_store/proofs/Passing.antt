@@ -124,6 +124,21 @@ module _ (text tail : List ℕ) where
   told-append_bytes failed (Some old) (Some new) c is told same =
       subst (λ (c : Option (List ℕ)). IfSome c (IsImage text tail)) (sym same) (append-bytes text tail failed old new is told)
 
+-- bytes that stay, or that were cut and then stay, are those from before or cut ones
+pub told-kept : (sure : ℕ) (a b : Option (List ℕ)) → b ≡ a → BothTold (CutsBytes sure true) a b
+told-kept sure None None same = tt
+told-kept sure None (Some new) same = absurd (cc)
+told-kept sure (Some old) None same = absurd (cc)
+told-kept sure (Some old) (Some new) same = inl (let is : new ≡ old = cc in is)
+
+cut-kept : (sure : ℕ) (failed : Bool) (old new : List ℕ) → CutsBytes sure failed old new → CutsBytes sure true old new
+cut-kept sure true old new cuts = cuts
+cut-kept sure false old new cuts = inr cuts
+
+pub told-cut_kept : (sure : ℕ) (failed : Bool) (a b c : Option (List ℕ)) → BothTold (CutsBytes sure failed) a b → c ≡ b → BothTold (CutsBytes sure true) a c
+told-cut_kept sure failed a b c cut same =
+    subst (BothTold (CutsBytes sure true) a) (sym same) (BothTold-weaker (CutsBytes sure failed) (CutsBytes sure true) a b (cut-kept sure failed) cut)
+
 -- moments of one kind, and then of another
 pub told-then : (P Q R : Moment → Type 0) (a b c : Option Disk) → ((moment : Moment) → P moment → R moment) → ((moment : Moment) → Q moment → R moment)
     → BothTold (Passes P) a b → BothTold (Passes Q) b c → BothTold (Passes R) a c

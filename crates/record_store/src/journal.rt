@@ -1,7 +1,7 @@
 //! A text of records that grows at its end: a record is safe in the store before it counts.
 ghost use Rattle.std.specs.Prelude.{◌≡◌, ◌⊎◌, ◌+◌, ◌<◌, ◌≤◌, ℕ, List, [], ◌++◌, length, false, IfOk, IfErr, IsErr, OnOk, is_err, true};
 ghost use Rattle.issuer_base.specs.OutsideFaults.{CountsFaults};
-ghost use Rattle.issuer_base.specs.Stores.{BothTold, Disk, LeavesOnly, Passes};
+ghost use Rattle.issuer_base.specs.Stores.{BothTold, CutsBytes, Disk, LeavesOnly, Passes};
 ghost use Rattle.issuer_base.specs.Tells.{Tells};
 ghost use Rattle.record_store.specs.Images.{HasSafeText, IsImage, IsCutImage, IsEitherImage};
 
@@ -41,6 +41,7 @@ impl<S: Store> Journal<S> {
         ensures sure { IfOk result (λ journal. journal.sure ≡ sure) }
         ensures records { IfOk result (λ journal. journal.records ≡ records) }
         ensures opened { IfOk result (λ journal. BothTold (λ old new. LeavesOnly (IsCutImage sure old.now) old new) (S.disk store) (S.disk journal.store)) }
+        ensures kept { IfErr result (λ back. BothTold (CutsBytes sure true) (S.bytes store) (S.bytes back)) }
         ensures crash { IfErr result (λ back. BothTold (λ old new. LeavesOnly (IsCutImage sure old.now) old new) (S.disk store) (S.disk back)) }
         ensures count { IfOk result (λ journal. CountsFaults (S.faults store) (S.faults journal.store) false) }
         ensures failed { IfErr result (λ back. CountsFaults (S.faults store) (S.faults back) true) }

@@ -1,7 +1,7 @@
 //! Reading the bytes of a store into a buffer, and cutting what stands behind a text.
-ghost use Rattle.std.specs.Prelude.{◌≡◌, ◌-◌, ◌≤◌, ℕ, List, [], ◌++◌, min, length, take, drop, IfOk, IfSome, OnOk, is_err};
+ghost use Rattle.std.specs.Prelude.{◌≡◌, ◌-◌, ◌≤◌, ℕ, List, [], ◌++◌, min, length, take, drop, IfOk, IfSome, OnOk, is_err, true};
 ghost use Rattle.issuer_base.specs.OutsideFaults.{CountsFaults};
-ghost use Rattle.issuer_base.specs.Stores.{BothTold, Disk, LeavesOnly};
+ghost use Rattle.issuer_base.specs.Stores.{BothTold, CutsBytes, Disk, LeavesOnly};
 ghost use Rattle.issuer_base.specs.Tells.{Tells};
 ghost use Rattle.record_store.specs.Images.{HasSafeText, IsCutImage, IsImage, OnlyReads};
 
@@ -33,6 +33,7 @@ pub(crate) fn settle<S: Store>(store: &mut S, sure: u64) -> Result<(), StoreFail
         → OnOk result (IfSome (S.bytes store.new) (IsImage text [])) }
     ensures disk { (text rest : List ℕ) → length text ≡ sure → Tells (S.bytes store.old) (text ++ rest)
         → OnOk result (IfSome (S.disk store.new) (λ disk. HasSafeText text [] disk.now)) }
+    ensures kept { BothTold (CutsBytes sure true) (S.bytes store.old) (S.bytes store.new) }
     ensures crash { BothTold (λ old new. LeavesOnly (IsCutImage sure old.now) old new) (S.disk store.old) (S.disk store.new) }
     ensures count { CountsFaults (S.faults store.old) (S.faults store.new) (is_err result) }
 {

@@ -1,34 +1,28 @@
 -- Which records that were read may come next: what was looked up and checked for them decides it.
-use Rattle.std.proofs.Common.{◌≡◌, ◌≢◌, ◌↔◌, ◌≤◌, ◌<◌, ℕ, ◌%◌, Bool, true, false, if◌then◌else◌, List, [], ◌∷◌, ◌++◌, length, refl, sym, ap, subst, ◌∙◌}
-use Rattle.std.proofs.Common.{IsTrue, Option, None, Some, Result, Ok, Err, arith}
+use Rattle.std.proofs.Common.{◌≡◌, ◌≢◌, ℕ, ◌%◌, Bool, true, false, if◌then◌else◌, List, sym, ap, subst, ◌∙◌}
+use Rattle.std.proofs.Common.{Option, None, Some, Result, Ok, Err, arith}
 use Rattle.std.proofs.lemmas.Option.{same_Some}
 use Rattle.std.specs.List.{slice_get}
-use Rattle.issuer_base.specs.declared.limits.TheConstants.{MAX_STATUS}
 use Rattle.issuer_base.specs.declared.request.Request.{Request}
-use Rattle.issuer_base.specs.declared.command.Command.{Command}
 use Rattle.issuer_base.specs.declared.answer.Reply.{Reply}
 use Rattle.issuer_base.specs.declared.answer.Refusal.{Refusal}
 use Rattle.issuer_base.specs.declared.answer.Refusal.TheVariants.{BadCryptogram, NotArqc}
 use Rattle.issuer_base.specs.declared.entry.Entry.{Entry}
 use Rattle.issuer_base.specs.ChipData.{is_arqc}
-use Rattle.issuer_base.specs.ScriptCommand.{is_command}
 use Rattle.card_history.specs.declared.decision.Asked.{Asked}
 use Rattle.card_history.specs.declared.decision.Asked.TheVariants.{Decide}
-use Rattle.card_history.specs.LegalRecords.{IsLegalDecision, IsLegalCommand, IsLegalStatus}
-use Rattle.card_history.specs.Records.{CardName, named, card_of}
-use Rattle.card_history.specs.Scripts.{waiting, scripts_of}
-use Rattle.script_queue.specs.CommandQueue.{TakesOneMore}
+use Rattle.card_history.specs.LegalRecords.{IsLegalDecision}
+use Rattle.card_history.specs.Records.{CardName, card_of}
+use Rattle.card_history.specs.Scripts.{scripts_of}
 use Rattle.key_derive.specs.declared.card.CardKeys.{CardKeys}
 use Rattle.issuer_setup.specs.declared.card.CardInfo.{CardInfo}
 use Rattle.issuer_setup.specs.CardList.{number_of}
 use Rattle.issuer_setup.specs.IssuerSetup.{Setup, keys_of}
 use Rattle.row_core.specs.Accepting.{IsMade, MayFollow}
-use Rattle.line_checks.specs.declared.checked.CheckedRequest.{CheckedRequest}
-use Rattle.line_checks.specs.AtHand.{IsCardAtHand, IsRequestAtHand}
 use Rattle.line_checks.specs.Reading.{checked, of_card, under_keys, is_right}
 use Rattle.line_checks.proofs.Numbers.{number-within}
 use Rattle.shard_book.specs.ShardRows.{ShardRows, AreRowsOf, IsHome}
-use Rattle.shard_book.specs.Grounds.{IsCardOfShard, IsMadeBy, grounds_of}
+use Rattle.shard_book.specs.Grounds.{IsCardOfShard, grounds_of}
 
 -- ---- a request that passes its check is the one that was checked
 

@@ -1,8 +1,6 @@
 -- What is at hand for a line that was checked makes its record one that may come next.
-use Rattle.std.proofs.Common.{◌≡◌, ◌≤◌, ℕ, ◌%◌, ◌&&◌, nat_le, List, [], ◌∷◌, ◌++◌, length, get_or, refl, sym, ap, subst, ◌∙◌, Bool, true, IsTrue, Some, Ok}
-use Rattle.std.proofs.Common.{arith}
+use Rattle.std.proofs.Common.{◌≡◌, ◌≤◌, ℕ, ◌%◌, ◌&&◌, List, get_or, sym, ap, subst, ◌∙◌, Bool, IsTrue, Ok}
 use Rattle.std.proofs.lemmas.Option.{slice_get_within, get_or_from_slice_get}
-use Rattle.std.specs.List.{slice_get}
 use Rattle.issuer_base.specs.declared.limits.TheConstants.{MAX_STATUS}
 use Rattle.issuer_base.specs.declared.request.Request.{Request}
 use Rattle.issuer_base.specs.declared.command.Command.{Command}
@@ -12,12 +10,12 @@ use Rattle.issuer_base.specs.ChipData.{is_bcd}
 use Rattle.issuer_base.specs.ScriptCommand.{is_command}
 use Rattle.card_history.specs.declared.decision.Asked.TheVariants.{Decide}
 use Rattle.card_history.specs.LegalRecords.{IsLegalDecision, IsLegalCommand, IsLegalStatus}
-use Rattle.card_history.specs.Records.{CardName, named, card_of}
+use Rattle.card_history.specs.Records.{CardName, card_of}
 use Rattle.card_history.specs.Scripts.{waiting, scripts_of}
 use Rattle.card_history.specs.Turns.{IsUnused, decided_for}
 use Rattle.script_queue.specs.CommandQueue.{TakesOneMore}
 use Rattle.issuer_setup.specs.declared.card.CardInfo.{CardInfo}
-use Rattle.issuer_setup.specs.CardList.{name_of, number_of}
+use Rattle.issuer_setup.specs.CardList.{name_of}
 use Rattle.issuer_setup.specs.IssuerSetup.{Setup}
 use Rattle.issuer_setup.proofs.CardListLemmas.{number_of-found}
 use Rattle.row_core.specs.Replying.{reply_to}

@@ -1,10 +1,14 @@
 -- The lemmas of this crate.
 pub mod Places
+pub mod Marks
 pub mod RowsAfter
 pub mod RowPlans
+pub mod Recorded
 pub mod ShardSteps
 pub mod LegalNext
 pub mod Adopted
 pub mod Lines
 pub mod Loaded
 pub mod LoadCrash
+pub mod OwnDecisions
+pub mod Exactly

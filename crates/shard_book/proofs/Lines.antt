@@ -1,17 +1,19 @@
 -- The lines of a journal, taken over one after another.
-use Rattle.std.proofs.Common.{◌≡◌, ◌≢◌, ℕ, ◌+◌, ◌<◌, ◌≤◌, List, [], ◌∷◌, ◌++◌, length, take, drop, get_or, refl, sym, ap, subst, ◌∙◌, inl, inr, arith}
+use Rattle.std.proofs.Common.{◌≡◌, ◌≢◌, ℕ, ◌+◌, ◌<◌, List, [], ◌∷◌, ◌++◌, length, take, drop, get_or, refl, sym, ap, subst, ◌∙◌, inl, inr, arith}
 use Rattle.std.proofs.Common.{Option, None, Some, MatchOption, eq-eqb}
-use Rattle.std.proofs.Common.{append-nil, append_assoc, length-append, length-take}
+use Rattle.std.proofs.Common.{append-nil, append_assoc, length-take}
 use Rattle.std.proofs.Math.Seq.{take-add}
-use Rattle.std.proofs.lemmas.Bool.{cases_lt, cases_eq, eqb-true}
+use Rattle.std.proofs.lemmas.Bool.{cases_eq, eqb-true}
 use Rattle.std.proofs.lemmas.List.{length_push, take_more, take_at, take-append-le, take-append-drop, get_or-take, get_or_append_left, get_or_push}
 use Rattle.std.proofs.lemmas.List.{get_or_default, drop-drop}
+use Rattle.std.proofs.lemmas.List.Elements.{All-nil, All-push}
 use Rattle.std.proofs.lemmas.Option.{same_Some, slice_get_within, slice_get-get_or, get_or_from_slice_get}
 use Rattle.std.specs.List.{slice_get}
 use Rattle.memchr.specs.Find.{IsFirstByte, is_byte}
 use Rattle.issuer_base.specs.declared.entry.Entry.{Entry}
 use Rattle.card_history.specs.LegalRecords.{Grounds, IsLegal, IsLegalHistory}
 use Rattle.issuer_setup.specs.IssuerSetup.{Setup}
+use Rattle.journal_rec.specs.Record.{IsRecord}
 use Rattle.journal_rec.specs.RecordText.{newline, text_of, texts_of, IsUnbroken}
 use Rattle.shard_book.specs.declared.replay.LoadFault.{LoadFault}
 use Rattle.shard_book.specs.declared.replay.Taken.{Taken}
@@ -66,6 +68,7 @@ takes-none issuer shard history text rows stands legal = record {
   entries = [];
   count_is = refl;
   text_is = refl;
+  records = All-nil IsRecord;
   legal = subst (IsLegalHistory (grounds_of issuer) shard) (sym (append-nil history)) legal;
   stands = subst (StandsFor issuer rows) (sym (append-nil history)) stands;
 }
@@ -92,6 +95,7 @@ module _ (issuer : Setup) (shard : ℕ) (history : List Entry) (text : List ℕ)
             ∙ ap (λ l. l ++ take (count + 1) (drop taken.bytes text)) before.text_is
             ∙ ap (λ l. texts_of before.entries ++ l) (front ∙ sym takes.line_is.1)
             ∙ texts-more before.entries takes.entry;
+        records = All-push IsRecord before.entries takes.entry before.records takes.line_is.0;
         legal =
             subst (IsLegalHistory (grounds_of issuer) shard) joined
             (legal-more (grounds_of issuer) shard (history ++ before.entries) takes.entry before.legal takes.legal);
@@ -112,6 +116,7 @@ module _ (issuer : Setup) (shard : ℕ) (history : List Entry) (text : List ℕ)
         ∙ append_assoc line (newline ∷ []) (drop (count + 1) (drop taken.bytes text)))
         ∙ sym (append_assoc (texts_of before.entries) line (newline ∷ drop (count + 1) (drop taken.bytes text)));
     unbroken = subst IsUnbroken (sym line_is) ahead.unbroken;
+    records = before.records;
     legal = before.legal;
     bad = bad;
   }

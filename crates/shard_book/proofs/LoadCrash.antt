@@ -1,5 +1,5 @@
 -- What a crash leaves while a store is read, and then cut to the text of its records.
-use Rattle.std.proofs.Common.{◌≡◌, ◌⊎◌, ℕ, List, length, take, refl, ap, sym, subst, ◌∙◌, inl, inr, ⊎_elim, arith, Option, None, Some, Result, Ok, Err}
+use Rattle.std.proofs.Common.{◌≡◌, ℕ, List, length, take, refl, ap, sym, subst, ◌∙◌, inl, inr, ⊎_elim, arith, Option, Result, Ok, Err}
 use Rattle.std.proofs.Common.{IfOk, IfErr}
 use Rattle.issuer_base.specs.Stores.{Disk, Moment, MayLeave, BothTold, LeavesOnly}
 use Rattle.issuer_base.specs.declared.outside.store.Store.{Ghosts}

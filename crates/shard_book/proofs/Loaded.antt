@@ -1,72 +1,354 @@
--- What is known of a store's text once all its bytes are read.
-use Rattle.std.proofs.Common.{◌≡◌, ◌-◌, ◌≤◌, ℕ, min, List, [], ◌++◌, length, take, drop, refl, sym, ap, subst, ◌∙◌, arith, Option, None, Some, IfSome}
-use Rattle.std.proofs.Common.{IfOk, IfErr, Result, Ok, Err}
-use Rattle.std.proofs.lemmas.List.{take_all, take-append-drop, length-take-le}
+-- What is known of a store's text once a part of its bytes is read, and once all are.
+use Rattle.std.proofs.Common.{◌≡◌, ◌≢◌, ◌+◌, ◌-◌, ◌<◌, ◌≤◌, ℕ, min, Bool, true, false, List, [], ◌∷◌, ◌++◌, length, take, drop, refl, sym, ap, subst, ◌∙◌}
+use Rattle.std.proofs.Common.{arith, inl, inr, Option, None, Some, IfSome, Result, Ok, Err, IfErr, MatchOption, MatchBool, append_assoc, length-append, length-drop, length-take, All}
+use Rattle.std.proofs.Math.Seq.{take-add}
+use Rattle.std.proofs.lemmas.Bool.{cases_lt}
+use Rattle.std.proofs.lemmas.List.{take_all, take-append-drop, length-take-le, take-take, drop-drop}
+use Rattle.std.proofs.lemmas.List.Concat.{flat_map-append}
+use Rattle.std.proofs.lemmas.List.Elements.{All-nil, All-append}
+use Rattle.std.proofs.lemmas.Option.{slice_get_within}
+use Rattle.std.specs.Option.{is_some}
 use Rattle.issuer_base.specs.Tells.{Tells}
+use Rattle.issuer_base.specs.declared.entry.Entry.{Entry}
+use Rattle.card_history.specs.LegalRecords.{IsLegalHistory}
 use Rattle.issuer_setup.specs.IssuerSetup.{Setup}
-use Rattle.journal_rec.specs.RecordText.{texts_of, IsUnbroken}
+use Rattle.journal_rec.specs.Record.{IsRecord, IsLineOf}
+use Rattle.journal_rec.specs.RecordText.{newline, text_of, texts_of, IsUnbroken}
+use Rattle.journal_rec.specs.declared.limits.TheConstants.{MOST_RECORD_BYTES}
+use Rattle.journal_rec.proofs.TextLaws.{length-text_of}
 use Rattle.shard_book.specs.declared.replay.LoadFault.{LoadFault}
 use Rattle.shard_book.specs.declared.replay.LoadFault.TheVariants.{BadLine, BadRecord, StoreFault, NoMemory}
 use Rattle.shard_book.specs.declared.replay.Taken.{Taken}
-use Rattle.shard_book.specs.declared.replay.TakenOver.{TakenOver}
-use Rattle.shard_book.specs.ShardRows.{ShardRows}
-use Rattle.shard_book.specs.Loading.{StopsAt, TakesLines, ReadsText, StopsText, IsOutside}
+use Rattle.shard_book.specs.Grounds.{grounds_of}
+use Rattle.shard_book.specs.LineAhead.{IsLineAhead, HasLineAhead}
+use Rattle.shard_book.specs.ShardRows.{ShardRows, StandsFor}
+use Rattle.shard_book.specs.Loading.{StopsAt, TakesLines, ReadsFront, ReadsText, StopsText, is_by_store, is_store_failure}
 
--- a buffer as long as the store that was filled has its bytes
-pub all-read : (bytes : Option (List ℕ)) (size count : ℕ) (into : List ℕ) → IfSome bytes (λ told. size ≡ length told) → length into ≡ size
-    → count ≡ min (length into) (size - 0) → IfSome bytes (λ told. take count into ≡ take count (drop 0 told)) → Tells bytes into
-all-read None size count into told long all given = tt
-all-read (Some told) size count into told_size long all given =
-    let most : length told ≤ count = omega (arith, told_size, long, all) in
-    let whole : length into ≤ count = omega (arith, long, all) in
-    sym (take_all count told most) ∙ sym given ∙ take_all count into whole
+-- ---- texts without a newline, and the line ahead
 
-module _ (issuer : Setup) (shard : ℕ) (bytes : Option (List ℕ)) (text : List ℕ) (told : Tells bytes text) where
-  told-parts : (b : Option (List ℕ)) → Tells b text → (front rest : List ℕ) → text ≡ front ++ rest → Tells b (front ++ rest)
-  told-parts None told front rest parts = tt
-  told-parts (Some whole) told front rest parts = told ∙ parts
+unbroken-both : (front back : List ℕ) → IsUnbroken front → IsUnbroken back → IsUnbroken (front ++ back)
+unbroken-both front back = All-append (λ byte. byte ≢ newline) front back
 
-  -- the records that were taken over, and the rest behind them
-  pub reads-text : (rows : ShardRows) (taken : Taken) → TakesLines issuer shard [] text taken rows → IsUnbroken (drop taken.bytes text)
-      → taken.bytes ≤ length text → ReadsText issuer shard bytes rows taken
-  reads-text rows taken takes unbroken within =
-      let parts : text ≡ texts_of takes.entries ++ drop taken.bytes text =
-      sym (take-append-drop taken.bytes text) ∙ ap (λ l. l ++ drop taken.bytes text) takes.text_is in
+-- what is unbroken goes on unbroken
+pub unbroken-later : (bytes : List ℕ) (at count : ℕ) → IsUnbroken (take at bytes) → IsUnbroken (take count (drop at bytes))
+    → IsUnbroken (take (at + count) bytes)
+unbroken-later bytes at count front more = subst IsUnbroken (sym (take-add at count bytes)) (unbroken-both (take at bytes) (take count (drop at bytes)) front more)
+
+-- where a line stands ahead behind what is unbroken, a longer one stands ahead
+pub line-later : (bytes : List ℕ) (at count n : ℕ) → IsUnbroken (take at bytes) → at ≤ length bytes
+    → IsLineAhead (take count (drop at bytes)) n → IsLineAhead bytes (at + n)
+line-later bytes at count n front within ahead =
+    let long = length-take count (drop at bytes) in
+    let rest = length-drop at bytes in
+    let below = ahead.within in
+    let short : n ≤ count = omega arith in
+    let whole : n + 1 ≤ count = omega arith in
+    let line : take n (take count (drop at bytes)) ≡ take n (drop at bytes) = take-take n count (drop at bytes) short in
+    let ended : take (n + 1) (take count (drop at bytes)) ≡ take (n + 1) (drop at bytes) = take-take (n + 1) count (drop at bytes) whole in
+    record {
+      within = omega arith;
+      unbroken = unbroken-later bytes at n front (subst IsUnbroken line ahead.unbroken);
+      ends =
+          ap (λ m. take m bytes) (let e : at + n + 1 ≡ at + (n + 1) = omega arith in e)
+          ∙ take-add at (n + 1) bytes
+          ∙ ap (λ l. take at bytes ++ l) (sym ended ∙ ahead.ends ∙ ap (λ l. l ++ newline ∷ []) line)
+          ∙ sym (append_assoc (take at bytes) (take n (drop at bytes)) (newline ∷ []))
+          ∙ ap (λ l. l ++ newline ∷ []) (sym (take-add at n bytes));
+    }
+
+-- ---- looking ahead for a newline
+
+module _ (from at count size : ℕ) (into : List ℕ) (above : from ≤ at) where
+  ahead-of : (text : List ℕ) → drop at text ≡ drop (at - from) (drop from text)
+  ahead-of text = ap (λ n. drop n text) (let e : at ≡ from + (at - from) = omega arith in e) ∙ sym (drop-drop (at - from) from text)
+
+  -- a part without a newline was passed
+  pub passed-part : (first now : Option (List ℕ)) → now ≡ first → IfSome first (λ text. IsUnbroken (take (at - from) (drop from text)))
+      → IfSome now (λ text. take count into ≡ take count (drop at text)) → IsUnbroken (take count into)
+      → IfSome first (λ text. IsUnbroken (take (at + count - from) (drop from text)))
+  passed-part None now same passed given none = tt
+  passed-part (Some text) now same passed given none =
+      let read : take count into ≡ take count (drop at text) = subst (λ now. IfSome now (λ text. take count into ≡ take count (drop at text))) same given in
+      let part : take count into ≡ take count (drop (at - from) (drop from text)) = read ∙ ap (take count) (ahead-of text) in
+      subst (λ n. IsUnbroken (take n (drop from text))) (let e : (at - from) + count ≡ at + count - from = omega arith in e)
+      (unbroken-later (drop from text) (at - from) count passed (subst IsUnbroken part none))
+
+  -- a part with one was read
+  pub found-part : (first now : Option (List ℕ)) → now ≡ first → IfSome now (λ text. size ≡ length text) → at ≤ size
+      → IfSome first (λ text. IsUnbroken (take (at - from) (drop from text)))
+      → IfSome now (λ text. take count into ≡ take count (drop at text)) → HasLineAhead (take count into)
+        → IfSome first (λ text. HasLineAhead (drop from text))
+  found-part None now same sized within passed given line = tt
+  found-part (Some text) now same sized within passed given line =
+      let size_is : size ≡ length text = subst (λ now. IfSome now (λ text. size ≡ length text)) same sized in
+      let read : take count into ≡ take count (drop at text) = subst (λ now. IfSome now (λ text. take count into ≡ take count (drop at text))) same given in
+      let part : take count into ≡ take count (drop (at - from) (drop from text)) = read ∙ ap (take count) (ahead-of text) in
+      let short : at - from ≤ length (drop from text) = omega (arith, length-drop from text, size_is) in
+      (at - from + line.0, line-later (drop from text) (at - from) count line.0 passed short (subst (λ (l : List ℕ). IsLineAhead l line.0) part line.1))
+
+  -- the end of the store is reached
+  pub passed-all : (first now : Option (List ℕ)) → now ≡ first → IfSome now (λ text. size ≡ length text) → size ≤ at
+      → IfSome first (λ text. IsUnbroken (take (at - from) (drop from text))) → IfSome first (λ text. IsUnbroken (drop from text))
+  passed-all None now same sized done passed = tt
+  passed-all (Some text) now same sized done passed =
+      let size_is : size ≡ length text = subst (λ now. IfSome now (λ text. size ≡ length text)) same sized in
+      let whole : length (drop from text) ≤ at - from = omega (arith, length-drop from text, size_is) in
+      subst IsUnbroken (take_all (at - from) (drop from text) whole) passed
+
+-- ---- whether a newline was found
+
+pub ahead-there : (bytes : List ℕ) (found : Option ℕ) → is_some found ≡ true → MatchOption found (IsUnbroken bytes) (IsLineAhead bytes) → HasLineAhead bytes
+ahead-there bytes None is ahead = absurd (cc)
+ahead-there bytes (Some count) is ahead = (count, ahead)
+
+pub none-there : (bytes : List ℕ) (found : Option ℕ) → is_some found ≡ false → MatchOption found (IsUnbroken bytes) (IsLineAhead bytes) → IsUnbroken bytes
+none-there bytes None is ahead = ahead
+none-there bytes (Some count) is ahead = absurd (cc)
+
+pub found-as : (bytes : Option (List ℕ)) (from : ℕ) (found want : Bool) → found ≡ want
+    → IfSome bytes (λ text. MatchBool found (HasLineAhead (drop from text)) (IsUnbroken (drop from text)))
+    → IfSome bytes (λ text. MatchBool want (HasLineAhead (drop from text)) (IsUnbroken (drop from text)))
+found-as bytes from found want is told =
+    subst (λ (found : Bool). IfSome bytes (λ text. MatchBool found (HasLineAhead (drop from text)) (IsUnbroken (drop from text)))) is told
+
+-- ---- what stands behind the lines that were taken over
+
+-- nothing stands behind the end
+pub rest-none : (bytes : Option (List ℕ)) (at room size : ℕ) → IfSome bytes (λ text. size ≡ length text) → size ≤ at
+    → IfSome bytes (λ text. IsUnbroken (take room (drop at text)))
+rest-none None at room size sized done = tt
+rest-none (Some text) at room size sized done =
+    let rest = length-drop at text in
+    let none = length-take room (drop at text) in
+    λ k default within. absurd (omega (arith, within, none, rest, sized))
+
+-- no part is wanted to see nothing
+pub passed-none : (bytes : Option (List ℕ)) (from : ℕ) → IfSome bytes (λ text. IsUnbroken (take (from - from) (drop from text)))
+passed-none None from = tt
+passed-none (Some text) from =
+    subst (λ n. IsUnbroken (take n (drop from text))) (let e : 0 ≡ from - from = omega arith in e) (All-nil (λ byte. byte ≢ newline))
+
+-- it fits the buffer
+pub rest-short : (bytes : Option (List ℕ)) (at room size : ℕ) → IfSome bytes (λ text. size ≡ length text) → size - at ≤ room
+    → IfSome bytes (λ text. IsUnbroken (take room (drop at text))) → IfSome bytes (λ text. IsUnbroken (drop at text))
+rest-short None at room size sized short front = tt
+rest-short (Some text) at room size sized short front =
+    let whole : length (drop at text) ≤ room = omega (arith, length-drop at text, sized) in
+    subst IsUnbroken (take_all room (drop at text) whole) front
+
+-- or more than the buffer holds was looked through
+pub rest-long : (bytes : Option (List ℕ)) (at room : ℕ) → IfSome bytes (λ text. IsUnbroken (take room (drop at text)))
+    → IfSome bytes (λ text. IsUnbroken (drop (at + room) text)) → IfSome bytes (λ text. IsUnbroken (drop at text))
+rest-long None at room front back = tt
+rest-long (Some text) at room front back =
+    subst IsUnbroken (take-append-drop room (drop at text))
+    (unbroken-both (take room (drop at text)) (drop room (drop at text)) front (subst IsUnbroken (sym (drop-drop room at text)) back))
+
+-- a line that is longer than any record is that of none
+long-line : (line : List ℕ) → MOST_RECORD_BYTES ≤ length line → (entry : Entry) → IsLineOf entry line → ⊥
+long-line line long entry is =
+    let most = (length-text_of entry is.0).1 in
+    let whole : length (text_of entry) ≡ length line + 1 = ap length is.1 ∙ length-append line (newline ∷ []) in
+    absurd (omega arith)
+
+module _ (issuer : Setup) (shard : ℕ) where
+  -- a newline behind more than any record has ends a bad line
+  pub stops-long : (bytes : Option (List ℕ)) (rows : ShardRows) (taken : Taken) (room size : ℕ) → ReadsFront issuer shard bytes rows taken
+      → IfSome bytes (λ text. size ≡ length text) → room < size - taken.bytes → MOST_RECORD_BYTES ≤ room
+      → IfSome bytes (λ text. IsUnbroken (take room (drop taken.bytes text))) → IfSome bytes (λ text. HasLineAhead (drop (taken.bytes + room) text))
+      → StopsText issuer shard bytes (BadLine (taken.records + 1))
+  stops-long None rows taken room size reads sized long most front line = tt
+  stops-long (Some text) rows taken room size reads sized long most front line =
+      let ahead = drop taken.bytes text in
+      let back : drop room ahead ≡ drop (taken.bytes + room) text = drop-drop room taken.bytes text in
+      let count : ℕ = line.0 in
+      let its : IsLineAhead (drop room ahead) count = subst (λ (l : List ℕ). IsLineAhead l count) (sym back) line.1 in
+      let whole = take room ahead ++ take count (drop room ahead) in
+      let behind = drop (count + 1) (drop room ahead) in
+      let room_is : length (take room ahead) ≡ room = length-take-le room ahead (omega (arith, length-drop taken.bytes text, sized)) in
+      let parts : ahead ≡ whole ++ newline ∷ behind =
+      sym (take-append-drop room ahead)
+      ∙ ap (λ l. take room ahead ++ l)
+      (sym (take-append-drop (count + 1) (drop room ahead)) ∙ ap (λ l. l ++ behind) its.ends ∙ append_assoc (take count (drop room ahead)) (newline ∷ []) behind)
+      ∙ sym (append_assoc (take room ahead) (take count (drop room ahead)) (newline ∷ behind)) in
       record {
-        history = takes.entries;
-        rest = drop taken.bytes text;
-        text_is = told-parts bytes told (texts_of takes.entries) (drop taken.bytes text) parts;
-        unbroken = unbroken;
-        legal = takes.legal;
-        stands = takes.stands;
-        count_is = takes.count_is;
-        sure_is = sym (length-take-le taken.bytes text within) ∙ ap length takes.text_is;
+        entries = reads.history;
+        line = whole;
+        ahead = behind;
+        text_is =
+            sym (take-append-drop taken.bytes text) ∙ ap (λ l. l ++ ahead) reads.front_is ∙ ap (λ l. texts_of reads.history ++ l) parts
+            ∙ sym (append_assoc (texts_of reads.history) whole (newline ∷ behind));
+        unbroken = unbroken-both (take room ahead) (take count (drop room ahead)) front its.unbroken;
+        records = reads.records;
+        legal = reads.legal;
+        bad = (
+          ap (λ n. n + 1) reads.count_is,
+          long-line whole (omega (arith, length-append (take room ahead) (take count (drop room ahead)), room_is)),
+        );
       }
 
-  pub reads : (result : Result TakenOver LoadFault) → IfOk result (λ over. TakesLines issuer shard [] text over.taken over.rows)
-      → IfOk result (λ over. IsUnbroken (drop over.taken.bytes text)) → IfOk result
-      (λ over. (over.taken.records ≤ over.taken.bytes) × (over.taken.bytes ≤ length text))
-      → IfOk result (λ over. ReadsText issuer shard bytes over.rows over.taken)
-  reads (Ok over) takes unbroken within = reads-text over.rows over.taken takes unbroken within.1
-  reads (Err fault) takes unbroken within = tt
+  -- ---- taking over part by part
 
-  stops-told : (b : Option (List ℕ)) → Tells b text → (fault : LoadFault) → StopsAt issuer shard [] text fault → IfSome b
-      (λ text. StopsAt issuer shard [] text fault)
-  stops-told None told fault bad = tt
-  stops-told (Some whole) told fault bad = subst (λ text. StopsAt issuer shard [] text fault) (sym told) bad
+  -- nothing was taken over
+  front-is_empty : (bytes : Option (List ℕ)) → IfSome bytes (λ text. take 0 text ≡ texts_of [])
+  front-is_empty None = tt
+  front-is_empty (Some text) = refl
 
-  stops-text : (fault : LoadFault) → StopsAt issuer shard [] text fault → StopsText issuer shard bytes fault
-  stops-text StoreFault bad = tt
-  stops-text NoMemory bad = tt
-  stops-text (BadLine number) bad = stops-told bytes told (BadLine number) bad
-  stops-text (BadRecord number) bad = stops-told bytes told (BadRecord number) bad
+  pub reads-none : (bytes : Option (List ℕ)) (rows : ShardRows) → StandsFor issuer rows []
+      → ReadsFront issuer shard bytes rows (record { records = 0; bytes = 0 })
+  reads-none bytes rows stands = record {
+    history = [];
+    front_is = front-is_empty bytes;
+    records = All-nil IsRecord;
+    legal = λ place entry at. let within = slice_get_within [] place entry at in absurd (omega arith);
+    stands = stands;
+    count_is = refl;
+    sure_is = refl;
+  }
 
-  pub stops : (result : Result TakenOver LoadFault) → IfErr result (StopsAt issuer shard [] text) → IfErr result (StopsText issuer shard bytes)
-  stops (Ok over) none = tt
-  stops (Err fault) bad = stops-text fault bad
+  module _ (at : Taken) (count : ℕ) (chunk : List ℕ) where
+    front-grows : (bytes : Option (List ℕ)) (history entries : List Entry) (more : Taken) → IfSome bytes (λ text. take at.bytes text ≡ texts_of history)
+        → IfSome bytes (λ text. chunk ≡ take count (drop at.bytes text)) → more.bytes ≤ count → take more.bytes chunk ≡ texts_of entries
+        → IfSome bytes (λ text. take (at.bytes + more.bytes) text ≡ texts_of (history ++ entries))
+    front-grows None history entries more front read within takes = tt
+    front-grows (Some text) history entries more front read within takes =
+        take-add at.bytes more.bytes text
+        ∙ ap (λ l. l ++ take more.bytes (drop at.bytes text)) front
+        ∙ ap (λ l. texts_of history ++ l) (sym (take-take more.bytes count (drop at.bytes text) within) ∙ ap (take more.bytes) (sym read) ∙ takes)
+        ∙ sym (flat_map-append text_of history entries)
 
-pub outside-stops : (issuer : Setup) (shard : ℕ) (bytes : Option (List ℕ)) (fault : LoadFault) → IsOutside fault → StopsText issuer shard bytes fault
-outside-stops issuer shard bytes StoreFault outside = tt
-outside-stops issuer shard bytes NoMemory outside = tt
-outside-stops issuer shard bytes (BadLine number) outside = absurd outside
-outside-stops issuer shard bytes (BadRecord number) outside = absurd outside
+    -- the records of the lines of one more part
+    pub reads-more : (bytes : Option (List ℕ)) (old new : ShardRows) (more : Taken) (front : ReadsFront issuer shard bytes old at)
+        → IfSome bytes (λ text. chunk ≡ take count (drop at.bytes text)) → more.bytes ≤ length chunk → length chunk ≤ count
+        → TakesLines issuer shard front.history chunk more new
+        → ReadsFront issuer shard bytes new (record { records = at.records + more.records; bytes = at.bytes + more.bytes })
+    reads-more bytes old new more front read within short takes =
+        let taken : more.bytes ≡ length (texts_of takes.entries) = sym (length-take-le more.bytes chunk within) ∙ ap length takes.text_is in
+        record {
+          history = front.history ++ takes.entries;
+          front_is = front-grows bytes front.history takes.entries more front.front_is read (omega arith) takes.text_is;
+          records = All-append IsRecord front.history takes.entries front.records takes.records;
+          legal = takes.legal;
+          stands = takes.stands;
+          count_is = let whole = length-append front.history takes.entries in omega (arith, whole, front.count_is, takes.count_is);
+          sure_is =
+              let whole = ap length (flat_map-append text_of front.history takes.entries) ∙ length-append (texts_of front.history) (texts_of takes.entries) in
+              omega (arith, whole, front.sure_is, taken);
+        }
+
+    stops-later : (text : List ℕ) (history : List Entry) (fault : LoadFault) → take at.bytes text ≡ texts_of history
+        → All IsRecord history → chunk ≡ take count (drop at.bytes text)
+        → StopsAt issuer shard history chunk fault → StopsAt issuer shard [] text fault
+    stops-later text history fault front records read stops =
+        let rest = drop count (drop at.bytes text) in
+        let behind = stops.line ++ newline ∷ stops.ahead in
+        record {
+          entries = history ++ stops.entries;
+          line = stops.line;
+          ahead = stops.ahead ++ rest;
+          text_is =
+              sym (take-append-drop at.bytes text)
+              ∙ ap (λ l. l ++ drop at.bytes text) front
+              ∙ ap (λ l. texts_of history ++ l)
+              (sym (take-append-drop count (drop at.bytes text)) ∙ ap (λ l. l ++ rest)
+              (sym read ∙ stops.text_is ∙ append_assoc (texts_of stops.entries) stops.line (newline ∷ stops.ahead))
+              ∙ append_assoc (texts_of stops.entries) behind rest
+              ∙ ap (λ l. texts_of stops.entries ++ l) (append_assoc stops.line (newline ∷ stops.ahead) rest))
+              ∙ sym (append_assoc (texts_of history) (texts_of stops.entries) (stops.line ++ newline ∷ (stops.ahead ++ rest)))
+              ∙ ap (λ l. l ++ (stops.line ++ newline ∷ (stops.ahead ++ rest))) (sym (flat_map-append text_of history stops.entries))
+              ∙ sym (append_assoc (texts_of (history ++ stops.entries)) stops.line (newline ∷ (stops.ahead ++ rest)));
+          unbroken = stops.unbroken;
+          records = All-append IsRecord history stops.entries records stops.records;
+          legal = stops.legal;
+          bad = stops.bad;
+        }
+
+    stops-told : (bytes : Option (List ℕ)) (history : List Entry) (fault : LoadFault) → IfSome bytes (λ text. take at.bytes text ≡ texts_of history)
+        → All IsRecord history → IfSome bytes (λ text. chunk ≡ take count (drop at.bytes text)) → StopsAt issuer shard history chunk fault
+        → IfSome bytes (λ text. StopsAt issuer shard [] text fault)
+    stops-told None history fault front records read stops = tt
+    stops-told (Some text) history fault front records read stops = stops-later text history fault front records read stops
+
+    -- a bad line in one more part
+    pub stops-more : (bytes : Option (List ℕ)) (rows : ShardRows) (fault : LoadFault) (front : ReadsFront issuer shard bytes rows at)
+        → IfSome bytes (λ text. chunk ≡ take count (drop at.bytes text)) → StopsAt issuer shard front.history chunk fault
+        → StopsText issuer shard bytes fault
+    stops-more bytes rows StoreFault front read stops = tt
+    stops-more bytes rows NoMemory front read stops = tt
+    stops-more bytes rows (BadLine number) front read stops = stops-told bytes front.history (BadLine number) front.front_is front.records read stops
+    stops-more bytes rows (BadRecord number) front read stops = stops-told bytes front.history (BadRecord number) front.front_is front.records read stops
+
+  -- all parts were read, and what stands behind the records has no newline
+  pub reads-all : (bytes : Option (List ℕ)) (rows : ShardRows) (taken : Taken) → ReadsFront issuer shard bytes rows taken
+      → IfSome bytes (λ text. IsUnbroken (drop taken.bytes text)) → ReadsText issuer shard bytes rows taken
+  reads-all None rows taken front unbroken = record {
+    history = front.history;
+    rest = [];
+    text_is = tt;
+    unbroken = All-nil (λ byte. byte ≢ newline);
+    records = front.records;
+    legal = front.legal;
+    stands = front.stands;
+    count_is = front.count_is;
+    sure_is = front.sure_is;
+  }
+  reads-all (Some text) rows taken front unbroken = record {
+    history = front.history;
+    rest = drop taken.bytes text;
+    text_is = sym (take-append-drop taken.bytes text) ∙ ap (λ l. l ++ drop taken.bytes text) front.front_is;
+    unbroken = unbroken;
+    records = front.records;
+    legal = front.legal;
+    stands = front.stands;
+    count_is = front.count_is;
+    sure_is = front.sure_is;
+  }
+
+-- a part that was read
+pub part-read : (bytes : Option (List ℕ)) (at count : ℕ) (into : List ℕ) → IfSome bytes (λ text. take count into ≡ take count (drop at text))
+    → (chunk : List ℕ) → chunk ≡ take count into → IfSome bytes (λ text. chunk ≡ take count (drop at text))
+part-read None at count into given chunk is = tt
+part-read (Some text) at count into given chunk is = is ∙ given
+
+-- a part without a whole line has no newline as far as the buffer goes
+pub part-unbroken : (bytes : Option (List ℕ)) (at count room size : ℕ) (chunk : List ℕ) → IfSome bytes (λ text. size ≡ length text)
+    → count ≡ min room (size - at) → IfSome bytes (λ text. chunk ≡ take count (drop at text)) → IsUnbroken chunk
+    → IfSome bytes (λ text. IsUnbroken (take room (drop at text)))
+part-unbroken None at count room size chunk sized all read unbroken = tt
+part-unbroken (Some text) at count room size chunk sized all read unbroken =
+    let rest = length-drop at text in
+    elim (cases_lt room (size - at)) [
+      | inl below ↦
+          let full : count ≡ room = omega (arith, all) in
+          subst (λ n. IsUnbroken (take n (drop at text))) full (subst IsUnbroken read unbroken)
+      | inr above ↦
+          let to_end : length (drop at text) ≤ count = omega (arith, all, sized, rest) in
+          let fits : length (drop at text) ≤ room = omega (arith, sized, rest) in
+          subst IsUnbroken (read ∙ take_all count (drop at text) to_end ∙ sym (take_all room (drop at text) fits)) unbroken
+    ]
+
+-- what one more part adds, told of the first store and shard
+pub front-step : (issuer : Setup) (shard other : ℕ) (bytes now : Option (List ℕ)) (old new : ShardRows) (taken more : Taken) → other ≡ shard → now ≡ bytes
+    → (ReadsFront issuer other now old taken → ReadsFront issuer other now new more)
+    → ReadsFront issuer shard bytes old taken → ReadsFront issuer shard bytes new more
+front-step issuer shard other bytes now old new taken more shard_is bytes_are step front =
+    subst (λ (bytes : Option (List ℕ)). ReadsFront issuer shard bytes new more) bytes_are
+    (subst (λ (shard : ℕ). ReadsFront issuer shard now new more) shard_is
+    (step (subst (λ (shard : ℕ). ReadsFront issuer shard now old taken) (sym shard_is)
+    (subst (λ (bytes : Option (List ℕ)). ReadsFront issuer shard bytes old taken) (sym bytes_are) front))))
+
+-- what was looked at of the rest
+pub rest-step : (bytes now : Option (List ℕ)) (at room other : ℕ) → now ≡ bytes → other ≡ room
+    → (IfSome now (λ text. IsUnbroken (take other (drop at text))) → IfSome now (λ text. IsUnbroken (drop at text)))
+    → IfSome bytes (λ text. IsUnbroken (take room (drop at text))) → IfSome bytes (λ text. IsUnbroken (drop at text))
+rest-step bytes now at room other bytes_are room_is step front =
+    subst (λ (bytes : Option (List ℕ)). IfSome bytes (λ text. IsUnbroken (drop at text))) bytes_are
+    (step (subst (λ (room : ℕ). IfSome now (λ text. IsUnbroken (take room (drop at text)))) (sym room_is)
+    (subst (λ (bytes : Option (List ℕ)). IfSome bytes (λ text. IsUnbroken (take room (drop at text)))) (sym bytes_are) front)))
+
+-- a fault that isn't the store's is counted by none
+pub own-count : (fault : LoadFault) → is_store_failure fault ≡ false → let failed : Result Taken LoadFault = Err fault in is_by_store failed ≡ false
+own-count StoreFault own = absurd (cc)
+own-count NoMemory own = refl
+own-count (BadLine number) own = refl
+own-count (BadRecord number) own = refl

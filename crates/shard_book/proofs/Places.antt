@@ -1,14 +1,16 @@
 -- Where the row of a card stands among those of its shard.
-use Rattle.std.proofs.Common.{◌≡◌, ◌≢◌, ℕ, ◌+◌, ◌*◌, ◌/◌, ◌%◌, ◌<◌, ◌≤◌, List, [], ◌∷◌, ◌++◌, length, Some, refl, ap, sym, ◌∙◌, subst, inl, inr, arith}
+use Rattle.std.proofs.Common.{◌≡◌, ◌≢◌, ℕ, ◌+◌, ◌-◌, ◌*◌, ◌/◌, ◌%◌, ◌^◌, ◌<◌, ◌≤◌, ◌↔◌, false, List, [], ◌∷◌, ◌++◌, length, Some, ap, sym, ◌∙◌, subst, inl, inr, arith}
 use Rattle.std.proofs.Math.Nat.{div-add-mod, mul_comm, mul-le-mul_right}
 use Rattle.std.proofs.lemmas.Bool.{cases_eq, cases_lt}
+use Rattle.std.proofs.lemmas.Nat.{le-div, div-add-mod'}
 use Rattle.std.proofs.lemmas.List.{length_push, get_or_push, get_or_append_left}
 use Rattle.std.proofs.lemmas.Option.{same_Some, slice_get_within, slice_get-get_or, get_or_from_slice_get}
 use Rattle.std.specs.List.{slice_get}
+use Rattle.counter_bits.specs.CounterSets.{has}
 use Rattle.issuer_setup.specs.declared.card.CardInfo.{CardInfo}
 use Rattle.issuer_setup.specs.IssuerSetup.{Setup}
 use Rattle.row_core.specs.CardRow.{CardRow, StandsFor as RowStandsFor}
-use Rattle.shard_book.specs.ShardRows.{ShardRows, IsHome, Covers, AreRowsOf, AreEmpty, IsEmptyAt, RowStands, StandsFor}
+use Rattle.shard_book.specs.ShardRows.{ShardRows, Covers, AreRowsOf, AreEmpty, IsEmptyAt, StandsFor, is_decided}
 
 -- a number from its place and its shard
 pub number-from : (number shards shard : ℕ) → number % shards ≡ shard → number ≡ shard + (number / shards) * shards
@@ -30,26 +32,53 @@ place-below place count shard shards below =
       | inr more ↦ let most = mul-le-mul_right shards more in absurd (let impossible = below in omega (arith, most, impossible))
     ]
 
--- the rows of a shard's cards, made one after another, cover the shard and stand for no records
-pub empty-covers : (issuer : Setup) (rows : ShardRows) → 0 < rows.shards → AreRowsOf issuer rows → AreEmpty issuer rows.shard rows.rows → Covers rows
-empty-covers issuer rows some of_issuer empty = record {
-  some = some;
+-- the rows of a shard's cards, made one after another, with a set for each, cover the shard and stand for no records
+pub empty-covers : (issuer : Setup) (rows : ShardRows) → rows.shard < rows.shards → rows.cards < 2 ^ 32 → AreRowsOf issuer rows
+    → AreEmpty issuer rows.shard rows.rows
+    → ((number : ℕ) → number % rows.shards ≡ rows.shard → ((number < rows.cards) ↔ (number / rows.shards < rows.bits.cards))) → Covers rows
+empty-covers issuer rows inside small of_issuer empty sets = record {
+  inside = inside;
+  small = small;
   each = λ number home.
       let its = number-from number rows.shards rows.shard home.home in
       let whole = subst (λ shards. length issuer.cards ≤ rows.shard + length rows.rows * shards) (sym of_issuer.shards_are) empty.whole in
       place-below (number / rows.shards) (length rows.rows) rows.shard rows.shards
       (let within = home.within in let cards = of_issuer.cards_are in omega (arith, its, whole, within, cards));
+  sets = sets;
 }
 
-pub empty-stands : (issuer : Setup) (rows : ShardRows) → Covers rows → AreRowsOf issuer rows → AreEmpty issuer rows.shard rows.rows → StandsFor issuer rows []
-empty-stands issuer rows covers of_issuer empty = record {
+pub empty-stands : (issuer : Setup) (rows : ShardRows) → Covers rows → AreRowsOf issuer rows → AreEmpty issuer rows.shard rows.rows
+    → ((index counter : ℕ) → has rows.bits index counter ≡ false) → StandsFor issuer rows []
+unfolding is_decided
+empty-stands issuer rows covers of_issuer empty none = record {
   of_issuer = of_issuer;
   each = λ number card home card_is.
       let its : number ≡ rows.shard + (number / rows.shards) * issuer.shards =
       number-from number rows.shards rows.shard home.home ∙ ap (λ shards. rows.shard + (number / rows.shards) * shards) of_issuer.shards_are in
       let found = empty.each (number / rows.shards) card (covers.each number home) (subst (λ number. slice_get issuer.cards number ≡ Some card) its card_is) in
-      record { row = found.0; row_is = found.1; stands = found.2 };
+      record { row = found.0; row_is = found.1; stands = found.2; counters_are = λ counter. none (number / rows.shards) counter };
 }
+
+next-place : (place shards : ℕ) → (place + 1) * shards ≡ place * shards + shards
+next-place place shards = mul_comm (place + 1) shards ∙ grind (arith, mul_comm shards place)
+
+-- how many cards a shard has
+pub home-count : (cards shards shard number : ℕ) → shard < shards → number % shards ≡ shard
+    → ((number < cards) ↔ (number / shards < (cards + shards - 1 - shard) / shards))
+home-count cards shards shard number inside home = (
+  λ below.
+      let its = number-from number shards shard home in
+      let more : (number / shards + 1) * shards ≡ number / shards * shards + shards = next-place (number / shards) shards in
+      let reached = le-div (number / shards + 1) (cards + shards - 1 - shard) shards (omega arith) (omega (arith, its, more, below, inside)) in
+      omega (arith, reached),
+  λ within.
+      let its = number-from number shards shard home in
+      let more : (number / shards + 1) * shards ≡ number / shards * shards + shards = next-place (number / shards) shards in
+      let reached : number / shards + 1 ≤ (cards + shards - 1 - shard) / shards = omega (arith, within) in
+      let up = mul-le-mul_right shards reached in
+      let whole = div-add-mod' (cards + shards - 1 - shard) shards in
+      omega (arith, its, more, up, whole, inside),
+)
 
 -- one more empty row
 pub empty-more : (issuer : Setup) (shard : ℕ) (rows longer : List CardRow) (card : CardInfo) (row : CardRow) (number : ℕ)

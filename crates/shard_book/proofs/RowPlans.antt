@@ -1,5 +1,5 @@
 -- What the row of a card plans is the answer of its shard.
-use Rattle.std.proofs.Common.{◌≡◌, ℕ, ◌/◌, ◌%◌, List, [], ◌∷◌, ◌++◌, length, refl, ap, sym, ◌∙◌, subst, Option, Some}
+use Rattle.std.proofs.Common.{◌≡◌, ℕ, ◌/◌, List, ap, sym, ◌∙◌, Option, Some}
 use Rattle.std.specs.List.{slice_get}
 use Rattle.issuer_base.specs.declared.request.Request.{Request}
 use Rattle.issuer_base.specs.declared.answer.Reply.{Reply}
@@ -11,16 +11,15 @@ use Rattle.card_history.specs.Records.{card_of}
 use Rattle.card_history.specs.Turns.{Answers}
 use Rattle.key_derive.specs.declared.card.CardKeys.{CardKeys}
 use Rattle.issuer_setup.specs.declared.card.CardInfo.{CardInfo}
-use Rattle.issuer_setup.specs.CardList.{name_of, number_of}
 use Rattle.issuer_setup.specs.IssuerSetup.{Setup, keys_of}
 use Rattle.issuer_setup.proofs.CardListLemmas.{number_of-found}
-use Rattle.row_core.specs.CardRow.{CardRow, StandsFor as RowStandsFor}
+use Rattle.row_core.specs.CardRow.{CardRow}
 use Rattle.row_core.specs.declared.row.Outcome.{Outcome}
 use Rattle.row_core.specs.Plan.{answer_of, history_after, IsPlan}
 use Rattle.row_core.specs.Replying.{reply_after, reply_by, reply_of_card, reply_to}
 use Rattle.line_checks.specs.declared.checked.CheckedRequest.{CheckedRequest}
 use Rattle.line_checks.specs.AtHand.{IsRequestAtHand}
-use Rattle.shard_book.specs.ShardRows.{ShardRows, IsHome, StandsFor}
+use Rattle.shard_book.specs.ShardRows.{ShardRows, IsHome}
 use Rattle.shard_book.specs.Steps.{IsPlanFor}
 use Rattle.shard_book.proofs.RowsAfter.{row-there}
 

@@ -1,10 +1,11 @@
 -- The rows of a shard after one more record: only the row of the record's card changes.
-use Rattle.std.proofs.Common.{◌≡◌, ◌≢◌, ℕ, ◌/◌, ◌%◌, ◌<◌, List, [], ◌∷◌, ◌++◌, length, get_or, set, ap, sym, ◌∙◌, subst, inl, inr, Some, Result, Ok, Err}
+use Rattle.std.proofs.Common.{◌≡◌, ◌≢◌, ℕ, Bool, ◌||◌, ◌/◌, List, [], ◌∷◌, ◌++◌, length, get_or, set, ap, sym, ◌∙◌, subst, inl, inr, Some, Result, Ok, Err}
 use Rattle.std.proofs.Common.{IfOk, IsOk, arith, length-set}
 use Rattle.std.proofs.lemmas.Bool.{cases_eq, cases_lt, false≢true}
 use Rattle.std.proofs.lemmas.List.{get_or-set_same, get_or-set_other}
 use Rattle.std.proofs.lemmas.Option.{same_Some, slice_get_within, slice_get-get_or, get_or_from_slice_get}
 use Rattle.std.specs.List.{slice_get}
+use Rattle.counter_bits.specs.CounterSets.{CounterSets}
 use Rattle.issuer_base.specs.declared.entry.Entry.{Entry}
 use Rattle.card_history.specs.Records.{card_in}
 use Rattle.card_history.specs.Scripts.{waiting, scripts_of}
@@ -13,9 +14,10 @@ use Rattle.issuer_setup.specs.CardList.{name_of, AreCards}
 use Rattle.issuer_setup.specs.IssuerSetup.{Setup}
 use Rattle.row_core.specs.CardRow.{CardRow, KeptScripts, StandsFor as RowStandsFor}
 use Rattle.row_core.proofs.OtherCards.{stands-other}
-use Rattle.shard_book.specs.ShardRows.{ShardRows, IsHome, RowStands, StandsFor}
+use Rattle.shard_book.specs.ShardRows.{ShardRows, IsHome, RowStands, StandsFor, is_decided}
 use Rattle.shard_book.specs.Steps.{IsCardOf}
 use Rattle.shard_book.proofs.Places.{places-differ}
+use Rattle.shard_book.proofs.Marks.{Marks, is_on, marked-there, marked-elsewhere, decided-its, decided-elsewhere}
 
 -- what was written is read again
 there : {X : Type 0} (xs : List X) (place : ℕ) (old new : X) → slice_get xs place ≡ Some old → slice_get (set xs place new) place ≡ Some new
@@ -46,9 +48,10 @@ other-name cards number other card other_card valid card_is other_is not_it same
       | inr higher ↦ valid.distinct number other card (omega arith) other_within (named ∙ sym same ∙ sym other_named)
     ]
 
--- the rows once the row of this card is another one
-abbrev pub after : ShardRows → ℕ → CardRow → ShardRows
-after rows number row = record { shard = rows.shard; shards = rows.shards; cards = rows.cards; rows = set rows.rows (number / rows.shards) row }
+-- the rows once the row of this card is another one, and the sets are these
+abbrev pub after : ShardRows → ℕ → CardRow → CounterSets → ShardRows
+after rows number row bits =
+    record { shard = rows.shard; shards = rows.shards; cards = rows.cards; rows = set rows.rows (number / rows.shards) row; bits = bits }
 
 module _ (issuer : Setup) (rows : ShardRows) (history : List Entry) (stands : StandsFor issuer rows history) (number : ℕ) (home : IsHome rows number)
     (row : CardRow) (row_is : slice_get rows.rows (number / rows.shards) ≡ Some row) where
@@ -63,19 +66,26 @@ module _ (issuer : Setup) (rows : ShardRows) (history : List Entry) (stands : St
   queue-there card card_is = ap (λ (scripts : KeptScripts). scripts.commands) (row-there card card_is).scripts_are
 
   -- where the card's row stands for one record more, the rows do
-  pub stands-more : (card : CardInfo) (entry : Entry) (new : CardRow) → IsCardOf issuer number card → card_in entry ≡ name_of card
-      → (RowStandsFor card row history → RowStandsFor card new (history ++ entry ∷ [])) → StandsFor issuer (after rows number new) (history ++ entry ∷ [])
-  stands-more card entry new known its gains = record {
+  pub stands-more : (card : CardInfo) (entry : Entry) (new : CardRow) (bits : CounterSets) → IsCardOf issuer number card → card_in entry ≡ name_of card
+      → Marks rows.bits bits (number / rows.shards) entry
+      → (RowStandsFor card row history → RowStandsFor card new (history ++ entry ∷ [])) → StandsFor issuer (after rows number new bits) (history ++ entry ∷ [])
+  stands-more card entry new bits known its marks gains = record {
     of_issuer = record { shards_are = stands.of_issuer.shards_are; cards_are = stands.of_issuer.cards_are };
     each = λ other other_card other_home other_is.
         elim (cases_eq other number) [
-          | inl same ↦ subst (λ (other : ℕ). RowStands (after rows number new) other other_card (history ++ entry ∷ [])) (sym same) (
+          | inl same ↦ subst (λ (other : ℕ). RowStands (after rows number new bits) other other_card (history ++ entry ∷ [])) (sym same) (
               let card_is : card ≡ other_card = same_Some card other_card (sym known.card_is ∙ ap (slice_get issuer.cards) (sym same) ∙ other_is) in
               let gained = gains (row-there card known.card_is) in
               record {
                 row = new;
                 row_is = there rows.rows (number / rows.shards) row new row_is;
                 stands = subst (λ (card : CardInfo). RowStandsFor card new (history ++ entry ∷ [])) card_is gained;
+                counters_are = λ counter.
+                    let before = stands.each number other_card home (ap (slice_get issuer.cards) (sym same) ∙ other_is) in
+                    let name_is : card_in entry ≡ name_of other_card = its ∙ ap name_of card_is in
+                    marked-there rows.bits bits (number / rows.shards) entry marks counter
+                    ∙ ap (λ (there : Bool). there || is_on entry counter) (before.counters_are counter)
+                    ∙ sym (decided-its (name_of other_card) history entry name_is counter);
               })
           | inr not_it ↦
               let found = stands.each other other_card (record { within = other_home.within; home = other_home.home }) other_is in
@@ -86,6 +96,10 @@ module _ (issuer : Setup) (rows : ShardRows) (history : List Entry) (stands : St
                 row = found.row;
                 row_is = elsewhere rows.rows (number / rows.shards) new (other / rows.shards) found.row apart found.row_is;
                 stands = stands-other other_card found.row history entry named found.stands;
+                counters_are = λ counter.
+                    marked-elsewhere rows.bits bits (number / rows.shards) (other / rows.shards) entry marks apart counter
+                    ∙ found.counters_are counter
+                    ∙ ap (is_decided counter) (sym (decided-elsewhere (name_of other_card) history entry named));
               }
         ];
   }
@@ -93,16 +107,17 @@ module _ (issuer : Setup) (rows : ShardRows) (history : List Entry) (stands : St
 -- the row at a card's place is changed so that it stands for one record more
 pub step-more : (issuer : Setup) (rows now : ShardRows) → rows ≡ now → (number place : ℕ) → place ≡ number / rows.shards → (row new : CardRow)
     → IsHome now number → slice_get rows.rows place ≡ Some row → (card : CardInfo) (history : List Entry) (entry : Entry) → StandsFor issuer now history
-    → IsCardOf issuer number card → card_in entry ≡ name_of card
+    → IsCardOf issuer number card → card_in entry ≡ name_of card → (bits : CounterSets) → Marks rows.bits bits place entry
     → (RowStandsFor card row history → RowStandsFor card new (history ++ entry ∷ []))
-    → StandsFor issuer (record { shard = rows.shard; shards = rows.shards; cards = rows.cards; rows = set rows.rows place new }) (history ++ entry ∷ [])
-step-more issuer rows now view number place place_is row new home row_is card history entry stands known its gains =
+    → StandsFor issuer (record { shard = rows.shard; shards = rows.shards; cards = rows.cards; rows = set rows.rows place new; bits = bits }) (history ++ entry ∷ [])
+step-more issuer rows now view number place place_is row new home row_is card history entry stands known its bits marks gains =
+    let marks_there : Marks rows.bits bits (number / rows.shards) entry = subst (λ place. Marks rows.bits bits place entry) place_is marks in
     let home_inside = subst (λ (rows : ShardRows). IsHome rows number) (sym view) home in
     let stands_inside = subst (λ (rows : ShardRows). StandsFor issuer rows history) (sym view) stands in
     let row_there : slice_get rows.rows (number / rows.shards) ≡ Some row = subst (λ place. slice_get rows.rows place ≡ Some row) place_is row_is in
-    subst (λ place. StandsFor issuer (record { shard = rows.shard; shards = rows.shards; cards = rows.cards; rows = set rows.rows place new })
+    subst (λ place. StandsFor issuer (record { shard = rows.shard; shards = rows.shards; cards = rows.cards; rows = set rows.rows place new; bits = bits })
     (history ++ entry ∷ []))
-    (sym place_is) (stands-more issuer rows history stands_inside number home_inside row row_there card entry new known its gains)
+    (sym place_is) (stands-more issuer rows history stands_inside number home_inside row row_there card entry new bits known its marks_there gains)
 
 -- the queue of a card is that of its row
 pub queue-inside : (issuer : Setup) (rows now : ShardRows) → rows ≡ now → (number place : ℕ) → place ≡ number / rows.shards → (row : CardRow)

@@ -1,11 +1,12 @@
 -- A record that is put into the journal of a shard: what is held then, and what a crash may leave.
-use Rattle.std.proofs.Common.{◌≡◌, ◌⊎◌, ℕ, ◌+◌, ◌%◌, List, [], ◌∷◌, ◌++◌, length, append-nil, refl, sym, ap, subst, ◌∙◌, inl, inr, ⊎_elim, Bool, true}
+use Rattle.std.proofs.Common.{◌≡◌, ◌⊎◌, ℕ, ◌+◌, List, [], ◌∷◌, ◌++◌, length, append-nil, refl, sym, ap, subst, ◌∙◌, inl, inr, ⊎_elim, Bool, true}
 use Rattle.std.proofs.Common.{Option, None, Some, Result, Ok, Err, IfOk, IfSome}
 use Rattle.std.proofs.lemmas.List.{length_push}
+use Rattle.std.proofs.lemmas.List.Elements.{All-push}
 use Rattle.std.proofs.lemmas.List.Concat.{flat_map-append}
 use Rattle.issuer_base.specs.declared.outside.store.Store.{Ghosts}
 use Rattle.issuer_base.specs.declared.entry.Entry.{Entry}
-use Rattle.issuer_base.specs.Stores.{Disk, Moment, MayLeave, BothTold, LeavesOnly}
+use Rattle.issuer_base.specs.Stores.{Disk, BothTold, LeavesOnly}
 use Rattle.issuer_base.proofs.Moments.{LeavesOnly-passes, LeavesOnly-weaker, Passes-no_call}
 use Rattle.issuer_base.proofs.ToldTwice.{BothTold-weaker}
 use Rattle.card_history.specs.LegalRecords.{Grounds, IsLegal}
@@ -19,6 +20,7 @@ use Rattle.issuer_base.specs.declared.entry.Entry.TheVariants.{Decided}
 use Rattle.card_history.specs.Turns.{IsUnused, decided_for}
 use Rattle.row_core.specs.Replying.{reply_to}
 use Rattle.shard_book.specs.Answering.{AnswersClaimed}
+use Rattle.journal_rec.specs.Record.{IsRecord}
 use Rattle.journal_rec.specs.RecordText.{text_of, texts_of}
 use Rattle.record_store.specs.declared.journal.Journal.{Journal}
 use Rattle.record_store.specs.Holding.{Holds}
@@ -35,7 +37,7 @@ texts-more history entry =
     ap (λ l. texts_of history ++ l) (sym (append-nil (text_of entry))) ∙ sym (flat_map-append text_of history (entry ∷ []))
 
 module _ {S : Type 0} {G : Ghosts S} (grounds : Grounds) (number : ℕ) (history : List Entry) (entry : Entry) (old new : Journal S G)
-    (h : HoldsHistory grounds number old history) (piece : List ℕ) (its : piece ≡ text_of entry) where
+    (h : HoldsHistory grounds number old history) (piece : List ℕ) (its : piece ≡ text_of entry) (valid : IsRecord entry) where
   -- a record that was put is one of the history's
   pub put-done : {E : Type 0} (result : Result ℕ E)
       → IfOk result (λ place. (place ≡ length history) × Holds new (length history + 1) (texts_of history ++ piece) [])
@@ -46,6 +48,7 @@ module _ {S : Type 0} {G : Ghosts S} (grounds : Grounds) (number : ℕ) (history
     record {
       tail = [];
       tail_is = inl refl;
+      records = All-push IsRecord history entry h.records valid;
       holds =
           subst (λ (n : ℕ). Holds new n (texts_of (history ++ entry ∷ [])) []) (sym (length_push history entry))
           (subst (λ (text : List ℕ). Holds new (length history + 1) text []) (ap (λ l. texts_of history ++ l) its ∙ texts-more history entry) done.1);
@@ -56,8 +59,13 @@ module _ {S : Type 0} {G : Ghosts S} (grounds : Grounds) (number : ℕ) (history
   pub put-failed : IsLegal grounds number history entry
       → Holds new (length history) (texts_of history) h.tail ⊎ Holds new (length history) (texts_of history) piece → HoldsHistory grounds number new history
   put-failed legal = ⊎_elim
-      (λ (same : Holds new (length history) (texts_of history) h.tail). record { tail = h.tail; tail_is = h.tail_is; holds = same })
-      (λ (torn : Holds new (length history) (texts_of history) piece). record { tail = piece; tail_is = inr (entry, legal, its); holds = torn })
+      (λ (same : Holds new (length history) (texts_of history) h.tail). record { tail = h.tail; tail_is = h.tail_is; records = h.records; holds = same })
+      (λ (torn : Holds new (length history) (texts_of history) piece). record {
+        tail = piece;
+        tail_is = inr (entry, valid, legal, its);
+        records = h.records;
+        holds = torn;
+      })
 
   -- and a crash leaves the text of the history, and a torn record behind it
   pub put-crash : IsLegal grounds number history entry → (a b : Option Disk)
@@ -67,7 +75,7 @@ module _ {S : Type 0} {G : Ghosts S} (grounds : Grounds) (number : ℕ) (history
       (λ x y only. LeavesOnly-weaker (IsEitherImage (texts_of history) h.tail piece) (IsImageOf grounds number history) x y
       (λ image. ⊎_elim
       (λ (one : IsImage (texts_of history) h.tail image). (h.tail, h.tail_is, one))
-      (λ (one : IsImage (texts_of history) piece image). (piece, inr (entry, legal, its), one))) only)
+      (λ (one : IsImage (texts_of history) piece image). (piece, inr (entry, valid, legal, its), one))) only)
 
 -- no call was made
 no_call : (grounds : Grounds) (number : ℕ) (history : List Entry) (tail : List ℕ) → IsTail grounds number history tail → (disk : Option Disk)

@@ -1,5 +1,5 @@
 -- What a shard over a store may answer, and its history afterwards: a turn's answer, or that its store failed.
-use Rattle.std.specs.Prelude.{◌≡◌, ℕ, ◌+◌, ◌^◌, nat_lt, if◌then◌else◌, Bool, true, false, List}
+use Rattle.std.specs.Prelude.{◌≡◌, ℕ, ◌+◌, nat_lt, if◌then◌else◌, Bool, true, false, List}
 use Rattle.issuer_base.specs.declared.command.Command.{Command}
 use Rattle.issuer_base.specs.declared.request.Request.{Request}
 use Rattle.issuer_base.specs.declared.answer.Reply.{Reply}
@@ -7,6 +7,7 @@ use Rattle.issuer_base.specs.declared.answer.Answer.{Answer}
 use Rattle.issuer_base.specs.declared.answer.Answer.TheVariants.{Fresh, Refused}
 use Rattle.issuer_base.specs.declared.answer.Refusal.TheVariants.{Pending, StoreFault}
 use Rattle.issuer_base.specs.declared.entry.Entry.{Entry}
+use Rattle.issuer_base.specs.declared.limits.TheConstants.{MAX_FAULTS_TOLD}
 use Rattle.card_history.specs.Records.{CardName}
 use Rattle.card_history.specs.Scripts.{waiting, scripts_of}
 use Rattle.card_history.specs.Turns.{IsUnused, decided_for, Answers, AnswersCommand, AnswersStatus}
@@ -17,9 +18,9 @@ abbrev pub is_store_fault : Answer → Bool
 is_store_fault (Refused StoreFault) = true
 is_store_fault _ = false
 
--- how many answers told that the store failed, after one more answer: they are counted up to 2^62 and no further
+-- how many answers told that the store failed, after one more answer: they are counted up to a limit and no further
 abbrev pub told_after : ℕ → Bool → ℕ
-told_after told true = if nat_lt told (2 ^ 62) then told + 1 else told
+told_after told true = if nat_lt told MAX_FAULTS_TOLD then told + 1 else told
 told_after told false = told
 
 -- what may be answered to a request whose claim was won or not

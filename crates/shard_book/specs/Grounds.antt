@@ -1,5 +1,5 @@
 -- What an issuer asks of the records of its shards, and what may stand behind the text of a history.
-use Rattle.std.specs.Prelude.{◌≡◌, ◌⊎◌, ℕ, ◌%◌, List, [], ◌++◌, slice_get, Option, Some, Ok}
+use Rattle.std.specs.Prelude.{◌≡◌, ◌⊎◌, ℕ, ◌%◌, List, [], ◌++◌, length, slice_get, Option, Some, Ok, IsTrue, All}
 use Rattle.issuer_base.specs.declared.request.Request.{Request}
 use Rattle.issuer_base.specs.declared.answer.Reply.{Reply}
 use Rattle.issuer_base.specs.declared.entry.Entry.{Entry}
@@ -8,12 +8,14 @@ use Rattle.card_history.specs.LegalRecords.{Grounds, IsLegal}
 use Rattle.card_history.specs.Records.{CardName, card_of}
 use Rattle.card_history.specs.Scripts.{scripts_of}
 use Rattle.key_derive.specs.declared.card.CardKeys.{CardKeys}
+use Rattle.decision_table.specs.Tables.{is_table}
 use Rattle.issuer_setup.specs.declared.card.CardInfo.{CardInfo}
 use Rattle.issuer_setup.specs.CardList.{number_of}
 use Rattle.issuer_setup.specs.IssuerSetup.{Setup, keys_of}
 use Rattle.row_core.specs.Accepting.{IsMade}
 use Rattle.row_core.specs.Replying.{reply_to}
 use Rattle.line_checks.specs.Reading.{checked}
+use Rattle.journal_rec.specs.Record.{IsRecord}
 use Rattle.journal_rec.specs.RecordText.{text_of, texts_of}
 use Rattle.record_store.specs.Images.{IsImage}
 
@@ -49,9 +51,15 @@ grounds_of issuer = grounds_by issuer (IsMadeBy issuer)
 abbrev pub grounds_now : Setup → Grounds
 grounds_now issuer = grounds_by issuer (λ before request reply. reply ≡ reply_to issuer before request)
 
+-- the issuer's table is one, and each of its card status updates has four bytes: EMV 4.3 Book 2, section 8.2.2
+pub record HasTable (issuer : Setup) : Type 0 where
+  pub table : IsTrue (is_table issuer.table)
+  pub updates : All (λ row. length row.csu ≡ 4) issuer.table
+
 -- the tail is empty, or the text of a record that may come next
 abbrev pub IsTail : Grounds → ℕ → List Entry → List ℕ → Type 0
-IsTail grounds shard history tail = (tail ≡ []) ⊎ ((entry : Entry) × IsLegal grounds shard history entry × (tail ≡ text_of entry))
+IsTail grounds shard history tail =
+    (tail ≡ []) ⊎ ((entry : Entry) × IsRecord entry × IsLegal grounds shard history entry × (tail ≡ text_of entry))
 
 -- the text of the history, and behind it a front of the text of a record that may come next, or nothing
 abbrev pub IsImageOf : Grounds → ℕ → List Entry → List ℕ → Type 0

@@ -3,6 +3,7 @@ pub mod ShardRows
 pub mod Steps
 pub mod Grounds
 pub mod Shards
+pub mod Recorded
 pub mod Answering
 pub mod LineAhead
 pub mod Loading

@@ -7,3 +7,7 @@ pub record IsLineAhead (bytes : List ℕ) (count : ℕ) : Type 0 where
   pub within : count < length bytes
   pub unbroken : IsUnbroken (take count bytes)
   pub ends : take (count + 1) bytes ≡ take count bytes ++ newline ∷ []
+
+-- a line of some length stands ahead
+abbrev pub HasLineAhead : List ℕ → Type 0
+HasLineAhead bytes = (count : ℕ) × IsLineAhead bytes count

@@ -1,10 +1,10 @@
 -- What the text of a journal says: its records up to the first bad line, and its rest.
-use Rattle.std.specs.Prelude.{◌≡◌, ℕ, ◌+◌, List, [], ◌∷◌, ◌++◌, length, take, drop, Bool, true, false, Option, IfSome, Result, Err}
+use Rattle.std.specs.Prelude.{◌≡◌, ℕ, ◌+◌, List, [], ◌∷◌, ◌++◌, length, take, drop, Bool, true, false, Option, IfSome, Result, Err, All}
 use Rattle.issuer_base.specs.declared.entry.Entry.{Entry}
 use Rattle.card_history.specs.LegalRecords.{Grounds, IsLegal, IsLegalHistory}
 use Rattle.issuer_base.specs.Tells.{Tells}
 use Rattle.issuer_setup.specs.IssuerSetup.{Setup}
-use Rattle.journal_rec.specs.Record.{IsLineOf}
+use Rattle.journal_rec.specs.Record.{IsRecord, IsLineOf}
 use Rattle.journal_rec.specs.RecordText.{newline, texts_of, IsUnbroken}
 use Rattle.shard_book.specs.declared.replay.LoadFault.{LoadFault}
 use Rattle.shard_book.specs.declared.replay.LoadFault.TheVariants.{BadLine, BadRecord, StoreFault, NoMemory}
@@ -31,6 +31,7 @@ pub record TakesLines (issuer : Setup) (shard : ℕ) (history : List Entry) (tex
   pub entries : List Entry
   pub count_is : taken.records ≡ length entries
   pub text_is : take taken.bytes text ≡ texts_of entries
+  pub records : All IsRecord entries
   pub legal : IsLegalHistory (grounds_of issuer) shard (history ++ entries)
   pub stands : StandsFor issuer new (history ++ entries)
 
@@ -41,8 +42,19 @@ pub record StopsAt (issuer : Setup) (shard : ℕ) (history : List Entry) (text :
   pub ahead : List ℕ
   pub text_is : text ≡ texts_of entries ++ line ++ newline ∷ ahead
   pub unbroken : IsUnbroken line
+  pub records : All IsRecord entries
   pub legal : IsLegalHistory (grounds_of issuer) shard (history ++ entries)
   pub bad : IsBad (grounds_of issuer) shard (history ++ entries) line fault
+
+-- where the bytes are told, the first ones are the text of a legal history; the rows stand for it
+pub record ReadsFront (issuer : Setup) (shard : ℕ) (bytes : Option (List ℕ)) (rows : ShardRows) (taken : Taken) : Type 0 where
+  pub history : List Entry
+  pub front_is : IfSome bytes (λ text. take taken.bytes text ≡ texts_of history)
+  pub records : All IsRecord history
+  pub legal : IsLegalHistory (grounds_of issuer) shard history
+  pub stands : StandsFor issuer rows history
+  pub count_is : taken.records ≡ length history
+  pub sure_is : taken.bytes ≡ length (texts_of history)
 
 -- where the bytes are told, they are the text of a legal history and a rest without a newline; the rows stand for the history
 pub record ReadsText (issuer : Setup) (shard : ℕ) (bytes : Option (List ℕ)) (rows : ShardRows) (taken : Taken) : Type 0 where
@@ -50,6 +62,7 @@ pub record ReadsText (issuer : Setup) (shard : ℕ) (bytes : Option (List ℕ)) 
   pub rest : List ℕ
   pub text_is : Tells bytes (texts_of history ++ rest)
   pub unbroken : IsUnbroken rest
+  pub records : All IsRecord history
   pub legal : IsLegalHistory (grounds_of issuer) shard history
   pub stands : StandsFor issuer rows history
   pub count_is : taken.records ≡ length history

@@ -1,26 +1,30 @@
 -- The history that a shard over a store stands for.
-use Rattle.std.specs.Prelude.{◌≡◌, ◌⊎◌, ℕ, List, [], ◌∷◌, ◌++◌, length, Option}
-use Rattle.issuer_base.specs.Stores.{Disk, Moment}
+use Rattle.std.specs.Prelude.{◌≡◌, ◌⊎◌, ℕ, List, [], ◌∷◌, ◌++◌, length, Option, Some, All}
+use Rattle.issuer_base.specs.Stores.{Disk, Moment, BothTold}
 use Rattle.issuer_base.specs.Tells.{Tells}
-use Rattle.record_store.specs.Images.{IsCutImage}
+use Rattle.record_store.specs.Images.{IsCutImage, OnlyReads}
 use Rattle.issuer_base.specs.declared.outside.store.Store.{Ghosts}
 use Rattle.issuer_base.specs.declared.answer.Answer.{Answer}
 use Rattle.issuer_base.specs.declared.answer.Answer.TheVariants.{Refused}
 use Rattle.issuer_base.specs.declared.answer.Refusal.TheVariants.{StoreFault}
 use Rattle.issuer_base.specs.declared.entry.Entry.{Entry}
-use Rattle.card_history.specs.LegalRecords.{Grounds, IsLegalHistory}
+use Rattle.card_history.specs.LegalRecords.{Grounds, IsLegal, IsLegalHistory}
 use Rattle.issuer_setup.specs.IssuerSetup.{Setup}
+use Rattle.journal_rec.specs.Record.{IsRecord}
 use Rattle.journal_rec.specs.RecordText.{texts_of, IsUnbroken}
 use Rattle.record_store.specs.declared.journal.Journal.{Journal}
 use Rattle.record_store.specs.Holding.{Holds}
+use Rattle.shard_book.specs.declared.replay.LoadFault.{LoadFault}
+use Rattle.shard_book.specs.declared.replay.LoadFault.TheVariants.{StoreFault as StoreFailed}
 use Rattle.shard_book.specs.declared.shard.Shard.{Shard}
 use Rattle.shard_book.specs.ShardRows.{AreRowsOf, IsHome, StandsFor as RowsStandFor}
-use Rattle.shard_book.specs.Grounds.{IsTail, grounds_now, grounds_of}
+use Rattle.shard_book.specs.Grounds.{IsTail, IsImageOf, grounds_now, grounds_of}
 
 -- the journal has the records of the history; a front of the text of a record that may come next may stand behind them
 pub record HoldsHistory {S : Type 0} {G : Ghosts S} (grounds : Grounds) (number : ℕ) (journal : Journal S G) (history : List Entry) : Type 0 where
   pub tail : List ℕ
   pub tail_is : IsTail grounds number history tail
+  pub records : All IsRecord history
   pub holds : Holds journal (length history) (texts_of history) tail
 
 module _ {S : Type 0} {G : Ghosts S} where
@@ -76,6 +80,7 @@ pub record IsLoaded {S : Type 0} {G : Ghosts S} (issuer : Setup) (number : ℕ) 
   pub rest : List ℕ
   pub text_is : Tells bytes (texts_of history ++ rest)
   pub unbroken : IsUnbroken rest
+  pub records : All IsRecord history
   pub legal : IsLegalHistory (grounds_of issuer) number history
   pub number_is : number_in shard ≡ number
   pub stands : StandsFor issuer shard history
@@ -84,3 +89,50 @@ pub record IsLoaded {S : Type 0} {G : Ghosts S} (issuer : Setup) (number : ℕ) 
 -- what the moment may leave, or some of its first bytes
 abbrev pub IsSomeCutImage : Moment → List ℕ → Type 0
 IsSomeCutImage moment image = (sure : ℕ) × IsCutImage sure moment image
+
+-- the bytes are told, and are the text of this legal history, and a rest without a newline
+pub record IsTextOf (grounds : Grounds) (shard : ℕ) (bytes : Option (List ℕ)) (history : List Entry) : Type 0 where
+  pub rest : List ℕ
+  pub text_is : bytes ≡ Some (texts_of history ++ rest)
+  pub unbroken : IsUnbroken rest
+  pub records : All IsRecord history
+  pub legal : IsLegalHistory grounds shard history
+
+-- the bytes are told, and are an image of this history, which is legal for a later run
+pub record IsImageLeft (issuer : Setup) (shard : ℕ) (bytes : Option (List ℕ)) (history : List Entry) : Type 0 where
+  pub image : List ℕ
+  pub told : bytes ≡ Some image
+  pub left : IsImageOf (grounds_now issuer) shard history image
+  pub records : All IsRecord history
+  pub legal : IsLegalHistory (grounds_of issuer) shard history
+
+-- the shard stands for the history, and its journal has just the history's text, all of it safe
+pub record IsSettled {S : Type 0} {G : Ghosts S} (issuer : Setup) (shard : Shard S G) (history : List Entry) : Type 0 where
+  pub stands : StandsFor issuer shard history
+  pub settled : Holds shard.journal (length history) (texts_of history) []
+
+-- the shard stands for the history, or for the history and the one record whose text is whole in the bytes
+abbrev pub StandsForLeft : {S : Type 0} {G : Ghosts S} → Setup → ℕ → Option (List ℕ) → List Entry → Shard S G → Type 0
+StandsForLeft issuer number bytes history shard =
+    IsSettled issuer shard history
+    ⊎ ((entry : Entry) × IsLegal (grounds_now issuer) number history entry × (bytes ≡ Some (texts_of (history ++ entry ∷ [])))
+    × IsSettled issuer shard (history ++ entry ∷ []))
+
+-- the bytes were those of records and a rest without a newline, and now are those of the records alone
+pub record IsCutToText (before after : List ℕ) : Type 0 where
+  pub history : List Entry
+  pub rest : List ℕ
+  pub text_is : before ≡ texts_of history ++ rest
+  pub unbroken : IsUnbroken rest
+  pub records : All IsRecord history
+  pub cut : after ≡ texts_of history
+
+-- what a load that failed leaves of the bytes: the store's own fault leaves them as they were or cut to the records, any other as they were
+abbrev pub LeavesBytes : LoadFault → Option (List ℕ) → Option (List ℕ) → Type 0
+LeavesBytes StoreFailed old new = BothTold (λ before after. (after ≡ before) ⊎ IsCutToText before after) old new
+LeavesBytes _ old new = new ≡ old
+
+-- and of the disk: where the store didn't fail, each moment has the bytes of the first
+abbrev pub LeavesDisk : LoadFault → Option Disk → Option Disk → Type 0
+LeavesDisk StoreFailed old new = Unit {0}
+LeavesDisk _ old new = BothTold OnlyReads old new

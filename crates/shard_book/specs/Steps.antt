@@ -30,11 +30,11 @@ IsPlanFor issuer rows found place outcome =
     (history : List Entry) → StandsFor issuer rows history → place ≡ length history
     → Answers rows.shard (reply_to issuer) history found.request (answer_of rows.shard outcome) (history_after history outcome)
 
--- the decision that comes next for this card is added
-abbrev pub Applies : ShardRows → ℕ → Decision → ShardRows → Type 0
-Applies old number step new =
-    (issuer : Setup) (card : CardInfo) (history : List Entry) → StandsFor issuer old history → IsCardOf issuer number card
-    → IsNext card history step → StandsFor issuer new (with_record history step)
+-- the decision of this request that comes next for its card is added
+abbrev pub Applies : ShardRows → CheckedRequest → Decision → ShardRows → Type 0
+Applies old found step new =
+    (issuer : Setup) (card : CardInfo) (history : List Entry) → StandsFor issuer old history → IsCardOf issuer found.card card
+    → IsNext card history step → step.request ≡ found.request → StandsFor issuer new (with_record history step)
 
 -- whether the decision of this request of a card may come next
 abbrev pub Accepts : ShardRows → CheckedRequest → Reply → Bool → Type 0

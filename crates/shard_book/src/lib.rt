@@ -2,6 +2,7 @@
 #![tactic(auto)]
 
 mod adopting;
+mod reading;
 mod replay;
 mod rows;
 mod shard;

@@ -1,5 +1,6 @@
 //! The rows of a shard's cards.
-ghost use Rattle.std.specs.Prelude.{◌≡◌, ◌↔◌, ℕ, ◌+◌, ◌*◌, ◌/◌, ◌%◌, ◌<◌, ◌≤◌, List, [], ◌∷◌, ◌++◌, length, slice_get, Some, false, IfOk, IsTrue};
+ghost use Rattle.std.specs.Prelude.{◌≡◌, ◌↔◌, ℕ, take, ◌+◌, ◌*◌, ◌/◌, ◌%◌, ◌<◌, ◌≤◌, ◌^◌, List, [], ◌∷◌, ◌++◌, length, slice_get, Some, false, IfOk, IsTrue};
+ghost use Rattle.counter_bits.specs.CounterSets.{has, times, one_if};
 ghost use Rattle.script_queue.specs.CommandQueue.{TakesOneMore};
 ghost use Rattle.issuer_base.specs.declared.entry.Entry.{Entry};
 ghost use Rattle.issuer_base.specs.ScriptCommand.{is_command};
@@ -8,10 +9,11 @@ ghost use Rattle.issuer_setup.specs.IssuerSetup.{Setup};
 ghost use Rattle.key_derive.specs.SessionKey.{session_ac};
 ghost use Rattle.row_core.specs.Plan.{IsForRequest};
 ghost use Rattle.line_checks.specs.AtHand.{IsRequestAtHand};
-ghost use Rattle.shard_book.specs.ShardRows.{AreRowsOf, AreSame, IsHome, AreEmpty, StandsFor};
+ghost use Rattle.shard_book.specs.ShardRows.{AreRowsOf, AreSame, IsHome, AreEmpty, Covers, Lists, StandsFor};
 ghost use Rattle.shard_book.specs.Steps.{IsPlanFor, Applies, Accepts, Adopts, Queues, TakesCommand, SetsStatus};
 
-use issuer_base::{Command, MAX_QUEUED, MAX_STATUS, MAX_UNDONE, NoMemory, Reply};
+use counter_bits::CounterBits;
+use issuer_base::{Command, MAX_CARDS, MAX_QUEUED, MAX_STATUS, MAX_UNDONE, NoMemory, Reply};
 use issuer_setup::Issuer;
 use line_checks::CheckedRequest;
 use row_core::{Outcome, Row, Step};
@@ -20,7 +22,7 @@ use std::marker::Model;
 
 /// The rows of the cards of one shard of an issuer.
 ///
-/// A contract sees the number of the shard, how many shards and cards the issuer has, and the rows.
+/// A contract sees the number of the shard, how many shards and cards the issuer has, the rows, and the sets of recorded counters.
 #[derive(Drop)]
 pub(crate) struct Rows {
     shard: u8,
@@ -29,6 +31,9 @@ pub(crate) struct Rows {
 
     /// A row for each card of the shard, in the order of their numbers.
     rows: Vec<Row>,
+
+    /// The recorded counters of each of these cards.
+    bits: CounterBits,
 }
 
 impl Model for Rows {
@@ -36,9 +41,9 @@ impl Model for Rows {
 
     ghost Value = { ShardRows };
 
-    ghost view = { λ r. record { shard = r.shard; shards = r.shards; cards = r.cards; rows = r.rows.items } };
+    ghost view = { λ r. record { shard = r.shard; shards = r.shards; cards = r.cards; rows = r.rows.items; bits = r.bits } };
 
-    ghost invariant = { λ r. Covers (record { shard = r.shard; shards = r.shards; cards = r.cards; rows = r.rows.items }) };
+    ghost invariant = { λ r. Covers (record { shard = r.shard; shards = r.shards; cards = r.cards; rows = r.rows.items; bits = r.bits }) };
 }
 
 impl Rows {
@@ -49,12 +54,16 @@ impl Rows {
         ensures shard { IfOk result (λ rows. rows.shard ≡ shard) }
         ensures empty { IfOk result (λ rows. StandsFor issuer.now rows []) }
     {
+        let shards = issuer.shards();
+        let cards = issuer.cards();
         let rows = empty_rows(alloc, issuer, shard)?;
+        let bits = CounterBits::new(alloc, home_cards(cards, shards, shard))?;
         Ok(Rows {
             shard,
-            shards: issuer.shards(),
-            cards: issuer.cards(),
+            shards,
+            cards,
             rows,
+            bits,
         })
     }
 
@@ -90,13 +99,15 @@ impl Rows {
         )
     }
 
-    /// Adds the record of a plan to the row of this card.
-    pub(crate) fn apply(&mut self, card: u32, step: Step)
-        requires { IsHome self.old card }
-        ensures applied { Applies self.old card step self.new }
+    /// Adds the record of a plan for this request to the row of its card, and its counter to the card's.
+    pub(crate) fn apply(&mut self, found: &CheckedRequest, step: Step)
+        requires { IsHome self.old found.now.card }
+        ensures applied { Applies self.old found.now step self.new }
         ensures same { AreSame self.old self.new }
     {
-        self.rows[index_of(card, self.shards)].apply(step);
+        let index = index_of(found.card, self.shards);
+        self.bits.add(index, found.request.parts().atc);
+        self.rows[index].apply(step);
     }
 
     /// Takes over the decision of a request that was checked, where it may come next, and says whether it did.
@@ -113,7 +124,13 @@ impl Rows {
             keys,
             session,
         } = found;
-        self.rows[index_of(card, self.shards)].adopt_under(&session, &keys, request, reply, place)
+        let index = index_of(card, self.shards);
+        let counter = request.parts().atc;
+        if !self.rows[index].adopt_under(&session, &keys, request, reply, place) {
+            return false;
+        }
+        self.bits.add(index, counter);
+        true
     }
 
     /// Whether the queue of this card takes one more command.
@@ -143,6 +160,20 @@ impl Rows {
     {
         self.rows[index_of(card, self.shards)].set_status(status);
     }
+
+    /// Lists each recorded counter of each card of the shard once, beside the card's number, behind what the list has. Where memory
+    /// runs out, some of them may stand there.
+    pub(crate) fn list_recorded(&self, list: &mut Vec<(u32, u16)>) -> Result<(), NoMemory>
+        ensures kept { (length list.old.items ≤ length list.new.items) × (take (length list.old.items) list.new.items ≡ list.old.items) }
+        ensures covers { Covers self.now }
+        ensures listed { IfOk result (λ _. Lists self.now list.old.items list.new.items) }
+    {
+        for index in 0..self.bits.cards() {
+            let card = number_at(index, self.shards, self.shard);
+            self.bits.list_into(index as usize, card, list)?;
+        }
+        Ok(())
+    }
 }
 
 /// Where the row of a card stands among those of its shard.
@@ -151,6 +182,23 @@ fn index_of(card: u32, shards: u8) -> usize
     ensures { result ≡ card / shards }
 {
     (card / u32::from(shards)) as usize
+}
+
+/// The number of the card whose row stands there.
+fn number_at(index: u32, shards: u8, shard: u8) -> u32
+    requires { shard + index * shards < 2 ^ 32 }
+    ensures { result ≡ shard + index * shards }
+{
+    u32::from(shard) + index * u32::from(shards)
+}
+
+/// How many of an issuer's cards are those of a shard.
+fn home_cards(cards: u32, shards: u8, shard: u8) -> u32
+    requires inside { shard < shards }
+    requires few { cards ≤ MAX_CARDS }
+    ensures { (number : ℕ) → number % shards ≡ shard → ((number < cards) ↔ (number / shards < result)) }
+{
+    (cards + u32::from(shards) - 1 - u32::from(shard)) / u32::from(shards)
 }
 
 /// Whether the row's queue takes one more command.

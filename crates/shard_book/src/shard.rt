@@ -1,7 +1,7 @@
 //! A shard over a store: what it answers, and what it writes before that.
-ghost use Rattle.std.specs.Prelude.{◌≡◌, ℕ, ◌^◌, ◌≤◌, ◌/◌, slice_get, Some, min, if◌then◌else◌, List, [], ◌∷◌, ◌++◌, length, ◌<◌, Ok, IfOk, IfErr, IsErr, false, true, IsTrue, is_err};
+ghost use Rattle.std.specs.Prelude.{◌≡◌, ℕ, ◌^◌, ◌≤◌, ◌/◌, slice_get, Some, min, if◌then◌else◌, List, [], ◌∷◌, ◌++◌, length, ◌<◌, Ok, IfOk, IfErr, IsErr, MatchResult, All, false, true, IsTrue, is_err};
 ghost use Rattle.issuer_base.specs.OutsideFaults.{CountsFaults};
-ghost use Rattle.issuer_base.specs.Stores.{BothTold, LeavesOnly};
+ghost use Rattle.issuer_base.specs.Stores.{BothTold, CutsBytes, LeavesOnly};
 ghost use Rattle.issuer_base.specs.declared.entry.Entry.{Entry};
 ghost use Rattle.card_history.specs.declared.decision.Asked.TheVariants.{Decide};
 ghost use Rattle.card_history.specs.LegalRecords.{IsLegal};
@@ -16,15 +16,18 @@ ghost use Rattle.journal_rec.specs.Record.{is_record};
 ghost use Rattle.issuer_base.specs.Tells.{Tells};
 ghost use Rattle.record_store.specs.Holding.{Holds};
 ghost use Rattle.record_store.specs.Images.{IsCutImage};
-ghost use Rattle.shard_book.specs.Loading.{StopsText, is_store_failure};
-ghost use Rattle.shard_book.specs.Grounds.{grounds_now, IsImageOf};
+ghost use Rattle.shard_book.specs.Loading.{StopsText, IsOutside, is_store_failure};
+ghost use Rattle.shard_book.specs.Grounds.{grounds_now, grounds_of, HasTable, IsImageOf};
 ghost use Rattle.shard_book.specs.Steps.{IsCardOf};
-ghost use Rattle.shard_book.specs.Shards.{number_in, IsUnder, HasCard, store_in, sure_in, disk_in, faults_in, places_in, told_in, HoldsHistory, StandsFor, Adds, IsLoaded, IsSomeCutImage};
+ghost use Rattle.shard_book.specs.Shards.{number_in, IsUnder, HasCard, store_in, sure_in, disk_in, faults_in, places_in, told_in, HoldsHistory, StandsFor, Adds, IsLoaded, IsSomeCutImage, IsTextOf, IsImageLeft, IsSettled, StandsForLeft, LeavesBytes, LeavesDisk};
+ghost use Rattle.shard_book.specs.Recorded.{AddsRecorded};
 ghost use Rattle.shard_book.specs.Answering.{is_store_fault, told_after, AnswersClaimed, AnswersQueueing, AnswersSetting};
 
-use crate::replay::{LoadFault, Taken, TakenOver, take_over};
+use crate::reading::take_over;
+use crate::replay::{LoadFault, Taken, TakenOver};
 use crate::rows::Rows;
-use issuer_base::{Answer, Entry, Refusal, Reply, Request, Store, StoreFail};
+use decision_table::TableRow;
+use issuer_base::{Answer, Entry, MAX_FAULTS_TOLD, NoMemory, Refusal, Reply, Request, Store, StoreFail};
 use issuer_setup::Issuer;
 use journal_rec::write_entry;
 use line_checks::{CheckedCommand, CheckedRequest, CheckedStatus};
@@ -32,15 +35,12 @@ use record_store::Journal;
 use row_core::{Outcome, Row, Step};
 use std::alloc::Global;
 
-/// So many faults of its store a shard counts, and no more.
-const MAX_TOLD: u64 = 1 << 62;
-
 /// A shard of an issuer over a store: the rows of its cards, and the journal of its records.
 pub struct Shard<S: Store> {
     journal: Journal<S>,
     rows: Rows,
 
-    /// How many answers since loading told that the store failed, counted up to [`MAX_TOLD`].
+    /// How many answers since loading told that the store failed, counted up to [`MAX_FAULTS_TOLD`].
     told: u64,
 }
 
@@ -54,7 +54,7 @@ impl<S: Store> Shard<S> {
     /// Loads the shard with this number of an issuer from its store: takes over the records of the store's whole lines, cuts away
     /// what stands behind them, and makes them safe. The first bad line stops it, and then the store is as it was.
     ///
-    /// All memory, that for the store's bytes among it, is taken before the store is read, and no later call takes any.
+    /// All memory, that for a part of the store's bytes among it, is taken before the store is read, and no later call takes any.
     pub fn load(
         alloc: Global,
         store: S,
@@ -69,12 +69,26 @@ impl<S: Store> Shard<S> {
         ensures untold { IfOk result (λ loaded. told_in loaded ≡ 0) }
         ensures stopped { IfErr result (λ back. StopsText issuer.now shard (S.bytes store) back.fault) }
 
+        // The text of a legal history is loaded, and to just this history; only what is outside stops it.
+        ensures exact { (history : List Entry) → IsTextOf (grounds_of issuer.now) shard (S.bytes store) history
+            → MatchResult result (λ loaded. IsSettled issuer.now loaded history) (λ back. IsOutside back.fault) }
+
+        // So is what a crash left of a history: to the history, or to it and the one record whose text is whole.
+        ensures image { (history : List Entry) → IsImageLeft issuer.now shard (S.bytes store) history
+            → MatchResult result (StandsForLeft issuer.now shard (S.bytes store) history) (λ back. IsOutside back.fault) }
+        ensures table { HasTable issuer.now }
+
+        // A load that failed leaves the bytes, or where the store failed maybe those of the records alone.
+        ensures kept { IfErr result (λ back. LeavesBytes back.fault (S.bytes store) (S.bytes back.store)) }
+        ensures still { IfErr result (λ back. LeavesDisk back.fault (S.disk store) (S.disk back.store)) }
+
         // While it is loaded a crash leaves what it might leave before, or the text of the records.
         ensures opened { IfOk result (λ loaded. BothTold (λ old new. LeavesOnly (IsCutImage (sure_in loaded) old.now) old new) (S.disk store) (disk_in loaded)) }
         ensures crash { IfErr result (λ back. BothTold (λ old new. LeavesOnly (IsSomeCutImage old.now) old new) (S.disk store) (S.disk back.store)) }
         ensures count { IfOk result (λ loaded. CountsFaults (S.faults store) (faults_in loaded) false) }
         ensures failed { IfErr result (λ back. CountsFaults (S.faults store) (S.faults back.store) (is_store_failure back.fault)) }
     {
+        whole_updates(issuer.table().rows());
         let mut store = store;
         match take_over(alloc, &mut store, issuer, shard) {
             Ok(TakenOver { rows, taken }) => open(store, rows, taken),
@@ -214,6 +228,21 @@ impl<S: Store> Shard<S> {
         self.told
     }
 
+    /// Lists all recorded counters of the shard's cards, each once beside the number of its card, behind what the list has. Where
+    /// memory runs out the list stays as it was.
+    pub fn recorded(&self, list: &mut Vec<(u32, u16)>) -> Result<(), NoMemory>
+        ensures recorded { (issuer : Setup) (history : List Entry) → StandsFor issuer self.now history
+            → IfOk result (λ _. AddsRecorded issuer (number_in self.now) history list.old.items list.new.items) }
+        ensures unchanged { IfErr result (λ _. list.new.items ≡ list.old.items) }
+    {
+        let count = list.len();
+        let listed = self.rows.list_recorded(list);
+        if listed.is_err() {
+            list.truncate(count);
+        }
+        listed
+    }
+
     /// The store, with the text of the records, and behind it what is in doubt.
     pub fn into_store(self) -> S
         ensures { result ≡ store_in self }
@@ -250,7 +279,7 @@ impl<S: Store> Shard<S> {
         let Ok(place) = self.put(&entry) else {
             return Answer::Refused(Refusal::StoreFault);
         };
-        self.rows.apply(found.card, step);
+        self.rows.apply(found, step);
         Answer::Fresh {
             shard: self.rows.shard(),
             place,
@@ -291,6 +320,7 @@ fn open<S: Store>(store: S, rows: Rows, taken: Taken) -> Result<Shard<S>, LoadBa
     ensures holds { (text rest : List ℕ) → length text ≡ taken.bytes → Tells (S.bytes store) (text ++ rest)
         → IfOk result (λ loaded. Holds loaded.journal taken.records text []) }
     ensures opened { IfOk result (λ loaded. BothTold (λ old new. LeavesOnly (IsCutImage taken.bytes old.now) old new) (S.disk store) (disk_in loaded)) }
+    ensures kept { IfErr result (λ back. BothTold (CutsBytes taken.bytes true) (S.bytes store) (S.bytes back.store)) }
     ensures crash { IfErr result (λ back. BothTold (λ old new. LeavesOnly (IsCutImage taken.bytes old.now) old new) (S.disk store) (S.disk back.store)) }
     ensures fault { IfErr result (λ back. back.fault ≡ LoadFault.StoreFault) }
     ensures count { IfOk result (λ loaded. CountsFaults (S.faults store) (faults_in loaded) false) }
@@ -309,11 +339,27 @@ fn open<S: Store>(store: S, rows: Rows, taken: Taken) -> Result<Shard<S>, LoadBa
     }
 }
 
+/// Each row of a table has a card status update of four bytes: of one row its type says so, of all a proof sees it row by row.
+fn whole_updates(rows: &[TableRow])
+    ensures { All (λ row. length row.csu ≡ 4) rows.now }
+{
+    for row in rows {
+        update_of(row);
+    }
+}
+
+/// The card status update of a row.
+fn update_of(row: &TableRow) -> [u8; 4]
+    ensures { length row.now.csu ≡ 4 }
+{
+    row.csu
+}
+
 /// How many answers told that the store failed, after one more answer.
 fn told_after(told: u64, failed: bool) -> u64
     ensures { result ≡ told_after told failed }
 {
-    if failed && told < MAX_TOLD {
+    if failed && told < MAX_FAULTS_TOLD {
         return told + 1;
     }
     told

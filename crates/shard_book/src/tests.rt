@@ -2,6 +2,8 @@
 ghost use Rattle.std.specs.Prelude.{◌≡◌, ◌<◌, ◌%◌, length, IfOk, IsTrue};
 ghost use Rattle.shard_book.specs.Shards.{number_in, IsUnder};
 
+mod recorded;
+
 use super::*;
 use arrayvec::ArrayVec;
 use decision_table::{Table, TableRow};
@@ -95,6 +97,97 @@ fn decide(shard: &mut Shard<MemoryStore>, issuer: &Issuer) -> Option<Answer>
     Some(shard.answer(issuer, &found, true))
 }
 
+/// What a shard answers to a status of the card.
+fn set_status(shard: &mut Shard<MemoryStore>, issuer: &Issuer, status: u8) -> Option<Answer>
+    requires under { IsUnder issuer.now shard.old }
+    requires number { number_in shard.old ≡ 0 }
+    ensures under { IsUnder issuer.now shard.new }
+    ensures number { number_in shard.new ≡ 0 }
+{
+    let mut line = *b"S 4000000000000002 00 0";
+    line[22] = b'0' + status % 10;
+    let Ok(Checked::Status(found)) = check_line(issuer, &line) else {
+        return None;
+    };
+    if !is_home(issuer, found.card) {
+        return None;
+    }
+    Some(shard.set_status(issuer, found))
+}
+
+/// The bytes of a shard's store, all of them.
+fn text_of(shard: Shard<MemoryStore>) -> Result<Vec<u8>, Fail> {
+    let store = shard.into_store();
+    let whole = store.image(store.len()).map_err(|_| "an image")?;
+    Ok(whole.ok_or("the whole text")?)
+}
+
+/// How many records a store with these bytes is loaded with.
+fn records_of(alloc: Global, issuer: &Issuer, text: Vec<u8>) -> Result<u64, Fail>
+    requires { issuer.now.shards ≡ 1 }
+{
+    let shard = load(alloc, issuer, store(alloc, text, Vec::new(alloc))?)?;
+    let records = shard.places();
+    shard.into_store();
+    Ok(records)
+}
+
+/// A run: so many statuses, the first of them 1, over an empty store whose call of this number fails.
+#[derive(Drop)]
+struct Run {
+    store: MemoryStore,
+    acknowledged: u64,
+    in_hand: bool,
+}
+
+fn make_run(alloc: Global, issuer: &Issuer, lines: u8, fails: u64) -> Result<Run, Fail>
+    requires { issuer.now.shards ≡ 1 }
+{
+    let mut listed = Vec::new(alloc);
+    listed.push(fails)?;
+    let store = store(alloc, Vec::new(alloc), listed)?;
+    match Shard::load(alloc, store, 0, issuer) {
+        Ok(mut shard) => {
+            let mut acknowledged = 0u64;
+            let mut in_hand = false;
+            for line in 0..lines {
+                in_hand = matches!(
+                    set_status(&mut shard, issuer, line.wrapping_add(1)),
+                    Some(Answer::Refused(Refusal::StoreFault))
+                );
+                if !in_hand {
+                    acknowledged = acknowledged.wrapping_add(1);
+                }
+            }
+            Ok(Run {
+                store: shard.into_store(),
+                acknowledged,
+                in_hand,
+            })
+        }
+        Err(LoadBack { fault: _, store }) => Ok(Run {
+            store,
+            acknowledged: 0,
+            in_hand: false,
+        }),
+    }
+}
+
+/// Whether each image of a run's store has its acknowledged records, or these and the one in hand.
+fn is_kept(alloc: Global, issuer: &Issuer, run: &Run) -> Result<bool, Fail>
+    requires { issuer.now.shards ≡ 1 }
+{
+    for length in 0..=run.store.len() {
+        if let Some(image) = run.store.image(length).map_err(|_| "an image")? {
+            let more = records_of(alloc, issuer, image)?.wrapping_sub(run.acknowledged);
+            if more > u64::from(run.in_hand) {
+                return Ok(false);
+            }
+        }
+    }
+    Ok(true)
+}
+
 /// Why a store isn't loaded.
 fn fault(alloc: Global, issuer: &Issuer, store: MemoryStore) -> Option<LoadFault>
     requires { issuer.now.shards ≡ 1 }
@@ -180,6 +273,67 @@ fn names_the_first_bad_line(rt: HostRuntime) -> Result<(), Fail> {
         let store = store(alloc, text.as_bytes().to_vec(alloc)?, Vec::new(alloc))?;
         let fault = fault(alloc, &issuer, store);
         assert!(rt; fault == Some(expected), "{text}");
+    }
+    Ok(())
+}
+
+#[test]
+fn finds_a_changed_record(rt: HostRuntime) -> Result<(), Fail> {
+    let alloc = rt.alloc();
+    let issuer = issuer(alloc)?;
+    let mut shard = load(alloc, &issuer, store(alloc, Vec::new(alloc), Vec::new(alloc))?)?;
+    set_status(&mut shard, &issuer, 3);
+    decide(&mut shard, &issuer);
+    set_status(&mut shard, &issuer, 4);
+    let text = text_of(shard)?;
+    let last_digit = FIRST.len() + "d ".len() + 2 * 85 - 1;
+    if last_digit >= text.len() {
+        return Err("three records".into());
+    }
+    let mut changed = text.clone()?;
+    changed[last_digit] = if text[last_digit] == b'0' { b'1' } else { b'0' };
+    let changed = store(alloc, changed, Vec::new(alloc))?;
+    assert!(rt; fault(alloc, &issuer, changed) == Some(LoadFault::BadRecord(2)));
+    let length = text.len() - FIRST.len();
+    let decided = &text[FIRST.len()..length];
+    let mut repeated = decided.to_vec(alloc)?;
+    repeated.extend_from_slice(decided)?;
+    repeated.extend_from_slice(FIRST.as_bytes())?;
+    let repeated = store(alloc, repeated, Vec::new(alloc))?;
+    assert!(rt; fault(alloc, &issuer, repeated) == Some(LoadFault::BadRecord(2)));
+    assert_eq!(rt; records_of(alloc, &issuer, text)?, 3);
+    Ok(())
+}
+
+#[test]
+fn loads_each_image_before_a_sync(rt: HostRuntime) -> Result<(), Fail> {
+    let alloc = rt.alloc();
+    let issuer = issuer(alloc)?;
+    // the calls are the sync of the load, an append, and the sync that fails
+    let run = make_run(alloc, &issuer, 1, 2)?;
+    assert!(rt; run.in_hand);
+    assert_eq!(rt; run.store.len(), 28);
+    for length in 0..29 {
+        let image = run.store.image(length).map_err(|_| "an image")?;
+        let image = image.ok_or("one of this length")?;
+        assert_eq!(rt; records_of(alloc, &issuer, image)?, u64::from(length == 28), "{length}");
+    }
+    Ok(())
+}
+
+#[test]
+fn keeps_what_it_acknowledged(rt: HostRuntime) -> Result<(), Fail> {
+    let alloc = rt.alloc();
+    let issuer = issuer(alloc)?;
+    // a load and three lines make seven calls where none fails
+    for fails in 0..8 {
+        for lines in 1..4 {
+            let run = make_run(alloc, &issuer, lines, fails)?;
+            assert!(rt; is_kept(alloc, &issuer, &run)?, "{fails} {lines}");
+            if fails == 7 {
+                assert_eq!(rt; run.acknowledged, u64::from(lines));
+            }
+        }
     }
     Ok(())
 }

@@ -1,3 +1,4 @@
 -- The definitions that the contracts of this crate cite.
 pub mod KeptDisk
 pub mod MemoryStores
+pub mod MemoryDesks

@@ -1,4 +1,6 @@
-//! The stores through the trait, with the faults that they were told to have.
+//! The stores and the desks through their traits, with the faults that they were told to have.
+mod desks;
+
 use super::*;
 use issuer_base::{Store, StoreFail};
 use std::fs;

@@ -1,5 +1,5 @@
 -- One more empty row.
-use Rattle.std.proofs.Common.{◌≡◌, ◌+◌, ◌*◌, length, refl, ap, sym, subst, ◌∙◌, arith}
+use Rattle.std.proofs.Common.{◌≡◌, ◌+◌, ◌*◌, length, refl, ap, sym, ◌∙◌, arith}
 use Rattle.std.proofs.lemmas.List.{length_push}
 use Rattle.shard_book.proofs.Places.{empty-more, next-number}
 use Rattle.shard_book.proofs.rows.empty_rows.Goals as goal

@@ -1,5 +1,5 @@
 -- A record may come next as its kind says.
-use Rattle.std.proofs.Common.{◌≡◌, ◌↔◌, List, [], ◌∷◌, ◌++◌, sym, subst, IsTrue}
+use Rattle.std.proofs.Common.{◌↔◌, [], ◌∷◌, ◌++◌, sym, subst, IsTrue}
 use Rattle.issuer_base.specs.declared.entry.Entry.{Entry}
 use Rattle.card_history.specs.LegalRecords.{IsLegal}
 use Rattle.shard_book.specs.Grounds.{grounds_of}

@@ -1,5 +1,5 @@
 -- A command may come next where its card is one of the shard's and the queue takes it.
-use Rattle.std.proofs.Common.{◌≡◌, ◌%◌, List, [], ◌∷◌, ◌++◌, refl, sym, ap, subst, ◌∙◌, Some}
+use Rattle.std.proofs.Common.{◌≡◌, ◌%◌, [], ◌∷◌, ◌++◌, refl, sym, subst, ◌∙◌, Some}
 use Rattle.std.proofs.lemmas.Bool.{false≢true}
 use Rattle.issuer_base.specs.declared.entry.Entry.TheVariants.{Queued}
 use Rattle.card_history.specs.Records.{CardName, named}

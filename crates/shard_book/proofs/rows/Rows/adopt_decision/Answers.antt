@@ -1,5 +1,5 @@
 -- A decision may come next where its request passes the check, its card is one of the shard's, and the card's row accepts it.
-use Rattle.std.proofs.Common.{◌≡◌, ◌↔◌, ◌%◌, List, [], ◌∷◌, ◌++◌, refl, sym, ap, subst, ◌∙◌, Some, Ok, IsTrue}
+use Rattle.std.proofs.Common.{◌≡◌, ◌↔◌, ◌%◌, [], ◌∷◌, ◌++◌, sym, subst, ◌∙◌, Ok, IsTrue}
 use Rattle.issuer_base.specs.declared.request.Request.{Request}
 use Rattle.issuer_base.specs.declared.entry.Entry.TheVariants.{Decided}
 use Rattle.card_history.specs.declared.decision.Asked.TheVariants.{Decide}

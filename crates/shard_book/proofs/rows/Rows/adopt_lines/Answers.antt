@@ -1,8 +1,8 @@
 -- One line more is taken over, or is bad.
-use Rattle.std.proofs.Common.{◌≡◌, ◌+◌, ◌-◌, ◌≤◌, ℕ, List, ◌++◌, length, take, drop, refl, sym, ap, subst, ◌∙◌, arith, length-append, length-drop}
+use Rattle.std.proofs.Common.{◌≡◌, ◌+◌, ◌-◌, ℕ, ◌++◌, length, take, drop, refl, ap, subst, ◌∙◌, arith, length-append, length-drop}
 use Rattle.shard_book.specs.Grounds.{grounds_of}
 use Rattle.shard_book.specs.Loading.{IsBad, TakesLine}
-use Rattle.shard_book.proofs.Lines.{takes-more, takes-none, stops-at}
+use Rattle.shard_book.proofs.Lines.{takes-more, stops-at}
 use Rattle.shard_book.proofs.rows.Rows.adopt_lines.Goals as goal
 
 pub returns-in-Err-clause-stopped : goal.returns-in-Err-clause-stopped

@@ -1,14 +1,11 @@
 -- A status may come next where its card is one of the shard's.
-use Rattle.std.proofs.Common.{◌≡◌, ◌%◌, List, [], ◌∷◌, ◌++◌, refl, sym, ap, subst, ◌∙◌, Some}
-use Rattle.std.proofs.lemmas.Bool.{false≢true}
+use Rattle.std.proofs.Common.{◌≡◌, ◌%◌, [], ◌∷◌, ◌++◌, sym, subst, ◌∙◌, Some}
 use Rattle.issuer_base.specs.declared.entry.Entry.TheVariants.{Status}
 use Rattle.card_history.specs.Records.{CardName, named}
-use Rattle.card_history.specs.Scripts.{waiting, scripts_of}
-use Rattle.script_queue.specs.CommandQueue.{TakesOneMore}
 use Rattle.issuer_setup.specs.CardList.{number_of}
 use Rattle.line_checks.specs.AtHand.{IsCardAtHand}
 use Rattle.shard_book.specs.ShardRows.{StandsFor}
-use Rattle.shard_book.proofs.Adopted.{home-found, card-at_home}
+use Rattle.shard_book.proofs.Adopted.{home-found}
 use Rattle.shard_book.proofs.LegalNext.{card-found}
 use Rattle.shard_book.proofs.rows.Rows.adopt_status.Goals as goal
 

@@ -1,9 +1,8 @@
 -- A decision that was put is added.
-use Rattle.std.proofs.Common.{◌≡◌, ℕ, List, [], ◌∷◌, ◌++◌, length, ap, sym, subst, ◌∙◌, inl}
+use Rattle.std.proofs.Common.{◌≡◌, ℕ, [], ◌∷◌, ◌++◌, ap, sym, subst, ◌∙◌, inl}
 use Rattle.issuer_base.specs.declared.request.Request.{Request}
 use Rattle.issuer_base.specs.declared.answer.Reply.{Reply}
 use Rattle.issuer_base.specs.declared.answer.Answer.TheVariants.{Fresh}
-use Rattle.issuer_base.specs.declared.entry.Entry.{Entry}
 use Rattle.issuer_base.specs.declared.entry.Entry.TheVariants.{Decided}
 use Rattle.card_history.specs.declared.decision.Decision.{Decision}
 use Rattle.row_core.specs.Plan.{with_record}
@@ -22,7 +21,7 @@ returns-clause-added g c issuer card history stands known next step_is legal =
     let number_is : c.put.new.self.rows.shard ≡ number = ap (λ (rows : ShardRows). rows.shard) c.put.ensures.rows in
     let before = subst (λ (rows : ShardRows). RowsStandFor issuer rows history) (sym c.put.ensures.rows) stands.rows_stand in
     let rows = subst (λ (step : Decision). RowsStandFor issuer c.apply.new.self (with_record history step)) step_is
-    (c.apply.ensures.applied issuer card history before known next) in
+    (c.apply.ensures.applied issuer card history before known next (ap (λ (step : Decision). step.request) step_is)) in
     let holds =
     subst (λ (reply : Reply). HoldsHistory (grounds_now issuer) number c.put.new.self.journal (history ++ Decided request reply ∷ [])) c.copy-2.ensures
     (subst (λ (request : Request). HoldsHistory (grounds_now issuer) number c.put.new.self.journal

@@ -16,7 +16,7 @@ pub returns-clause-put : goal.returns-clause-put
 returns-clause-put g c issuer history stands =
     let h = stands.journal_holds in
     put-done (grounds_now issuer) c.args.self.now.rows.shard history c.args.entry.now c.args.self.now.journal c.put-written.new.self h c.as_slice.result.now
-    (c.as_slice.ensures.value ∙ c.write_entry-text.ensures.text) c.put-written.result
+    (c.as_slice.ensures.value ∙ c.write_entry-text.ensures.text) c.write_entry-text.ensures.record c.put-written.result
     (c.put-written.ensures.put (length history) (texts_of history) h.tail h.holds)
 
 pub returns-clause-failed : goal.returns-clause-failed
@@ -27,7 +27,7 @@ returns-clause-failed g c issuer history stands legal failed =
       journal_holds =
           put-failed (grounds_now issuer) c.args.self.now.rows.shard history c.args.entry.now c.args.self.now.journal c.put-written.new.self h
           c.as_slice.result.now
-          (c.as_slice.ensures.value ∙ c.write_entry-text.ensures.text) legal
+          (c.as_slice.ensures.value ∙ c.write_entry-text.ensures.text) c.write_entry-text.ensures.record legal
           (c.put-written.ensures.failed (length history) (texts_of history) h.tail h.holds failed);
     }
 
@@ -35,4 +35,4 @@ pub returns-clause-crash : goal.returns-clause-crash
 returns-clause-crash g c issuer history stands legal =
     let h = stands.journal_holds in
     put-crash (grounds_now issuer) c.args.self.now.rows.shard history c.args.entry.now c.args.self.now.journal c.put-written.new.self h c.as_slice.result.now
-    (c.as_slice.ensures.value ∙ c.write_entry-text.ensures.text) legal _ _ (c.put-written.ensures.crash (length history) (texts_of history) h.tail h.holds)
+    (c.as_slice.ensures.value ∙ c.write_entry-text.ensures.text) c.write_entry-text.ensures.record legal _ _ (c.put-written.ensures.crash (length history) (texts_of history) h.tail h.holds)

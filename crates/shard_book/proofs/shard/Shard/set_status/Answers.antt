@@ -1,9 +1,8 @@
 -- A status is put and set.
-use Rattle.std.proofs.Common.{◌≡◌, ◌≤◌, ℕ, List, [], ◌∷◌, ◌++◌, length, refl, ap, sym, subst, ◌∙◌, IsTrue, leb}
+use Rattle.std.proofs.Common.{◌≡◌, ℕ, [], ◌∷◌, ◌++◌, refl, ap, sym, subst, ◌∙◌, leb}
 use Rattle.std.proofs.lemmas.Bool.{le-leb}
 use Rattle.issuer_base.specs.declared.entry.Entry.TheVariants.{Status}
 use Rattle.card_history.specs.Records.{CardName, named}
-use Rattle.shard_book.specs.Grounds.{grounds_now}
 use Rattle.shard_book.specs.ShardRows.{ShardRows, StandsFor as RowsStandFor}
 use Rattle.shard_book.proofs.LegalNext.{writable, card-found}
 use Rattle.shard_book.proofs.ShardSteps.{stands-with}

@@ -1,0 +1,112 @@
+-- A list that gets the counters of a set, one after another.
+use Rattle.std.proofs.Common.{◌≡◌, ℕ, ◌+◌, ◌≤◌, List, [], ◌∷◌, ◌++◌, length, take, inl, inr, sym, ap, ◌∙◌, refl, subst}
+use Rattle.std.proofs.Common.{Bool, true, false, ◌&&◌, eqb, ltb, arith}
+use Rattle.std.proofs.lemmas.Bool.{cases_eq, cases_lt, cases_order, and_left, and_right, eq-eqb, ne_eqb, lt-ltb, le-ltb}
+use Rattle.std.proofs.lemmas.List.{take-take}
+use Rattle.std.proofs.lemmas.List.Sums.{sum_by_push, sum_by-append}
+use Rattle.counter_bits.specs.declared.counter_bits.TheConstants.{COUNTERS}
+use Rattle.counter_bits.specs.CounterSets.{CounterSets, has, times, one_if}
+
+-- one pair more
+pub times-push : (number counter : ℕ) (pairs : List (ℕ × ℕ)) (pair : ℕ × ℕ)
+    → times number counter (pairs ++ pair ∷ []) ≡ times number counter pairs + one_if (eqb pair.0 number && eqb pair.1 counter)
+unfolding times
+times-push number counter pairs pair = sum_by_push (λ (pair : ℕ × ℕ). one_if (eqb pair.0 number && eqb pair.1 counter)) pairs pair
+
+-- one list behind another
+pub times-append : (number counter : ℕ) (first second : List (ℕ × ℕ))
+    → times number counter (first ++ second) ≡ times number counter first + times number counter second
+unfolding times
+times-append number counter first second = sum_by-append (λ (pair : ℕ × ℕ). one_if (eqb pair.0 number && eqb pair.1 counter)) first second
+
+-- ---- one number more is below the next
+steps-below : (its has_it : Bool) → one_if (its && (true && has_it)) + one_if (its && (false && has_it)) ≡ one_if (its && (true && has_it))
+steps-below true true = refl
+steps-below true false = refl
+steps-below false has_it = refl
+
+steps-here : (its has_it : Bool) → one_if (its && (false && has_it)) + one_if (its && (true && has_it)) ≡ one_if (its && (true && has_it))
+steps-here true true = refl
+steps-here true false = refl
+steps-here false has_it = refl
+
+steps-above : (its has_it : Bool) → one_if (its && (false && has_it)) + one_if (its && (false && has_it)) ≡ one_if (its && (false && has_it))
+steps-above true has_it = refl
+steps-above false has_it = refl
+
+steps-at : (its has_it below here more b h m : Bool) → below ≡ b → here ≡ h → more ≡ m
+    → one_if (its && (b && has_it)) + one_if (its && (h && has_it)) ≡ one_if (its && (m && has_it))
+    → one_if (its && (below && has_it)) + one_if (its && (here && has_it)) ≡ one_if (its && (more && has_it))
+steps-at its has_it below here more b h m below_is here_is more_is at =
+    subst (λ (below : Bool). one_if (its && (below && has_it)) + one_if (its && (here && has_it)) ≡ one_if (its && (more && has_it))) (sym below_is)
+    (subst (λ (here : Bool). one_if (its && (b && has_it)) + one_if (its && (here && has_it)) ≡ one_if (its && (more && has_it))) (sym here_is)
+    (subst (λ (more : Bool). one_if (its && (b && has_it)) + one_if (its && (h && has_it)) ≡ one_if (its && (more && has_it))) (sym more_is) at))
+
+-- what is below the next number is below this one, or is it
+pub below-more : (its has_it : Bool) (number next : ℕ)
+    → one_if (its && (ltb number next && has_it)) + one_if (its && (eqb next number && has_it)) ≡ one_if (its && (ltb number (next + 1) && has_it))
+below-more its has_it number next =
+    elim (cases_order number next) [
+      | inl same ↦
+          steps-at its has_it _ _ _ false true true (le-ltb number next (omega arith)) (eq-eqb next number (sym same)) (lt-ltb number (next + 1) (omega arith))
+          (steps-here its has_it)
+      | inr apart ↦ elim apart [
+        | inl below ↦
+            steps-at its has_it _ _ _ true false true (lt-ltb number next below) (ne_eqb next number (λ same. omega arith))
+            (lt-ltb number (next + 1) (omega arith)) (steps-below its has_it)
+        | inr above ↦
+            steps-at its has_it _ _ _ false false false (le-ltb number next (omega arith)) (ne_eqb next number (λ same. omega arith))
+            (le-ltb number (next + 1) (omega arith)) (steps-above its has_it)
+      ]
+    ]
+
+and-true : (its here : Bool) → (its && (here && true)) ≡ (its && here)
+and-true true true = refl
+and-true true false = refl
+and-true false here = refl
+
+and-false : (its here : Bool) → (its && (here && false)) ≡ false
+and-false true true = refl
+and-false true false = refl
+and-false false here = refl
+
+-- a counter that is in the set and is listed
+pub counted-listed : (sets : CounterSets) (index next counter : ℕ) (its : Bool) → has sets index next ≡ true
+    → one_if (its && (eqb next counter && has sets index counter)) ≡ one_if (its && eqb next counter)
+counted-listed sets index next counter its there =
+    elim (cases_eq next counter) [
+      | inl same ↦
+          ap (λ (has_it : Bool). one_if (its && (eqb next counter && has_it))) (ap (has sets index) (sym same) ∙ there) ∙ ap one_if (and-true its (eqb next counter))
+      | inr apart ↦
+          let none = ne_eqb next counter apart in
+          ap (λ (here : Bool). one_if (its && (here && has sets index counter))) none ∙ ap (λ (here : Bool). one_if (its && here)) (sym none)
+    ]
+
+-- and one that isn't in the set
+pub counted-none : (sets : CounterSets) (index next counter : ℕ) (its : Bool) → has sets index next ≡ false
+    → one_if (its && (eqb next counter && has sets index counter)) ≡ 0
+counted-none sets index next counter its none =
+    elim (cases_eq next counter) [
+      | inl same ↦
+          ap (λ (has_it : Bool). one_if (its && (eqb next counter && has_it))) (ap (has sets index) (sym same) ∙ none) ∙ ap one_if (and-false its (eqb next counter))
+      | inr apart ↦ ap (λ (here : Bool). one_if (its && (here && has sets index counter))) (ne_eqb next counter apart) ∙ ap one_if (and_right its false refl)
+    ]
+
+-- all counters are below 65,536
+pub below-all : (sets : CounterSets) (index counter last : ℕ) → last ≡ COUNTERS → (ltb counter last && has sets index counter) ≡ has sets index counter
+unfolding has
+below-all sets index counter last all =
+    elim (cases_lt counter COUNTERS) [
+      | inl below ↦
+          ap (λ (small : Bool). small && has sets index counter) (lt-ltb counter last (omega arith))
+      | inr past ↦
+          and_left (ltb counter last) (has sets index counter) (le-ltb counter last (omega arith)) ∙ sym (and_left (ltb counter COUNTERS) _ (le-ltb counter COUNTERS past))
+    ]
+
+-- what stood at the front stays there, and again
+pub kept-more : {X : Type 0} (first list longer : List X) → (length first ≤ length list) × (take (length first) list ≡ first)
+    → (length list ≤ length longer) × (take (length list) longer ≡ list) → (length first ≤ length longer) × (take (length first) longer ≡ first)
+kept-more first list longer before more = (
+  omega (arith, before.0, more.0),
+  sym (take-take (length first) (length list) longer before.0) ∙ ap (take (length first)) more.1 ∙ before.1,
+)

@@ -1,0 +1,121 @@
+//! A set of transaction counters for each of so many cards.
+ghost use Rattle.std.specs.Prelude.{◌≡◌, ℕ, Bool, false, ◌+◌, ◌<◌, ◌≤◌, ◌^◌, ◌==◌, ◌&&◌, ◌||◌, length, take, IfOk};
+ghost use Rattle.counter_bits.specs.CounterSets.{has, times, one_if, word_of};
+
+use issuer_base::NoMemory;
+use std::alloc::Global;
+use std::marker::Model;
+
+/// How many transaction counters a card has: 0 to 65,535.
+pub const COUNTERS: u32 = 65_536;
+
+/// How many counters a word has, one bit each.
+pub(crate) const WORD_COUNTERS: usize = 64;
+
+/// How many words the set of a card takes: 8,192 bytes.
+pub(crate) const CARD_WORDS: usize = 1_024;
+
+/// A set of transaction counters for each of so many cards, in memory of fixed size.
+///
+/// A contract sees how many sets there are, and which counters each has.
+#[derive(Drop)]
+pub struct CounterBits {
+    cards: u32,
+    words: Vec<u64>,
+}
+
+impl Model for CounterBits {
+    ghost use Rattle.std.specs.Prelude.{◌≡◌, ◌*◌, ◌^◌, ◌<◌, length};
+    ghost use Rattle.counter_bits.specs.declared.counter_bits.TheConstants.{CARD_WORDS};
+    ghost use Rattle.counter_bits.specs.CounterSets.{CounterSets};
+
+    ghost Value = { CounterSets };
+
+    ghost view = { λ bits. record { cards = bits.cards; words = bits.words.items } };
+
+    ghost invariant = { λ bits. (length bits.words.items ≡ CARD_WORDS * bits.cards) × (bits.cards < 2 ^ 32) };
+}
+
+impl CounterBits {
+    /// An empty set for each of so many cards. No other call takes memory for the sets.
+    pub fn new(alloc: Global, cards: u32) -> Result<CounterBits, NoMemory>
+        ensures cards { IfOk result (λ bits. bits.cards ≡ cards) }
+        ensures empty { IfOk result (λ bits. (index counter : ℕ) → has bits index counter ≡ false) }
+    {
+        Ok(CounterBits {
+            cards,
+            words: vec![in alloc; 0; CARD_WORDS * cards as usize]?,
+        })
+    }
+
+    /// How many cards there is a set for.
+    pub fn cards(&self) -> u32
+        ensures { result ≡ self.now.cards }
+    {
+        self.cards
+    }
+
+    /// Adds a counter to the set of this card.
+    pub fn add(&mut self, index: usize, counter: u16)
+        requires { index < self.old.cards }
+        ensures added { (other_index other : ℕ)
+            → has self.new other_index other ≡ (has self.old other_index other || (other_index == index && other == counter)) }
+        ensures cards { self.new.cards ≡ self.old.cards }
+    {
+        self.words[word_of(index, counter)] |= 1 << (counter as u32 % 64);
+    }
+
+    /// Whether the set of this card has the counter.
+    pub fn has(&self, index: usize, counter: u16) -> bool
+        requires { index < self.now.cards }
+        ensures { result ≡ has self.now index counter }
+    {
+        (self.words[word_of(index, counter)] >> (counter as u32 % 64)) & 1 == 1
+    }
+
+    /// Lists each counter of this card's set once, beside this number, behind what the list has. Where memory runs out, some of
+    /// them may stand there.
+    pub fn list_into(
+        &self,
+        index: usize,
+        number: u32,
+        list: &mut Vec<(u32, u16)>,
+    ) -> Result<(), NoMemory>
+        requires { index < self.now.cards }
+        ensures kept { (length list.old.items ≤ length list.new.items) × (take (length list.old.items) list.new.items ≡ list.old.items) }
+        ensures listed { IfOk result (λ _. (other counter : ℕ)
+            → times other counter list.new.items ≡ times other counter list.old.items + one_if (number == other && has self.now index counter)) }
+    {
+        for counter in 0..COUNTERS {
+            self.list_one(index, counter as u16, number, list)?;
+        }
+        Ok(())
+    }
+
+    /// Lists this counter where the card's set has it.
+    fn list_one(
+        &self,
+        index: usize,
+        counter: u16,
+        number: u32,
+        list: &mut Vec<(u32, u16)>,
+    ) -> Result<(), NoMemory>
+        requires { index < self.now.cards }
+        ensures kept { (length list.old.items ≤ length list.new.items) × (take (length list.old.items) list.new.items ≡ list.old.items) }
+        ensures listed { IfOk result (λ _. (other other_counter : ℕ) → times other other_counter list.new.items
+            ≡ times other other_counter list.old.items + one_if (number == other && (counter == other_counter && has self.now index other_counter))) }
+    {
+        if self.has(index, counter) {
+            list.push((number, counter))?;
+        }
+        Ok(())
+    }
+}
+
+/// The word with the bit of this counter of this card.
+fn word_of(index: usize, counter: u16) -> usize
+    requires { index < 2 ^ 32 }
+    ensures { result ≡ word_of index counter }
+{
+    CARD_WORDS * index + (counter as usize >> 6)
+}

@@ -1,0 +1,191 @@
+-- The issuer's own decision is a reply that it makes for its response code: what a run records, a later run takes over.
+use Rattle.std.proofs.Common.{◌≡◌, ◌≤◌, ℕ, Bool, true, false, ◌==◌, not, List, [], ◌∷◌, ◌++◌, length, get_or, refl, sym, ap, subst, ◌∙◌, arith}
+use Rattle.std.proofs.Common.{Option, None, Some, IsTrue, All, Result, Ok, Err, if◌then◌else◌}
+use Rattle.std.proofs.lemmas.List.Sums.{AllPass-from_list_all}
+use Rattle.std.proofs.lemmas.Bool.{and_parts, leb-true}
+use Rattle.std.proofs.lemmas.Option.{slice_get_within, get_or_from_slice_get}
+use Rattle.std.specs.List.{slice_get, list_all}
+use Rattle.std.specs.Option.{option_map_or}
+use Rattle.issuer_base.specs.declared.answer.Method.{Method}
+use Rattle.issuer_base.specs.declared.answer.Method.TheVariants.{One, Two}
+use Rattle.issuer_base.specs.declared.answer.Reply.{Reply}
+use Rattle.issuer_base.specs.declared.entry.Entry.{Entry}
+use Rattle.issuer_base.specs.declared.entry.Entry.TheVariants.{Decided, Queued, Status}
+use Rattle.issuer_base.specs.declared.request.Request.{Request}
+use Rattle.issuer_base.specs.ChipData.{is_arqc, dki}
+use Rattle.tlv_objects.specs.Writing.{object_text}
+use Rattle.key_derive.specs.SessionKey.{session_ac}
+use Rattle.key_derive.specs.declared.card.CardKeys.{CardKeys}
+use Rattle.arpc_methods.specs.Arpc.{method2, value91}
+use Rattle.arpc_methods.proofs.Lengths.{length-method2}
+use Rattle.decision_table.specs.declared.row.TableRow.{TableRow}
+use Rattle.decision_table.specs.Fitting.{decision}
+use Rattle.decision_table.specs.Tables.{is_table, tells_approval}
+use Rattle.decision_table.proofs.DecisionLemmas.{decides}
+use Rattle.card_history.specs.declared.decision.Asked.{Asked}
+use Rattle.issuer_base.specs.declared.answer.Refusal.{Refusal}
+use Rattle.issuer_base.specs.declared.answer.Refusal.TheVariants.{NotArqc}
+use Rattle.card_history.specs.declared.decision.Asked.TheVariants.{Decide}
+use Rattle.card_history.specs.LegalRecords.{IsLegal}
+use Rattle.card_history.specs.Records.{CardName, card_of, status_of}
+use Rattle.card_history.specs.Scripts.{Scripts, scripts_of, batch_of, first_of}
+use Rattle.issuer_setup.specs.declared.card.CardInfo.{CardInfo}
+use Rattle.issuer_setup.specs.CardList.{number_of}
+use Rattle.issuer_setup.specs.IssuerSetup.{Setup, keys_of}
+use Rattle.issuer_setup.proofs.CardListLemmas.{number_of-found}
+use Rattle.line_checks.specs.Reading.{checked, of_card, under_keys}
+use Rattle.row_core.specs.Accepting.{IsMade, told_update, says_approval}
+use Rattle.row_core.specs.Replying.{answer_bytes, script_bytes, reply_bytes, reply_by, reply_by_row, reply_of_card, reply_to, no_reply}
+use Rattle.journal_rec.specs.Record.{IsRecord}
+use Rattle.shard_book.specs.Grounds.{HasTable, IsMadeBy, grounds_now, grounds_of}
+
+-- ---- the bytes of a reply
+
+record IsTwo (xs : List ℕ) : Type 0 where
+  a : ℕ
+  b : ℕ
+  is : xs ≡ a ∷ b ∷ []
+
+record IsFour (xs : List ℕ) : Type 0 where
+  a : ℕ
+  b : ℕ
+  c : ℕ
+  d : ℕ
+  is : xs ≡ a ∷ b ∷ c ∷ d ∷ []
+
+two-of : (xs : List ℕ) → length xs ≡ 2 → IsTwo xs
+two-of [] long = absurd (omega (arith, long))
+two-of (a ∷ []) long = absurd (omega (arith, long))
+two-of (a ∷ b ∷ []) long = record { a = a; b = b; is = refl }
+two-of (a ∷ b ∷ c ∷ xs) long = absurd (omega (arith, long))
+
+four-of : (xs : List ℕ) → length xs ≡ 4 → IsFour xs
+four-of [] long = absurd (omega (arith, long))
+four-of (a ∷ []) long = absurd (omega (arith, long))
+four-of (a ∷ b ∷ []) long = absurd (omega (arith, long))
+four-of (a ∷ b ∷ c ∷ []) long = absurd (omega (arith, long))
+four-of (a ∷ b ∷ c ∷ d ∷ []) long = record { a = a; b = b; c = c; d = d; is = refl }
+four-of (a ∷ b ∷ c ∷ d ∷ e ∷ xs) long = absurd (omega (arith, long))
+
+told-of : (arc mac csu scripts : List ℕ) → List ℕ
+told-of arc mac csu scripts = told_update ((object_text 0x8A arc ++ object_text 0x91 (mac ++ csu)) ++ scripts)
+
+told-fours : (a b m0 m1 m2 m3 c0 c1 c2 c3 : ℕ) (scripts : List ℕ)
+    → told-of (a ∷ b ∷ []) (m0 ∷ m1 ∷ m2 ∷ m3 ∷ []) (c0 ∷ c1 ∷ c2 ∷ c3 ∷ []) scripts ≡ c0 ∷ c1 ∷ c2 ∷ c3 ∷ []
+unfolding told-of
+told-fours a b m0 m1 m2 m3 c0 c1 c2 c3 scripts = refl
+
+-- by method 2 the status update stands in the reply
+told-update : (arc mac csu scripts : List ℕ) → length arc ≡ 2 → length mac ≡ 4 → length csu ≡ 4 → told-of arc mac csu scripts ≡ csu
+told-update arc mac csu scripts arc_long mac_long csu_long =
+    let two = two-of arc arc_long in
+    let first = four-of mac mac_long in
+    let last = four-of csu csu_long in
+    ap (λ arc. told-of arc mac csu scripts) two.is
+    ∙ ap (λ mac. told-of (two.a ∷ two.b ∷ []) mac csu scripts) first.is
+    ∙ ap (λ csu. told-of (two.a ∷ two.b ∷ []) (first.a ∷ first.b ∷ first.c ∷ first.d ∷ []) csu scripts) last.is
+    ∙ told-fours two.a two.b first.a first.b first.c first.d last.a last.b last.c last.d scripts
+    ∙ sym last.is
+
+module _ (keys : CardKeys) (scripts : Scripts) (request : Request) (row : TableRow) (arc_long : length row.arc ≡ 2) (csu_long : length row.csu ≡ 4)
+    (told : tells_approval row ≡ true) where
+  bytes-by : Method → List ℕ
+  bytes-by method = reply_bytes method keys scripts request row.arc row.csu
+
+  tells-update : told_update (bytes-by Two) ≡ row.csu
+  unfolding bytes-by value91 told-of
+  tells-update =
+      told-update row.arc (method2 (session_ac keys.ac.0 request.atc) request.ac row.csu) row.csu
+      (script_bytes keys.smi.0 request.ac (first_of request scripts) (batch_of request scripts)) arc_long
+      (length-method2 (session_ac keys.ac.0 request.atc) request.ac row.csu) csu_long
+
+  approval-told : says_approval row.csu ≡ row.approve
+  unfolding tells_approval
+  approval-told = grind (arith, told)
+
+  -- the reply by a row is made for its response code
+  pub row-made : (method : Method) → IsMade method keys scripts request (reply_by_row method keys scripts request row)
+  unfolding bytes-by value91
+  row-made One = record { bytes_are = refl; agrees = λ two. let no : One ≡ Two = two in absurd (cc) }
+  row-made Two = record {
+    bytes_are = ap (λ csu. reply_bytes Two keys scripts request row.arc csu) (sym tells-update);
+    agrees = λ two. ap says_approval tells-update ∙ approval-told;
+  }
+
+-- ---- the issuer's decision
+
+-- the first row that fits is one of a table
+row-known : (rows : List TableRow) (P : TableRow → Type 0) → All P rows → (place : ℕ) (row : TableRow) → slice_get rows place ≡ Some row → P row
+row-known rows P all place row at =
+    subst P (get_or_from_slice_get rows place row row at) (all place row (slice_get_within rows place row at))
+
+decided-made : (issuer : Setup) (card : CardInfo) (keys : CardKeys) (before : List Entry) (request : Request) (reply : Reply) (found : Option TableRow)
+    → HasTable issuer → decision issuer.table (status_of (card_of request) before) request ≡ found → IsRecord (Decided request reply)
+    → reply ≡ option_map_or (reply_by_row card.method keys (scripts_of (card_of request) before) request) found no_reply
+    → IsMade card.method keys (scripts_of (card_of request) before) request reply
+unfolding is_table
+decided-made issuer card keys before request reply None table is valid made =
+    let empty : length reply.bytes.items ≡ 0 = ap (λ (reply : Reply). length reply.bytes.items) made in
+    let some : 1 ≤ length reply.bytes.items = leb-true 1 (length reply.bytes.items) valid.may_stand in
+    absurd (omega (arith, empty, some))
+decided-made issuer card keys before request reply (Some row) table is valid made =
+    let at = decides issuer.table (status_of (card_of request) before) request row is in
+    let tells = row-known issuer.table (λ (row : TableRow). tells_approval row ≡ true)
+    (AllPass-from_list_all tells_approval issuer.table (and_parts _ _ table.table).0) at.place row at.stands in
+    let whole = row-known issuer.table (λ (row : TableRow). length row.csu ≡ 4) table.updates at.place row at.stands in
+    let arc : length row.arc ≡ 2 = ap (λ (reply : Reply). length reply.arc) (sym made) ∙ valid.held.1.arc_size in
+    subst (IsMade card.method keys (scripts_of (card_of request) before) request) (sym made)
+    (row-made keys (scripts_of (card_of request) before) request row arc whole tells card.method)
+
+-- a request that was checked has keys
+record HasKeys (issuer : Setup) (number : ℕ) (request : Request) : Type 0 where
+  keys : CardKeys
+  keys_are : keys_of issuer number request ≡ Some keys
+
+keys-there : (issuer : Setup) (number : ℕ) (request : Request) (arqc : Bool) (found : Option CardKeys) → keys_of issuer number request ≡ found
+    → let refused : Result Asked Refusal = Err NotArqc in (if arqc then under_keys found request else refused) ≡ Ok (Decide request)
+    → HasKeys issuer number request
+keys-there issuer number request false found is genuine = absurd (cc)
+keys-there issuer number request true None is genuine = absurd (cc)
+keys-there issuer number request true (Some keys) is genuine = record { keys = keys; keys_are = is }
+
+keys-known : (issuer : Setup) (number : ℕ) (request : Request) → number_of (card_of request) issuer.cards ≡ Some number
+    → checked issuer request ≡ Ok (Decide request) → HasKeys issuer number request
+keys-known issuer number request number_is genuine =
+    keys-there issuer number request (is_arqc request) (keys_of issuer number request) refl
+    (sym (ap (λ (number : Option ℕ). of_card issuer number request) number_is) ∙ genuine)
+
+own-made : (issuer : Setup) → HasTable issuer → (shard : ℕ) (before : List Entry) (request : Request) (reply : Reply) → IsRecord (Decided request reply)
+    → IsLegal (grounds_now issuer) shard before (Decided request reply) → IsMadeBy issuer before request reply
+own-made issuer table shard before request reply valid legal =
+    let number = legal.home.number in
+    let number_is = legal.home.number_is in
+    let known = number_of-found (card_of request) issuer.cards number number_is in
+    let keyed = keys-known issuer number request number_is legal.genuine in
+    let made = legal.made
+    ∙ ap (λ (number : Option ℕ). reply_of_card issuer number before request) number_is
+    ∙ ap (λ (card : Option CardInfo). reply_by card (keys_of issuer number request) issuer.table before request) known.1
+    ∙ ap (λ (keys : Option CardKeys). reply_by (Some known.0) keys issuer.table before request) keyed.keys_are in
+    record {
+      number = number;
+      card = known.0;
+      keys = keyed.keys;
+      number_is = number_is;
+      card_is = known.1;
+      keys_are = keyed.keys_are;
+      made =
+          decided-made issuer known.0 keyed.keys before request reply (decision issuer.table (status_of (card_of request) before) request) table refl valid
+          made;
+    }
+
+-- a record that may come next in this run may come next when it is loaded again
+pub legal-then : (issuer : Setup) → HasTable issuer → (shard : ℕ) (before : List Entry) (entry : Entry) → IsRecord entry
+    → IsLegal (grounds_now issuer) shard before entry → IsLegal (grounds_of issuer) shard before entry
+legal-then issuer table shard before (Decided request reply) valid legal = record {
+  home = legal.home;
+  genuine = legal.genuine;
+  unused = legal.unused;
+  made = own-made issuer table shard before request reply valid legal;
+}
+legal-then issuer table shard before (Queued pan psn command) valid legal = record { home = legal.home; form = legal.form; room = legal.room }
+legal-then issuer table shard before (Status pan psn status) valid legal = record { home = legal.home; within = legal.within }

@@ -1,0 +1,23 @@
+-- A newline far behind ends a line that is that of no record; where none is found, the rest has none.
+use Rattle.std.proofs.Common.{true, false, arith, length}
+use Rattle.record_store.proofs.ReadSoFar.{reads-none}
+use Rattle.shard_book.proofs.Loaded.{found-as, rest-short, rest-long, stops-long}
+use Rattle.shard_book.proofs.reading.check_rest.Goals as goal
+
+pub returns-then-len-from-clause-disk : goal.returns-then-len-from-clause-disk
+returns-then-len-from-clause-disk g c = reads-none _
+
+pub returns-then-len-from-clause-rest : goal.returns-then-len-from-clause-rest
+returns-then-len-from-clause-rest g c front =
+    rest-short _ c.args.taken.bytes (length c.args.buffer.now) (g.S.Store.size c.args.store.now) (g.met.S.Store.told_size c.args.store.now)
+    (omega (arith, c.if-len-from.true, c.len.ensures)) front
+
+pub returns-then-found-clause-stopped : goal.returns-then-found-clause-stopped
+returns-then-found-clause-stopped g c issuer shard rows reads front =
+    stops-long issuer shard _ rows c.args.taken (length c.args.buffer.now) (g.S.Store.size c.args.store.now) reads
+    (g.met.S.Store.told_size c.args.store.now) (omega (arith, c.if-len-from.false, c.len.ensures)) c.requires.room front
+    (found-as _ _ _ true c.if-found.true c.in-Ok.ensures.found)
+
+pub returns-clause-rest : goal.returns-clause-rest
+returns-clause-rest g c front =
+    rest-long _ c.args.taken.bytes (length c.args.buffer.now) front (found-as _ _ _ false c.if-found.false c.in-Ok.ensures.found)

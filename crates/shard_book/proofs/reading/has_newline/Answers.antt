@@ -1,0 +1,48 @@
+-- A newline is found in the part that was read, or this part is passed too.
+use Rattle.std.proofs.Common.{refl, sym, arith, ◌∙◌, []}
+use Rattle.issuer_base.proofs.ManyCalls.{CountsFaults-no_call, CountsFaults-then}
+use Rattle.record_store.proofs.ReadSoFar.{reads-none, reads-then}
+use Rattle.shard_book.proofs.Loaded.{ahead-there, none-there, passed-none, passed-part, passed-all, found-part}
+use Rattle.shard_book.proofs.reading.has_newline.Goals as goal
+
+pub parts-init : goal.parts-init
+parts-init g c = record {
+  above = omega arith;
+  within = omega (arith, c.requires.within);
+  size_is = refl;
+  bytes_are = refl;
+  passed = passed-none _ _;
+  disk = reads-none _;
+  counts = CountsFaults-no_call _;
+}
+
+pub returns-in_default-clause-disk : goal.returns-in_default-clause-disk
+returns-in_default-clause-disk g c = reads-then _ _ _ c.parts.invariant.disk c.read_from.ensures.disk
+
+pub returns-then-is_some-clause-disk : goal.returns-then-is_some-clause-disk
+returns-then-is_some-clause-disk g c = reads-then _ _ _ c.parts.invariant.disk c.read_from.ensures.disk
+
+pub returns-then-is_some-clause-found : goal.returns-then-is_some-clause-found
+returns-then-is_some-clause-found g c =
+    found-part c.args.from c.parts.at c.in-Ok.count (g.S.Store.size c.parts.store) c.read_from.new.into c.parts.invariant.above _ _
+    c.parts.invariant.bytes_are (g.met.S.Store.told_size c.parts.store) c.parts.invariant.within c.parts.invariant.passed c.in-Ok.ensures.given
+    (ahead-there _ _ (sym c.is_some.ensures ∙ c.if-is_some.true) c.next_newline.ensures)
+
+pub parts-preserved : goal.parts-preserved
+parts-preserved g c = record {
+  above = let before = c.parts.invariant.above in omega arith;
+  within = let all = c.in-Ok.ensures.all in let before = c.parts.invariant.within in let same = c.read_from.ensures.size in omega arith;
+  size_is = c.read_from.ensures.size ∙ c.parts.invariant.size_is;
+  bytes_are = c.read_from.ensures.bytes ∙ c.parts.invariant.bytes_are;
+  passed =
+      passed-part c.args.from c.parts.at c.in-Ok.count (g.S.Store.size c.parts.store) c.read_from.new.into c.parts.invariant.above _ _
+      c.parts.invariant.bytes_are c.parts.invariant.passed c.in-Ok.ensures.given
+      (none-there _ _ (sym c.is_some.ensures ∙ c.if-is_some.false) c.next_newline.ensures);
+  disk = reads-then _ _ _ c.parts.invariant.disk c.read_from.ensures.disk;
+  counts = CountsFaults-then _ _ _ _ _ c.parts.invariant.counts c.in-Ok.ensures.count;
+}
+
+pub returns-clause-found : goal.returns-clause-found
+returns-clause-found g c =
+    passed-all c.args.from c.parts.at 0 (g.S.Store.size c.parts.store) [] c.parts.invariant.above _ _ c.parts.invariant.bytes_are
+    (g.met.S.Store.told_size c.parts.store) (omega (arith, c.parts-test.false, c.len.ensures)) c.parts.invariant.passed

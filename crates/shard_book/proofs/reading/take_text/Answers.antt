@@ -1,0 +1,17 @@
+-- The records of a store are taken over, and the rest behind them was looked at.
+use Rattle.std.proofs.Common.{length}
+use Rattle.record_store.proofs.ReadSoFar.{reads-then}
+use Rattle.shard_book.proofs.Loaded.{reads-all, rest-step}
+use Rattle.shard_book.proofs.reading.take_text.Goals as goal
+
+pub returns-in-Ok-check_rest-clause-taken : goal.returns-in-Ok-check_rest-clause-taken
+returns-in-Ok-check_rest-clause-taken g c stands =
+    reads-all c.args.issuer.now c.args.rows.shard _ c.adopt_parts.new.self c.in-Ok.taken (c.in-Ok.ensures.front stands)
+    (rest-step _ _ c.in-Ok.taken.bytes (length c.args.buffer.now) (length c.adopt_parts.new.buffer) c.adopt_parts.ensures.bytes c.adopt_parts.auto.buffer
+    c.in-Ok-check_rest.ensures.rest c.in-Ok.ensures.end)
+
+pub returns-in-Ok-check_rest-clause-disk : goal.returns-in-Ok-check_rest-clause-disk
+returns-in-Ok-check_rest-clause-disk g c = reads-then _ _ _ c.adopt_parts.ensures.disk c.check_rest.ensures.disk
+
+pub returns-in-Err-check_rest-clause-disk : goal.returns-in-Err-check_rest-clause-disk
+returns-in-Err-check_rest-clause-disk g c = reads-then _ _ _ c.adopt_parts.ensures.disk c.check_rest.ensures.disk

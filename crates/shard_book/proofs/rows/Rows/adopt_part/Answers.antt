@@ -1,0 +1,58 @@
+-- The records of one more part are taken over, or a line of it is bad.
+use Rattle.std.proofs.Common.{◌≡◌, ◌-◌, ℕ, min, List, Bool, length, take, drop, refl, sym, ap, subst, ◌∙◌, arith, length-take}
+use Rattle.issuer_base.specs.OutsideFaults.{CountsFaults}
+use Rattle.journal_rec.specs.RecordText.{IsUnbroken}
+use Rattle.shard_book.proofs.Loaded.{part-read, part-unbroken, reads-more, stops-more, own-count}
+use Rattle.shard_book.proofs.rows.Rows.adopt_part.Goals as goal
+
+pub adopt_lines-requires-clause-room : goal.adopt_lines-requires-clause-room
+adopt_lines-requires-clause-room g c =
+    let all = c.in-Ok.ensures.all in
+    let long = length-take c.in-Ok.count c.read_from.new.into in
+    omega arith
+
+pub overflow_add-result : goal.overflow_add-result
+overflow_add-result g c =
+    let all = c.in-Ok.ensures.all in
+    let long = length-take c.in-Ok.count c.read_from.new.into in
+    let within = c.in-Ok-adopt_lines.ensures.within in
+    omega (arith, within.0, within.1)
+
+pub overflow_add-result-in-Ok-adopt_lines : goal.overflow_add-result-in-Ok-adopt_lines
+overflow_add-result-in-Ok-adopt_lines g c =
+    let all = c.in-Ok.ensures.all in
+    let long = length-take c.in-Ok.count c.read_from.new.into in
+    let within = c.in-Ok-adopt_lines.ensures.within in
+    omega (arith, within.0, within.1)
+
+pub returns-in-Ok-adopt_lines-clause-front : goal.returns-in-Ok-adopt_lines-clause-front
+returns-in-Ok-adopt_lines-clause-front g c front =
+    let chunk : List ℕ = take c.in-Ok.count c.read_from.new.into in
+    reads-more c.args.issuer.now c.args.self.now.shard c.args.taken c.in-Ok.count chunk _ c.args.self.now c.adopt_lines.new.self
+    c.in-Ok-adopt_lines.more front
+    (part-read _ c.args.taken.bytes c.in-Ok.count c.read_from.new.into c.in-Ok.ensures.given chunk refl) c.in-Ok-adopt_lines.ensures.within.1
+    (let long = length-take c.in-Ok.count c.read_from.new.into in omega arith)
+    (c.in-Ok-adopt_lines.ensures.taken front.history front.stands front.count_is front.legal)
+
+pub returns-in-Ok-adopt_lines-clause-end : goal.returns-in-Ok-adopt_lines-clause-end
+returns-in-Ok-adopt_lines-clause-end g c same =
+    let chunk : List ℕ = take c.in-Ok.count c.read_from.new.into in
+    let none : c.in-Ok-adopt_lines.more.bytes ≡ 0 = omega (arith, same) in
+    let all : c.in-Ok.count ≡ min (length c.args.buffer.now) (g.S.Store.size c.args.store.now - c.args.taken.bytes) =
+    omega (arith, c.in-Ok.ensures.all, c.read_from.auto.into) in
+    part-unbroken _ c.args.taken.bytes c.in-Ok.count (length c.args.buffer.now) (g.S.Store.size c.args.store.now) chunk
+    (g.met.S.Store.told_size c.args.store.now) all
+    (part-read _ c.args.taken.bytes c.in-Ok.count c.read_from.new.into c.in-Ok.ensures.given chunk refl)
+    (subst (λ n. IsUnbroken (drop n chunk)) none c.in-Ok-adopt_lines.ensures.rest)
+
+pub returns-in-Err-clause-stopped : goal.returns-in-Err-clause-stopped
+returns-in-Err-clause-stopped g c front =
+    let chunk : List ℕ = take c.in-Ok.count c.read_from.new.into in
+    stops-more c.args.issuer.now c.args.self.now.shard c.args.taken c.in-Ok.count chunk _ c.args.self.now c.in-Err.fault front
+    (part-read _ c.args.taken.bytes c.in-Ok.count c.read_from.new.into c.in-Ok.ensures.given chunk refl)
+    (c.in-Err.ensures.stopped front.history front.stands front.count_is front.legal)
+
+pub returns-in-Err-clause-count : goal.returns-in-Err-clause-count
+returns-in-Err-clause-count g c =
+    subst (λ (failed : Bool). CountsFaults (g.S.Store.faults c.args.store.now) (g.S.Store.faults c.read_from.new.store) failed)
+    (sym (own-count c.in-Err.fault c.in-Err.ensures.own)) c.in-Ok.ensures.count

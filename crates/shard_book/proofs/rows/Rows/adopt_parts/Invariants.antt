@@ -1,0 +1,24 @@
+-- What was taken over so far is the front of the store's text.
+use Rattle.std.proofs.Common.{◌≡◌, ◌-◌, ◌≤◌, [], false}
+use Rattle.issuer_base.specs.OutsideFaults.{CountsFaults}
+use Rattle.issuer_base.specs.Stores.{BothTold}
+use Rattle.record_store.specs.Images.{OnlyReads}
+use Rattle.shard_book.specs.Loading.{ReadsFront}
+use Rattle.shard_book.specs.ShardRows.{AreRowsOf, AreSame, StandsFor}
+use Rattle.shard_book.proofs.rows.Rows.adopt_parts.Given as goal
+
+abbrev pub invariant-parts : goal.invariant-parts
+invariant-parts g l = record {
+  rows : AreRowsOf l.issuer l.self;
+  same : AreSame l.fn.self l.self;
+  few : l.taken.records ≤ l.taken.bytes;
+  within : l.taken.bytes ≤ g.S.Store.size l.store;
+  front : StandsFor l.issuer l.fn.self [] → ReadsFront l.issuer l.fn.self.shard (g.S.Store.bytes l.fn.store) l.self l.taken;
+  size_is : g.S.Store.size l.store ≡ g.S.Store.size l.fn.store;
+  bytes_are : g.S.Store.bytes l.store ≡ g.S.Store.bytes l.fn.store;
+  disk : BothTold OnlyReads (g.S.Store.disk l.fn.store) (g.S.Store.disk l.store);
+  counts : CountsFaults (g.S.Store.faults l.fn.store) (g.S.Store.faults l.store) false;
+}
+
+abbrev pub decreases-parts : goal.decreases-parts
+decreases-parts g l = g.S.Store.size l.store - l.taken.bytes

@@ -1,0 +1,44 @@
+//! The standard output as a sink.
+ghost use Rattle.std.specs.Io.{WritesAtMost};
+
+use issuer_base::{Sink, WriteFault};
+use std::io;
+use std::io::Write;
+
+/// The standard output. It tells nothing of its bytes, and counts its faults.
+#[derive(Drop)]
+pub struct FileSink {
+    rt: HostRuntime,
+    faults: u64,
+}
+
+impl FileSink {
+    /// A sink over the standard output.
+    pub fn new(rt: HostRuntime) -> FileSink {
+        FileSink { rt, faults: 0 }
+    }
+}
+
+impl Sink for FileSink {
+    ghost faults = { λ s. s.faults };
+
+    fn write(&mut self, piece: &[u8]) -> Result<usize, WriteFault> {
+        match write_out(&self.rt, piece) {
+            Ok(count) if count > 0 => Ok(count),
+            _ => {
+                self.faults = self.faults.saturating_add(1);
+                Err(WriteFault)
+            }
+        }
+    }
+}
+
+/// Writes a front of the piece, and passes it on to the system.
+fn write_out(rt: &HostRuntime, piece: &[u8]) -> io::Result<usize>
+    ensures { WritesAtMost result piece.now }
+{
+    let mut writer = io::writer(rt);
+    let count = writer.write(piece)?;
+    writer.flush()?;
+    Ok(count)
+}
