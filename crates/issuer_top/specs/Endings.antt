@@ -6,8 +6,6 @@ use Rattle.issuer_base.specs.OutsideFaults.{Rose}
 use Rattle.issuer_base.specs.Sink.{AppendsFront}
 use Rattle.issuer_base.specs.Tells.{Tells}
 use Rattle.issuer_base.specs.declared.outside.DeskCall.TheVariants.{Read}
-use Rattle.card_history.specs.LegalRecords.{IsLegalHistory}
-use Rattle.journal_rec.specs.RecordText.{texts_of, IsUnbroken}
 use Rattle.issuer_base.specs.declared.entry.Entry.{Entry}
 use Rattle.line_reader.specs.Lines.{lines}
 use Rattle.line_reader.specs.Reading.{IsWithinLimits}
@@ -18,6 +16,7 @@ use Rattle.answer_text.specs.StopText.{stop_text}
 use Rattle.answer_text.specs.declared.stop_line.Stop.{Stop}
 use Rattle.answer_text.specs.declared.stop_line.Stop.TheVariants.{Usage, Config, ReadFault, StoreFault, BadJournal, NoMemory, TooLong}
 use Rattle.shard_book.specs.Grounds.{grounds_of}
+use Rattle.shard_book.specs.Shards.{IsTextOf}
 use Rattle.host_calls.specs.Books.{Book}
 use Rattle.issuer_top.specs.Command.{IsServe, IsShow, IsCommand, IsNoCommand}
 use Rattle.issuer_top.specs.Seen.{Seen, SeenInput, SeenStore}
@@ -224,22 +223,14 @@ EndsBy seen WriteFault = IsWriteFault seen
 
 -- ---- all in order
 
--- the text is that of a legal history of the shard, and a rest without a newline
-pub record IsLegalText (issuer : Setup) (shard : ℕ) (text : List ℕ) : Type 0 where
-  pub history : List Entry
-  pub rest : List ℕ
-  pub text_is : text ≡ texts_of history ++ rest
-  pub unbroken : IsUnbroken rest
-  pub legal : IsLegalHistory (grounds_of issuer) shard history
-
--- the desk tells of an issuer by this name and of its journals by that one, each a legal text, and no count rose
+-- the desk tells of an issuer by this name and of its journals by that one, each the text of a legal history, and no count rose
 pub record IsInOrder (seen : Seen) (config journal : List ℕ) : Type 0 where
   pub content : List ℕ
   pub issuer : Setup
   pub config_held : seen.desk.tells config ≡ Some (Some content)
   pub says : configured content ≡ Ok issuer
   pub journals_held : (shard : ℕ) → shard < issuer.shards
-      → (text : List ℕ) × (seen.desk.logs (journal_name journal shard) ≡ Some text) × IsLegalText issuer shard text
+      → (history : List Entry) × IsTextOf (grounds_of issuer) shard (seen.desk.logs (journal_name journal shard)) history
   pub desk_stood : Rose seen.desk.faults_before seen.desk.faults_after → ⊥
   pub config_stood : IsSomeAnd seen.config (λ input. 0 < input.faults) → ⊥
   pub requests_stood : IsSomeAnd seen.requests (λ input. 0 < input.faults) → ⊥

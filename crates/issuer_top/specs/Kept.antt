@@ -1,10 +1,11 @@
 -- What a run makes of the journals: what they were, what they are, and what a crash since they were opened may leave.
-use Rattle.std.specs.Prelude.{◌≡◌, ◌⊎◌, ℕ, List, ◌∷◌, ◌++◌, length, slice_get, Option, Some, IfSome}
+use Rattle.std.specs.Prelude.{◌≡◌, ◌⊎◌, ℕ, List, ◌∷◌, ◌++◌, length, slice_get, Option, Some, IfSome, All}
 use Rattle.issuer_base.specs.Stores.{Disk, Moment, LeavesSince, timeline}
 use Rattle.issuer_base.specs.Tells.{Tells}
 use Rattle.issuer_base.specs.declared.entry.Entry.{Entry}
 use Rattle.card_history.specs.LegalRecords.{IsLegalHistory}
 use Rattle.issuer_setup.specs.IssuerSetup.{Setup}
+use Rattle.journal_rec.specs.Record.{IsRecord}
 use Rattle.journal_rec.specs.RecordText.{texts_of, IsUnbroken}
 use Rattle.record_store.specs.Images.{IsCutImage}
 use Rattle.shard_book.specs.Grounds.{grounds_of}
@@ -18,6 +19,7 @@ pub record WasJournal (issuer : Setup) (shard : ℕ) (held : Option (List ℕ)) 
   pub rest : List ℕ
   pub held_is : Tells held (texts_of book.history ++ rest)
   pub unbroken : IsUnbroken rest
+  pub records : All IsRecord book.history
   pub legal : IsLegalHistory (grounds_of issuer) shard book.history
   pub no_fault : book.faults ≡ 0
   pub none_told : book.told ≡ 0

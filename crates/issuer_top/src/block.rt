@@ -3,6 +3,8 @@ ghost use Rattle.std.specs.Prelude.{◌≡◌, ◌+◌, ◌*◌, ◌<◌, ◌≤
 ghost use Rattle.issuer_base.specs.OutsideFaults.{CountsFaults};
 ghost use Rattle.issuer_base.specs.Sink.{WritesAll};
 ghost use Rattle.answer_text.specs.AnswerText.{printed};
+ghost use Rattle.answer_text.specs.declared.words.TheConstants.{LINE_ROOM};
+ghost use Rattle.issuer_top.specs.declared.block.TheConstants.{BLOCK_ROOM};
 
 use answer_text::{LINE_ROOM, write_answer};
 use arrayvec::ArrayVec;

@@ -1,5 +1,5 @@
 //! The journals of an issuer's shards, opened at a desk and loaded.
-ghost use Rattle.std.specs.Prelude.{◌≡◌, ◌<◌, ◌≤◌, ℕ, List, length, map, is_ok, string_bytes, IfOk, IfErr};
+ghost use Rattle.std.specs.Prelude.{◌≡◌, ◌<◌, ◌≤◌, ℕ, List, length, map, true, is_ok, string_bytes, IfOk, IfErr};
 ghost use Rattle.issuer_base.specs.Desk.{last_after};
 ghost use Rattle.issuer_base.specs.OutsideFaults.{CountsFaults};
 ghost use Rattle.issuer_base.specs.declared.outside.DeskCall.TheVariants.{Log};

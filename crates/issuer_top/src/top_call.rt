@@ -1,12 +1,11 @@
 //! The top call.
-ghost use Rattle.std.specs.Prelude.{◌≡◌, ◌⊎◌, ℕ, List, map, Some, IfOk, IfErr};
+ghost use Rattle.std.specs.Prelude.{◌≡◌, ◌⊎◌, ℕ, List, map, None, Some};
 ghost use Rattle.std.specs.Option.{option_map};
-ghost use Rattle.issuer_base.specs.OutsideFaults.{CountsFaults};
-ghost use Rattle.issuer_base.specs.Desk.{FailedCall};
 ghost use Rattle.issuer_top.specs.Opening.{stop_of};
 ghost use Rattle.issuer_top.specs.Journals.{IsReady};
 ghost use Rattle.issuer_top.specs.Status.{IsStatus};
-ghost use Rattle.issuer_top.specs.Seen.{Told, Logged, SeenInput, seen_of, seen_by, desk_seen, input_seen, store_seen, sink_seen};
+ghost use Rattle.issuer_top.specs.Stopping.{EndsServing};
+ghost use Rattle.issuer_top.specs.Seen.{SeenDesk, SeenInput, seen_of, seen_by, desk_seen, input_seen, store_seen, sink_seen};
 ghost use Rattle.issuer_top.specs.Endings.{IsSetUp, EndsBy, Writes, IsDone, IsUsage, IsConfig, IsReadFault, IsStoreFault, IsBadJournal, IsWriteFault, IsNoMemory, IsTooLong, ServesInOrder, ShowsInOrder};
 
 use crate::config::read_issuer;
@@ -154,7 +153,7 @@ fn run<D: Desk, W: Sink>(
         stores,
     } = match names.requests {
         Some(name) => serve_requests(alloc, host, desk, name, out),
-        None => show_cards(host, out),
+        None => show_cards::<D, W>(host, out),
     };
     Outcome {
         ending,
@@ -226,8 +225,7 @@ fn serve_requests<D: Desk, W: Sink>(
 
 /// Writes the last line where serving stopped early, and says how the run ends.
 fn end_serving<W: Sink>(served: Served, out: &mut W) -> Ending
-    ensures ended { EndsServing (W.held out.old) (W.held out.new) served result }
-    ensures count { CountsFaults (W.faults out.old) (W.faults out.new) (fails_then served result) }
+    ensures { EndsServing (W.held out.old) (W.held out.new) (W.faults out.old) (W.faults out.new) served result }
 {
     match served {
         Served::All => Ending::Done,
@@ -238,7 +236,15 @@ fn end_serving<W: Sink>(served: Served, out: &mut W) -> Ending
 }
 
 /// Shows all cards of the host.
-fn show_cards<I, J: Store, W: Sink>(host: Solo<J>, out: &mut W) -> Finished<I, J>
+fn show_cards<D: Desk, W: Sink>(
+    host: Solo<D::Journal>,
+    out: &mut W,
+) -> Finished<D::Input, D::Journal>
+    ensures { (words : List (List ℕ)) (desk : SeenDesk) (config : SeenInput) (journal : List ℕ)
+        → let seen = seen_of words desk (Some config) (option_map (input_seen D.Input.Source) result.requests)
+        (map (store_seen D.Journal.Store) result.stores.items) (sink_seen W.Sink out.old out.new) in
+        IsSetUp seen None journal host.issuer → IsReady host.issuer journal desk.logs host.shards.items
+        → desk.faults_after ≡ desk.faults_before → EndsBy seen result.ending }
 {
     let ending = match show(&host, out) {
         Ok(()) => Ending::Done,

@@ -114,7 +114,7 @@ fn value_of<'a>(words: &'a Words, option: &str) -> Option<&'a str>
 {
     let mut left = words.count() / 2;
     let mut value = None;
-    let mut times = 0;
+    let mut times: usize = 0;
     while left > 0 {
         left -= 1;
         if words.word(2 * left + 1) == option {
