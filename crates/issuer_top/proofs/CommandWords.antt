@@ -58,7 +58,7 @@ module _ (words : List (List ℕ)) (left : ℕ) (some : 0 < left) (option value 
   pairs-step = (let next : left ≡ left - 1 + 1 = omega (arith, some) in pairs-at words (left - 1) left option value next first second)
 
   -- one pair more is known, or not
-  pub all-step : (options : List (List ℕ)) (here rest : Bool) → here ≡ is_pair options (record { option = option; value = value })
+  all-step : (options : List (List ℕ)) (here rest : Bool) → here ≡ is_pair options (record { option = option; value = value })
       → rest ≡ are_pairs options (pairs_of (drop (2 * left + 1) words))
       → (if here then rest else false) ≡ are_pairs options (pairs_of (drop (2 * (left - 1) + 1) words))
   all-step options here rest is before =
@@ -66,11 +66,33 @@ module _ (words : List (List ℕ)) (left : ℕ) (some : 0 < left) (option value 
       ∙ ap (λ r. if is_pair options (record { option = option; value = value }) then r else false) before
       ∙ sym (ap (are_pairs options) pairs-step)
 
+  pub all-more : (options : List (List ℕ)) (here rest : Bool) → here ≡ is_pair options (record { option = option; value = value })
+      → rest ≡ are_pairs options (pairs_of (drop (2 * left + 1) words)) → here ≡ true
+      → rest ≡ are_pairs options (pairs_of (drop (2 * (left - 1) + 1) words))
+  all-more options here rest is before known = sym (ap (λ b. if b then rest else false) known) ∙ all-step options here rest is before
+
+  pub all-none : (options : List (List ℕ)) (here rest : Bool) → here ≡ is_pair options (record { option = option; value = value })
+      → rest ≡ are_pairs options (pairs_of (drop (2 * left + 1) words)) → here ≡ false
+      → false ≡ are_pairs options (pairs_of (drop (2 * (left - 1) + 1) words))
+  all-none options here rest is before other = sym (ap (λ b. if b then rest else false) other) ∙ all-step options here rest is before
+
   -- one pair more gives the option a value, or not
-  pub values-step : (asked : List ℕ) → values_of asked (pairs_of (drop (2 * (left - 1) + 1) words))
+  values-step : (asked : List ℕ) → values_of asked (pairs_of (drop (2 * (left - 1) + 1) words))
       ≡ (if bytes_eq option asked then value ∷ values_of asked (pairs_of (drop (2 * left + 1) words))
       else values_of asked (pairs_of (drop (2 * left + 1) words)))
   values-step asked = ap (values_of asked) pairs-step
+
+  pub values-more : (asked : List ℕ) → bytes_eq option asked ≡ true
+      → values_of asked (pairs_of (drop (2 * (left - 1) + 1) words)) ≡ value ∷ values_of asked (pairs_of (drop (2 * left + 1) words))
+  values-more asked same =
+      let rest = values_of asked (pairs_of (drop (2 * left + 1) words)) in
+      values-step asked ∙ ap (λ b. if b then value ∷ rest else rest) same
+
+  pub values-same : (asked : List ℕ) → bytes_eq option asked ≡ false
+      → values_of asked (pairs_of (drop (2 * (left - 1) + 1) words)) ≡ values_of asked (pairs_of (drop (2 * left + 1) words))
+  values-same asked other =
+      let rest = values_of asked (pairs_of (drop (2 * left + 1) words)) in
+      values-step asked ∙ ap (λ b. if b then value ∷ rest else rest) other
 
 -- no pairs stand behind the last word
 pub pairs-past : (words : List (List ℕ)) (n : ℕ) → length words ≤ n → pairs_of (drop n words) ≡ []
@@ -243,7 +265,7 @@ command-names words config (Some requests) journal call = (Serve, serve-names wo
 command-names words config None journal call = (Show, show-names words config journal call)
 
 -- no two commands begin alike
-same-command : (command other : Command) → first_word command ≡ first_word other → command ≡ other
+pub same-command : (command other : Command) → first_word command ≡ first_word other → command ≡ other
 same-command Serve Serve same = refl
 same-command Serve Show same = let long : 5 ≡ 4 = ap length same in absurd (omega (arith, long))
 same-command Show Serve same = let long : 4 ≡ 5 = ap length same in absurd (omega (arith, long))

@@ -80,7 +80,7 @@ not-both content told issuer fault same says broken =
 
 one-issuer : (content told : List ℕ) (issuer other : Setup) → content ≡ told → configured told ≡ Ok issuer → configured content ≡ Ok other → other ≡ issuer
 one-issuer content told issuer other same says others =
-    let e : Ok {E = ConfigFault} other ≡ Ok issuer = sym others ∙ ap configured same ∙ says in cc
+    let e : configured told ≡ Ok other = sym (ap configured same) ∙ others in cc
 
 -- ---- a request file within the limits
 

@@ -136,6 +136,11 @@ module _ {S : Type 0} {G : Ghosts S} where
 
   -- ---- one line more
 
+  -- the answer to a line under an issuer that is another one's equal
+  pub answered-under : (issuer other : Setup) (old new : Server) (was is : List (Shard S G)) → other ≡ issuer → AnswersLine other old new was is
+      → AnswersLine issuer old new was is
+  answered-under issuer other old new was is same answered = subst (λ (i : Setup). AnswersLine i old new was is) same answered
+
   module _ (issuer : Setup) (first : List Book) (loaded shards next_shards : List (Shard S G)) (was mid now held_before held : Option (List ℕ))
       (old new : Server) (reader : Reading) (so_far : HasServed issuer first loaded shards was mid held_before held reader old.block.text.items)
       (answered : AnswersLine issuer old new shards next_shards) where
@@ -159,12 +164,13 @@ module _ {S : Type 0} {G : Ghosts S} where
         ∙ append_assoc so_far.early old.block.text.items (printed answered.answer) ∙ ap (λ t. so_far.early ++ t) (sym answered.text_is)
 
     -- one line more is served, and the answers before what is left were written
-    pub HasServed-line : (next : Option (List ℕ)) (left : List ℕ) → GivesLine mid now reader old.reader
-        → WritesDue held next new.block.text.items left (Ok tt)
-        → HasServed issuer first loaded next_shards was now held_before next old.reader left
-    HasServed-line next left gives due =
+    pub HasServed-line : (next : Option (List ℕ)) (left : List ℕ) (after : Reading) → GivesLine mid now reader old.reader
+        → WritesDue held next new.block.text.items left (Ok tt) → after ≡ old.reader
+        → HasServed issuer first loaded next_shards was now held_before next after left
+    HasServed-line next left after gives due same =
         let more = run-with gives.line gives.counted.in_hand in
-        record {
+        subst (λ (r : Reading). HasServed issuer first loaded next_shards was now held_before next r left) (sym same)
+        (record {
           read = so_far.read ++ gives.given;
           whole = so_far.whole ++ gives.line ∷ [];
           answers = so_far.answers ++ answered.answer ∷ [];
@@ -175,7 +181,7 @@ module _ {S : Type 0} {G : Ghosts S} where
           run = more.1;
           texts = texts-with ∙ ap (λ t. so_far.early ++ t) due.1 ∙ sym (append_assoc so_far.early due.0 left);
           written = Appends-trans held_before held next so_far.early due.0 so_far.written due.2;
-        }
+        })
 
     -- all answers are written, or a front of them
     whole-written : (next : Option (List ℕ)) → Appends held next new.block.text.items
@@ -451,9 +457,9 @@ module _ {S : Type 0} {G : Ghosts S} where
           leave = so_far.run.leave;
         }
 
-    pub serves-limit : (number : ℕ) (result : Served) → number ≡ reader.lines + 1 → StopsAtLimit mid now reader new
-        → EndsBy held next due (TooLong number) result → Serves issuer first loaded shards was now held_before next result
-    serves-limit number result counted stops ends =
+    pub serves-limit : (number : ℕ) (result : Served) → StopsAtLimit mid now reader new → EndsBy held next due (TooLong number) result
+        → number ≡ reader.lines + 1 → Serves issuer first loaded shards was now held_before next result
+    serves-limit number result stops ends counted =
         ⊎_elim
         (λ whole. subst (Serves issuer first loaded shards was now held_before next) (sym whole.0) (serves-passed number counted stops whole.1))
         (λ front. subst (Serves issuer first loaded shards was now held_before next) (sym front.0)

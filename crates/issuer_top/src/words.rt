@@ -117,8 +117,9 @@ fn value_of<'a>(words: &'a Words, option: &str) -> Option<&'a str>
     let mut times: usize = 0;
     while left > 0 {
         left -= 1;
-        if words.word(2 * left + 1) == option {
-            value = Some(words.word(2 * left + 2));
+        let (name, given) = (words.word(2 * left + 1), words.word(2 * left + 2));
+        if name == option {
+            value = Some(given);
             times += 1;
         }
     }

@@ -12,8 +12,8 @@ loop-shard-preserved g c =
       count = ap length c.push_reserved.ensures.items ∙ length-more g.D.Journal.Store _ _ ∙ ap (λ n. n + 1) before.count;
       room = c.push_reserved.ensures.capacity ∙ before.room;
       opened = subst (AreOpened g.D.Journal.Store c.args.prefix.now (g.D.Desk.logs c.args.desk.now)) (sym c.push_reserved.ensures.items)
-          (opened-more g.D.Journal.Store _ _ _ c.in-Ok.store c.loop-shard.shard _ before.opened (sym before.count) named c.in-Ok.ensures.opened);
-      stood = c.in-Ok.ensures.count.counted ∙ before.stood;
+          (opened-more g.D.Journal.Store _ _ _ c.in-Ok-open_journal.store c.loop-shard.shard _ before.opened (sym before.count) named c.in-Ok-open_journal.ensures.opened);
+      stood = c.in-Ok-open_journal.ensures.count.counted ∙ before.stood;
       kept = c.open_journal.ensures.kept ∙ before.kept;
       ahead = λ shard later.
           c.open_journal.ensures.others (journal_name c.args.prefix.now shard) (λ same.
