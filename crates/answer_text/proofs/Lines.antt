@@ -14,7 +14,8 @@ use Rattle.issuer_base.specs.declared.answer.Refusal.TheVariants.{BadCryptogram,
 use Rattle.answer_text.specs.AnswerText.{newline, line_of, IsLine, yes_or_no, refusal_words, answer_words, printed}
 use Rattle.answer_text.specs.StopText.{stop_words, stop_text}
 use Rattle.answer_text.specs.declared.stop_line.Stop.{Stop}
-use Rattle.answer_text.specs.declared.stop_line.Stop.TheVariants.{Usage, Config, ReadFault, NoMemory, TooLong}
+use Rattle.answer_text.specs.declared.stop_line.Stop.TheVariants.{Usage, Config, ReadFault, BadJournal, NoMemory, TooLong}
+use Rattle.answer_text.specs.declared.stop_line.Stop.TheVariants.{StoreFault as JournalFault}
 
 -- a byte is no newline
 abbrev is_inner : ℕ → Bool
@@ -107,6 +108,8 @@ unfolding stop_words
 stop_words-inner Usage = simp decimal-inner
 stop_words-inner (Config part index) = simp decimal-inner
 stop_words-inner ReadFault = simp decimal-inner
+stop_words-inner (JournalFault shard) = simp decimal-inner
+stop_words-inner (BadJournal shard line) = simp decimal-inner
 stop_words-inner NoMemory = simp decimal-inner
 stop_words-inner (TooLong line) = simp decimal-inner
 

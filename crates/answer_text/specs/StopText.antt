@@ -3,21 +3,25 @@ use Rattle.std.specs.Prelude.{ℕ, List, [], ◌∷◌, codes}
 use Rattle.std.specs.Fmt.{decimal}
 use Rattle.answer_text.specs.AnswerText.{line_of}
 use Rattle.answer_text.specs.declared.stop_line.Stop.{Stop}
-use Rattle.answer_text.specs.declared.stop_line.Stop.TheVariants.{Usage, Config, ReadFault, NoMemory, TooLong}
+use Rattle.answer_text.specs.declared.stop_line.Stop.TheVariants.{Usage, Config, ReadFault, StoreFault, BadJournal, NoMemory, TooLong}
 
 -- the status of a run that stops so
 abbrev pub status_of_stop : Stop → ℕ
 status_of_stop Usage = 1
 status_of_stop (Config part index) = 2
 status_of_stop ReadFault = 3
+status_of_stop (StoreFault shard) = 5
+status_of_stop (BadJournal shard line) = 6
 status_of_stop NoMemory = 7
 status_of_stop (TooLong line) = 8
 
--- what a stop tells more: the place in the configuration, or the line
+-- what a stop tells more: the place in the configuration, the shard, the line in its journal, or the line of the input
 abbrev pub place_words : Stop → List (List ℕ)
 place_words Usage = []
 place_words (Config part index) = decimal part ∷ decimal index ∷ []
 place_words ReadFault = []
+place_words (StoreFault shard) = decimal shard ∷ []
+place_words (BadJournal shard line) = decimal shard ∷ decimal line ∷ []
 place_words NoMemory = []
 place_words (TooLong line) = decimal line ∷ []
 

@@ -7,4 +7,4 @@ mod words;
 
 pub use answer_line::write_answer;
 pub use stop_line::{Stop, write_stop};
-pub use words::LINE_ROOM;
+pub use words::{LINE_ROOM, put, put_number};

@@ -18,6 +18,13 @@ pub enum Stop {
     /// The input failed while it was read: status 3.
     ReadFault,
 
+    /// The journal of this shard couldn't be opened, or its store failed while it was loaded: status 5.
+    StoreFault { shard: u8 },
+
+    /// In the journal of this shard this line, counted from 1, is no record, or none that may come next:
+    /// status 6.
+    BadJournal { shard: u8, line: u64 },
+
     /// No memory was left: status 7.
     NoMemory,
 
@@ -35,6 +42,8 @@ impl Stop {
             Stop::Usage => 1,
             Stop::Config { .. } => 2,
             Stop::ReadFault => 3,
+            Stop::StoreFault { .. } => 5,
+            Stop::BadJournal { .. } => 6,
             Stop::NoMemory => 7,
             Stop::TooLong { .. } => 8,
         }
@@ -56,6 +65,11 @@ pub fn write_stop(stop: &Stop, out: &mut ArrayVec<u8, LINE_ROOM>)
             put_number(out, u64::from(part));
             put_number(out, u64::from(index));
         }
+        Stop::StoreFault { shard } => put_number(out, u64::from(shard)),
+        Stop::BadJournal { shard, line } => {
+            put_number(out, u64::from(shard));
+            put_number(out, line);
+        }
         Stop::TooLong { line } => put_number(out, line),
     }
     out.push(b'\n');
@@ -67,10 +81,19 @@ mod tests {
 
     #[test]
     fn prints_stops(rt: HostRuntime) {
-        let stops: [(Stop, &[u8]); 5] = [
+        let stops: [(Stop, &[u8]); 8] = [
             (Stop::Usage, b"stop 1\n"),
             (Stop::Config { part: 2, index: 0 }, b"stop 2 2 0\n"),
             (Stop::ReadFault, b"stop 3\n"),
+            (Stop::StoreFault { shard: 0 }, b"stop 5 0\n"),
+            (Stop::BadJournal { shard: 15, line: 1 }, b"stop 6 15 1\n"),
+            (
+                Stop::BadJournal {
+                    shard: 255,
+                    line: u64::MAX,
+                },
+                b"stop 6 255 18446744073709551615\n",
+            ),
             (Stop::NoMemory, b"stop 7\n"),
             (Stop::TooLong { line: 1_048_577 }, b"stop 8 1048577\n"),
         ];

@@ -14,7 +14,8 @@ pub const LINE_ROOM: usize = 512;
 
 const HEX_DIGITS: &[u8; 16] = b"0123456789abcdef";
 
-pub(crate) fn put(out: &mut ArrayVec<u8, LINE_ROOM>, text: &[u8])
+/// The text as it stands. The line needs room for it.
+pub fn put(out: &mut ArrayVec<u8, LINE_ROOM>, text: &[u8])
     requires { array_vec_len out.old + length text.now ≤ LINE_ROOM }
     ensures text { out.new.items ≡ out.old.items ++ text.now }
     ensures room { array_vec_len out.new ≡ array_vec_len out.old + length text.now }
@@ -22,8 +23,8 @@ pub(crate) fn put(out: &mut ArrayVec<u8, LINE_ROOM>, text: &[u8])
     out.try_extend_from_slice(text).unwrap();
 }
 
-/// A space, and the number in decimal digits.
-pub(crate) fn put_number(out: &mut ArrayVec<u8, LINE_ROOM>, number: u64)
+/// A space, and the number in decimal digits. The line needs room for them.
+pub fn put_number(out: &mut ArrayVec<u8, LINE_ROOM>, number: u64)
     requires { array_vec_len out.old + 21 ≤ LINE_ROOM }
     ensures text { out.new.items ≡ out.old.items ++ 32 ∷ decimal number }
     ensures room { array_vec_len out.new ≤ array_vec_len out.old + 21 }

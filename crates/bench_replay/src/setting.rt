@@ -72,7 +72,11 @@ pub(crate) fn cards(alloc: Global, count: u32) -> Option<Vec<Card>> {
     let ciphers = MasterCiphers::new(&KEYS);
     let mut cards = Vec::new(alloc);
     for number in 0..count {
-        let CardInfo { pan, psn: _, method } = info(number)?;
+        let CardInfo {
+            pan,
+            psn: _,
+            method,
+        } = info(number)?;
         let keys = ciphers.card_keys(&pan, 0x00);
         cards
             .push(Card::new(alloc, pan, 0x00, KEYS.dki, method, keys))

@@ -27,6 +27,7 @@ pub(crate) enum Deed {
 }
 
 /// So many requests of each card, and then so many loads of the journal.
+#[derive(Clone, Copy, PartialEq, Eq, Debug)]
 pub(crate) struct Run {
     pub(crate) cards: u32,
     pub(crate) rounds: u32,
@@ -35,6 +36,7 @@ pub(crate) struct Run {
 }
 
 /// How many records a run left, and how many its last load found.
+#[derive(Clone, Copy, PartialEq, Eq, Debug)]
 pub(crate) struct Counts {
     pub(crate) left: u64,
     pub(crate) loaded: u64,

@@ -7,6 +7,3 @@ pub mod LongerHistories
 pub mod ScriptSteps
 pub mod Batches
 pub mod CommandsInOrder
-pub mod Runs
-pub mod ShardTurns
-pub mod ConsistentRuns

@@ -1,6 +1,8 @@
 -- The laws of this crate.
 pub mod Walk
+pub mod DecimalValues
 pub mod HexTable
+pub mod PairLoop
 pub mod Found
 pub mod Meaning
 pub mod Good

@@ -7,3 +7,4 @@ pub mod Slots
 pub mod SlotViews
 pub mod Lines
 pub mod LineParts
+pub mod InBuffer

@@ -2,6 +2,7 @@
 ghost use Rattle.std.specs.Prelude.{◌≡◌, ◌==◌, ◌≤◌, length, nat_le, take_while};
 ghost use Rattle.std.specs.List.{list_all, flat_map};
 ghost use Rattle.issuer_base.specs.ChipData.{digits_of};
+ghost use Rattle.chip_request.specs.Fields.{has_account_number};
 ghost use Rattle.chip_request.specs.Forms.{fits, account_number_in};
 
 use arrayvec::ArrayVec;
@@ -28,10 +29,21 @@ impl Form {
         match self {
             Form::Bytes(count) => value.len() == count,
             Form::Decimal(count) => value.len() == count && are_decimal(value),
-            Form::AccountNumber => account_number(value).is_some(),
+            Form::AccountNumber => is_account_number(value),
             Form::ApplicationData => value.len() == 32 && has_profile(value),
         }
     }
+}
+
+/// Whether a value has the form of an account number. Nine bytes at most of decimal digits alone are one, and most values are so.
+fn is_account_number(value: &[u8]) -> bool
+    ensures { result ≡ has_account_number value.now }
+{
+    let count = value.len();
+    if count >= 4 && count <= 9 && are_decimal(value) {
+        return true;
+    }
+    account_number(value).is_some()
 }
 
 /// The account number in a value of that form.

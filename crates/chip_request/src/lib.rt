@@ -11,5 +11,5 @@ mod slots;
 #[cfg(test)]
 mod tests;
 
-pub use line::{LineKind, MAX_QUEUE_BYTES, read_line};
+pub use line::{LineForm, LineKind, MAX_QUEUE_BYTES, read_line, read_line_into};
 pub use reading::{RequestFault, read_request};

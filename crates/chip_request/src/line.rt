@@ -1,8 +1,9 @@
 //! The lines of the host's input, and the column at which another line stops being one.
-ghost use Rattle.std.specs.Prelude.{◌≡◌, Result, ℕ};
+ghost use Rattle.std.specs.Prelude.{◌≡◌, ◌≤◌, Result, ℕ, IfOk, true, length};
 ghost use Rattle.std.specs.Result.{result_map_both};
 ghost use Rattle.chip_request.specs.Lines.{ReadsAs};
 ghost use Rattle.chip_request.specs.LineParts.{kind_at, line_of};
+ghost use Rattle.chip_request.specs.InBuffer.{kind_in, is_within};
 
 use crate::line_parts::{read_byte, read_card, read_data, read_last_digit};
 use arrayvec::ArrayVec;
@@ -37,6 +38,29 @@ pub enum LineKind {
     },
 }
 
+/// What a line asks for, whose data lie in a buffer of the caller's: `count` bytes of it.
+#[derive(Clone, Debug, PartialEq, Eq, Drop)]
+pub enum LineForm {
+    /// As [`LineKind::Ask`].
+    Ask {
+        count: usize,
+    },
+    /// As [`LineKind::Queue`].
+    Queue {
+        pan: Pan,
+        /// Two decimal digits, one in each half of the byte.
+        psn: u8,
+        count: usize,
+    },
+    /// As [`LineKind::Set`].
+    Set {
+        pan: Pan,
+        /// Two decimal digits, one in each half of the byte.
+        psn: u8,
+        status: u8,
+    },
+}
+
 /// What a line, without its newline, asks for. Hexadecimal digits are of either case, an account number has 8 to 19
 /// digits, and a sequence number two.
 ///
@@ -48,31 +72,66 @@ pub fn read_line(line: &[u8]) -> Result<LineKind, u32>
     ensures only { (other : Result LineKind ℕ) → ReadsAs line.now other → other ≡ result }
     ensures same { result ≡ line_of line.now }
 {
-    match kind_of(line) {
-        Ok(kind) => Ok(kind),
+    let mut data = [0; MAX_CHIP_BYTES];
+    let form = read_line_into(line, &mut data)?;
+    Ok(kind_of(form, &data))
+}
+
+/// As [`read_line`], with the line's data written in front of a buffer of the caller's, of which nothing else counts.
+pub fn read_line_into(line: &[u8], bytes: &mut [u8; MAX_CHIP_BYTES]) -> Result<LineForm, u32>
+    ensures same { result_map_both (kind_in bytes.new) (λ column. column) result ≡ line_of line.now }
+    ensures within { IfOk result (λ form. is_within form ≡ true) }
+{
+    match form_of(line, bytes) {
+        Ok(form) => Ok(form),
         Err(rest) => Err((line.len() - rest.len() + 1) as u32),
     }
 }
 
+// The form with its data out of the buffer.
+fn kind_of(form: LineForm, bytes: &[u8; MAX_CHIP_BYTES]) -> LineKind
+    requires { is_within form ≡ true }
+    ensures { result ≡ kind_in bytes.now form }
+{
+    match form {
+        LineForm::Ask { count } => LineKind::Ask(vector_of(&bytes[..count])),
+        LineForm::Queue { pan, psn, count } => LineKind::Queue {
+            pan,
+            psn,
+            bytes: vector_of(&bytes[..count]),
+        },
+        LineForm::Set { pan, psn, status } => LineKind::Set { pan, psn, status },
+    }
+}
+
+fn vector_of<const N: usize>(bytes: &[u8]) -> ArrayVec<u8, N>
+    requires { length bytes.now ≤ N }
+    ensures { result.items ≡ bytes.now }
+{
+    ArrayVec::try_from(bytes).unwrap()
+}
+
 // What a line asks for, or what is left of it from the first byte on that no line has there.
 #[tactic(auto, unfolding(crate::specs::LineParts::kind_at))]
-fn kind_of(line: &[u8]) -> Result<LineKind, &[u8]>
-    ensures { result_map_both (λ kind. kind) (λ rest. rest.now) result ≡ kind_at line.now }
+fn form_of<'a>(line: &'a [u8], bytes: &mut [u8; MAX_CHIP_BYTES]) -> Result<LineForm, &'a [u8]>
+    ensures same { result_map_both (kind_in bytes.new) (λ rest. rest.now) result ≡ kind_at line.now }
+    ensures within { IfOk result (λ form. is_within form ≡ true) }
 {
     match line {
         [b'A', rest @ ..] => {
             let rest = read_byte(rest, b' ')?;
-            Ok(LineKind::Ask(read_data(rest)?))
+            let count = read_data(rest, MAX_CHIP_BYTES, bytes)?;
+            Ok(LineForm::Ask { count })
         }
         [b'Q', rest @ ..] => {
             let (pan, psn, rest) = read_card(rest)?;
-            let bytes = read_data(rest)?;
-            Ok(LineKind::Queue { pan, psn, bytes })
+            let count = read_data(rest, MAX_QUEUE_BYTES, bytes)?;
+            Ok(LineForm::Queue { pan, psn, count })
         }
         [b'S', rest @ ..] => {
             let (pan, psn, rest) = read_card(rest)?;
             let status = read_last_digit(rest)?;
-            Ok(LineKind::Set { pan, psn, status })
+            Ok(LineForm::Set { pan, psn, status })
         }
         _ => Err(line),
     }

@@ -1,12 +1,13 @@
 //! The parts of a line, each read from the front of a text: its value and the text behind it, or the text from the
 //! first byte on that can't stand there.
-ghost use Rattle.std.specs.Prelude.{◌≡◌, ◌<◌, IfOk};
+ghost use Rattle.std.specs.Prelude.{◌≡◌, ◌<◌, ◌≤◌, IfOk, Err, true, take, is_err};
 ghost use Rattle.std.specs.Result.{result_map_both};
-ghost use Rattle.chip_request.specs.LineParts.{byte_at, card_at, account_number_at, digits_at, last_digit_at, digit_at, data_at, pair_at, hex_digit_at};
+ghost use Rattle.issuer_base.specs.declared.limits.TheConstants.{MAX_CHIP_BYTES};
+ghost use Rattle.chip_request.specs.LineParts.{byte_at, card_at, account_number_at, digits_at, last_digit_at, digit_at, data_at, pair_at};
 
-use crate::hex_digits::hex_value;
+use crate::hex_digits::{is_hex_digit, pair_value};
 use arrayvec::ArrayVec;
-use issuer_base::{MAX_PAN_DIGITS, Pan};
+use issuer_base::{MAX_CHIP_BYTES, MAX_PAN_DIGITS, Pan};
 
 /// This byte.
 #[tactic(auto, unfolding(crate::specs::LineParts::byte_at))]
@@ -64,7 +65,8 @@ fn leading_digits(text: &[u8]) -> (ArrayVec<u8, MAX_PAN_DIGITS>, &[u8])
 /// One decimal digit, and then the end of the text.
 #[tactic(auto, unfolding(crate::specs::LineParts::last_digit_at))]
 pub(crate) fn read_last_digit(text: &[u8]) -> Result<u8, &[u8]>
-    ensures { result_map_both (λ digit. digit) (λ rest. rest.now) result ≡ last_digit_at text.now }
+    ensures found { result_map_both (λ digit. digit) (λ rest. rest.now) result ≡ last_digit_at text.now }
+    ensures small { IfOk result (λ digit. digit < 10) }
 {
     let (digit, rest) = read_digit(text)?;
     if !rest.is_empty() {
@@ -84,60 +86,45 @@ fn read_digit(text: &[u8]) -> Result<(u8, &[u8]), &[u8]>
     }
 }
 
-/// The bytes of 1 to `N` pairs of hexadecimal digits, up to the end of the text.
-pub(crate) fn read_data<const N: usize>(text: &[u8]) -> Result<ArrayVec<u8, N>, &[u8]>
-    ensures { result_map_both (λ bytes. bytes.items) (λ rest. rest.now) result ≡ data_at N text.now }
+/// The bytes of 1 to `limit` pairs of hexadecimal digits, up to the end of the text: they are written in front of `bytes`, and counted.
+pub(crate) fn read_data<'a>(
+    text: &'a [u8],
+    limit: usize,
+    bytes: &mut [u8; MAX_CHIP_BYTES],
+) -> Result<usize, &'a [u8]>
+    requires { 1 ≤ limit × limit ≤ MAX_CHIP_BYTES }
+    ensures bytes { result_map_both (λ count. take count bytes.new) (λ rest. rest.now) result ≡ data_at limit text.now }
+    ensures within { IfOk result (λ count. count ≤ limit) }
 {
-    let mut bytes = ArrayVec::new();
-    let mut rest = text;
-    for _ in 0..N {
-        let (byte, after) = read_pair(rest)?;
-        bytes.push(byte);
-        rest = after;
-        if rest.is_empty() {
-            return Ok(bytes);
-        }
+    if text.is_empty() {
+        return Err(text);
     }
-    Err(rest)
+    let pairs = limit.min(text.len() / 2);
+    for place in 0..pairs {
+        let byte = pair_value(text[2 * place], text[2 * place + 1]);
+        if byte > 0xFF {
+            return Err(wrong_digit(&text[2 * place..]));
+        }
+        bytes[place] = byte as u8;
+    }
+    let rest = &text[2 * pairs..];
+    if rest.is_empty() {
+        return Ok(pairs);
+    }
+    if pairs == limit {
+        return Err(rest);
+    }
+    Err(wrong_digit(rest))
 }
 
+/// The text from its first byte on that is no digit of the pair in front, of which there is one.
 #[tactic(auto, unfolding(crate::specs::LineParts::pair_at, crate::specs::LineParts::hex_digit_at))]
-fn read_pair(text: &[u8]) -> Result<(u8, &[u8]), &[u8]>
-    ensures { result_map_both (λ found. (found.0, found.1.now)) (λ rest. rest.now) result ≡ pair_at text.now }
-{
-    if let [high, low, rest @ ..] = text {
-        let high = hex_value(*high);
-        let low = hex_value(*low);
-        if high < 16 && low < 16 {
-            return Ok((16 * high + low, rest));
-        }
-    }
-    read_digit_by_digit(text)
-}
-
-// The same where a digit may be none, to say which.
-#[tactic(auto, unfolding(crate::specs::LineParts::pair_at))]
-fn read_digit_by_digit(text: &[u8]) -> Result<(u8, &[u8]), &[u8]>
-    ensures { result_map_both (λ found. (found.0, found.1.now)) (λ rest. rest.now) result ≡ pair_at text.now }
-{
-    let (high, rest) = read_hex_digit(text)?;
-    let (low, rest) = read_hex_digit(rest)?;
-    Ok((16 * high + low, rest))
-}
-
-#[tactic(auto, unfolding(crate::specs::LineParts::hex_digit_at))]
-fn read_hex_digit(text: &[u8]) -> Result<(u8, &[u8]), &[u8]>
-    ensures found { result_map_both (λ found. (found.0, found.1.now)) (λ rest. rest.now) result ≡ hex_digit_at text.now }
-    ensures small { IfOk result (λ found. found.0 < 16) }
+fn wrong_digit(text: &[u8]) -> &[u8]
+    requires { is_err (pair_at text.now) ≡ true }
+    ensures { pair_at text.now ≡ Err result.now }
 {
     match text {
-        [digit, rest @ ..] => {
-            let value = hex_value(*digit);
-            if value >= 16 {
-                return Err(text);
-            }
-            Ok((value, rest))
-        }
-        _ => Err(text),
+        [high, rest @ ..] if is_hex_digit(*high) => rest,
+        _ => text,
     }
 }

@@ -5,15 +5,16 @@ use Rattle.issuer_setup.specs.IssuerSetup.{Setup}
 use Rattle.journal_rec.specs.RecordText.{texts_of}
 use Rattle.record_store.specs.Holding.{Holds}
 use Rattle.shard_book.specs.declared.shard.Shard.{Shard}
-use Rattle.shard_book.specs.Shards.{number_in, IsUnder, faults_in, told_in, StandsFor}
+use Rattle.shard_book.specs.Shards.{number_in, IsUnder, faults_in, told_in, IsUndoubted, StandsFor}
 use Rattle.host_calls.specs.Books.{Book}
 
 module _ {S : Type 0} {G : Ghosts S} where
-  -- there is a shard of this issuer for each number, in order
+  -- there is a shard of this issuer for each number, in order; in none is anything in doubt before an answer told that its store failed
   pub record AreShards (issuer : Setup) (shards : List (Shard S G)) : Type 0 where
     pub count_is : length shards ≡ issuer.shards
     pub numbers_are : (number : ℕ) (shard : Shard S G) → slice_get shards number ≡ Some shard → number_in shard ≡ number
     pub under : (number : ℕ) (shard : Shard S G) → slice_get shards number ≡ Some shard → IsUnder issuer shard
+    pub undoubted : (number : ℕ) (shard : Shard S G) → slice_get shards number ≡ Some shard → IsUndoubted shard
 
   -- the shard stands for the book: for its history, and with these counts; where no answer told that its store failed, nothing is in doubt
   pub record StandsForBook (issuer : Setup) (shard : Shard S G) (book : Book) : Type 0 where

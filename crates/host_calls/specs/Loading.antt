@@ -1,14 +1,19 @@
 -- What loading the shards of a host makes of their stores.
-use Rattle.std.specs.Prelude.{◌≡◌, ℕ, ◌<◌, false, List, length, slice_get, Some}
+use Rattle.std.specs.Prelude.{◌≡◌, ℕ, ◌<◌, false, List, ◌++◌, length, slice_get, Option, Some}
 use Rattle.issuer_base.specs.OutsideFaults.{CountsFaults}
-use Rattle.issuer_base.specs.Stores.{BothTold, LeavesOnly}
+use Rattle.issuer_base.specs.Stores.{BothTold, Disk, LeavesOnly}
+use Rattle.issuer_base.specs.Tells.{Tells}
+use Rattle.issuer_base.specs.declared.entry.Entry.{Entry}
 use Rattle.issuer_base.specs.declared.outside.store.Store.{Ghosts}
+use Rattle.card_history.specs.LegalRecords.{IsLegalHistory}
 use Rattle.issuer_setup.specs.IssuerSetup.{Setup}
+use Rattle.journal_rec.specs.RecordText.{texts_of, IsUnbroken}
 use Rattle.record_store.specs.Images.{IsCutImage}
 use Rattle.shard_book.specs.declared.replay.LoadFault.{LoadFault}
 use Rattle.shard_book.specs.declared.shard.Shard.{Shard}
 use Rattle.shard_book.specs.Loading.{StopsText, is_store_failure}
-use Rattle.shard_book.specs.Shards.{IsUnder, store_in, sure_in, disk_in, faults_in, told_in, IsLoaded, IsSomeCutImage}
+use Rattle.shard_book.specs.Grounds.{grounds_of}
+use Rattle.shard_book.specs.Shards.{IsUnder, sure_in, disk_in, faults_in, told_in, IsUndoubted, IsLoaded, IsSomeCutImage}
 
 module _ {S : Type 0} {G : Ghosts S} where
   -- the shard with this number was loaded from the store: it stands for the history that the store held, and meanwhile a crash leaves what
@@ -17,6 +22,7 @@ module _ {S : Type 0} {G : Ghosts S} where
     pub loaded : IsLoaded issuer number (G.bytes store) shard
     pub under : IsUnder issuer shard
     pub untold : told_in shard ≡ 0
+    pub undoubted : IsUndoubted shard
     pub leaves : BothTold (λ old new. LeavesOnly (IsCutImage (sure_in shard) old.now) old new) (G.disk store) (disk_in shard)
     pub counts : CountsFaults (G.faults store) (faults_in shard) false
 
@@ -26,18 +32,32 @@ module _ {S : Type 0} {G : Ghosts S} where
     pub each : (number : ℕ) (store : S) (shard : Shard S G) → slice_get stores number ≡ Some store → slice_get shards number ≡ Some shard
         → IsLoadedFrom issuer number store shard
 
+-- by what stores tell of their bytes and disks, and by their counts of faults
+module _ {S : Type 0} (bytes : S → Option (List ℕ)) (disk : S → Option Disk) (faults : S → ℕ) where
+  -- the store was loaded and is given back: it held the text of a legal history and a rest, and has just the text now; meanwhile a crash leaves
+  -- what it might leave before, or the text
+  pub record IsGivenBack (issuer : Setup) (number : ℕ) (store back : S) : Type 0 where
+    pub history : List Entry
+    pub rest : List ℕ
+    pub text_is : Tells (bytes store) (texts_of history ++ rest)
+    pub unbroken : IsUnbroken rest
+    pub legal : IsLegalHistory (grounds_of issuer) number history
+    pub cut : Tells (bytes back) (texts_of history)
+    pub leaves : BothTold (λ old new. LeavesOnly (IsCutImage (length (texts_of history)) old.now) old new) (disk store) (disk back)
+    pub counts : CountsFaults (faults store) (faults back) false
+
   -- the shard with this number can't be loaded from the store for this reason, and this is the store afterwards
   pub record IsNotLoaded (issuer : Setup) (number : ℕ) (store : S) (fault : LoadFault) (back : S) : Type 0 where
-    pub stops : StopsText issuer number (G.bytes store) fault
-    pub leaves : BothTold (λ old new. LeavesOnly (IsSomeCutImage old.now) old new) (G.disk store) (G.disk back)
-    pub counts : CountsFaults (G.faults store) (G.faults back) (is_store_failure fault)
+    pub stops : StopsText issuer number (bytes store) fault
+    pub leaves : BothTold (λ old new. LeavesOnly (IsSomeCutImage old.now) old new) (disk store) (disk back)
+    pub counts : CountsFaults (faults store) (faults back) (is_store_failure fault)
 
-  -- the stores come back in order: those before the one that failed as their shards left them, those behind it as they were
+  -- the stores come back in order: those before the one that failed as they were loaded, those behind it as they were
   pub record ComeBack (issuer : Setup) (stores : List S) (failed : ℕ) (fault : LoadFault) (back : List S) : Type 0 where
     pub count_is : length back ≡ length stores
     pub within : failed < length stores
     pub before : (number : ℕ) (store after : S) → number < failed → slice_get stores number ≡ Some store → slice_get back number ≡ Some after
-        → (shard : Shard S G) × IsLoadedFrom issuer number store shard × (after ≡ store_in shard)
+        → IsGivenBack issuer number store after
     pub at : (store after : S) → slice_get stores failed ≡ Some store → slice_get back failed ≡ Some after
         → IsNotLoaded issuer failed store fault after
     pub behind : (number : ℕ) → failed < number → slice_get back number ≡ slice_get stores number

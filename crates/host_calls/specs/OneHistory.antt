@@ -1,5 +1,5 @@
 -- The law of a host with one caller, across restarts: its answers and journals are one legal history per shard.
-use Rattle.std.specs.Prelude.{◌≡◌, ℕ, ◌≤◌, List, ◌++◌, length, take, slice_get, slice_index_or, [], Some, Ok}
+use Rattle.std.specs.Prelude.{◌≡◌, ℕ, ◌≤◌, List, ◌++◌, length, take, slice_get, slice_index_or, [], Some, Ok, All}
 use Rattle.issuer_base.specs.OutsideFaults.{Rose}
 use Rattle.issuer_base.specs.declared.request.Request.{Request}
 use Rattle.issuer_base.specs.declared.answer.Reply.{Reply}
@@ -13,6 +13,7 @@ use Rattle.card_history.specs.OneReply.{IsOncePerCounter, IsOfItsRecord, reply_i
 use Rattle.card_history.specs.Records.{CardName}
 use Rattle.card_history.specs.ScriptOrder.{AreInOrder}
 use Rattle.issuer_setup.specs.IssuerSetup.{Setup}
+use Rattle.journal_rec.specs.Record.{IsRecord}
 use Rattle.line_checks.specs.Reading.{reading}
 use Rattle.shard_book.specs.Grounds.{grounds_of, grounds_now}
 use Rattle.host_calls.specs.Books.{Book, histories_of}
@@ -37,6 +38,16 @@ GoOnLegally issuer first last =
 -- the history of each shard is legal
 abbrev pub AreLegalBooks : Setup → List Book → Type 0
 AreLegalBooks issuer books = (shard : ℕ) (book : Book) → slice_get books shard ≡ Some book → IsLegalHistory (grounds_of issuer) shard book.history
+
+-- each entry of the histories is a record, as the program holds them
+abbrev pub AreRecorded : List Book → Type 0
+AreRecorded books = (shard : ℕ) (book : Book) → slice_get books shard ≡ Some book → All IsRecord book.history
+
+-- a record that may come next by the issuer's own decision may come next when it is loaded again
+abbrev pub LoadsAgain : Setup → Type 0
+LoadsAgain issuer =
+    (shard : ℕ) (before : List Entry) (entry : Entry) → IsRecord entry → IsLegal (grounds_now issuer) shard before entry
+    → IsLegal (grounds_of issuer) shard before entry
 
 -- line number `index` was read as this request, and was given this answer
 pub record IsAnswered (issuer : Setup) (lines : List (List ℕ)) (answers : List Answer) (index : ℕ) (request : Request) (answer : Answer) : Type 0 where

@@ -3,7 +3,7 @@ use Rattle.std.specs.Prelude.{ℕ, List, length}
 use Rattle.issuer_base.specs.declared.entry.Entry.{Entry}
 use Rattle.card_history.specs.Records.{CardName, decided, greatest, status_of}
 use Rattle.card_history.specs.Scripts.{scripts_of}
-use Rattle.host_calls.specs.declared.view.CardView.{CardView}
+use Rattle.show_text.specs.declared.card_view.CardView.{CardView}
 
 -- a card after the history of its shard: its greatest counter, its status, how many commands were ever queued for it and are done, what is in flight,
 -- and whether its scripts are halted

@@ -3,7 +3,7 @@ ghost use Rattle.std.specs.Prelude.{ℕ, List};
 ghost use Rattle.issuer_base.specs.declared.answer.Answer.{Answer};
 ghost use Rattle.issuer_setup.specs.IssuerSetup.{Setup};
 ghost use Rattle.host_calls.specs.Books.{Book};
-ghost use Rattle.host_calls.specs.OneHistory.{AreLegalBooks, IsOneHistory};
+ghost use Rattle.host_calls.specs.OneHistory.{AreLegalBooks, AreRecorded, IsOneHistory, LoadsAgain};
 ghost use Rattle.host_calls.specs.Turns.{Run};
 
 /// Whatever lines come, repeated or reordered, on whatever legal histories earlier runs left: the answers and the histories are one legal history
@@ -13,5 +13,6 @@ ghost use Rattle.host_calls.specs.Turns.{Run};
 /// The contract is a theorem on every run; the function does nothing.
 pub fn every_run_is_one_history()
     ensures { (issuer : Setup) (first last : List Book) (lines : List (List ℕ)) (answers : List Answer)
-        → AreLegalBooks issuer first → Run issuer first lines answers last → IsOneHistory issuer lines answers first last }
+        → LoadsAgain issuer → AreLegalBooks issuer first → AreRecorded last → Run issuer first lines answers last
+        → IsOneHistory issuer lines answers first last }
 {}

@@ -5,11 +5,14 @@
 #![tactic(auto)]
 
 mod law;
+mod loading;
 mod solo;
-mod view;
 
 pub use law::every_run_is_one_history;
+pub use loading::HostBack;
 pub use shard_book::LoadFault;
-pub use solo::{HostBack, Solo};
-pub use view::CardView;
+pub use show_text::CardView;
+pub use solo::Solo;
 
+#[cfg(test)]
+mod tests;

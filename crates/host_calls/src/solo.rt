@@ -1,9 +1,11 @@
 //! The host of one caller.
-ghost use Rattle.std.specs.Prelude.{◌≡◌, ◌<◌, ◌≤◌, ℕ, List, [], length, map, vec_capacity, slice_get, Some, IfOk, IfErr};
+ghost use Rattle.std.specs.Prelude.{◌≡◌, ◌<◌, ◌≤◌, ◌%◌, ℕ, List, [], ◌∷◌, ◌++◌, length, map, reverse, vec_capacity, slice_get, Some, Ok, IfOk, IfErr};
+ghost use Rattle.card_history.specs.declared.decision.Asked.TheVariants.{Decide, Queue, Status};
 ghost use Rattle.issuer_setup.specs.CardList.{name_of};
 ghost use Rattle.issuer_setup.specs.IssuerSetup.{shard_of};
 ghost use Rattle.issuer_setup.specs.declared.card.CardInfo.{CardInfo};
-ghost use Rattle.line_checks.specs.Reading.{reading};
+ghost use Rattle.line_checks.specs.AtHand.{IsRequestAtHand, IsCommandAtHand, IsStatusAtHand};
+ghost use Rattle.line_checks.specs.Reading.{checked, reading};
 ghost use Rattle.shard_book.specs.Shards.{store_in};
 ghost use Rattle.host_calls.specs.Books.{Book};
 ghost use Rattle.host_calls.specs.Hosts.{AreShards, Stand};
@@ -12,11 +14,12 @@ ghost use Rattle.host_calls.specs.Runs.{LeaveBetween};
 ghost use Rattle.host_calls.specs.Turns.{Turn};
 ghost use Rattle.host_calls.specs.Views.{view_of};
 
-use crate::view::CardView;
+use crate::loading::{HostBack, Lists, load_all, take_lists, take_stores};
 use issuer_base::{Answer, Store};
 use issuer_setup::Issuer;
 use line_checks::{Checked, CheckedCommand, CheckedRequest, CheckedStatus, check_line};
-use shard_book::{LoadBack, LoadFault, Shard};
+use shard_book::{LoadFault, Shard};
+use show_text::CardView;
 use std::alloc::Global;
 
 /// The host of one caller over stores: it answers line after line, and each record is safe in its shard's store before it is answered.
@@ -33,13 +36,6 @@ pub struct Solo<S: Store> {
     ghost room: { length shards.items ≤ vec_capacity back },
 }
 
-/// The stores of a host that wasn't loaded, in order, and why: the fault of the first shard that wasn't loaded.
-pub struct HostBack<S> {
-    pub fault: LoadFault,
-    pub shard: u8,
-    pub stores: Vec<S>,
-}
-
 impl<S: Store> Solo<S> {
     /// Loads the shards of an issuer from their stores, in order: takes over the records of each store's whole lines, cuts away what stands
     /// behind them, and makes them safe. The first shard that can't be loaded stops it, and the stores come back in order.
@@ -53,14 +49,23 @@ impl<S: Store> Solo<S> {
         requires { length stores.items ≡ issuer.shards }
         ensures issuer { IfOk result (λ host. host.issuer ≡ issuer) }
         ensures loaded { IfOk result (λ host. AreLoaded issuer stores.items host.shards.items) }
-        ensures stopped { IfErr result (λ back. ComeBack issuer stores.items back.shard back.fault back.stores.items) }
+        ensures stopped { IfErr result (λ back. ComeBack S.bytes S.disk S.faults issuer stores.items back.shard back.fault back.stores.items) }
     {
-        let _ = (alloc, issuer);
-        Err(HostBack {
-            fault: LoadFault::NoMemory,
-            shard: 0,
-            stores,
-        })
+        let Ok(lists) = take_lists(alloc, stores.len()) else {
+            return Err(HostBack {
+                fault: LoadFault::NoMemory,
+                shard: 0,
+                stores,
+            });
+        };
+        match load_all(alloc, &issuer, stores, lists) {
+            Ok(Lists { shards, back }) => Ok(Solo {
+                issuer,
+                shards,
+                back,
+            }),
+            Err(back) => Err(back),
+        }
     }
 
     /// The answer to a line, which is without its newline. A new record is safe in its shard's store before it is answered.
@@ -75,9 +80,9 @@ impl<S: Store> Solo<S> {
         ensures issuer { self.new.issuer ≡ self.old.issuer }
     {
         match check_line(&self.issuer, line) {
-            Ok(Checked::Decide(found)) => self.shards[usize::from(self.issuer.shard_of(found.card))].answer(&self.issuer, &found, true),
-            Ok(Checked::Queue(found)) => self.shards[usize::from(self.issuer.shard_of(found.card))].queue(&self.issuer, found),
-            Ok(Checked::Status(found)) => self.shards[usize::from(self.issuer.shard_of(found.card))].set_status(&self.issuer, found),
+            Ok(Checked::Decide(found)) => self.decide(&found),
+            Ok(Checked::Queue(found)) => self.queue(found),
+            Ok(Checked::Status(found)) => self.set_status(found),
             Err(refusal) => Answer::Refused(refusal),
         }
     }
@@ -96,6 +101,8 @@ impl<S: Store> Solo<S> {
             → slice_get self.now.issuer.cards card ≡ Some info → slice_get books (shard_of self.now.issuer (name_of info)) ≡ Some book
             → result ≡ view_of (name_of info) book.history }
     {
+        let cards = self.issuer.cards();
+        prove!(card < cards);
         let row = self.shards[usize::from(self.issuer.shard_of(card))].row(card);
         CardView {
             hi: row.hi(),
@@ -118,18 +125,47 @@ impl<S: Store> Solo<S> {
         } = self;
         take_stores(shards, back)
     }
-}
 
-/// The stores of these shards, in their order, in the room that was taken for them.
-fn take_stores<S: Store>(mut shards: Vec<Shard<S>>, mut back: Vec<S>) -> Vec<S>
-    requires empty { back.items ≡ [] }
-    requires room { length shards.items ≤ vec_capacity back }
-    ensures { result.items ≡ map store_in shards.items }
-{
-    while let Some(shard) = shards.pop() {
-        back.push_reserved(shard.into_store());
+    /// The answer to a request that was checked, in the shard of its card.
+    fn decide(&mut self, found: &CheckedRequest) -> Answer
+        requires at_hand { IsRequestAtHand self.old.issuer found.now }
+        requires genuine { checked self.old.issuer found.now.request ≡ Ok (Decide found.now.request) }
+        ensures turn { (books : List Book) → Stand self.old.issuer self.old.shards.items books
+            → (after : List Book) × Stand self.new.issuer self.new.shards.items after
+            × Turn self.old.issuer books (Ok (Decide found.now.request)) result after }
+        ensures crash { (books : List Book) → Stand self.old.issuer self.old.shards.items books
+            → LeaveBetween self.old.issuer books books self.old.shards.items self.new.shards.items }
+        ensures issuer { self.new.issuer ≡ self.old.issuer }
+    {
+        let shard = usize::from(self.issuer.shard_of(found.card));
+        self.shards[shard].answer(&self.issuer, found, true)
     }
-    shards.destroy_empty();
-    back.reverse();
-    back
+
+    /// The answer to a command that was checked, in the shard of its card.
+    fn queue(&mut self, found: CheckedCommand) -> Answer
+        requires { IsCommandAtHand self.old.issuer found }
+        ensures turn { (books : List Book) → Stand self.old.issuer self.old.shards.items books
+            → (after : List Book) × Stand self.new.issuer self.new.shards.items after
+            × Turn self.old.issuer books (Ok (Queue found.pan found.psn found.command)) result after }
+        ensures crash { (books : List Book) → Stand self.old.issuer self.old.shards.items books
+            → LeaveBetween self.old.issuer books books self.old.shards.items self.new.shards.items }
+        ensures issuer { self.new.issuer ≡ self.old.issuer }
+    {
+        let shard = usize::from(self.issuer.shard_of(found.card));
+        self.shards[shard].queue(&self.issuer, found)
+    }
+
+    /// The answer to a status that was checked, in the shard of its card.
+    fn set_status(&mut self, found: CheckedStatus) -> Answer
+        requires { IsStatusAtHand self.old.issuer found }
+        ensures turn { (books : List Book) → Stand self.old.issuer self.old.shards.items books
+            → (after : List Book) × Stand self.new.issuer self.new.shards.items after
+            × Turn self.old.issuer books (Ok (Status found.pan found.psn found.status)) result after }
+        ensures crash { (books : List Book) → Stand self.old.issuer self.old.shards.items books
+            → LeaveBetween self.old.issuer books books self.old.shards.items self.new.shards.items }
+        ensures issuer { self.new.issuer ≡ self.old.issuer }
+    {
+        let shard = usize::from(self.issuer.shard_of(found.card));
+        self.shards[shard].set_status(&self.issuer, found)
+    }
 }

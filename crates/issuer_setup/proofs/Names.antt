@@ -9,13 +9,16 @@ use Rattle.std.specs.List.{slice_get}
 use Rattle.std.specs.Ordering.{nat_cmp, ordering_then}
 use Rattle.std.specs.declared.cmp.Ordering.TheVariants.{Less, Equal, Greater}
 use lib.Pointwise.{bytes_decides}
+use Rattle.issuer_base.specs.ChipData.{decimal}
 use Rattle.card_history.specs.Records.{CardName}
 use Rattle.issuer_setup.specs.declared.card.CardInfo.{CardInfo}
 use Rattle.issuer_setup.specs.CardList.{name_of, is_named}
-use Rattle.issuer_setup.specs.CardOrder.{name_cmp, name_at}
+use Rattle.issuer_setup.specs.CardOrder.{digits_cmp, name_cmp, name_at}
 
 pub name_cmp-total : IsTotalOrder name_cmp
-name_cmp-total = then_total (on_total (λ (name : CardName). name.pan) nat_list_cmp_total) (on_total (λ (name : CardName). name.psn) nat_cmp_total)
+name_cmp-total =
+    then_total (on_total (λ (name : CardName). decimal name.pan) nat_cmp_total)
+    (then_total (on_total (λ (name : CardName). name.pan) nat_list_cmp_total) (on_total (λ (name : CardName). name.psn) nat_cmp_total))
 
 both-equal : (first second : Ordering) → ordering_then first second ≡ Equal → (first ≡ Equal) × (second ≡ Equal)
 both-equal Less second same = absurd (cc)
@@ -25,7 +28,8 @@ both-equal Greater second same = absurd (cc)
 -- names that compare as equal are the same
 pub name_cmp-same : (first second : CardName) → name_cmp first second ≡ Equal → first ≡ second
 name_cmp-same first second same =
-    let parts = both-equal (slice_cmp nat_cmp first.pan second.pan) (nat_cmp first.psn second.psn) same in
+    let digits = (both-equal (nat_cmp (decimal first.pan) (decimal second.pan)) (digits_cmp first second) same).1 in
+    let parts = both-equal (slice_cmp nat_cmp first.pan second.pan) (nat_cmp first.psn second.psn) digits in
     let pan : first.pan ≡ second.pan = exact_bytes first.pan second.pan parts.0 in
     let psn : first.psn ≡ second.psn = by_ranked _ _ _ (nat_cmp first.psn second.psn)
     (ranked first.psn second.psn (nat_cmp first.psn second.psn) refl) (λ less below. absurd (let both : Less ≡ Equal = sym less ∙ parts.1 in cc))

@@ -3,7 +3,7 @@ ghost use Rattle.std.specs.Prelude.{◌≡◌, None, IfOk, IfErr};
 ghost use Rattle.issuer_setup.specs.CardList.{number_of, bad_card, IsCardsFault, AreCards};
 
 use crate::card::CardInfo;
-use crate::card_order::{find_card, order_by_name};
+use crate::card_order::{accounts_of, find_card, order_by_name};
 use issuer_base::Pan;
 use std::alloc::{AllocError, Global};
 use std::marker::Model;
@@ -40,20 +40,24 @@ pub struct Cards {
 
     /// The numbers of the cards, in the order of the cards' names.
     by_name: Vec<u32>,
+
+    /// The numbers that the digits of the cards' account numbers write, in the order of the cards' numbers.
+    accounts: Vec<u64>,
 }
 
 impl Model for Cards {
-    ghost use Rattle.std.specs.Prelude.{◌≡◌, List, None, length};
+    ghost use Rattle.std.specs.Prelude.{◌≡◌, List, None, length, map};
     ghost use Rattle.issuer_setup.specs.declared.card.CardInfo.{CardInfo};
     ghost use Rattle.issuer_setup.specs.CardList.{bad_card};
-    ghost use Rattle.issuer_setup.specs.CardOrder.{IsOrder};
+    ghost use Rattle.issuer_setup.specs.CardOrder.{IsOrder, account_of};
 
     ghost Value = { List CardInfo };
 
     ghost view = { λ cards. cards.kept.items };
 
     ghost invariant = { λ cards. (bad_card cards.kept.items ≡ None)
-        × IsOrder cards.kept.items (length cards.kept.items) cards.by_name.items };
+        × IsOrder cards.kept.items (length cards.kept.items) cards.by_name.items
+        × (cards.accounts.items ≡ map account_of cards.kept.items) };
 }
 
 impl Cards {
@@ -62,10 +66,12 @@ impl Cards {
         ensures same { IfOk result (λ kept. (bad_card cards.items ≡ None) × (kept ≡ cards.items)) }
         ensures refused { IfErr result (IsCardsFault cards.items) }
     {
-        let by_name = order_by_name(alloc, cards.as_slice())?;
+        let accounts = accounts_of(alloc, cards.as_slice())?;
+        let by_name = order_by_name(alloc, cards.as_slice(), accounts.as_slice())?;
         Ok(Cards {
             kept: cards,
             by_name,
+            accounts,
         })
     }
 
@@ -82,6 +88,12 @@ impl Cards {
         ensures number { result ≡ number_of (record { pan = pan.now; psn = psn }) self.now }
         ensures valid { AreCards self.now }
     {
-        find_card(self.kept.as_slice(), self.by_name.as_slice(), pan, psn)
+        find_card(
+            self.kept.as_slice(),
+            self.accounts.as_slice(),
+            self.by_name.as_slice(),
+            pan,
+            psn,
+        )
     }
 }

@@ -7,8 +7,8 @@ ghost use Rattle.line_checks.specs.AtHand.{asked_of, IsAtHand};
 use crate::card::{check_command, check_status};
 use crate::checked::Checked;
 use crate::request::check_data;
-use chip_request::{LineKind, read_line};
-use issuer_base::Refusal;
+use chip_request::{LineForm, read_line_into};
+use issuer_base::{MAX_CHIP_BYTES, Refusal};
 use issuer_setup::Issuer;
 
 /// What a line, without its newline, asks of this issuer, or the first thing that is wrong with it. It takes no memory.
@@ -16,16 +16,17 @@ pub fn check_line(issuer: &Issuer, line: &[u8]) -> Result<Checked, Refusal>
     ensures asked { result_map_both asked_of (λ refusal. refusal) result ≡ reading issuer.now line.now }
     ensures at_hand { IfOk result (IsAtHand issuer.now) }
 {
-    match read_line(line).map_err(Refusal::BadLine)? {
-        LineKind::Ask(bytes) => {
-            let found = check_data(issuer, bytes.as_slice())?;
+    let mut bytes = [0; MAX_CHIP_BYTES];
+    match read_line_into(line, &mut bytes).map_err(Refusal::BadLine)? {
+        LineForm::Ask { count } => {
+            let found = check_data(issuer, &bytes[..count])?;
             Ok(Checked::Decide(found))
         }
-        LineKind::Queue { pan, psn, bytes } => {
-            let found = check_command(issuer, pan, psn, bytes.as_slice())?;
+        LineForm::Queue { pan, psn, count } => {
+            let found = check_command(issuer, pan, psn, &bytes[..count])?;
             Ok(Checked::Queue(found))
         }
-        LineKind::Set { pan, psn, status } => {
+        LineForm::Set { pan, psn, status } => {
             let found = check_status(issuer, pan, psn, status)?;
             Ok(Checked::Status(found))
         }

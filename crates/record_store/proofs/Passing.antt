@@ -1,11 +1,11 @@
 -- What the moments of a text that grows, and of one that is cut, hold; and what they may leave.
-use Rattle.std.proofs.Common.{◌≡◌, ◌⊎◌, ◌≤◌, ℕ, zero, suc, min, Bool, false, true, List, [], ◌∷◌, ◌++◌, length, take, append-nil, length-take}
-use Rattle.std.proofs.Common.{length-append, refl, sym, ap, subst, ◌∙◌}
+use Rattle.std.proofs.Common.{◌≡◌, ◌⊎◌, ◌≤◌, ℕ, zero, suc, min, Bool, false, true, List, [], ◌++◌, length, take, append-nil, length-take}
+use Rattle.std.proofs.Common.{refl, sym, ap, subst, ◌∙◌}
 use Rattle.std.proofs.Common.{inl, inr, ⊎_elim, arith, Option, None, Some, IfSome}
 use Rattle.std.proofs.lemmas.Bool.{cases_lt}
 use Rattle.std.proofs.lemmas.List.{take-take, take_all, take_at}
 use Rattle.issuer_base.specs.Stores.{Disk, Moment, MayLeave, Passes, WhileAppended, WhileCut, WhileKept, AppendsToBytes, AppendsToDisk, CutsBytes}
-use Rattle.issuer_base.specs.Stores.{CutsDisk, KeepsDisk, SyncsDisk, BothTold, LeavesOnly, HasSafe}
+use Rattle.issuer_base.specs.Stores.{CutsDisk, SyncsDisk, BothTold, LeavesOnly, HasSafe}
 use Rattle.issuer_base.proofs.Moments.{Passes-no_call, Passes-then, Passes-weaker, LeavesOnly-passes, MayLeave-behind}
 use Rattle.issuer_base.proofs.ToldTwice.{BothTold-given, BothTold-second, BothTold-then, BothTold-weaker}
 use Rattle.record_store.specs.Images.{HasSafeText, IsImage, IsEitherImage, IsCutImage}

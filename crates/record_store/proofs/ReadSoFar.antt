@@ -1,9 +1,9 @@
 -- Reading a store by and by.
-use Rattle.std.proofs.Common.{◌≡◌, ◌+◌, ◌-◌, ◌≤◌, ℕ, min, Bool, List, ◌++◌, length, take, drop, Option, None, Some, IfSome, refl, sym, ap, subst, ◌∙◌, arith}
+use Rattle.std.proofs.Common.{◌≡◌, ◌+◌, ◌≤◌, ℕ, List, ◌++◌, length, take, drop, Option, None, Some, IfSome, refl, sym, ap, subst, ◌∙◌, arith}
 use Rattle.std.proofs.Math.Seq.{take-add, take-append-add}
 use Rattle.std.proofs.lemmas.List.{take-append-le, length-take-le, length-take, length-drop, length-append, drop-drop}
 use borrow.Rule.Slice.PartMut.{put_mid, post_of}
-use Rattle.issuer_base.specs.Stores.{Disk, Moment, BothTold, KeepsDisk, Passes, WhileKept, HasSafe}
+use Rattle.issuer_base.specs.Stores.{Disk, BothTold, KeepsDisk, WhileKept}
 use Rattle.issuer_base.proofs.Moments.{Passes-no_call, Passes-then, Passes-weaker}
 use Rattle.record_store.specs.Images.{IsKept, OnlyReads}
 use Rattle.issuer_base.proofs.ToldTwice.{BothTold-then}

@@ -40,6 +40,7 @@ impl<S: Store> Journal<S> {
             → IfOk result (λ journal. Holds journal records text []) }
         ensures sure { IfOk result (λ journal. journal.sure ≡ sure) }
         ensures records { IfOk result (λ journal. journal.records ≡ records) }
+        ensures settled { IfOk result (λ journal. journal.in_doubt ≡ false) }
         ensures opened { IfOk result (λ journal. BothTold (λ old new. LeavesOnly (IsCutImage sure old.now) old new) (S.disk store) (S.disk journal.store)) }
         ensures kept { IfErr result (λ back. BothTold (CutsBytes sure true) (S.bytes store) (S.bytes back)) }
         ensures crash { IfErr result (λ back. BothTold (λ old new. LeavesOnly (IsCutImage sure old.now) old new) (S.disk store) (S.disk back)) }
@@ -85,6 +86,7 @@ impl<S: Store> Journal<S> {
             → IfOk result (λ place. (place ≡ count) × Holds self.new (count + 1) (text ++ piece.now) []) }
         ensures failed { (count : ℕ) (text tail : List ℕ) → Holds self.old count text tail
             → IsErr result → Holds self.new count text tail ⊎ Holds self.new count text piece.now }
+        ensures settled { OnOk result (self.new.in_doubt ≡ false) }
 
         // A crash since the start of the call leaves the text, and behind it a front of what was in doubt or of the record.
         ensures crash { (count : ℕ) (text tail : List ℕ) → Holds self.old count text tail
@@ -119,6 +121,7 @@ impl<S: Store> Journal<S> {
         ensures put { (count : ℕ) (text : List ℕ) → Holds self.old count text []
             → IfOk result (λ place. (place ≡ count) × Holds self.new (count + 1) (text ++ piece.now) []) }
         ensures failed { (count : ℕ) (text : List ℕ) → Holds self.old count text [] → IsErr result → Holds self.new count text piece.now }
+        ensures settled { OnOk result (self.new.in_doubt ≡ false) }
         ensures passes { (count : ℕ) (text : List ℕ) → Holds self.old count text []
             → BothTold (Passes (HasSafeText text piece.now)) (S.disk self.old.store) (S.disk self.new.store) }
         ensures count { CountsFaults (S.faults self.old.store) (S.faults self.new.store) (is_err result) }

@@ -77,7 +77,7 @@ module _ (from at count size : ℕ) (into : List ℕ) (above : from ≤ at) wher
   pub found-part : (first now : Option (List ℕ)) → now ≡ first → IfSome now (λ text. size ≡ length text) → at ≤ size
       → IfSome first (λ text. IsUnbroken (take (at - from) (drop from text)))
       → IfSome now (λ text. take count into ≡ take count (drop at text)) → HasLineAhead (take count into)
-        → IfSome first (λ text. HasLineAhead (drop from text))
+      → IfSome first (λ text. HasLineAhead (drop from text))
   found-part None now same sized within passed given line = tt
   found-part (Some text) now same sized within passed given line =
       let size_is : size ≡ length text = subst (λ now. IfSome now (λ text. size ≡ length text)) same sized in

@@ -1,6 +1,6 @@
 -- A record that is put into the journal of a shard: what is held then, and what a crash may leave.
-use Rattle.std.proofs.Common.{◌≡◌, ◌⊎◌, ℕ, ◌+◌, List, [], ◌∷◌, ◌++◌, length, append-nil, refl, sym, ap, subst, ◌∙◌, inl, inr, ⊎_elim, Bool, true}
-use Rattle.std.proofs.Common.{Option, None, Some, Result, Ok, Err, IfOk, IfSome}
+use Rattle.std.proofs.Common.{◌≡◌, ◌⊎◌, ℕ, ◌+◌, List, [], ◌∷◌, ◌++◌, length, append-nil, refl, sym, ap, subst, ◌∙◌, inl, inr, ⊎_elim, Bool, true, false}
+use Rattle.std.proofs.Common.{Option, None, Some, Result, Ok, Err, IfOk, IfSome, OnOk, is_err, zero, suc, arith}
 use Rattle.std.proofs.lemmas.List.{length_push}
 use Rattle.std.proofs.lemmas.List.Elements.{All-push}
 use Rattle.std.proofs.lemmas.List.Concat.{flat_map-append}
@@ -19,7 +19,7 @@ use Rattle.issuer_base.specs.declared.answer.Refusal.TheVariants.{StoreFault}
 use Rattle.issuer_base.specs.declared.entry.Entry.TheVariants.{Decided}
 use Rattle.card_history.specs.Turns.{IsUnused, decided_for}
 use Rattle.row_core.specs.Replying.{reply_to}
-use Rattle.shard_book.specs.Answering.{AnswersClaimed}
+use Rattle.shard_book.specs.Answering.{told_after, AnswersClaimed}
 use Rattle.journal_rec.specs.Record.{IsRecord}
 use Rattle.journal_rec.specs.RecordText.{text_of, texts_of}
 use Rattle.record_store.specs.declared.journal.Journal.{Journal}
@@ -116,3 +116,14 @@ answer-added issuer new number won history request reply answer is_won unused ma
       failed.1,
       subst (λ (answer : Answer). AnswersClaimed number (reply_to issuer) won history request answer history) (sym failed.0) (is_won, unused, refl),
     ))
+
+-- one more answer that told it is counted
+told-rises : (told : ℕ) → told_after told true ≡ 0 → ⊥
+told-rises zero none = cc
+told-rises (suc told) none = grind arith
+
+-- where no answer told that the store failed, the last record was put
+pub put-undoubted : {S : Type 0} {G : Ghosts S} {X E : Type 0} (told : ℕ) (new : Journal S G) (result : Result X E) → OnOk result (new.in_doubt ≡ false)
+    → told_after told (is_err result) ≡ 0 → new.in_doubt ≡ false
+put-undoubted told new (Ok x) settled none = settled
+put-undoubted told new (Err error) settled none = absurd (told-rises told none)

@@ -1,5 +1,5 @@
 -- The history that a shard over a store stands for.
-use Rattle.std.specs.Prelude.{◌≡◌, ◌⊎◌, ℕ, List, [], ◌∷◌, ◌++◌, length, Option, Some, All}
+use Rattle.std.specs.Prelude.{◌≡◌, ◌⊎◌, ℕ, false, List, [], ◌∷◌, ◌++◌, length, Option, Some, All}
 use Rattle.issuer_base.specs.Stores.{Disk, Moment, BothTold}
 use Rattle.issuer_base.specs.Tells.{Tells}
 use Rattle.record_store.specs.Images.{IsCutImage, OnlyReads}
@@ -55,6 +55,10 @@ module _ {S : Type 0} {G : Ghosts S} where
   -- how many of its answers told that its store failed
   abbrev pub told_in : Shard S G → ℕ
   told_in shard = shard.told
+
+  -- where none of its answers told that its store failed, nothing is in doubt
+  abbrev pub IsUndoubted : Shard S G → Type 0
+  IsUndoubted shard = shard.told ≡ 0 → shard.journal.in_doubt ≡ false
 
   -- what its store tells of its disk, and the store's count of faults
   abbrev pub disk_in : Shard S G → Option Disk

@@ -19,7 +19,7 @@ ghost use Rattle.record_store.specs.Images.{IsCutImage};
 ghost use Rattle.shard_book.specs.Loading.{StopsText, IsOutside, is_store_failure};
 ghost use Rattle.shard_book.specs.Grounds.{grounds_now, grounds_of, HasTable, IsImageOf};
 ghost use Rattle.shard_book.specs.Steps.{IsCardOf};
-ghost use Rattle.shard_book.specs.Shards.{number_in, IsUnder, HasCard, store_in, sure_in, disk_in, faults_in, places_in, told_in, HoldsHistory, StandsFor, Adds, IsLoaded, IsSomeCutImage, IsTextOf, IsImageLeft, IsSettled, StandsForLeft, LeavesBytes, LeavesDisk};
+ghost use Rattle.shard_book.specs.Shards.{number_in, IsUnder, HasCard, store_in, sure_in, disk_in, faults_in, places_in, told_in, IsUndoubted, HoldsHistory, StandsFor, Adds, IsLoaded, IsSomeCutImage, IsTextOf, IsImageLeft, IsSettled, StandsForLeft, LeavesBytes, LeavesDisk};
 ghost use Rattle.shard_book.specs.Recorded.{AddsRecorded};
 ghost use Rattle.shard_book.specs.Answering.{is_store_fault, told_after, AnswersClaimed, AnswersQueueing, AnswersSetting};
 
@@ -67,6 +67,7 @@ impl<S: Store> Shard<S> {
         ensures number { IfOk result (λ loaded. number_in loaded ≡ shard) }
         ensures few { IfOk result (λ loaded. places_in loaded ≤ S.size store) }
         ensures untold { IfOk result (λ loaded. told_in loaded ≡ 0) }
+        ensures undoubted { IfOk result IsUndoubted }
         ensures stopped { IfErr result (λ back. StopsText issuer.now shard (S.bytes store) back.fault) }
 
         // The text of a legal history is loaded, and to just this history; only what is outside stops it.
@@ -113,6 +114,7 @@ impl<S: Store> Shard<S> {
             → BothTold (LeavesOnly (IsImageOf (grounds_now issuer.now) (number_in self.old) history)) (disk_in self.old) (disk_in self.new) }
         ensures count { CountsFaults (faults_in self.old) (faults_in self.new) (is_store_fault result) }
         ensures told { told_in self.new ≡ told_after (told_in self.old) (is_store_fault result) }
+        ensures undoubted { IsUndoubted self.old → IsUndoubted self.new }
         ensures under { IsUnder issuer.now self.new }
         ensures number { number_in self.new ≡ number_in self.old }
     {
@@ -146,6 +148,7 @@ impl<S: Store> Shard<S> {
             → BothTold (LeavesOnly (IsImageOf (grounds_now issuer.now) (number_in self.old) history)) (disk_in self.old) (disk_in self.new) }
         ensures count { CountsFaults (faults_in self.old) (faults_in self.new) (is_store_fault result) }
         ensures told { told_in self.new ≡ told_after (told_in self.old) (is_store_fault result) }
+        ensures undoubted { IsUndoubted self.old → IsUndoubted self.new }
         ensures under { IsUnder issuer.now self.new }
         ensures number { number_in self.new ≡ number_in self.old }
     {
@@ -185,6 +188,7 @@ impl<S: Store> Shard<S> {
             → BothTold (LeavesOnly (IsImageOf (grounds_now issuer.now) (number_in self.old) history)) (disk_in self.old) (disk_in self.new) }
         ensures count { CountsFaults (faults_in self.old) (faults_in self.new) (is_store_fault result) }
         ensures told { told_in self.new ≡ told_after (told_in self.old) (is_store_fault result) }
+        ensures undoubted { IsUndoubted self.old → IsUndoubted self.new }
         ensures under { IsUnder issuer.now self.new }
         ensures number { number_in self.new ≡ number_in self.old }
     {
@@ -269,6 +273,7 @@ impl<S: Store> Shard<S> {
             → BothTold (LeavesOnly (IsImageOf (grounds_now issuer) (number_in self.old) history)) (disk_in self.old) (disk_in self.new) }
         ensures count { CountsFaults (faults_in self.old) (faults_in self.new) (is_store_fault result) }
         ensures told { told_in self.new ≡ told_after (told_in self.old) (is_store_fault result) }
+        ensures undoubted { IsUndoubted self.new }
         ensures under { (issuer : Setup) → IsUnder issuer self.old → IsUnder issuer self.new }
         ensures number { number_in self.new ≡ number_in self.old }
     {
@@ -301,6 +306,7 @@ impl<S: Store> Shard<S> {
             → BothTold (LeavesOnly (IsImageOf (grounds_now issuer) (number_in self.old) history)) (disk_in self.old) (disk_in self.new) }
         ensures count { CountsFaults (faults_in self.old) (faults_in self.new) (is_err result) }
         ensures told { told_in self.new ≡ told_after (told_in self.old) (is_err result) }
+        ensures undoubted { IsUndoubted self.new }
     {
         let text = write_entry(entry);
         let written = self.journal.put(text.as_slice());
@@ -317,6 +323,7 @@ fn open<S: Store>(store: S, rows: Rows, taken: Taken) -> Result<Shard<S>, LoadBa
     ensures sure { IfOk result (λ loaded. sure_in loaded ≡ taken.bytes) }
     ensures places { IfOk result (λ loaded. places_in loaded ≡ taken.records) }
     ensures untold { IfOk result (λ loaded. told_in loaded ≡ 0) }
+    ensures undoubted { IfOk result IsUndoubted }
     ensures holds { (text rest : List ℕ) → length text ≡ taken.bytes → Tells (S.bytes store) (text ++ rest)
         → IfOk result (λ loaded. Holds loaded.journal taken.records text []) }
     ensures opened { IfOk result (λ loaded. BothTold (λ old new. LeavesOnly (IsCutImage taken.bytes old.now) old new) (S.disk store) (disk_in loaded)) }

@@ -132,6 +132,44 @@ fn records_of(alloc: Global, issuer: &Issuer, text: Vec<u8>) -> Result<u64, Fail
     Ok(records)
 }
 
+/// The text of a status, a decision and a status.
+fn three_records(alloc: Global, issuer: &Issuer) -> Result<Vec<u8>, Fail>
+    requires { issuer.now.shards ≡ 1 }
+{
+    let mut shard = load(
+        alloc,
+        issuer,
+        store(alloc, Vec::new(alloc), Vec::new(alloc))?,
+    )?;
+    set_status(&mut shard, issuer, 3);
+    decide(&mut shard, issuer);
+    set_status(&mut shard, issuer, 4);
+    text_of(shard)
+}
+
+/// The text with the last digit of its decision's cryptogram changed.
+fn with_changed_digit(alloc: Global, text: &[u8]) -> Result<Vec<u8>, Fail> {
+    let last_digit = FIRST.len() + "d ".len() + 2 * 85 - 1;
+    if last_digit >= text.len() {
+        return Err("three records".into());
+    }
+    let mut changed = text.to_vec(alloc)?;
+    changed[last_digit] = if text[last_digit] == b'0' { b'1' } else { b'0' };
+    Ok(changed)
+}
+
+/// The text's decision twice, and its status behind it.
+fn with_repeated_decision(alloc: Global, text: &[u8]) -> Result<Vec<u8>, Fail> {
+    if text.len() < 2 * FIRST.len() {
+        return Err("three records".into());
+    }
+    let decided = &text[FIRST.len()..text.len() - FIRST.len()];
+    let mut repeated = decided.to_vec(alloc)?;
+    repeated.extend_from_slice(decided)?;
+    repeated.extend_from_slice(FIRST.as_bytes())?;
+    Ok(repeated)
+}
+
 /// A run: so many statuses, the first of them 1, over an empty store whose call of this number fails.
 #[derive(Drop)]
 struct Run {
@@ -281,27 +319,16 @@ fn names_the_first_bad_line(rt: HostRuntime) -> Result<(), Fail> {
 fn finds_a_changed_record(rt: HostRuntime) -> Result<(), Fail> {
     let alloc = rt.alloc();
     let issuer = issuer(alloc)?;
-    let mut shard = load(alloc, &issuer, store(alloc, Vec::new(alloc), Vec::new(alloc))?)?;
-    set_status(&mut shard, &issuer, 3);
-    decide(&mut shard, &issuer);
-    set_status(&mut shard, &issuer, 4);
-    let text = text_of(shard)?;
-    let last_digit = FIRST.len() + "d ".len() + 2 * 85 - 1;
-    if last_digit >= text.len() {
-        return Err("three records".into());
-    }
-    let mut changed = text.clone()?;
-    changed[last_digit] = if text[last_digit] == b'0' { b'1' } else { b'0' };
-    let changed = store(alloc, changed, Vec::new(alloc))?;
+    let text = three_records(alloc, &issuer)?;
+    assert_eq!(rt; records_of(alloc, &issuer, text.clone()?)?, 3);
+    let changed = store(alloc, with_changed_digit(alloc, &text)?, Vec::new(alloc))?;
     assert!(rt; fault(alloc, &issuer, changed) == Some(LoadFault::BadRecord(2)));
-    let length = text.len() - FIRST.len();
-    let decided = &text[FIRST.len()..length];
-    let mut repeated = decided.to_vec(alloc)?;
-    repeated.extend_from_slice(decided)?;
-    repeated.extend_from_slice(FIRST.as_bytes())?;
-    let repeated = store(alloc, repeated, Vec::new(alloc))?;
+    let repeated = store(
+        alloc,
+        with_repeated_decision(alloc, &text)?,
+        Vec::new(alloc),
+    )?;
     assert!(rt; fault(alloc, &issuer, repeated) == Some(LoadFault::BadRecord(2)));
-    assert_eq!(rt; records_of(alloc, &issuer, text)?, 3);
     Ok(())
 }
 
@@ -316,7 +343,11 @@ fn loads_each_image_before_a_sync(rt: HostRuntime) -> Result<(), Fail> {
     for length in 0..29 {
         let image = run.store.image(length).map_err(|_| "an image")?;
         let image = image.ok_or("one of this length")?;
-        assert_eq!(rt; records_of(alloc, &issuer, image)?, u64::from(length == 28), "{length}");
+        assert_eq!(rt;
+            records_of(alloc, &issuer, image)?,
+            u64::from(length == 28),
+            "{length}"
+        );
     }
     Ok(())
 }

@@ -1,5 +1,5 @@
 -- What was read so far stands in the front of the buffer.
-use Rattle.std.proofs.Common.{◌≡◌, ◌-◌, ◌≤◌, ℕ, min, List, length, take, drop, IfSome, false}
+use Rattle.std.proofs.Common.{◌≡◌, ◌-◌, ◌≤◌, min, length, IfSome, false}
 use Rattle.issuer_base.specs.OutsideFaults.{CountsFaults}
 use Rattle.issuer_base.specs.Stores.{BothTold}
 use Rattle.record_store.specs.Images.{OnlyReads}

@@ -1,0 +1,148 @@
+//! The line of a card.
+ghost use Rattle.std.specs.Prelude.{◌≡◌, ◌+◌, ◌≤◌, ◌∷◌, ◌++◌};
+ghost use Rattle.std.specs.List.{join_with_byte};
+ghost use Rattle.arrayvec.specs.ArrayVec.{array_vec_len};
+ghost use Rattle.issuer_base.specs.ChipData.{digits_of};
+ghost use Rattle.chip_request.specs.Lines.{digits_text};
+ghost use Rattle.show_text.specs.CardText.{card_text, counter_word, flight_words};
+
+use crate::card_view::CardView;
+use answer_text::{LINE_ROOM, put, put_number};
+use arrayvec::ArrayVec;
+use cvr_settle::Flight;
+use issuer_base::Pan;
+
+/// The most bytes that the line of a card has room for; the longest has 99.
+pub const CARD_ROOM: usize = LINE_ROOM;
+
+/// Writes the line of a card with this account number, this sequence number of two decimal digits and this view, in place of what
+/// `out` held.
+#[tactic(auto, using(crate::proofs::Joined::line_joined), unfolding(crate::specs::CardText::card_text, crate::specs::CardText::card_words))]
+pub fn write_card(pan: &Pan, psn: u8, view: &CardView, out: &mut ArrayVec<u8, CARD_ROOM>)
+    ensures { out.new.items ≡ card_text pan.now psn view.now }
+{
+    out.clear();
+    put_card(out, pan, psn);
+    put(out, b" hi");
+    put_counter(out, view.hi);
+    put(out, b" status");
+    put_number(out, u64::from(view.status));
+    put(out, b" queued");
+    put_number(out, u64::from(view.queued));
+    put(out, b" done");
+    put_number(out, u64::from(view.done));
+    put(out, b" flight");
+    put_flight(out, view.flight);
+    put(out, if view.halted { b" halt" } else { b" ok" });
+    out.push(b'\n');
+}
+
+/// The two numbers of a card, parted by a space.
+fn put_card(out: &mut ArrayVec<u8, CARD_ROOM>, pan: &Pan, psn: u8)
+    requires { array_vec_len out.old + 22 ≤ CARD_ROOM }
+    ensures text { out.new.items ≡ out.old.items ++ digits_text pan.now ++ 32 ∷ digits_text (digits_of psn) }
+    ensures room { array_vec_len out.new ≤ array_vec_len out.old + 22 }
+{
+    put_digits(out, pan);
+    out.push(b' ');
+    out.push(b'0' + psn / 16);
+    out.push(b'0' + psn % 16);
+}
+
+fn put_digits(out: &mut ArrayVec<u8, CARD_ROOM>, pan: &Pan)
+    requires { array_vec_len out.old + 19 ≤ CARD_ROOM }
+    ensures text { out.new.items ≡ out.old.items ++ digits_text pan.now }
+    ensures room { array_vec_len out.new ≤ array_vec_len out.old + 19 }
+{
+    let digits = pan.digits();
+    for digit in digits {
+        out.push(b'0' + *digit);
+    }
+}
+
+fn put_counter(out: &mut ArrayVec<u8, CARD_ROOM>, counter: Option<u16>)
+    requires { array_vec_len out.old + 21 ≤ CARD_ROOM }
+    ensures text { out.new.items ≡ out.old.items ++ 32 ∷ counter_word counter }
+    ensures room { array_vec_len out.new ≤ array_vec_len out.old + 21 }
+{
+    match counter {
+        Some(counter) => put_number(out, u64::from(counter)),
+        None => put(out, b" -"),
+    }
+}
+
+fn put_flight(out: &mut ArrayVec<u8, CARD_ROOM>, flight: Option<Flight>)
+    requires { array_vec_len out.old + 42 ≤ CARD_ROOM }
+    ensures text { out.new.items ≡ out.old.items ++ 32 ∷ join_with_byte 32 (flight_words flight) }
+    ensures room { array_vec_len out.new ≤ array_vec_len out.old + 42 }
+{
+    match flight {
+        Some(flight) => {
+            put_number(out, u64::from(flight.counter));
+            put_number(out, u64::from(flight.size));
+        }
+        None => put(out, b" -"),
+    }
+}
+
+#[cfg(test)]
+mod tests {
+    use super::*;
+    use std::test::Fail;
+
+    const UNTOUCHED: CardView = CardView {
+        hi: None,
+        status: 0,
+        queued: 0,
+        done: 0,
+        flight: None,
+        halted: false,
+    };
+
+    #[test]
+    fn prints_cards(rt: HostRuntime) -> Result<(), Fail> {
+        let pan = Pan::new(&[4, 0, 0, 0, 0, 0, 0, 0, 0, 0, 0, 0, 0, 0, 0, 2]).ok_or(
+            "an account number",
+        )?;
+        let in_flight = CardView {
+            hi: Some(9),
+            queued: 5,
+            done: 2,
+            flight: Some(Flight {
+                counter: 9,
+                size: 3,
+            }),
+            ..UNTOUCHED
+        };
+        let halted = CardView {
+            hi: Some(9),
+            queued: 5,
+            halted: true,
+            ..UNTOUCHED
+        };
+        let cards: [(&str, CardView, &[u8]); 3] = [
+            (
+                "untouched",
+                UNTOUCHED,
+                b"4000000000000002 00 hi - status 0 queued 0 done 0 flight - ok\n",
+            ),
+            (
+                "commands in flight",
+                in_flight,
+                b"4000000000000002 00 hi 9 status 0 queued 5 done 2 flight 9 3 ok\n",
+            ),
+            (
+                "halted",
+                halted,
+                b"4000000000000002 00 hi 9 status 0 queued 5 done 0 flight - halt\n",
+            ),
+        ];
+        for (name, view, text) in cards {
+            let mut out = ArrayVec::new();
+            out.push(b'x');
+            write_card(&pan, 0, &view, &mut out);
+            assert_eq!(rt; out.as_slice(), text, "{name}");
+        }
+        Ok(())
+    }
+}
