@@ -23,7 +23,7 @@ told-held P (Some told) bytes same holds = subst (λ (b : Option (List ℕ)). If
 
 module _ {S : Type 0} (G : Ghosts S) (issuer : Setup) (prefix : List ℕ) (logs : Logged) (desk : DeskFaults) (stores back : List S) (failed : ℕ)
     (opened : AreOpened G prefix logs stores) (count : length stores ≡ issuer.shards) (stood : desk.after ≡ desk.before) where
-  module _ (fault : LoadFault) (come : ComeBack G issuer stores failed fault back) where
+  module _ (fault : LoadFault) (come : ComeBack G.bytes G.disk G.faults issuer stores failed fault back) where
     all-opened : HasOpenedAll issuer desk (map (store_seen G) back)
     all-opened = record { stores_are = mapped (store_seen G) back ∙ come.count_is ∙ count; desk_stood = stood }
 
@@ -40,7 +40,7 @@ module _ {S : Type 0} (G : Ghosts S) (issuer : Setup) (prefix : List ℕ) (logs 
 
 
 
-    not-loaded : IsNotLoaded G issuer failed before.0 fault after.0
+    not-loaded : IsNotLoaded G.bytes G.disk G.faults issuer failed before.0 fault after.0
     not-loaded = come.at before.0 after.0 before.1 after.1
 
     log : IsOpened G (logs (journal_name prefix failed)) before.0
@@ -49,7 +49,7 @@ module _ {S : Type 0} (G : Ghosts S) (issuer : Setup) (prefix : List ℕ) (logs 
     seen-after : slice_get (map (store_seen G) back) failed ≡ Some (store_seen G after.0)
     seen-after = slice_get-map (store_seen G) back failed ∙ ap (option_map (store_seen G)) after.1
 
-  pub gives-no_host : (fault : LoadFault) → ComeBack G issuer stores failed fault back
+  pub gives-no_host : (fault : LoadFault) → ComeBack G.bytes G.disk G.faults issuer stores failed fault back
       → GivesNoHost issuer prefix logs desk (map (store_seen G) back) (stop_of_load fault failed)
   gives-no_host StoreFault come =
       let new = log StoreFault come in

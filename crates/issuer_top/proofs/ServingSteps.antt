@@ -23,15 +23,16 @@ use Rattle.answer_text.specs.AnswerText.{printed}
 use Rattle.shard_book.specs.declared.shard.Shard.{Shard}
 use Rattle.host_calls.specs.Books.{Book}
 use Rattle.host_calls.specs.Hosts.{Stand}
-use Rattle.host_calls.specs.OneHistory.{AreLegalBooks}
+use Rattle.host_calls.specs.OneHistory.{AreRecorded}
 use Rattle.host_calls.specs.Runs.{HasRun}
 use Rattle.host_calls.specs.Turns.{Run, Turn}
 use Rattle.issuer_top.specs.declared.serve.Server.{Server}
 use Rattle.issuer_top.specs.declared.serve.Served.{Served}
 use Rattle.issuer_top.specs.declared.serve.Served.TheVariants.{All, ReadFault, WriteFault as SinkFault, TooLong}
 use Rattle.issuer_top.specs.Answered.{AreAnswered, WasRead, AllAnswered, WholeAnswered, FrontAnswered, PassedAnswered}
-use Rattle.issuer_top.specs.Serving.{StartsFrom, AnswersLine, ServesLines, Serves, WritesDue, EndsBy}
-use Rattle.issuer_top.proofs.HostRuns.{run-line, one_history}
+use Rattle.issuer_top.specs.Serving.{AreLawful, StartsFrom, AnswersLine, ServesLines, Serves, WritesDue, EndsBy}
+use Rattle.host_calls.proofs.OneRun.{run-one_history}
+use Rattle.issuer_top.proofs.HostRuns.{run-line, recorded}
 
 -- ---- what an input had
 
@@ -63,23 +64,23 @@ lines-none = refl
 -- ---- which lines were answered
 
 -- a run of turns on legal books, with what is sure after it
-are_answered : (issuer : Setup) (first last : List Book) (asked other : List (List ℕ)) (answers : List Answer) → AreLegalBooks issuer first → other ≡ asked
-    → Run issuer first asked answers last → AreAnswered issuer first last other (flat_map printed answers)
-are_answered issuer first last asked other answers legal same run =
+are_answered : (issuer : Setup) (first last : List Book) (asked other : List (List ℕ)) (answers : List Answer) → AreLawful issuer first → AreRecorded last
+    → other ≡ asked → Run issuer first asked answers last → AreAnswered issuer first last other (flat_map printed answers)
+are_answered issuer first last asked other answers lawful recorded same run =
     let turned : Run issuer first other answers last = subst (λ (ls : List (List ℕ)). Run issuer first ls answers last) (sym same) run in
     record {
       answers = answers;
       run = turned;
       printed_is = refl;
-      one = one_history issuer first last other answers legal turned;
+      one = run-one_history issuer lawful.again first last other answers lawful.legal recorded turned;
     }
 
 -- the whole lines of what was read were answered: they are a front of the file
 front_answered : (issuer : Setup) (first last : List Book) (read rest : List ℕ) (whole : List (List ℕ)) (ahead : List ℕ) (answers : List Answer)
-    → AreLegalBooks issuer first → Run issuer first whole answers last → BeginsWithLines read whole ahead
+    → AreLawful issuer first → AreRecorded last → Run issuer first whole answers last → BeginsWithLines read whole ahead
     → IsWithinLimits (length whole) (length (flat_map ended whole))
     → FrontAnswered issuer first last (read ++ rest) read (flat_map printed answers)
-front_answered issuer first last read rest whole ahead answers legal run given within =
+front_answered issuer first last read rest whole ahead answers lawful recorded run given within =
     let front = flat_map ended whole in
     let more = ahead ++ rest in
     let begins : BeginsWithLines front whole [] = record { joined = sym (append-nil front); each = given.each } in
@@ -93,7 +94,7 @@ front_answered issuer first last read rest whole ahead answers legal run given w
       split = goes_on.joined;
       ends_line = lines-begins (read ++ rest) whole more goes_on ∙ ap (λ l. l ++ lines more) (sym front_lines);
       within = subst (λ (ls : List (List ℕ)). IsWithinLimits (length ls) (length front)) (sym front_lines) within;
-      answered = are_answered issuer first last whole (lines front) answers legal front_lines run;
+      answered = are_answered issuer first last whole (lines front) answers lawful recorded front_lines run;
     }
 
 -- the text of one answer more
@@ -195,10 +196,10 @@ module _ {S : Type 0} {G : Ghosts S} where
         subst (AppendsFront held_before next) (sym texts-with) (AppendsFront-after held_before held next so_far.early new.block.text.items so_far.written due)
 
     -- the sink failed at the answers of a block
-    pub serves-broken_line : (next : Option (List ℕ)) → AreLegalBooks issuer first → GivesLine mid now reader old.reader
+    pub serves-broken_line : (next : Option (List ℕ)) → AreLawful issuer first → GivesLine mid now reader old.reader
         → AppendsFront held next new.block.text.items
         → ServesLines (FrontAnswered issuer first) (AppendsFront held_before next) issuer first loaded next_shards was now
-    serves-broken_line next legal gives due =
+    serves-broken_line next lawful gives due =
         let read = so_far.read ++ gives.given in
         let parts = front-read was now read (Consumes-trans was mid now so_far.read gives.given so_far.consumed gives.consumed) in
         let given = HasGivenLines-line mid now reader old.reader so_far.read so_far.whole so_far.given gives in
@@ -214,14 +215,15 @@ module _ {S : Type 0} {G : Ghosts S} where
           text = flat_map printed (so_far.answers ++ answered.answer ∷ []);
           content = parts.content;
           was_read = record { unread = parts.rest; split = refl; tells = parts.left };
-          answered = front_answered issuer first more.0 read parts.rest whole old.reader.ahead (so_far.answers ++ answered.answer ∷ []) legal more.1.run
+          answered = front_answered issuer first more.0 read parts.rest whole old.reader.ahead (so_far.answers ++ answered.answer ∷ []) lawful (recorded more.1.stand)
+              more.1.run
               given.begins within;
           written = front-written next due;
           stand = more.1.stand;
           leave = more.1.leave;
         }
 
-    module _ (gives : GivesRest mid now reader old.reader) (legal : AreLegalBooks issuer first) where
+    module _ (gives : GivesRest mid now reader old.reader) (lawful : AreLawful issuer first) where
       -- the file that the last line ends
       abbrev whole_file : List ℕ
       whole_file = so_far.read ++ gives.given
@@ -270,7 +272,7 @@ module _ {S : Type 0} {G : Ghosts S} where
               to_the_end = refl;
               within = within_limits;
               answered = are_answered issuer first more.0 (so_far.whole ++ gives.line ∷ []) (lines whole_file)
-                  (so_far.answers ++ answered.answer ∷ []) legal file_lines more.1.run;
+                  (so_far.answers ++ answered.answer ∷ []) lawful (recorded more.1.stand) file_lines more.1.run;
             };
             written = whole-written next due;
             stand = more.1.stand;
@@ -298,7 +300,7 @@ module _ {S : Type 0} {G : Ghosts S} where
               ends_line = sym (append-nil (lines whole_file)) ∙ ap (λ l. lines whole_file ++ l) (sym lines-none);
               within = within_limits;
               answered = are_answered issuer first more.0 (so_far.whole ++ gives.line ∷ []) (lines whole_file)
-                  (so_far.answers ++ answered.answer ∷ []) legal file_lines more.1.run;
+                  (so_far.answers ++ answered.answer ∷ []) lawful (recorded more.1.stand) file_lines more.1.run;
             };
             written = front-written next due;
             stand = more.1.stand;
@@ -317,7 +319,7 @@ module _ {S : Type 0} {G : Ghosts S} where
 
   module _ (issuer : Setup) (first : List Book) (loaded shards : List (Shard S G)) (was mid now held_before held next : Option (List ℕ))
       (reader new : Reading) (due : List ℕ) (so_far : HasServed issuer first loaded shards was mid held_before held reader due)
-      (legal : AreLegalBooks issuer first) where
+      (lawful : AreLawful issuer first) where
     abbrev text_so_far : List ℕ
     text_so_far = flat_map printed so_far.answers
 
@@ -345,7 +347,7 @@ module _ {S : Type 0} {G : Ghosts S} where
           text = text_so_far;
           content = parts.content;
           was_read = record { unread = parts.rest; split = refl; tells = parts.left };
-          answered = front_answered issuer first so_far.last read parts.rest so_far.whole (reader.ahead ++ given) so_far.answers legal so_far.run.run
+          answered = front_answered issuer first so_far.last read parts.rest so_far.whole (reader.ahead ++ given) so_far.answers lawful (recorded so_far.run.stand) so_far.run.run
               (BeginsWithLines-given so_far.read so_far.whole reader.ahead given so_far.given.begins) within_so_far;
           written = subst (AppendsFront held_before next) (sym so_far.texts)
               (AppendsFront-after held_before held next so_far.early due so_far.written rest);
@@ -378,7 +380,7 @@ module _ {S : Type 0} {G : Ghosts S} where
                 so_far.given.within.bytes_within,
               );
             };
-            answered = are_answered issuer first so_far.last so_far.whole (lines file) so_far.answers legal lines_are so_far.run.run;
+            answered = are_answered issuer first so_far.last so_far.whole (lines file) so_far.answers lawful (recorded so_far.run.stand) lines_are so_far.run.run;
           };
           written = all-written rest;
           stand = so_far.run.stand;
@@ -414,7 +416,7 @@ module _ {S : Type 0} {G : Ghosts S} where
             parted = IsLinesAndRest-fault mid now reader new so_far.read so_far.whole so_far.given stops;
             within = subst (λ (n : ℕ). StaysWithinLimits n (length (flat_map ended so_far.whole)) behind) so_far.given.lines_counted
                 (subst (λ (n : ℕ). StaysWithinLimits reader.lines n behind) so_far.given.bytes_counted stops.within);
-            answered = are_answered issuer first so_far.last so_far.whole so_far.whole so_far.answers legal refl so_far.run.run;
+            answered = are_answered issuer first so_far.last so_far.whole so_far.whole so_far.answers lawful (recorded so_far.run.stand) refl so_far.run.run;
           };
           written = all-written rest;
           stand = so_far.run.stand;
@@ -450,7 +452,7 @@ module _ {S : Type 0} {G : Ghosts S} where
             within = within_so_far;
             passes = PassesLimit-stopped mid now reader new so_far.read so_far.whole so_far.given stops;
             number_is = counted ∙ ap (λ n. n + 1) so_far.given.lines_counted;
-            answered = are_answered issuer first so_far.last so_far.whole so_far.whole so_far.answers legal refl so_far.run.run;
+            answered = are_answered issuer first so_far.last so_far.whole so_far.whole so_far.answers lawful (recorded so_far.run.stand) refl so_far.run.run;
           };
           written = all-written rest;
           stand = so_far.run.stand;

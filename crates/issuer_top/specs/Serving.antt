@@ -13,7 +13,7 @@ use Rattle.answer_text.specs.AnswerText.{printed}
 use Rattle.shard_book.specs.declared.shard.Shard.{Shard}
 use Rattle.host_calls.specs.Books.{Book}
 use Rattle.host_calls.specs.Hosts.{Stand}
-use Rattle.host_calls.specs.OneHistory.{AreLegalBooks}
+use Rattle.host_calls.specs.OneHistory.{AreLegalBooks, LoadsAgain}
 use Rattle.host_calls.specs.Runs.{LeaveBetween, HasRun}
 use Rattle.host_calls.specs.Turns.{Turn}
 use Rattle.issuer_top.specs.declared.serve.Server.{Server}
@@ -27,11 +27,16 @@ pub record IsNew (server : Server) : Type 0 where
   pub none_due : server.block.text.items ≡ []
   pub no_lines : server.block.lines ≡ 0
 
+-- the histories of the books are legal, and so are the issuer's own decisions when they are loaded again
+pub record AreLawful (issuer : Setup) (first : List Book) : Type 0 where
+  pub legal : AreLegalBooks issuer first
+  pub again : LoadsAgain issuer
+
 module _ {S : Type 0} {G : Ghosts S} where
-  -- the shards were just loaded and stand for these books, whose histories are legal
+  -- the shards were just loaded and stand for these books
   pub record StartsFrom (issuer : Setup) (shards : List (Shard S G)) (first : List Book) : Type 0 where
     pub run : HasRun issuer shards first [] [] shards first
-    pub legal : AreLegalBooks issuer first
+    pub lawful : AreLawful issuer first
 
   -- the line in hand was answered by the shards, and its answer is due, behind those that were due
   pub record AnswersLine (issuer : Setup) (old new : Server) (was is : List (Shard S G)) : Type 0 where

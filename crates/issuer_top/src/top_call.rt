@@ -1,6 +1,7 @@
 //! The top call.
 ghost use Rattle.std.specs.Prelude.{◌≡◌, ◌⊎◌, ℕ, List, map, None, Some};
 ghost use Rattle.std.specs.Option.{option_map};
+ghost use Rattle.host_calls.specs.OneHistory.{LoadsAgain};
 ghost use Rattle.issuer_top.specs.Opening.{stop_of};
 ghost use Rattle.issuer_top.specs.Journals.{IsReady};
 ghost use Rattle.issuer_top.specs.Status.{IsStatus};
@@ -191,7 +192,7 @@ fn serve_requests<D: Desk, W: Sink>(
     ensures { (words : List (List ℕ)) (given : D) (config : SeenInput) (journal : List ℕ)
         → let seen = seen_of words (desk_seen D.Desk given desk.new) (Some config) (option_map (input_seen D.Input.Source) result.requests)
         (map (store_seen D.Journal.Store) result.stores.items) (sink_seen W.Sink out.old out.new) in
-        IsSetUp seen (Some name.now) journal host.issuer → IsReady host.issuer journal (D.logs given) host.shards.items
+        IsSetUp seen (Some name.now) journal host.issuer → IsReady host.issuer journal (D.logs given) host.shards.items → LoadsAgain host.issuer
         → D.holds desk.old ≡ D.holds given → D.faults desk.old ≡ D.faults given → EndsBy seen result.ending }
 {
     let mut host = host;
@@ -243,7 +244,7 @@ fn show_cards<D: Desk, W: Sink>(
     ensures { (words : List (List ℕ)) (desk : SeenDesk) (config : SeenInput) (journal : List ℕ)
         → let seen = seen_of words desk (Some config) (option_map (input_seen D.Input.Source) result.requests)
         (map (store_seen D.Journal.Store) result.stores.items) (sink_seen W.Sink out.old out.new) in
-        IsSetUp seen None journal host.issuer → IsReady host.issuer journal desk.logs host.shards.items
+        IsSetUp seen None journal host.issuer → IsReady host.issuer journal desk.logs host.shards.items → LoadsAgain host.issuer
         → desk.faults_after ≡ desk.faults_before → EndsBy seen result.ending }
 {
     let ending = match show(&host, out) {

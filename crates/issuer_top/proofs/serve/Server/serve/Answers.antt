@@ -20,25 +20,25 @@ loop-self-preserved g c =
 pub returns-in-Err-clause-served : goal.returns-in-Err-clause-served
 returns-in-Err-clause-served g c = λ first starts.
     let answered = answered-under _ _ _ _ _ _ c.loop-self.invariant.same_issuer c.answer_line.ensures.answered in
-    serves-broken_line _ first _ _ _ _ _ _ _ _ _ _ _ (c.loop-self.invariant.served first starts) answered _ starts.legal (c.in-Line.ensures.line refl)
+    serves-broken_line _ first _ _ _ _ _ _ _ _ _ _ _ (c.loop-self.invariant.served first starts) answered _ starts.lawful (c.in-Line.ensures.line refl)
     c.in-Err.ensures.written
 
 pub returns-in-Rest-clause-served : goal.returns-in-Rest-clause-served
 returns-in-Rest-clause-served g c = λ first starts.
     let answered = answered-under _ _ _ _ _ _ c.loop-self.invariant.same_issuer c.answer_line-in-Rest.ensures.answered in
-    serves-rest _ first _ _ _ _ _ _ _ _ _ _ _ (c.loop-self.invariant.served first starts) answered (c.in-Rest.ensures.rest refl) starts.legal _ _
+    serves-rest _ first _ _ _ _ _ _ _ _ _ _ _ (c.loop-self.invariant.served first starts) answered (c.in-Rest.ensures.rest refl) starts.lawful _ _
     c.end.ensures.ended
 
 pub returns-in-End-clause-served : goal.returns-in-End-clause-served
 returns-in-End-clause-served g c = λ first starts.
-    serves-end _ first _ _ _ _ _ _ _ _ _ _ _ (c.loop-self.invariant.served first starts) starts.legal _ (c.in-End.ensures.end refl) c.end-in-End.ensures.ended
+    serves-end _ first _ _ _ _ _ _ _ _ _ _ _ (c.loop-self.invariant.served first starts) starts.lawful _ (c.in-End.ensures.end refl) c.end-in-End.ensures.ended
 
 pub returns-in-Fault-clause-served : goal.returns-in-Fault-clause-served
 returns-in-Fault-clause-served g c = λ first starts.
-    serves-fault _ first _ _ _ _ _ _ _ _ _ _ _ (c.loop-self.invariant.served first starts) starts.legal _ (c.in-Fault.ensures.fault refl)
+    serves-fault _ first _ _ _ _ _ _ _ _ _ _ _ (c.loop-self.invariant.served first starts) starts.lawful _ (c.in-Fault.ensures.fault refl)
     c.end-in-Fault.ensures.ended
 
 pub returns-in-TooLong-clause-served : goal.returns-in-TooLong-clause-served
 returns-in-TooLong-clause-served g c = λ first starts.
-    serves-limit _ first _ _ _ _ _ _ _ _ _ _ _ (c.loop-self.invariant.served first starts) starts.legal _ _ (c.in-TooLong.ensures.too_long refl)
+    serves-limit _ first _ _ _ _ _ _ _ _ _ _ _ (c.loop-self.invariant.served first starts) starts.lawful _ _ (c.in-TooLong.ensures.too_long refl)
     c.end-in-TooLong.ensures.ended (search rules)
