@@ -22,12 +22,13 @@ use Rattle.shard_book.specs.declared.shard.Shard.{Shard}
 use Rattle.shard_book.specs.Shards.{store_in}
 use Rattle.host_calls.specs.Books.{Book}
 use Rattle.host_calls.specs.Hosts.{AreShards, Stand}
+use Rattle.host_calls.specs.OneHistory.{LoadsAgain}
 use Rattle.host_calls.specs.Runs.{LeaveBetween}
 use Rattle.issuer_top.specs.declared.ending.Ending.{Ending}
 use Rattle.issuer_top.specs.declared.ending.Ending.TheVariants.{Done, WriteFault}
 use Rattle.issuer_top.specs.declared.serve.Served.{Served}
 use Rattle.issuer_top.specs.declared.serve.Served.TheVariants.{All, ReadFault as ReadStopped, WriteFault as SinkFault, TooLong as LongStopped}
-use Rattle.issuer_top.specs.Seen.{Seen, SeenInput, store_seen}
+use Rattle.issuer_top.specs.Seen.{Seen, SeenInput, SeenStore, Logged, store_seen}
 use Rattle.issuer_top.specs.Answered.{AllAnswered, WholeAnswered, FrontAnswered, PassedAnswered}
 use Rattle.issuer_top.specs.Configuration.{Says, GivesNoIssuer, is_read_stop}
 use Rattle.issuer_top.specs.Opening.{GivesInput, stop_of}
@@ -37,10 +38,8 @@ use Rattle.issuer_top.specs.Loading.{DeskFaults, GivesNoHost}
 use Rattle.issuer_top.specs.Kept.{KeepJournals}
 use Rattle.issuer_top.specs.Shown.{shown_text}
 use Rattle.issuer_top.specs.Serving.{ServesLines, Serves, StartsFrom, read_failed, write_failed}
-use Rattle.issuer_top.specs.Stopping.{StopsBy, is_broken, GivesStop, GivesNothing, EndsServing}
+use Rattle.issuer_top.specs.Stopping.{StopsBy, is_broken, GivesStop, GivesNothing, EndsServing, shown_ending}
 use Rattle.issuer_top.specs.Endings.{HasOpened, IsSetUp, AnswersLines, IsShown, Stops, EndsBy}
-use Rattle.issuer_top.proofs.HostRuns.{AreFirst, first-books}
-use Rattle.issuer_top.proofs.KeptSteps.{keep-journals}
 
 -- an input that a desk gave is one that stands there
 pub gives_input : (told : Option (Option (List ℕ))) (left : Option (List ℕ)) → Tells told left → (told ≡ Some None → false ≡ true) → GivesInput told left
@@ -183,6 +182,29 @@ IsSetUp-from_said seen config requests journal left issuer command given said = 
   says = said.says;
 }
 
+-- and so they are for an issuer that is this one
+pub set_up-under : (seen : Seen) (requests : Option (List ℕ)) (journal : List ℕ) (issuer other : Setup) → other ≡ issuer
+    → IsSetUp seen requests journal issuer → IsSetUp seen requests journal other
+set_up-under seen requests journal issuer other same set_up = subst (IsSetUp seen requests journal) (sym same) set_up
+
+-- why there is no host, by what the desk told and counted before
+pub no_host-since : (issuer : Setup) (journal : List ℕ) (logs other : Logged) (before mid after : ℕ) (last : Option FailedCall) (stores : List SeenStore)
+    (cause : Stop) → other ≡ logs → mid ≡ before
+    → GivesNoHost issuer journal other (record { before = mid; after = after; last = last }) stores cause
+    → GivesNoHost issuer journal logs (record { before = before; after = after; last = last }) stores cause
+no_host-since issuer journal logs other before mid after last stores cause told stood none =
+    subst (λ (n : ℕ). GivesNoHost issuer journal logs (record { before = n; after = after; last = last }) stores cause) stood
+    (subst (λ (l : Logged). GivesNoHost issuer journal l (record { before = mid; after = after; last = last }) stores cause) told none)
+
+-- shards that are ready, by what the desk told before
+pub ready-since : {S : Type 0} {G : Ghosts S} (issuer under : Setup) (journal : List ℕ) (logs other : Logged) (shards : List (Shard S G)) → other ≡ logs
+    → under ≡ issuer → IsReady issuer journal other shards → IsReady under journal logs shards
+ready-since issuer under journal logs other shards told same ready =
+    subst (λ (i : Setup). IsReady i journal logs shards) (sym same) (subst (λ (l : Logged). IsReady issuer journal l shards) told ready)
+
+pub again-under : (issuer other : Setup) → other ≡ issuer → LoadsAgain issuer → LoadsAgain other
+again-under issuer other same again = subst LoadsAgain (sym same) again
+
 module _ (seen : Seen) (requests : Option (List ℕ)) (journal : List ℕ) (issuer : Setup) (ending : Ending) (set_up : IsSetUp seen requests journal issuer) where
   -- no memory was left once the issuer was known
   pub ends_without_memory : HasOpened seen true false → StopsAtOnce seen NoMemory ending → EndsBy seen ending
@@ -323,11 +345,6 @@ module _ (seen : Seen) (name journal : List ℕ) (issuer : Setup) (set_up : IsSe
         serves.written counts.never_falls ends
 
 -- ---- the ways that showing ends
-
--- the ending of a run that shows all cards
-abbrev pub shown_ending : Result (Unit {0}) SinkFails → Ending
-shown_ending (Ok done) = Done
-shown_ending (Err fault) = WriteFault
 
 pub ends_showing : (seen : Seen) (journal : List ℕ) (issuer : Setup) (books : List Book) (result : Result (Unit {0}) SinkFails)
     → HasOpened seen true false → IsSetUp seen None journal issuer → KeepJournals issuer journal seen books books

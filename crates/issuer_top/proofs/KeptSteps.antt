@@ -6,7 +6,7 @@ use Rattle.issuer_base.specs.Tells.{Tells}
 use Rattle.issuer_base.specs.declared.outside.store.Store.{Ghosts}
 use Rattle.issuer_setup.specs.IssuerSetup.{Setup}
 use Rattle.shard_book.specs.declared.shard.Shard.{Shard}
-use Rattle.shard_book.specs.Shards.{store_in}
+use Rattle.shard_book.specs.Shards.{store_in, sure_in}
 use Rattle.host_calls.specs.Books.{Book}
 use Rattle.host_calls.specs.Hosts.{AreShards, Stand}
 use Rattle.host_calls.specs.OneHistory.{LoadsAgain}
@@ -17,6 +17,7 @@ use Rattle.issuer_top.specs.Journals.{journal_name, IsReady}
 use Rattle.issuer_top.specs.Kept.{WasJournal, CrashLeaves, KeepsJournal, KeepJournals}
 use Rattle.issuer_top.specs.Serving.{StartsFrom}
 use Rattle.issuer_top.proofs.HostRuns.{recorded}
+use Rattle.issuer_top.proofs.CrashSteps.{crash-leaves}
 
 -- what stands at a place within a list
 pub at-place : {X : Type 0} → (xs : List X) (k : ℕ) → k < length xs → (x : X) × (slice_get xs k ≡ Some x)
@@ -63,7 +64,8 @@ module _ {S : Type 0} {G : Ghosts S} where
       }
 
   module _ (issuer : Setup) (prefix : List ℕ) (seen : Seen) (loaded now : List (Shard S G)) (ready : IsReady issuer prefix seen.desk.logs loaded)
-      (before : AreShards issuer loaded) (after : AreShards issuer now) (stores_are : seen.stores ≡ map (store_seen G) (map store_in now)) where
+      (before : AreShards issuer loaded) (after : AreShards issuer now)
+      (told : (store : S) → IfSome (G.disk store) (λ disk. G.bytes store ≡ Some disk.now.bytes)) (stores_are : seen.stores ≡ map (store_seen G) (map store_in now)) where
     module _ (last : List Book) (stand : Stand issuer now last)
         (leave : LeaveBetween issuer (begins issuer prefix seen.desk.logs loaded ready before).books last loaded now) where
       keeps-journal : (shard : ℕ) (was is : Book) (store : SeenStore) → slice_get (begins issuer prefix seen.desk.logs loaded ready before).books shard ≡ Some was
@@ -76,6 +78,7 @@ module _ {S : Type 0} {G : Ghosts S} where
           let count = books.has_run.stand.count_is in
           let opened = ready.loaded.count_is in
           let store_was = at-place ready.stores shard (omega (arith, within, count, opened)) in
+          let one = at-place loaded shard (omega (arith, within, count)) in
           let book = books.books_are shard store_was.0 was store_was.1 was_at in
           let log = ready.opened shard store_was.0 store_was.1 in
           let stands = stand.each shard here.0 is here.1 is_at in
@@ -92,7 +95,12 @@ module _ {S : Type 0} {G : Ghosts S} where
             };
             holds = holds-journal issuer now last after stand shard here.0 is here.1 is_at;
             faults_are = stands.faults_are;
-            crash = ?;
+            crash = crash-leaves issuer shard (seen.desk.logs (journal_name prefix shard)) was.history is.history (sure_in one.0)
+                ((books.has_run.stand.each shard one.0 was one.1 was_at).settled book.untold).sure_is
+                (G.disk store_was.0) (G.disk (store_in one.0)) (G.disk (store_in here.0)) (G.bytes store_was.0)
+                (ready.loaded.each shard store_was.0 one.0 store_was.1 one.1).leaves
+                (leave shard one.0 here.0 was is one.1 here.1 was_at is_at)
+                log.untouched (told store_was.0) log.bytes_are;
           })
 
       pub keep-journals : KeepJournals issuer prefix seen (begins issuer prefix seen.desk.logs loaded ready before).books last

@@ -4,8 +4,10 @@ pub mod HostRuns
 pub mod ServingSteps
 pub mod CommandWords
 pub mod JournalSteps
+pub mod CrashSteps
 pub mod KeptSteps
 pub mod LoadingSteps
+pub mod ShowSteps
 pub mod EndingSteps
 pub mod Statuses
 pub mod InOrder

@@ -1,7 +1,8 @@
 -- The last line of a run that stops.
-use Rattle.std.specs.Prelude.{◌≡◌, ℕ, ◌⊎◌, Bool, true, false, List, Option}
+use Rattle.std.specs.Prelude.{◌≡◌, ℕ, ◌⊎◌, Bool, true, false, List, Option, Result, Ok, Err}
 use Rattle.std.specs.Io.KnownBytes.{Appends}
 use Rattle.issuer_base.specs.OutsideFaults.{CountsFaults}
+use Rattle.issuer_base.specs.declared.faults.WriteFault.{WriteFault as SinkFails}
 use Rattle.issuer_base.specs.Sink.{AppendsFront}
 use Rattle.answer_text.specs.StopText.{stop_text}
 use Rattle.answer_text.specs.declared.stop_line.Stop.{Stop}
@@ -22,6 +23,11 @@ abbrev pub is_broken : Ending → Bool
 is_broken Done = false
 is_broken (Stopped stop) = false
 is_broken WriteFault = true
+
+-- how a run ends that shows all cards
+abbrev pub shown_ending : Result (Unit {0}) SinkFails → Ending
+shown_ending (Ok done) = Done
+shown_ending (Err fault) = WriteFault
 
 -- the sink was given a last line: what it held and counted before and after
 pub record GivesStop (held_before held_after : Option (List ℕ)) (faults_before faults_after : ℕ) (stop : Stop) (ending : Ending) : Type 0 where

@@ -27,6 +27,7 @@ pub(crate) fn load_host<D: Desk>(
     issuer: Issuer,
 ) -> Result<Solo<D::Journal>, NoHost<D::Journal>>
     ensures issuer { IfOk result (λ host. host.issuer ≡ issuer) }
+    ensures some { IfOk result (λ host. 0 < host.issuer.shards) }
     ensures ready { IfOk result (λ host. IsReady issuer prefix.now (D.logs desk.old) host.shards.items) }
     ensures stood { is_ok result ≡ true → D.faults desk.new ≡ D.faults desk.old }
     ensures none { IfErr result (λ back. GivesNoHost issuer prefix.now (D.logs desk.old)
@@ -67,6 +68,7 @@ fn open_journals<D: Desk>(
     issuer: &Issuer,
 ) -> Result<Vec<D::Journal>, NoHost<D::Journal>>
     ensures count { IfOk result (λ stores. length stores.items ≡ issuer.now.shards) }
+    ensures some { 0 < issuer.now.shards }
     ensures opened { IfOk result (λ stores. AreOpened D.Journal.Store prefix.now (D.logs desk.old) stores.items) }
     ensures stood { is_ok result ≡ true → D.faults desk.new ≡ D.faults desk.old }
     ensures none { IfErr result (λ back. GivesNoHost issuer.now prefix.now (D.logs desk.old)

@@ -1,11 +1,11 @@
 //! The top call.
-ghost use Rattle.std.specs.Prelude.{◌≡◌, ◌⊎◌, ℕ, List, map, None, Some};
+ghost use Rattle.std.specs.Prelude.{◌≡◌, ◌<◌, ◌⊎◌, ℕ, List, map, None, Some};
 ghost use Rattle.std.specs.Option.{option_map};
 ghost use Rattle.host_calls.specs.OneHistory.{LoadsAgain};
 ghost use Rattle.issuer_top.specs.Opening.{stop_of};
 ghost use Rattle.issuer_top.specs.Journals.{IsReady};
 ghost use Rattle.issuer_top.specs.Status.{IsStatus};
-ghost use Rattle.issuer_top.specs.Stopping.{EndsServing};
+ghost use Rattle.issuer_top.specs.Stopping.{EndsServing, shown_ending};
 ghost use Rattle.issuer_top.specs.Seen.{SeenDesk, SeenInput, seen_of, seen_by, desk_seen, input_seen, store_seen, sink_seen};
 ghost use Rattle.issuer_top.specs.Endings.{IsSetUp, EndsBy, Writes, IsDone, IsUsage, IsConfig, IsReadFault, IsStoreFault, IsBadJournal, IsWriteFault, IsNoMemory, IsTooLong, ServesInOrder, ShowsInOrder};
 
@@ -152,10 +152,7 @@ fn run<D: Desk, W: Sink>(
         ending,
         requests,
         stores,
-    } = match names.requests {
-        Some(name) => serve_requests(alloc, host, desk, name, out),
-        None => show_cards::<D, W>(host, out),
-    };
+    } = do_command(alloc, host, desk, names.requests, out);
     Outcome {
         ending,
         config: Some(config),
@@ -179,6 +176,28 @@ struct Finished<I, J> {
     ending: Ending,
     requests: Option<I>,
     stores: Vec<J>,
+}
+
+/// Answers all lines of the request file under this name, or shows all cards where there is none.
+fn do_command<D: Desk, W: Sink>(
+    alloc: Global,
+    host: Solo<D::Journal>,
+    desk: &mut D,
+    requests: Option<&str>,
+    out: &mut W,
+) -> Finished<D::Input, D::Journal>
+    requires { 0 < host.issuer.shards }
+    ensures { (words : List (List ℕ)) (given : D) (config : SeenInput) (journal : List ℕ)
+        → let seen = seen_of words (desk_seen D.Desk given desk.new) (Some config) (option_map (input_seen D.Input.Source) result.requests)
+        (map (store_seen D.Journal.Store) result.stores.items) (sink_seen W.Sink out.old out.new) in
+        IsSetUp seen (option_map (λ name. name.now) requests.entry) journal host.issuer
+        → IsReady host.issuer journal (D.logs given) host.shards.items → LoadsAgain host.issuer
+        → D.holds desk.old ≡ D.holds given → D.faults desk.old ≡ D.faults given → EndsBy seen result.ending }
+{
+    match requests {
+        Some(name) => serve_requests(alloc, host, desk, name, out),
+        None => show_cards::<D, W>(host, out),
+    }
 }
 
 /// Answers all lines of the request file under this name.
@@ -241,19 +260,27 @@ fn show_cards<D: Desk, W: Sink>(
     host: Solo<D::Journal>,
     out: &mut W,
 ) -> Finished<D::Input, D::Journal>
+    requires { 0 < host.issuer.shards }
     ensures { (words : List (List ℕ)) (desk : SeenDesk) (config : SeenInput) (journal : List ℕ)
         → let seen = seen_of words desk (Some config) (option_map (input_seen D.Input.Source) result.requests)
         (map (store_seen D.Journal.Store) result.stores.items) (sink_seen W.Sink out.old out.new) in
         IsSetUp seen None journal host.issuer → IsReady host.issuer journal desk.logs host.shards.items → LoadsAgain host.issuer
         → desk.faults_after ≡ desk.faults_before → EndsBy seen result.ending }
 {
-    let ending = match show(&host, out) {
-        Ok(()) => Ending::Done,
-        Err(WriteFault) => Ending::WriteFault,
-    };
+    let ending = end_showing(show(&host, out));
     Finished {
         ending,
         requests: None,
         stores: host.close(),
+    }
+}
+
+/// How a run ends that shows all cards.
+fn end_showing(shown: Result<(), WriteFault>) -> Ending
+    ensures { result ≡ shown_ending shown }
+{
+    match shown {
+        Ok(()) => Ending::Done,
+        Err(WriteFault) => Ending::WriteFault,
     }
 }

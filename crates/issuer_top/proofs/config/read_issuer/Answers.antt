@@ -1,5 +1,5 @@
 -- What was read of a configuration says an issuer, or none.
-use Rattle.shard_book.proofs.LoadSteps.{has-table}
+use Rattle.shard_book.proofs.Exactly.{has-table}
 use Rattle.issuer_top.proofs.ConfigurationReads.{Says-from_read, GivesNoIssuer-from_read}
 use Rattle.issuer_top.proofs.config.read_issuer.Goals as goal
 

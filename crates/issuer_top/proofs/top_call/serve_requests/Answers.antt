@@ -17,8 +17,8 @@ returns-in-Err-read g c = λ words given config journal set_up ready again same_
     let shards = c.args.host.are_shards in
     let first = begins c.args.host.issuer journal (g.D.Desk.logs given) c.args.host.shards.items ready shards in
     let kept = keep-journals _ journal _ c.args.host.shards.items c.args.host.shards.items ready shards shards
-        (ap (map (store_seen g.D.Journal.Store)) c.close-in-Err-read.ensures) first.books first.has_run.stand first.has_run.leave in
-    ends_no_requests _ c.args.name.now journal _ set_up _ _ _ c.in-Err-read.fault _ _ refl refl kept same_faults c.in-Err-read.ensures.count
+        g.met.D.Journal.Store.told_bytes (ap (map (store_seen g.D.Journal.Store)) c.close-in-Err-read.ensures) first.books first.has_run.stand first.has_run.leave in
+    ends_no_requests _ c.args.name.now journal _ set_up (Unit {0}) _ _ c.in-Err-read.fault _ _ refl refl kept same_faults c.in-Err-read.ensures.count
     c.in-Err-read.ensures.last (record { stops = rw c.stop_at.ensures at c.stop_with-in-Err-read.ensures.ended; count = c.stop_with-in-Err-read.ensures.count })
 
 pub returns : goal.returns
@@ -33,6 +33,6 @@ returns g c = λ words given config journal set_up ready again same_holds same_f
     c.args.host.shards.items _ first.books
     (λ last stand leave.
     keep-journals _ journal _ c.args.host.shards.items _ ready shards _
-    (ap (map (store_seen g.D.Journal.Store)) c.close-stores.ensures) last stand leave)
+    g.met.D.Journal.Store.told_bytes (ap (map (store_seen g.D.Journal.Store)) c.close-2.ensures) last stand leave)
     _ _ _ _ _ (c.serve-served.ensures.served first.books begun) c.serve-served.ensures.sink_count c.in-Ok-read.ensures.new
     c.serve-served.ensures.source_count c.end_serving.ensures

@@ -10,8 +10,8 @@ use Rattle.issuer_top.proofs.words.value_of.Goals as goal
 pub loop-left-preserved-then-eq : goal.loop-left-preserved-then-eq
 loop-left-preserved-then-eq c =
     let some : 0 < c.loop-left.left = omega arith in
-    let same : bytes_eq c.word.result.now c.args.option.now ≡ true = search rules in
-    let more = values-more c.args.words.now c.loop-left.left some c.word.result.now c.word-in-loop-left.result.now c.word.ensures c.word-in-loop-left.ensures
+    let same : bytes_eq c.word-name.result.now c.args.option.now ≡ true = search rules in
+    let more = values-more c.args.words.now c.loop-left.left some c.word-name.result.now c.word-given.result.now c.word-name.ensures c.word-given.ensures
         c.args.option.now same in
     let before = c.loop-left.invariant.count in
     let long = ap length more in
@@ -20,8 +20,8 @@ loop-left-preserved-then-eq c =
 pub loop-left-preserved : goal.loop-left-preserved
 loop-left-preserved c =
     let some : 0 < c.loop-left.left = omega arith in
-    let other : bytes_eq c.word.result.now c.args.option.now ≡ false = search rules in
-    let same = values-same c.args.words.now c.loop-left.left some c.word.result.now c.word-in-loop-left.result.now c.word.ensures c.word-in-loop-left.ensures c.args.option.now other in
+    let other : bytes_eq c.word-name.result.now c.args.option.now ≡ false = search rules in
+    let same = values-same c.args.words.now c.loop-left.left some c.word-name.result.now c.word-given.result.now c.word-name.ensures c.word-given.ensures c.args.option.now other in
     record {
       first = c.loop-left.invariant.first ∙ sym (ap (λ values. slice_get values 0) same);
       count = c.loop-left.invariant.count ∙ sym (ap length same);
