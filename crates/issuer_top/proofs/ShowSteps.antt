@@ -1,5 +1,5 @@
 -- The lines of cards, one more at a time.
-use Rattle.std.proofs.Common.{◌≡◌, ℕ, ◌+◌, ◌<◌, ◌≤◌, zero, suc, List, [], ◌∷◌, ◌++◌, length, take, drop, Option, None, Some, refl, sym, ap, ◌∙◌, subst, arith, append-nil, append_assoc, add-one}
+use Rattle.std.proofs.Common.{◌≡◌, ℕ, ◌+◌, ◌<◌, ◌≤◌, zero, suc, List, [], ◌∷◌, ◌++◌, length, take, drop, Option, None, Some, refl, sym, ap, ◌∙◌, subst, arith, append-nil, append_assoc, add-one, true, false}
 use Rattle.std.specs.Prelude.{slice_get, slice_index_or, map, ◌%◌, Result, Ok, Err, IsErr}
 use Rattle.std.specs.Option.{option_map, option_map_or}
 use Rattle.std.specs.Io.KnownBytes.{Appends}
@@ -26,7 +26,7 @@ use Rattle.issuer_top.proofs.KeptSteps.{at-place}
 -- a piece of which a front was written was not written
 pub writes-err : (a b : Option (List ℕ)) (result : Result (Unit {0}) WriteFault) (piece : List ℕ) → IsErr result → AppendsFront a b piece
     → WritesAll a b result piece
-writes-err a b (Ok done) piece failed front = absurd failed
+writes-err a b (Ok done) piece failed front = absurd (let e : false ≡ true = failed in cc)
 writes-err a b (Err fault) piece failed front = front
 
 module _ (issuer : Setup) (books : List Book) where

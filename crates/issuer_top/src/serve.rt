@@ -55,6 +55,7 @@ impl Server {
         ensures served { (first : List Book) → StartsFrom host.old.issuer host.old.shards.items first
             → Serves host.old.issuer first host.old.shards.items host.new.shards.items (S.left source.old) (S.left source.new)
             (W.held out.old) (W.held out.new) result }
+        ensures issuer { host.new.issuer ≡ host.old.issuer }
         ensures source_count { read_failed result ≡ true → Rose (S.faults source.old) (S.faults source.new) }
         ensures sink_count { CountsFaults (W.faults out.old) (W.faults out.new) (write_failed result) }
     {

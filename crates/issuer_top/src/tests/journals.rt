@@ -1,6 +1,7 @@
 //! Runs over journals: across restarts, with stores that fail, and over journals that can't be loaded.
 
 use super::*;
+use issuer_base::Store;
 
 /// What a run over this desk writes, its status, and the bytes of its first journal.
 fn run_over<R: AllocGlobal>(
@@ -17,11 +18,18 @@ fn run_over<R: AllocGlobal>(
         stores,
     } = issue(rt, &words_of(rt.alloc(), words)?, desk, &mut out);
     let text = String::from_utf8(out.bytes().to_vec(rt.alloc())?)?;
-    let bytes = match stores.first() {
-        Some(store) => store.bytes().to_vec(rt.alloc())?,
-        None => Vec::new(rt.alloc()),
+    Ok((status, text, first_bytes(rt.alloc(), &stores)))
+}
+
+/// The bytes of the first store, all of which are safe; none where there is no store.
+fn first_bytes(alloc: Global, stores: &[MemoryStore]) -> Vec<u8> {
+    let Some(store) = stores.first() else {
+        return Vec::new(alloc);
     };
-    Ok((status, text, bytes))
+    match store.image(store.len()) {
+        Ok(Some(bytes)) => bytes,
+        _ => Vec::new(alloc),
+    }
 }
 
 /// A desk over the configuration, these lines, and a first journal of these bytes whose store fails at these calls.
