@@ -1,5 +1,5 @@
 -- A text of records has one reading: which history a text loads to, and that a legal one is loaded.
-use Rattle.std.proofs.Common.{◌≡◌, ◌≢◌, ◌⊎◌, ◌+◌, ◌<◌, ◌≤◌, ℕ, suc, List, [], ◌∷◌, ◌++◌, length, take, refl, sym, ap, ap₂, subst, ◌∙◌, inl, inr, ⊎_elim, arith}
+use Rattle.std.proofs.Common.{◌≡◌, ◌≢◌, ◌⊎◌, ◌<◌, ◌≤◌, ℕ, List, [], ◌∷◌, ◌++◌, length, take, refl, sym, ap, ap₂, subst, ◌∙◌, inl, inr, ⊎_elim, arith}
 use Rattle.std.proofs.Common.{true, Option, None, Some, Result, Ok, Err, IfOk, IfErr, IfSome, MatchResult, IsTrue, All, append_assoc, append-nil, length-append}
 use Rattle.std.proofs.lemmas.Bool.{cases_lt}
 use Rattle.std.proofs.lemmas.List.{take_all, take-append-le, take_at}
@@ -9,22 +9,22 @@ use Rattle.issuer_base.specs.Stores.{BothTold, CutsBytes, Disk}
 use Rattle.issuer_base.specs.Tells.{Tells}
 use Rattle.issuer_base.specs.declared.entry.Entry.{Entry}
 use Rattle.issuer_base.specs.declared.outside.store.Store.{Ghosts}
-use Rattle.card_history.specs.LegalRecords.{IsLegal, IsLegalHistory}
+use Rattle.card_history.specs.LegalRecords.{IsLegal}
 use Rattle.decision_table.specs.declared.row.TableRow.{TableRow}
 use Rattle.decision_table.specs.Tables.{is_table}
 use Rattle.issuer_setup.specs.IssuerSetup.{Setup}
-use Rattle.journal_rec.specs.Record.{IsRecord, IsLineOf}
+use Rattle.journal_rec.specs.Record.{IsRecord}
 use Rattle.journal_rec.specs.RecordText.{newline, text_of, texts_of, IsUnbroken}
 use Rattle.journal_rec.proofs.TextLaws.{text_of-apart, text_of-IsLine, texts_of-one_reading}
-use Rattle.record_store.specs.Images.{IsImage, OnlyReads}
+use Rattle.record_store.specs.Images.{OnlyReads}
 use Rattle.record_store.specs.Holding.{Holds}
 use Rattle.shard_book.specs.declared.replay.LoadFault.{LoadFault}
 use Rattle.shard_book.specs.declared.replay.LoadFault.TheVariants.{BadLine, BadRecord, StoreFault, NoMemory}
 use Rattle.shard_book.specs.declared.replay.Taken.{Taken}
 use Rattle.shard_book.specs.declared.shard.Shard.{Shard}
 use Rattle.shard_book.specs.declared.shard.LoadBack.{LoadBack}
-use Rattle.shard_book.specs.Grounds.{HasTable, IsTail, IsImageOf, grounds_now, grounds_of}
-use Rattle.shard_book.specs.Loading.{IsBad, IsOutside, StopsAt, StopsText, ReadsText}
+use Rattle.shard_book.specs.Grounds.{HasTable, grounds_now, grounds_of}
+use Rattle.shard_book.specs.Loading.{IsOutside, StopsAt, StopsText, ReadsText}
 use Rattle.shard_book.specs.ShardRows.{ShardRows, StandsFor as RowsStandFor}
 use Rattle.shard_book.specs.Shards.{IsCutToText, IsImageLeft, IsLoaded, IsSettled, IsTextOf, LeavesBytes, LeavesDisk, StandsFor, StandsForLeft}
 use Rattle.shard_book.proofs.Lines.{legal-more}

@@ -5,16 +5,16 @@ use Rattle.std.proofs.Common.{append-nil, append_assoc, length-take}
 use Rattle.std.proofs.Math.Seq.{take-add}
 use Rattle.std.proofs.lemmas.Bool.{cases_eq, eqb-true}
 use Rattle.std.proofs.lemmas.List.{length_push, take_more, take_at, take-append-le, take-append-drop, get_or-take, get_or_append_left, get_or_push}
-use Rattle.std.proofs.lemmas.List.{get_or_default, drop-drop}
+use Rattle.std.proofs.lemmas.List.{get_or_default}
 use Rattle.std.proofs.lemmas.List.Elements.{All-nil, All-push}
-use Rattle.std.proofs.lemmas.Option.{same_Some, slice_get_within, slice_get-get_or, get_or_from_slice_get}
+use Rattle.std.proofs.lemmas.Option.{slice_get_within, slice_get-get_or, get_or_from_slice_get}
 use Rattle.std.specs.List.{slice_get}
 use Rattle.memchr.specs.Find.{IsFirstByte, is_byte}
 use Rattle.issuer_base.specs.declared.entry.Entry.{Entry}
 use Rattle.card_history.specs.LegalRecords.{Grounds, IsLegal, IsLegalHistory}
 use Rattle.issuer_setup.specs.IssuerSetup.{Setup}
 use Rattle.journal_rec.specs.Record.{IsRecord}
-use Rattle.journal_rec.specs.RecordText.{newline, text_of, texts_of, IsUnbroken}
+use Rattle.journal_rec.specs.RecordText.{newline, texts_of, IsUnbroken}
 use Rattle.shard_book.specs.declared.replay.LoadFault.{LoadFault}
 use Rattle.shard_book.specs.declared.replay.Taken.{Taken}
 use Rattle.shard_book.specs.ShardRows.{ShardRows, StandsFor}

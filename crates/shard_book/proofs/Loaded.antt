@@ -1,6 +1,6 @@
 -- What is known of a store's text once a part of its bytes is read, and once all are.
 use Rattle.std.proofs.Common.{◌≡◌, ◌≢◌, ◌+◌, ◌-◌, ◌<◌, ◌≤◌, ℕ, min, Bool, true, false, List, [], ◌∷◌, ◌++◌, length, take, drop, refl, sym, ap, subst, ◌∙◌}
-use Rattle.std.proofs.Common.{arith, inl, inr, Option, None, Some, IfSome, Result, Ok, Err, IfErr, MatchOption, MatchBool, append_assoc, length-append, length-drop, length-take, All}
+use Rattle.std.proofs.Common.{arith, inl, inr, Option, None, Some, IfSome, Result, Err, MatchOption, MatchBool, append_assoc, length-append, length-drop, length-take, All}
 use Rattle.std.proofs.Math.Seq.{take-add}
 use Rattle.std.proofs.lemmas.Bool.{cases_lt}
 use Rattle.std.proofs.lemmas.List.{take_all, take-append-drop, length-take-le, take-take, drop-drop}
@@ -8,9 +8,7 @@ use Rattle.std.proofs.lemmas.List.Concat.{flat_map-append}
 use Rattle.std.proofs.lemmas.List.Elements.{All-nil, All-append}
 use Rattle.std.proofs.lemmas.Option.{slice_get_within}
 use Rattle.std.specs.Option.{is_some}
-use Rattle.issuer_base.specs.Tells.{Tells}
 use Rattle.issuer_base.specs.declared.entry.Entry.{Entry}
-use Rattle.card_history.specs.LegalRecords.{IsLegalHistory}
 use Rattle.issuer_setup.specs.IssuerSetup.{Setup}
 use Rattle.journal_rec.specs.Record.{IsRecord, IsLineOf}
 use Rattle.journal_rec.specs.RecordText.{newline, text_of, texts_of, IsUnbroken}
@@ -19,7 +17,6 @@ use Rattle.journal_rec.proofs.TextLaws.{length-text_of}
 use Rattle.shard_book.specs.declared.replay.LoadFault.{LoadFault}
 use Rattle.shard_book.specs.declared.replay.LoadFault.TheVariants.{BadLine, BadRecord, StoreFault, NoMemory}
 use Rattle.shard_book.specs.declared.replay.Taken.{Taken}
-use Rattle.shard_book.specs.Grounds.{grounds_of}
 use Rattle.shard_book.specs.LineAhead.{IsLineAhead, HasLineAhead}
 use Rattle.shard_book.specs.ShardRows.{ShardRows, StandsFor}
 use Rattle.shard_book.specs.Loading.{StopsAt, TakesLines, ReadsFront, ReadsText, StopsText, is_by_store, is_store_failure}

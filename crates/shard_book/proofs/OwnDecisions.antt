@@ -1,10 +1,10 @@
 -- The issuer's own decision is a reply that it makes for its response code: what a run records, a later run takes over.
-use Rattle.std.proofs.Common.{◌≡◌, ◌≤◌, ℕ, Bool, true, false, ◌==◌, not, List, [], ◌∷◌, ◌++◌, length, get_or, refl, sym, ap, subst, ◌∙◌, arith}
-use Rattle.std.proofs.Common.{Option, None, Some, IsTrue, All, Result, Ok, Err, if◌then◌else◌}
+use Rattle.std.proofs.Common.{◌≡◌, ◌≤◌, ℕ, Bool, true, false, List, [], ◌∷◌, ◌++◌, length, refl, sym, ap, subst, ◌∙◌, arith}
+use Rattle.std.proofs.Common.{Option, None, Some, All, Result, Ok, Err, if◌then◌else◌}
 use Rattle.std.proofs.lemmas.List.Sums.{AllPass-from_list_all}
 use Rattle.std.proofs.lemmas.Bool.{and_parts, leb-true}
 use Rattle.std.proofs.lemmas.Option.{slice_get_within, get_or_from_slice_get}
-use Rattle.std.specs.List.{slice_get, list_all}
+use Rattle.std.specs.List.{slice_get}
 use Rattle.std.specs.Option.{option_map_or}
 use Rattle.issuer_base.specs.declared.answer.Method.{Method}
 use Rattle.issuer_base.specs.declared.answer.Method.TheVariants.{One, Two}
@@ -12,7 +12,7 @@ use Rattle.issuer_base.specs.declared.answer.Reply.{Reply}
 use Rattle.issuer_base.specs.declared.entry.Entry.{Entry}
 use Rattle.issuer_base.specs.declared.entry.Entry.TheVariants.{Decided, Queued, Status}
 use Rattle.issuer_base.specs.declared.request.Request.{Request}
-use Rattle.issuer_base.specs.ChipData.{is_arqc, dki}
+use Rattle.issuer_base.specs.ChipData.{is_arqc}
 use Rattle.tlv_objects.specs.Writing.{object_text}
 use Rattle.key_derive.specs.SessionKey.{session_ac}
 use Rattle.key_derive.specs.declared.card.CardKeys.{CardKeys}
@@ -27,7 +27,7 @@ use Rattle.issuer_base.specs.declared.answer.Refusal.{Refusal}
 use Rattle.issuer_base.specs.declared.answer.Refusal.TheVariants.{NotArqc}
 use Rattle.card_history.specs.declared.decision.Asked.TheVariants.{Decide}
 use Rattle.card_history.specs.LegalRecords.{IsLegal}
-use Rattle.card_history.specs.Records.{CardName, card_of, status_of}
+use Rattle.card_history.specs.Records.{card_of, status_of}
 use Rattle.card_history.specs.Scripts.{Scripts, scripts_of, batch_of, first_of}
 use Rattle.issuer_setup.specs.declared.card.CardInfo.{CardInfo}
 use Rattle.issuer_setup.specs.CardList.{number_of}
@@ -35,7 +35,7 @@ use Rattle.issuer_setup.specs.IssuerSetup.{Setup, keys_of}
 use Rattle.issuer_setup.proofs.CardListLemmas.{number_of-found}
 use Rattle.line_checks.specs.Reading.{checked, of_card, under_keys}
 use Rattle.row_core.specs.Accepting.{IsMade, told_update, says_approval}
-use Rattle.row_core.specs.Replying.{answer_bytes, script_bytes, reply_bytes, reply_by, reply_by_row, reply_of_card, reply_to, no_reply}
+use Rattle.row_core.specs.Replying.{script_bytes, reply_bytes, reply_by, reply_by_row, reply_of_card, no_reply}
 use Rattle.journal_rec.specs.Record.{IsRecord}
 use Rattle.shard_book.specs.Grounds.{HasTable, IsMadeBy, grounds_now, grounds_of}
 

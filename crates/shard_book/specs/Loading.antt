@@ -1,5 +1,5 @@
 -- What the text of a journal says: its records up to the first bad line, and its rest.
-use Rattle.std.specs.Prelude.{◌≡◌, ℕ, ◌+◌, List, [], ◌∷◌, ◌++◌, length, take, drop, Bool, true, false, Option, IfSome, Result, Err, All}
+use Rattle.std.specs.Prelude.{◌≡◌, ℕ, ◌+◌, List, [], ◌∷◌, ◌++◌, length, take, Bool, true, false, Option, IfSome, Result, Err, All}
 use Rattle.issuer_base.specs.declared.entry.Entry.{Entry}
 use Rattle.card_history.specs.LegalRecords.{Grounds, IsLegal, IsLegalHistory}
 use Rattle.issuer_base.specs.Tells.{Tells}

@@ -1,5 +1,5 @@
 -- No newline stands in what was read so far.
-use Rattle.std.proofs.Common.{◌≡◌, ◌-◌, ◌≤◌, List, take, drop, IfSome, false}
+use Rattle.std.proofs.Common.{◌≡◌, ◌-◌, ◌≤◌, take, drop, IfSome, false}
 use Rattle.issuer_base.specs.OutsideFaults.{CountsFaults}
 use Rattle.issuer_base.specs.Stores.{BothTold}
 use Rattle.journal_rec.specs.RecordText.{IsUnbroken}

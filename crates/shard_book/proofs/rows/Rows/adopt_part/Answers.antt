@@ -1,5 +1,5 @@
 -- The records of one more part are taken over, or a line of it is bad.
-use Rattle.std.proofs.Common.{◌≡◌, ◌-◌, ℕ, min, List, Bool, length, take, drop, refl, sym, ap, subst, ◌∙◌, arith, length-take}
+use Rattle.std.proofs.Common.{◌≡◌, ◌-◌, ℕ, min, List, Bool, length, take, drop, refl, sym, subst, arith, length-take}
 use Rattle.issuer_base.specs.OutsideFaults.{CountsFaults}
 use Rattle.journal_rec.specs.RecordText.{IsUnbroken}
 use Rattle.shard_book.proofs.Loaded.{part-read, part-unbroken, reads-more, stops-more, own-count}
