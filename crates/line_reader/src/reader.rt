@@ -1,7 +1,8 @@
 //! The lines of an input, one at a time, up to the limits of an input.
-ghost use Rattle.std.specs.Prelude.{◌≡◌, ℕ, ◌-◌, ◌<◌, ◌≤◌, IfOk, if◌then◌else◌, ◌==◌};
+ghost use Rattle.std.specs.Prelude.{◌≡◌, ℕ, ◌-◌, ◌<◌, ◌≤◌, IfOk, MatchBool, if◌then◌else◌, ◌==◌};
 ghost use Rattle.issuer_base.specs.OutsideFaults.{CountsFaults};
 ghost use Rattle.line_reader.specs.declared.limits.TheConstants.{MAX_BYTES, MAX_LINES};
+ghost use Rattle.line_reader.specs.Lines.{IsFirstNewline, IsUnbroken};
 ghost use Rattle.line_reader.specs.Reading.{unread};
 ghost use Rattle.line_reader.specs.NextLine.{GivesLine, GivesRest, ReachesEnd, StopsAtFault, StopsAtLimit, is_fault};
 
@@ -77,6 +78,13 @@ impl LineReader {
         ensures within { result ≤ MAX_LINES }
     {
         self.lines
+    }
+
+    /// Whether a newline stands in what was read and isn't given yet, so that the next line is in hand without another read.
+    pub fn has_line(&self) -> bool
+        ensures { MatchBool result ((place : ℕ) × IsFirstNewline self.now.ahead place) (IsUnbroken self.now.ahead) }
+    {
+        self.window.has_newline()
     }
 
     /// Reads on to the end of the next line.

@@ -1,5 +1,5 @@
 //! The part of an input that is in memory: the line in hand, and the bytes ahead of it.
-ghost use Rattle.std.specs.Prelude.{◌≡◌, ℕ, ◌+◌, ◌-◌, ◌<◌, ◌≤◌, List, [], ◌∷◌, ◌++◌, length, take, drop, vec_len, is_err, IfOk, MatchOption, MatchResult};
+ghost use Rattle.std.specs.Prelude.{◌≡◌, ℕ, ◌+◌, ◌-◌, ◌<◌, ◌≤◌, List, [], ◌∷◌, ◌++◌, length, take, drop, vec_len, is_err, IfOk, MatchBool, MatchOption, MatchResult};
 ghost use Rattle.std.specs.Io.KnownBytes.{Keeps};
 ghost use Rattle.issuer_base.specs.OutsideFaults.{CountsFaults};
 ghost use Rattle.issuer_base.specs.declared.limits.TheConstants.{KEPT_BYTES};
@@ -100,6 +100,14 @@ impl Window {
         let kept = self.line_end - self.line_start;
         self.line_end += count.min(KEPT_BYTES - kept);
         self.start += count;
+    }
+
+    /// Whether a newline stands in what is ahead.
+    pub(crate) fn has_newline(&self) -> bool
+        ensures { MatchBool result ((place : ℕ) × IsFirstNewline (ahead_of self.now) place) (IsUnbroken (ahead_of self.now)) }
+    {
+        let ahead = &self.bytes[self.start..self.end];
+        first_newline(ahead, ahead.len() as u64).is_some()
     }
 
     /// Reads on where nothing is ahead: the line in hand goes to the front, and what is read stands after it.
