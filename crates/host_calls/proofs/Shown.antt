@@ -15,7 +15,7 @@ use Rattle.issuer_setup.proofs.Names.{name_at-get_or, name_at-slice_get}
 use Rattle.issuer_setup.proofs.Shards.{shard_of-known}
 use Rattle.row_core.specs.CardRow.{CardRow, KeptScripts, StandsFor as RowStandsFor}
 use Rattle.shard_book.specs.declared.shard.Shard.{Shard}
-use Rattle.host_calls.specs.declared.view.CardView.{CardView}
+use Rattle.show_text.specs.declared.card_view.CardView.{CardView}
 use Rattle.host_calls.specs.Books.{Book}
 use Rattle.host_calls.specs.Hosts.{AreShards, Stand}
 use Rattle.host_calls.specs.Views.{view_of}
