@@ -1,6 +1,13 @@
--- Lemmas on the words, the configuration, serving, and the endings of a run.
-pub mod ServeWords
-pub mod ServingSteps
+-- The lemmas of this crate.
 pub mod ConfigurationReads
+pub mod HostRuns
+pub mod ServingSteps
+pub mod CommandWords
+pub mod JournalSteps
+pub mod CrashSteps
+pub mod KeptSteps
+pub mod LoadingSteps
+pub mod ShowSteps
 pub mod EndingSteps
 pub mod Statuses
+pub mod InOrder

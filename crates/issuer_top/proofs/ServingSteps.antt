@@ -1,12 +1,14 @@
 -- Serving, one line more and to each of its ends.
-use Rattle.std.proofs.Common.{◌≡◌, ℕ, ◌+◌, List, [], ◌∷◌, ◌++◌, length, Option, None, Some, refl, sym, ap, subst, ◌∙◌, arith, append-nil}
+use Rattle.std.proofs.Common.{◌≡◌, ℕ, ◌+◌, List, [], ◌∷◌, ◌++◌, length, Option, None, Some, refl, sym, ap, subst, ◌∙◌, arith, append-nil, append_assoc, ⊎_elim, Ok, Err}
 use Rattle.std.proofs.lemmas.List.{length-append, flat_map_more}
 use Rattle.std.specs.List.{flat_map}
 use Rattle.std.specs.Io.KnownBytes.{Appends, Consumes, IsAtEnd}
 use Rattle.std.proofs.KnownBytes.{Appends-nil, Appends-trans, Consumes-nil, Consumes-trans}
 use Rattle.issuer_base.specs.declared.answer.Answer.{Answer}
-use Rattle.issuer_base.specs.declared.entry.Entry.{Entry}
+use Rattle.issuer_base.specs.declared.faults.WriteFault.{WriteFault}
+use Rattle.issuer_base.specs.declared.outside.store.Store.{Ghosts}
 use Rattle.issuer_base.specs.Sink.{AppendsFront}
+use Rattle.issuer_base.specs.Tells.{Tells}
 use Rattle.issuer_base.proofs.ManyCalls.{AppendsFront-after, Tells-whole}
 use Rattle.line_reader.specs.Lines.{lines, ended, BeginsWithLines}
 use Rattle.line_reader.specs.Reading.{Reading, HasGivenLines, IsWithinLimits, StaysWithinLimits, unread, kept}
@@ -14,17 +16,23 @@ use Rattle.line_reader.specs.NextLine.{GivesLine, GivesRest, ReachesEnd, StopsAt
 use Rattle.line_reader.proofs.LineLaws.{lines-begins, length-begins, BeginsWithLines-given}
 use Rattle.line_reader.proofs.WholeLines.{HasGivenLines-unread, HasGivenLines-line, IsLinesAndRest-rest, IsLinesAndRest-end, IsLinesAndRest-fault}
 use Rattle.line_reader.proofs.WholeLines.{lines-rest_given, lines-end_reached, PassesLimit-stopped}
-use Rattle.card_history.specs.Turns.{Run, Turn, no_records}
-use Rattle.card_history.proofs.Runs.{run_more}
-use Rattle.card_history.proofs.ConsistentRuns.{run-consistent}
+use Rattle.line_checks.specs.Reading.{reading}
+use Rattle.line_checks.proofs.KeptLines.{reading-kept}
 use Rattle.issuer_setup.specs.IssuerSetup.{Setup}
 use Rattle.answer_text.specs.AnswerText.{printed}
-use Rattle.memory_host.specs.Holding.{Holding, StandsFor, HasAtMost}
-use Rattle.memory_host.specs.Answering.{rules_of}
-use Rattle.line_checks.proofs.KeptLines.{reading-kept}
-use Rattle.issuer_base.specs.Tells.{Tells}
+use Rattle.shard_book.specs.declared.shard.Shard.{Shard}
+use Rattle.host_calls.specs.Books.{Book}
+use Rattle.host_calls.specs.Hosts.{Stand}
+use Rattle.host_calls.specs.OneHistory.{AreRecorded}
+use Rattle.host_calls.specs.Runs.{HasRun}
+use Rattle.host_calls.specs.Turns.{Run, Turn}
+use Rattle.issuer_top.specs.declared.serve.Server.{Server}
+use Rattle.issuer_top.specs.declared.serve.Served.{Served}
+use Rattle.issuer_top.specs.declared.serve.Served.TheVariants.{All, ReadFault, WriteFault as SinkFault, TooLong}
 use Rattle.issuer_top.specs.Answered.{AreAnswered, WasRead, AllAnswered, WholeAnswered, FrontAnswered, PassedAnswered}
-use Rattle.issuer_top.specs.Serving.{ServesLines}
+use Rattle.issuer_top.specs.Serving.{AreLawful, StartsFrom, AnswersLine, ServesLines, Serves, WritesDue, EndsBy}
+use Rattle.host_calls.proofs.OneRun.{run-one_history}
+use Rattle.issuer_top.proofs.HostRuns.{run-line, recorded}
 
 -- ---- what an input had
 
@@ -48,325 +56,414 @@ none-left (Some rest) end = end
 WasRead-whole : (now : Option (List ℕ)) (file : List ℕ) → IsAtEnd now → WasRead file file now
 WasRead-whole now file end = record { unread = []; split = sym (append-nil file); tells = none-left now end }
 
--- ---- one answer more
-
--- the text of one answer more
-texts-more : (answers : List Answer) (answer : Answer) → flat_map printed (answers ++ answer ∷ []) ≡ flat_map printed answers ++ printed answer
-texts-more answers answer = sym (flat_map_more printed [] answers answer)
-
--- what one turn of a host does
-abbrev pub Turns : Holding → Holding → List ℕ → Answer → Type 0
-Turns old new line answer = (before : List (List Entry)) → StandsFor old before → (after : List (List Entry)) × StandsFor new after
-    × Turn (rules_of old.issuer) before ((rules_of old.issuer).read line) answer after
-
--- a turn on a line as far as it is kept is a turn on the line
-turn-kept : (issuer other : Setup) (before : List (List Entry)) (line hand : List ℕ) (answer : Answer) (after : List (List Entry))
-    → other ≡ issuer → hand ≡ kept line
-    → Turn (rules_of other) before ((rules_of other).read hand) answer after → Turn (rules_of issuer) before ((rules_of issuer).read line) answer after
-turn-kept issuer other before line hand answer after same cut turn =
-    let at : Turn (rules_of issuer) before ((rules_of issuer).read hand) answer after =
-    subst (λ (i : Setup). Turn (rules_of i) before ((rules_of i).read hand) answer after) same turn in
-    subst (λ r. Turn (rules_of issuer) before r answer after) (ap (rules_of issuer).read cut ∙ reading-kept issuer line) at
-
--- the line after those served is answered
-run-line : (issuer : Setup) (host next : Holding) (whole : List (List ℕ)) (answers : List Answer) (histories : List (List Entry))
-    (line hand : List ℕ) (answer : Answer) → host.issuer ≡ issuer → StandsFor host histories
-    → Run (rules_of issuer) (no_records issuer.shards) whole answers histories → hand ≡ kept line → Turns host next hand answer
-    → (after : List (List Entry)) × StandsFor next after × Run (rules_of issuer) (no_records issuer.shards) (whole ++ line ∷ []) (answers ++ answer ∷ []) after
-run-line issuer host next whole answers histories line hand answer same stands run cut turns =
-    let t = turns histories stands in
-    let turn = turn-kept issuer host.issuer histories line hand answer t.0 same cut t.2 in
-    (t.0, t.1, run_more (rules_of issuer) (no_records issuer.shards) whole answers histories line answer t.0 run turn)
-
--- ---- the run
-
--- these bytes were read so far, and the lines that stand whole in them were answered, but for what the reader has ahead
-pub record HasServed (issuer : Setup) (was now held_before held_after : Option (List ℕ)) (host : Holding) (reader : Reading) : Type 0 where
-  pub read : List ℕ
-  pub whole : List (List ℕ)
-  pub answers : List Answer
-  pub histories : List (List Entry)
-  pub consumed : Consumes was now read
-  pub given : HasGivenLines reader read whole
-  pub issuer_is : host.issuer ≡ issuer
-  pub stands : StandsFor host histories
-  pub few : HasAtMost reader.lines host
-  pub run : Run (rules_of issuer) (no_records issuer.shards) whole answers histories
-  pub written : Appends held_before held_after (flat_map printed answers)
-
--- nothing is served yet
-pub HasServed-none : (issuer : Setup) (was held : Option (List ℕ)) (host : Holding) (reader : Reading)
-    → host.issuer ≡ issuer → StandsFor host (no_records issuer.shards) → HasAtMost 0 host → reader ≡ unread
-    → HasServed issuer was was held held host reader
-HasServed-none issuer was held host reader same stands none first = record {
-  read = [];
-  whole = [];
-  answers = [];
-  histories = no_records issuer.shards;
-  consumed = Consumes-nil was;
-  given = subst (λ r. HasGivenLines r [] []) (sym first) HasGivenLines-unread;
-  issuer_is = same;
-  stands = stands;
-  few = subst (λ (n : ℕ). HasAtMost n host) (ap (λ r. r.lines) (sym first)) none;
-  run = refl;
-  written = Appends-nil held;
-}
-
--- ---- the ends
-
--- a run of turns from empty histories, with what is sure after it
-are_answered : (issuer : Setup) (asked other : List (List ℕ)) (answers : List Answer) (histories : List (List Entry)) → other ≡ asked
-    → Run (rules_of issuer) (no_records issuer.shards) asked answers histories → AreAnswered issuer other (flat_map printed answers)
-are_answered issuer asked other answers histories same run =
-    let turned = subst (λ ls. Run (rules_of issuer) (no_records issuer.shards) ls answers histories) (sym same) run in
-    record {
-      answers = answers;
-      histories = histories;
-      run = turned;
-      printed_is = refl;
-      consistent = run-consistent (rules_of issuer) issuer.shards other answers histories turned;
-    }
-
-module _ (issuer : Setup) (was mid now first held : Option (List ℕ)) (host : Holding) (reader new : Reading)
-    (so_far : HasServed issuer was mid first held host reader) where
-  within_so_far : IsWithinLimits (length so_far.whole) (length (flat_map ended so_far.whole))
-  within_so_far = subst (λ (n : ℕ). IsWithinLimits n (length (flat_map ended so_far.whole))) so_far.given.lines_counted
-      (subst (λ (n : ℕ). IsWithinLimits reader.lines n) so_far.given.bytes_counted so_far.given.within)
-
-  -- what was consumed so far and then this
-  consumed_with : (given : List ℕ) → Consumes mid now given → Consumes was now (so_far.read ++ given)
-  consumed_with given more = Consumes-trans was mid now so_far.read given so_far.consumed more
-
-  -- the end of the input
-  pub serves-end : ReachesEnd mid now reader new → ServesLines (AllAnswered issuer) (Appends first held) was now
-  serves-end ends =
-      let file = so_far.read ++ ends.given in
-      let lines_are = lines-end_reached mid now reader new so_far.read so_far.whole so_far.given ends in
-      let parted = IsLinesAndRest-end mid now reader new so_far.read so_far.whole so_far.given ends in
-      record {
-        file = file;
-        read = file;
-        text = flat_map printed so_far.answers;
-        content = Tells-whole was now file (consumed_with ends.given ends.consumed) ends.at_end;
-        was_read = WasRead-whole now file ends.at_end;
-        answered = record {
-          to_the_end = refl;
-          within = record {
-            lines_within = omega (arith, ap length lines_are, so_far.given.lines_counted, so_far.given.within.lines_within);
-            bytes_within = omega (
-              arith,
-              length-begins file so_far.whole [] parted.begins,
-              so_far.given.bytes_counted,
-              so_far.given.within.bytes_within,
-            );
-          };
-          answered = are_answered issuer so_far.whole (lines file) so_far.answers so_far.histories lines_are so_far.run;
-        };
-        written = so_far.written;
-      }
-
-  -- the input failed
-  pub serves-fault : StopsAtFault mid now reader new → ServesLines (WholeAnswered issuer) (Appends first held) was now
-  serves-fault stops =
-      let read = so_far.read ++ stops.given in
-      let parts = front-read was now read (consumed_with stops.given stops.consumed) in
-      let rest = reader.ahead ++ stops.given in
-      record {
-        file = read ++ parts.rest;
-        read = read;
-        text = flat_map printed so_far.answers;
-        content = parts.content;
-        was_read = record { unread = parts.rest; split = refl; tells = parts.left };
-        answered = record {
-          whole = so_far.whole;
-          rest = rest;
-          parted = IsLinesAndRest-fault mid now reader new so_far.read so_far.whole so_far.given stops;
-          within = subst (λ (n : ℕ). StaysWithinLimits n (length (flat_map ended so_far.whole)) rest) so_far.given.lines_counted
-              (subst (λ (n : ℕ). StaysWithinLimits reader.lines n rest) so_far.given.bytes_counted stops.within);
-          answered = are_answered issuer so_far.whole so_far.whole so_far.answers so_far.histories refl so_far.run;
-        };
-        written = so_far.written;
-      }
-
-  -- the input goes past a limit
-  pub serves-limit : (number : ℕ) → StopsAtLimit mid now reader new → number ≡ reader.lines + 1
-      → ServesLines (PassedAnswered number issuer) (Appends first held) was now
-  serves-limit number stops counted =
-      let read = so_far.read ++ stops.given in
-      let parts = front-read was now read (consumed_with stops.given stops.consumed) in
-      record {
-        file = read ++ parts.rest;
-        read = read;
-        text = flat_map printed so_far.answers;
-        content = parts.content;
-        was_read = record { unread = parts.rest; split = refl; tells = parts.left };
-        answered = record {
-          whole = so_far.whole;
-          ahead = reader.ahead ++ stops.given;
-          parted = BeginsWithLines-given so_far.read so_far.whole reader.ahead stops.given so_far.given.begins;
-          within = within_so_far;
-          passes = PassesLimit-stopped mid now reader new so_far.read so_far.whole so_far.given stops;
-          number_is = counted ∙ ap (λ n. n + 1) so_far.given.lines_counted;
-          answered = are_answered issuer so_far.whole so_far.whole so_far.answers so_far.histories refl so_far.run;
-        };
-        written = so_far.written;
-      }
-
 -- no text has no lines
 lines-none : lines [] ≡ []
 unfolding lines
 lines-none = refl
 
--- ---- one line more, where the sink takes its answer or fails
+-- ---- which lines were answered
 
-module _ (issuer : Setup) (was mid now first held next : Option (List ℕ)) (host after : Holding) (reader new : Reading) (answer : Answer)
-    (so_far : HasServed issuer was mid first held host reader) (turns : Turns host after new.line answer) where
-  -- the text of all answers, the new one among them
-  abbrev text_with : List ℕ
-  text_with = flat_map printed (so_far.answers ++ answer ∷ [])
+-- a run of turns on legal books, with what is sure after it
+are_answered : (issuer : Setup) (first last : List Book) (asked other : List (List ℕ)) (answers : List Answer) → AreLawful issuer first → AreRecorded last
+    → other ≡ asked → Run issuer first asked answers last → AreAnswered issuer first last other (flat_map printed answers)
+are_answered issuer first last asked other answers lawful recorded same run =
+    let turned : Run issuer first other answers last = subst (λ (ls : List (List ℕ)). Run issuer first ls answers last) (sym same) run in
+    record {
+      answers = answers;
+      run = turned;
+      printed_is = refl;
+      one = run-one_history issuer lawful.again first last other answers lawful.legal recorded turned;
+    }
 
-  -- the new answer is written, all of it or a front, and so all answers are
-  whole-written : Appends held next (printed answer) → Appends first next text_with
-  whole-written prints =
-      subst (Appends first next) (sym (texts-more so_far.answers answer)) (Appends-trans first held next _ _ so_far.written prints)
+-- the whole lines of what was read were answered: they are a front of the file
+front_answered : (issuer : Setup) (first last : List Book) (read rest : List ℕ) (whole : List (List ℕ)) (ahead : List ℕ) (answers : List Answer)
+    → AreLawful issuer first → AreRecorded last → Run issuer first whole answers last → BeginsWithLines read whole ahead
+    → IsWithinLimits (length whole) (length (flat_map ended whole))
+    → FrontAnswered issuer first last (read ++ rest) read (flat_map printed answers)
+front_answered issuer first last read rest whole ahead answers lawful recorded run given within =
+    let front = flat_map ended whole in
+    let more = ahead ++ rest in
+    let begins : BeginsWithLines front whole [] = record { joined = sym (append-nil front); each = given.each } in
+    let front_lines : lines front ≡ whole = lines-begins front whole [] begins ∙ ap (λ l. whole ++ l) lines-none ∙ append-nil whole in
+    let goes_on = BeginsWithLines-given read whole ahead rest given in
+    record {
+      front = front;
+      ahead = ahead;
+      more = more;
+      was_read = given.joined;
+      split = goes_on.joined;
+      ends_line = lines-begins (read ++ rest) whole more goes_on ∙ ap (λ l. l ++ lines more) (sym front_lines);
+      within = subst (λ (ls : List (List ℕ)). IsWithinLimits (length ls) (length front)) (sym front_lines) within;
+      answered = are_answered issuer first last whole (lines front) answers lawful recorded front_lines run;
+    }
 
-  front-written : AppendsFront held next (printed answer) → AppendsFront first next text_with
-  front-written prints =
-      subst (AppendsFront first next) (sym (texts-more so_far.answers answer)) (AppendsFront-after first held next _ _ so_far.written prints)
+-- the text of one answer more
+texts-more : (answers : List Answer) (answer : Answer) → flat_map printed (answers ++ answer ∷ []) ≡ flat_map printed answers ++ printed answer
+texts-more answers answer = sym (flat_map_more printed [] answers answer)
 
-  -- the run with this line
-  run-with : (line : List ℕ) → new.line ≡ kept line → (histories : List (List Entry)) × StandsFor after histories
-      × Run (rules_of issuer) (no_records issuer.shards) (so_far.whole ++ line ∷ []) (so_far.answers ++ answer ∷ []) histories
-  run-with line in_hand =
-      run-line issuer host after so_far.whole so_far.answers so_far.histories line new.line answer so_far.issuer_is so_far.stands so_far.run in_hand turns
+-- ---- the run
 
-  -- these are the lines of a text: they were answered
-  answered-with : (text line : List ℕ) → lines text ≡ so_far.whole ++ line ∷ [] → new.line ≡ kept line → AreAnswered issuer (lines text) text_with
-  answered-with text line lines_are in_hand =
-      let more = run-with line in_hand in
-      are_answered issuer (so_far.whole ++ line ∷ []) (lines text) (so_far.answers ++ answer ∷ []) more.0 lines_are more.2
+module _ {S : Type 0} {G : Ghosts S} where
+  -- these bytes were read so far, and the lines that stand whole in them were answered, but for what the reader has ahead; the first answers
+  -- were written, and the others are due
+  pub record HasServed (issuer : Setup) (first : List Book) (loaded shards : List (Shard S G)) (was now held_before held_after : Option (List ℕ))
+      (reader : Reading) (due : List ℕ) : Type 0 where
+    pub read : List ℕ
+    pub whole : List (List ℕ)
+    pub answers : List Answer
+    pub last : List Book
+    pub early : List ℕ
+    pub consumed : Consumes was now read
+    pub given : HasGivenLines reader read whole
+    pub run : HasRun issuer loaded first whole answers shards last
+    pub texts : flat_map printed answers ≡ early ++ due
+    pub written : Appends held_before held_after early
 
-  -- one line more is served
-  pub HasServed-line : GivesLine mid now reader new → after.issuer ≡ host.issuer → ((most : ℕ) → HasAtMost most host → HasAtMost (most + 1) after)
-      → Appends held next (printed answer)
-      → HasServed issuer was now first next after new
-  HasServed-line gives same one_more prints =
-      let more = run-with gives.line gives.counted.in_hand in
-      record {
-        read = so_far.read ++ gives.given;
-        whole = so_far.whole ++ gives.line ∷ [];
-        answers = so_far.answers ++ answer ∷ [];
-        histories = more.0;
-        consumed = Consumes-trans was mid now so_far.read gives.given so_far.consumed gives.consumed;
-        given = HasGivenLines-line mid now reader new so_far.read so_far.whole so_far.given gives;
-        issuer_is = same ∙ so_far.issuer_is;
-        stands = more.1;
-        few = subst (λ (n : ℕ). HasAtMost n after) (sym gives.counted.one_more) (one_more reader.lines so_far.few);
-        run = more.2;
-        written = whole-written prints;
-      }
+  -- nothing is served yet
+  pub HasServed-none : (issuer : Setup) (first : List Book) (shards : List (Shard S G)) (was held : Option (List ℕ)) (reader : Reading) (due : List ℕ)
+      → StartsFrom issuer shards first → reader ≡ unread → due ≡ [] → HasServed issuer first shards shards was was held held reader due
+  HasServed-none issuer first shards was held reader due starts fresh none = record {
+    read = [];
+    whole = [];
+    answers = [];
+    last = first;
+    early = [];
+    consumed = Consumes-nil was;
+    given = subst (λ r. HasGivenLines r [] []) (sym fresh) HasGivenLines-unread;
+    run = starts.run;
+    texts = sym none;
+    written = Appends-nil held;
+  }
 
-  -- the sink failed at the answer of a line
-  pub serves-broken_line : GivesLine mid now reader new → AppendsFront held next (printed answer)
-      → ServesLines (FrontAnswered issuer) (AppendsFront first next) was now
-  serves-broken_line gives prints =
-      let read = so_far.read ++ gives.given in
-      let parts = front-read was now read (Consumes-trans was mid now so_far.read gives.given so_far.consumed gives.consumed) in
-      let given = HasGivenLines-line mid now reader new so_far.read so_far.whole so_far.given gives in
-      let whole = so_far.whole ++ gives.line ∷ [] in
-      let front = flat_map ended whole in
-      let more = new.ahead ++ parts.rest in
-      let begins : BeginsWithLines front whole [] = record { joined = sym (append-nil front); each = given.begins.each } in
-      let front_lines : lines front ≡ whole = lines-begins front whole [] begins ∙ ap (λ l. whole ++ l) lines-none ∙ append-nil whole in
-      let goes_on = BeginsWithLines-given read whole new.ahead parts.rest given.begins in
-      record {
-        file = read ++ parts.rest;
-        read = read;
-        text = text_with;
-        content = parts.content;
-        was_read = record { unread = parts.rest; split = refl; tells = parts.left };
-        answered = record {
-          front = front;
-          ahead = new.ahead;
-          more = more;
-          was_read = given.begins.joined;
-          split = goes_on.joined;
-          ends_line = lines-begins (read ++ parts.rest) whole more goes_on ∙ ap (λ l. l ++ lines more) (sym front_lines);
-          within = record {
-            lines_within = omega (arith, ap length front_lines, given.lines_counted, given.within.lines_within);
-            bytes_within = omega (arith, given.bytes_counted, given.within.bytes_within);
-          };
-          answered = answered-with front gives.line front_lines gives.counted.in_hand;
-        };
-        written = front-written prints;
-      }
+  -- ---- one line more
 
-  module _ (gives : GivesRest mid now reader new) where
-    -- the file that the last line ends
-    abbrev whole_file : List ℕ
-    whole_file = so_far.read ++ gives.given
+  -- the answer to a line under an issuer that is another one's equal
+  pub answered-under : (issuer other : Setup) (old new : Server) (was is : List (Shard S G)) → other ≡ issuer → AnswersLine other old new was is
+      → AnswersLine issuer old new was is
+  answered-under issuer other old new was is same answered = subst (λ (i : Setup). AnswersLine i old new was is) same answered
 
-    file_lines : lines whole_file ≡ so_far.whole ++ gives.line ∷ []
-    file_lines = lines-rest_given mid now reader new so_far.read so_far.whole so_far.given gives
+  module _ (issuer : Setup) (first : List Book) (loaded shards next_shards : List (Shard S G)) (was mid now held_before held : Option (List ℕ))
+      (old new : Server) (reader : Reading) (so_far : HasServed issuer first loaded shards was mid held_before held reader old.block.text.items)
+      (answered : AnswersLine issuer old new shards next_shards) where
+    -- the run with this line
+    run-with : (line : List ℕ) → old.reader.line ≡ kept line
+        → (after : List Book) × HasRun issuer loaded first (so_far.whole ++ line ∷ []) (so_far.answers ++ answered.answer ∷ []) next_shards after
+    run-with line in_hand =
+        run-line issuer loaded first so_far.whole so_far.answers shards next_shards so_far.last line answered.answer so_far.run
+        (λ books stands.
+        let t = answered.turn books stands in (
+          t.0,
+          t.1,
+          subst (λ r. Turn issuer books r answered.answer t.0) (ap (reading issuer) in_hand ∙ reading-kept issuer line) t.2,
+        ))
+        answered.leaves
 
-    content_whole : Tells was whole_file
-    content_whole =
-        Tells-whole was now whole_file (Consumes-trans was mid now so_far.read gives.given so_far.consumed gives.consumed) gives.at_end
+    -- the texts of all answers, the new one among them
+    texts-with : flat_map printed (so_far.answers ++ answered.answer ∷ []) ≡ so_far.early ++ new.block.text.items
+    texts-with =
+        texts-more so_far.answers answered.answer ∙ ap (λ t. t ++ printed answered.answer) so_far.texts
+        ∙ append_assoc so_far.early old.block.text.items (printed answered.answer) ∙ ap (λ t. so_far.early ++ t) (sym answered.text_is)
 
-    within_limits : IsWithinLimits (length (lines whole_file)) (length whole_file)
-    within_limits =
-        let parted = IsLinesAndRest-rest mid now reader new so_far.read so_far.whole so_far.given gives in
+    -- one line more is served, and the answers before what is left were written
+    pub HasServed-line : (next : Option (List ℕ)) (left : List ℕ) (after : Reading) → GivesLine mid now reader old.reader
+        → WritesDue held next new.block.text.items left (Ok tt) → after ≡ old.reader
+        → HasServed issuer first loaded next_shards was now held_before next after left
+    HasServed-line next left after gives due same =
+        let more = run-with gives.line gives.counted.in_hand in
+        subst (λ (r : Reading). HasServed issuer first loaded next_shards was now held_before next r left) (sym same)
+        (record {
+          read = so_far.read ++ gives.given;
+          whole = so_far.whole ++ gives.line ∷ [];
+          answers = so_far.answers ++ answered.answer ∷ [];
+          last = more.0;
+          early = so_far.early ++ due.0;
+          consumed = Consumes-trans was mid now so_far.read gives.given so_far.consumed gives.consumed;
+          given = HasGivenLines-line mid now reader old.reader so_far.read so_far.whole so_far.given gives;
+          run = more.1;
+          texts = texts-with ∙ ap (λ t. so_far.early ++ t) due.1 ∙ sym (append_assoc so_far.early due.0 left);
+          written = Appends-trans held_before held next so_far.early due.0 so_far.written due.2;
+        })
+
+    -- all answers are written, or a front of them
+    whole-written : (next : Option (List ℕ)) → Appends held next new.block.text.items
+        → Appends held_before next (flat_map printed (so_far.answers ++ answered.answer ∷ []))
+    whole-written next due =
+        subst (Appends held_before next) (sym texts-with) (Appends-trans held_before held next so_far.early new.block.text.items so_far.written due)
+
+    front-written : (next : Option (List ℕ)) → AppendsFront held next new.block.text.items
+        → AppendsFront held_before next (flat_map printed (so_far.answers ++ answered.answer ∷ []))
+    front-written next due =
+        subst (AppendsFront held_before next) (sym texts-with) (AppendsFront-after held_before held next so_far.early new.block.text.items so_far.written due)
+
+    -- the sink failed at the answers of a block
+    pub serves-broken_line : (next : Option (List ℕ)) → AreLawful issuer first → GivesLine mid now reader old.reader
+        → AppendsFront held next new.block.text.items
+        → ServesLines (FrontAnswered issuer first) (AppendsFront held_before next) issuer first loaded next_shards was now
+    serves-broken_line next lawful gives due =
+        let read = so_far.read ++ gives.given in
+        let parts = front-read was now read (Consumes-trans was mid now so_far.read gives.given so_far.consumed gives.consumed) in
+        let given = HasGivenLines-line mid now reader old.reader so_far.read so_far.whole so_far.given gives in
+        let more = run-with gives.line gives.counted.in_hand in
+        let whole = so_far.whole ++ gives.line ∷ [] in
+        let within : IsWithinLimits (length whole) (length (flat_map ended whole)) =
+        subst (λ (n : ℕ). IsWithinLimits n (length (flat_map ended whole))) given.lines_counted
+        (subst (λ (n : ℕ). IsWithinLimits old.reader.lines n) given.bytes_counted given.within) in
         record {
-          lines_within = omega (
-            arith,
-            ap length file_lines,
-            length-append so_far.whole (gives.line ∷ []),
-            so_far.given.lines_counted,
-            gives.counted.one_more,
-            gives.counted.within.lines_within,
-          );
-          bytes_within = omega (
-            arith,
-            length-begins whole_file so_far.whole gives.line parted.begins,
-            so_far.given.bytes_counted,
-            gives.counted.more_bytes,
-            gives.counted.within.bytes_within,
-          );
+          last = more.0;
+          file = read ++ parts.rest;
+          read = read;
+          text = flat_map printed (so_far.answers ++ answered.answer ∷ []);
+          content = parts.content;
+          was_read = record { unread = parts.rest; split = refl; tells = parts.left };
+          answered = front_answered issuer first more.0 read parts.rest whole old.reader.ahead (so_far.answers ++ answered.answer ∷ []) lawful (recorded more.1.stand)
+              more.1.run
+              given.begins within;
+          written = front-written next due;
+          stand = more.1.stand;
+          leave = more.1.leave;
         }
 
-    -- the last line, which no newline ends
-    pub serves-rest : Appends held next (printed answer) → ServesLines (AllAnswered issuer) (Appends first next) was now
-    serves-rest prints = record {
-      file = whole_file;
-      read = whole_file;
-      text = text_with;
-      content = content_whole;
-      was_read = WasRead-whole now whole_file gives.at_end;
-      answered = record {
-        to_the_end = refl;
-        within = within_limits;
-        answered = answered-with whole_file gives.line file_lines gives.counted.in_hand;
-      };
-      written = whole-written prints;
-    }
+    module _ (gives : GivesRest mid now reader old.reader) (lawful : AreLawful issuer first) where
+      -- the file that the last line ends
+      abbrev whole_file : List ℕ
+      whole_file = so_far.read ++ gives.given
 
-    -- the sink failed at the answer of the last line
-    pub serves-broken_rest : AppendsFront held next (printed answer) → ServesLines (FrontAnswered issuer) (AppendsFront first next) was now
-    serves-broken_rest prints = record {
-      file = whole_file;
-      read = whole_file;
-      text = text_with;
-      content = content_whole;
-      was_read = WasRead-whole now whole_file gives.at_end;
-      answered = record {
-        front = whole_file;
-        ahead = [];
-        more = [];
-        was_read = sym (append-nil whole_file);
-        split = sym (append-nil whole_file);
-        ends_line = sym (append-nil (lines whole_file)) ∙ ap (λ l. lines whole_file ++ l) (sym lines-none);
-        within = within_limits;
-        answered = answered-with whole_file gives.line file_lines gives.counted.in_hand;
-      };
-      written = front-written prints;
-    }
+      file_lines : lines whole_file ≡ so_far.whole ++ gives.line ∷ []
+      file_lines = lines-rest_given mid now reader old.reader so_far.read so_far.whole so_far.given gives
+
+      content_whole : Tells was whole_file
+      content_whole =
+          Tells-whole was now whole_file (Consumes-trans was mid now so_far.read gives.given so_far.consumed gives.consumed) gives.at_end
+
+      within_limits : IsWithinLimits (length (lines whole_file)) (length whole_file)
+      within_limits =
+          let parted = IsLinesAndRest-rest mid now reader old.reader so_far.read so_far.whole so_far.given gives in
+          record {
+            lines_within = omega (
+              arith,
+              ap length file_lines,
+              length-append so_far.whole (gives.line ∷ []),
+              so_far.given.lines_counted,
+              gives.counted.one_more,
+              gives.counted.within.lines_within,
+            );
+            bytes_within = omega (
+              arith,
+              length-begins whole_file so_far.whole gives.line parted.begins,
+              so_far.given.bytes_counted,
+              gives.counted.more_bytes,
+              gives.counted.within.bytes_within,
+            );
+          }
+
+      -- the last line, which no newline ends
+      serves-rest_all : (next : Option (List ℕ)) → Appends held next new.block.text.items
+          → ServesLines (AllAnswered issuer first) (Appends held_before next) issuer first loaded next_shards was now
+      serves-rest_all next due =
+          let more = run-with gives.line gives.counted.in_hand in
+          record {
+            last = more.0;
+            file = whole_file;
+            read = whole_file;
+            text = flat_map printed (so_far.answers ++ answered.answer ∷ []);
+            content = content_whole;
+            was_read = WasRead-whole now whole_file gives.at_end;
+            answered = record {
+              to_the_end = refl;
+              within = within_limits;
+              answered = are_answered issuer first more.0 (so_far.whole ++ gives.line ∷ []) (lines whole_file)
+                  (so_far.answers ++ answered.answer ∷ []) lawful (recorded more.1.stand) file_lines more.1.run;
+            };
+            written = whole-written next due;
+            stand = more.1.stand;
+            leave = more.1.leave;
+          }
+
+      -- the sink failed at the answers of the last block
+      serves-rest_front : (next : Option (List ℕ)) → AppendsFront held next new.block.text.items
+          → ServesLines (FrontAnswered issuer first) (AppendsFront held_before next) issuer first loaded next_shards was now
+      serves-rest_front next due =
+          let more = run-with gives.line gives.counted.in_hand in
+          record {
+            last = more.0;
+            file = whole_file;
+            read = whole_file;
+            text = flat_map printed (so_far.answers ++ answered.answer ∷ []);
+            content = content_whole;
+            was_read = WasRead-whole now whole_file gives.at_end;
+            answered = record {
+              front = whole_file;
+              ahead = [];
+              more = [];
+              was_read = sym (append-nil whole_file);
+              split = sym (append-nil whole_file);
+              ends_line = sym (append-nil (lines whole_file)) ∙ ap (λ l. lines whole_file ++ l) (sym lines-none);
+              within = within_limits;
+              answered = are_answered issuer first more.0 (so_far.whole ++ gives.line ∷ []) (lines whole_file)
+                  (so_far.answers ++ answered.answer ∷ []) lawful (recorded more.1.stand) file_lines more.1.run;
+            };
+            written = front-written next due;
+            stand = more.1.stand;
+            leave = more.1.leave;
+          }
+
+      pub serves-rest : (next : Option (List ℕ)) (result : Served) → EndsBy held next new.block.text.items All result
+          → Serves issuer first loaded next_shards was now held_before next result
+      serves-rest next result ends =
+          ⊎_elim
+          (λ whole. subst (Serves issuer first loaded next_shards was now held_before next) (sym whole.0) (serves-rest_all next whole.1))
+          (λ front. subst (Serves issuer first loaded next_shards was now held_before next) (sym front.0) (serves-rest_front next front.1))
+          ends
+
+  -- ---- the ends
+
+  module _ (issuer : Setup) (first : List Book) (loaded shards : List (Shard S G)) (was mid now held_before held next : Option (List ℕ))
+      (reader new : Reading) (due : List ℕ) (so_far : HasServed issuer first loaded shards was mid held_before held reader due)
+      (lawful : AreLawful issuer first) where
+    abbrev text_so_far : List ℕ
+    text_so_far = flat_map printed so_far.answers
+
+    within_so_far : IsWithinLimits (length so_far.whole) (length (flat_map ended so_far.whole))
+    within_so_far = subst (λ (n : ℕ). IsWithinLimits n (length (flat_map ended so_far.whole))) so_far.given.lines_counted
+        (subst (λ (n : ℕ). IsWithinLimits reader.lines n) so_far.given.bytes_counted so_far.given.within)
+
+    -- what was consumed so far and then this
+    consumed_with : (given : List ℕ) → Consumes mid now given → Consumes was now (so_far.read ++ given)
+    consumed_with given more = Consumes-trans was mid now so_far.read given so_far.consumed more
+
+    all-written : Appends held next due → Appends held_before next text_so_far
+    all-written rest = subst (Appends held_before next) (sym so_far.texts) (Appends-trans held_before held next so_far.early due so_far.written rest)
+
+    -- the sink failed at the answers that were left
+    serves-front : (given : List ℕ) → Consumes mid now given → AppendsFront held next due
+        → ServesLines (FrontAnswered issuer first) (AppendsFront held_before next) issuer first loaded shards was now
+    serves-front given consumed rest =
+        let read = so_far.read ++ given in
+        let parts = front-read was now read (consumed_with given consumed) in
+        record {
+          last = so_far.last;
+          file = read ++ parts.rest;
+          read = read;
+          text = text_so_far;
+          content = parts.content;
+          was_read = record { unread = parts.rest; split = refl; tells = parts.left };
+          answered = front_answered issuer first so_far.last read parts.rest so_far.whole (reader.ahead ++ given) so_far.answers lawful (recorded so_far.run.stand) so_far.run.run
+              (BeginsWithLines-given so_far.read so_far.whole reader.ahead given so_far.given.begins) within_so_far;
+          written = subst (AppendsFront held_before next) (sym so_far.texts)
+              (AppendsFront-after held_before held next so_far.early due so_far.written rest);
+          stand = so_far.run.stand;
+          leave = so_far.run.leave;
+        }
+
+    -- the end of the input
+    serves-all : ReachesEnd mid now reader new → Appends held next due
+        → ServesLines (AllAnswered issuer first) (Appends held_before next) issuer first loaded shards was now
+    serves-all ends rest =
+        let file = so_far.read ++ ends.given in
+        let lines_are = lines-end_reached mid now reader new so_far.read so_far.whole so_far.given ends in
+        let parted = IsLinesAndRest-end mid now reader new so_far.read so_far.whole so_far.given ends in
+        record {
+          last = so_far.last;
+          file = file;
+          read = file;
+          text = text_so_far;
+          content = Tells-whole was now file (consumed_with ends.given ends.consumed) ends.at_end;
+          was_read = WasRead-whole now file ends.at_end;
+          answered = record {
+            to_the_end = refl;
+            within = record {
+              lines_within = omega (arith, ap length lines_are, so_far.given.lines_counted, so_far.given.within.lines_within);
+              bytes_within = omega (
+                arith,
+                length-begins file so_far.whole [] parted.begins,
+                so_far.given.bytes_counted,
+                so_far.given.within.bytes_within,
+              );
+            };
+            answered = are_answered issuer first so_far.last so_far.whole (lines file) so_far.answers lawful (recorded so_far.run.stand) lines_are so_far.run.run;
+          };
+          written = all-written rest;
+          stand = so_far.run.stand;
+          leave = so_far.run.leave;
+        }
+
+    pub serves-end : (result : Served) → ReachesEnd mid now reader new → EndsBy held next due All result
+        → Serves issuer first loaded shards was now held_before next result
+    serves-end result reaches ends =
+        ⊎_elim
+        (λ whole. subst (Serves issuer first loaded shards was now held_before next) (sym whole.0) (serves-all reaches whole.1))
+        (λ front. subst (Serves issuer first loaded shards was now held_before next) (sym front.0)
+        (serves-front reaches.given reaches.consumed front.1))
+        ends
+
+    -- the input failed
+    serves-whole : StopsAtFault mid now reader new → Appends held next due
+        → ServesLines (WholeAnswered issuer first) (Appends held_before next) issuer first loaded shards was now
+    serves-whole stops rest =
+        let read = so_far.read ++ stops.given in
+        let parts = front-read was now read (consumed_with stops.given stops.consumed) in
+        let behind = reader.ahead ++ stops.given in
+        record {
+          last = so_far.last;
+          file = read ++ parts.rest;
+          read = read;
+          text = text_so_far;
+          content = parts.content;
+          was_read = record { unread = parts.rest; split = refl; tells = parts.left };
+          answered = record {
+            whole = so_far.whole;
+            rest = behind;
+            parted = IsLinesAndRest-fault mid now reader new so_far.read so_far.whole so_far.given stops;
+            within = subst (λ (n : ℕ). StaysWithinLimits n (length (flat_map ended so_far.whole)) behind) so_far.given.lines_counted
+                (subst (λ (n : ℕ). StaysWithinLimits reader.lines n behind) so_far.given.bytes_counted stops.within);
+            answered = are_answered issuer first so_far.last so_far.whole so_far.whole so_far.answers lawful (recorded so_far.run.stand) refl so_far.run.run;
+          };
+          written = all-written rest;
+          stand = so_far.run.stand;
+          leave = so_far.run.leave;
+        }
+
+    pub serves-fault : (result : Served) → StopsAtFault mid now reader new → EndsBy held next due ReadFault result
+        → Serves issuer first loaded shards was now held_before next result
+    serves-fault result stops ends =
+        ⊎_elim
+        (λ whole. subst (Serves issuer first loaded shards was now held_before next) (sym whole.0) (serves-whole stops whole.1))
+        (λ front. subst (Serves issuer first loaded shards was now held_before next) (sym front.0)
+        (serves-front stops.given stops.consumed front.1))
+        ends
+
+    -- the input goes past a limit
+    serves-passed : (number : ℕ) → number ≡ reader.lines + 1 → StopsAtLimit mid now reader new → Appends held next due
+        → ServesLines (PassedAnswered number issuer first) (Appends held_before next) issuer first loaded shards was now
+    serves-passed number counted stops rest =
+        let read = so_far.read ++ stops.given in
+        let parts = front-read was now read (consumed_with stops.given stops.consumed) in
+        record {
+          last = so_far.last;
+          file = read ++ parts.rest;
+          read = read;
+          text = text_so_far;
+          content = parts.content;
+          was_read = record { unread = parts.rest; split = refl; tells = parts.left };
+          answered = record {
+            whole = so_far.whole;
+            ahead = reader.ahead ++ stops.given;
+            parted = BeginsWithLines-given so_far.read so_far.whole reader.ahead stops.given so_far.given.begins;
+            within = within_so_far;
+            passes = PassesLimit-stopped mid now reader new so_far.read so_far.whole so_far.given stops;
+            number_is = counted ∙ ap (λ n. n + 1) so_far.given.lines_counted;
+            answered = are_answered issuer first so_far.last so_far.whole so_far.whole so_far.answers lawful (recorded so_far.run.stand) refl so_far.run.run;
+          };
+          written = all-written rest;
+          stand = so_far.run.stand;
+          leave = so_far.run.leave;
+        }
+
+    pub serves-limit : (number : ℕ) (result : Served) → StopsAtLimit mid now reader new → EndsBy held next due (TooLong number) result
+        → number ≡ reader.lines + 1 → Serves issuer first loaded shards was now held_before next result
+    serves-limit number result stops ends counted =
+        ⊎_elim
+        (λ whole. subst (Serves issuer first loaded shards was now held_before next) (sym whole.0) (serves-passed number counted stops whole.1))
+        (λ front. subst (Serves issuer first loaded shards was now held_before next) (sym front.0)
+        (serves-front stops.given stops.consumed front.1))
+        ends

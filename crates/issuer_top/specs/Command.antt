@@ -1,5 +1,5 @@
--- The words of the command that the program knows.
-use Rattle.std.specs.Prelude.{◌≡◌, ◌≢◌, ℕ, Bool, ◌||◌, if◌then◌else◌, List, [], ◌∷◌, codes, IsTrue, All}
+-- The words of the two commands that the program knows.
+use Rattle.std.specs.Prelude.{◌≡◌, ◌≢◌, ℕ, Bool, false, ◌||◌, if◌then◌else◌, List, [], ◌∷◌, map, Option, None, Some, codes, IsTrue, All}
 use Rattle.std.specs.Str.{bytes_eq}
 
 -- a value is a word that isn't empty and doesn't begin with a hyphen
@@ -23,19 +23,39 @@ values_of option [] = []
 values_of option (pair ∷ pairs) =
     if bytes_eq pair.option option then pair.value ∷ values_of option pairs else values_of option pairs
 
--- the option is one of those of the command to serve
-abbrev pub is_serve_option : List ℕ → Bool
-is_serve_option option = bytes_eq option (codes "--config") || bytes_eq option (codes "--requests")
+-- whether the word is one of these
+abbrev pub is_one_of : List (List ℕ) → List ℕ → Bool
+is_one_of [] word = false
+is_one_of (other ∷ others) word = bytes_eq word other || is_one_of others word
 
--- the words are `serve` and then pairs in any order, of which one gives `--config`, one gives `--requests`, and none another option
-pub record IsServe (words : List (List ℕ)) (config requests : List ℕ) : Type 0 where
+-- the words are the command and then pairs in any order: they give each of its options once, with this value, and no other option
+pub record IsCall (command : List ℕ) (options words values : List (List ℕ)) : Type 0 where
   pub pairs : List Pair
-  pub words_are : words ≡ codes "serve" ∷ words_of pairs
-  pub config_is : values_of (codes "--config") pairs ≡ config ∷ []
-  pub requests_is : values_of (codes "--requests") pairs ≡ requests ∷ []
-  pub known : All (λ pair. IsTrue (is_serve_option pair.option)) pairs
+  pub words_are : words ≡ command ∷ words_of pairs
+  pub once : map (λ option. values_of option pairs) options ≡ map (λ value. value ∷ []) values
+  pub known : All (λ pair. IsTrue (is_one_of options pair.option)) pairs
   pub named : All (λ pair. IsValue pair.value) pairs
+
+-- the options of the command to serve, and of the one to show
+abbrev pub serve_options : List (List ℕ)
+serve_options = codes "--config" ∷ codes "--requests" ∷ codes "--journal" ∷ []
+
+abbrev pub show_options : List (List ℕ)
+show_options = codes "--config" ∷ codes "--journal" ∷ []
+
+-- the words are the command to serve, with the names of the configuration, of the request file and of the journals
+abbrev pub IsServe : List (List ℕ) → List ℕ → List ℕ → List ℕ → Type 0
+IsServe words config requests journal = IsCall (codes "serve") serve_options words (config ∷ requests ∷ journal ∷ [])
+
+-- the words are the command to show, with the names of the configuration and of the journals
+abbrev pub IsShow : List (List ℕ) → List ℕ → List ℕ → Type 0
+IsShow words config journal = IsCall (codes "show") show_options words (config ∷ journal ∷ [])
+
+-- the words are a command with these names, and it is to serve where there is a name of a request file
+abbrev pub IsCommand : List (List ℕ) → List ℕ → Option (List ℕ) → List ℕ → Type 0
+IsCommand words config (Some requests) journal = IsServe words config requests journal
+IsCommand words config None journal = IsShow words config journal
 
 -- the words are no command
 abbrev pub IsNoCommand : List (List ℕ) → Type 0
-IsNoCommand words = (config requests : List ℕ) → IsServe words config requests → ⊥
+IsNoCommand words = (config : List ℕ) (requests : Option (List ℕ)) (journal : List ℕ) → IsCommand words config requests journal → ⊥

@@ -2,7 +2,7 @@
 use Rattle.std.specs.Prelude.{◌≡◌, ℕ, ◌+◌, ◌≤◌, Bool, true, false, List, length, Option, Result, Ok, Err}
 use Rattle.std.specs.Io.KnownBytes.{Consumes, IsAtEnd}
 use Rattle.answer_text.specs.declared.stop_line.Stop.{Stop}
-use Rattle.answer_text.specs.declared.stop_line.Stop.TheVariants.{Usage, Config, ReadFault, NoMemory as Memory, TooLong}
+use Rattle.answer_text.specs.declared.stop_line.Stop.TheVariants.{Usage, Config, ReadFault, StoreFault, BadJournal, NoMemory as Memory, TooLong}
 use Rattle.issuer_setup.specs.IssuerSetup.{Setup}
 use Rattle.config_read.specs.declared.fault.ConfigFault.{ConfigFault}
 use Rattle.config_read.specs.declared.fault.ConfigFault.TheVariants.{NotJson, At, NoMemory as NoRoom}
@@ -50,6 +50,8 @@ GivesNoIssuer left (Config part index) = IsBroken left (Config part index)
 GivesNoIssuer left ReadFault = Unit {0}
 GivesNoIssuer left Memory = Unit {0}
 GivesNoIssuer left Usage = ⊥
+GivesNoIssuer left (StoreFault shard) = ⊥
+GivesNoIssuer left (BadJournal shard line) = ⊥
 GivesNoIssuer left (TooLong line) = ⊥
 
 -- the run stops since the input failed
@@ -58,6 +60,8 @@ is_read_cause ReadFault = true
 is_read_cause (Config part index) = false
 is_read_cause Memory = false
 is_read_cause Usage = false
+is_read_cause (StoreFault shard) = false
+is_read_cause (BadJournal shard line) = false
 is_read_cause (TooLong line) = false
 
 -- the input failed

@@ -1,10 +1,12 @@
 -- How a run may end: for each ending a relation of what the run saw and of the text that was due at the sink.
-use Rattle.std.specs.Prelude.{◌≡◌, ℕ, ◌<◌, ◌⊎◌, Bool, true, false, List, length, ◌++◌, Some, is_some, IsSomeAnd, Ok, Err}
+use Rattle.std.specs.Prelude.{◌≡◌, ℕ, ◌<◌, ◌⊎◌, Bool, true, false, List, [], length, ◌++◌, slice_get, Option, Some, None, is_some, IsSomeAnd, Ok, Err}
 use Rattle.std.specs.Io.KnownBytes.{Appends}
+use Rattle.issuer_base.specs.Desk.{FailedCall}
 use Rattle.issuer_base.specs.OutsideFaults.{Rose}
-use Rattle.issuer_base.specs.declared.outside.DeskCall.TheVariants.{Read}
 use Rattle.issuer_base.specs.Sink.{AppendsFront}
 use Rattle.issuer_base.specs.Tells.{Tells}
+use Rattle.issuer_base.specs.declared.outside.DeskCall.TheVariants.{Read}
+use Rattle.issuer_base.specs.declared.entry.Entry.{Entry}
 use Rattle.line_reader.specs.Lines.{lines}
 use Rattle.line_reader.specs.Reading.{IsWithinLimits}
 use Rattle.issuer_setup.specs.IssuerSetup.{Setup}
@@ -12,13 +14,20 @@ use Rattle.config_read.specs.declared.fault.ConfigFault.{ConfigFault}
 use Rattle.config_read.specs.Configuration.{configured}
 use Rattle.answer_text.specs.StopText.{stop_text}
 use Rattle.answer_text.specs.declared.stop_line.Stop.{Stop}
-use Rattle.answer_text.specs.declared.stop_line.Stop.TheVariants.{Usage, Config, ReadFault, NoMemory, TooLong}
-use Rattle.issuer_top.specs.Command.{IsServe, IsNoCommand}
-use Rattle.issuer_top.specs.Seen.{Seen, SeenInput}
+use Rattle.answer_text.specs.declared.stop_line.Stop.TheVariants.{Usage, Config, ReadFault, StoreFault, BadJournal, NoMemory, TooLong}
+use Rattle.shard_book.specs.Grounds.{grounds_of}
+use Rattle.shard_book.specs.Shards.{IsTextOf}
+use Rattle.host_calls.specs.Books.{Book}
+use Rattle.issuer_top.specs.Command.{IsServe, IsShow, IsCommand, IsNoCommand}
+use Rattle.issuer_top.specs.Seen.{Seen, SeenInput, SeenStore}
 use Rattle.issuer_top.specs.Configuration.{config_stop}
+use Rattle.issuer_top.specs.Journals.{journal_name}
+use Rattle.issuer_top.specs.Loading.{DeskFaults, GivesNoHost}
 use Rattle.issuer_top.specs.Answered.{WasRead, AllAnswered, WholeAnswered, PassedAnswered, FrontAnswered}
+use Rattle.issuer_top.specs.Kept.{KeepJournals}
+use Rattle.issuer_top.specs.Shown.{shown_text}
 use Rattle.issuer_top.specs.declared.ending.Ending.{Ending}
-use Rattle.issuer_top.specs.declared.ending.Ending.TheVariants.{Served, Stopped, WriteFault}
+use Rattle.issuer_top.specs.declared.ending.Ending.TheVariants.{Done, Stopped, WriteFault}
 
 -- ---- what endings have in common
 
@@ -28,55 +37,74 @@ pub record HasOpened (seen : Seen) (config requests : Bool) : Type 0 where
   pub requests_is : is_some seen.requests ≡ requests
   pub desk_stood : seen.desk.faults_after ≡ seen.desk.faults_before
 
--- the desk failed to read this name, and the request file was not opened; the configuration was, or was not
+-- the desk failed at this name of an input, and the request file was not opened; the configuration was, or was not
 pub record FailsToOpen (seen : Seen) (name : List ℕ) (config : Bool) : Type 0 where
   pub config_is : is_some seen.config ≡ config
   pub requests_is : is_some seen.requests ≡ false
   pub rose : Rose seen.desk.faults_before seen.desk.faults_after
-  pub last_is : seen.desk.last_fault ≡ Some (record { call = Read; name = name })
+  pub call_is : seen.desk.last_fault ≡ Some (record { call = Read; name = name })
 
--- the words are the command, with this name of a request file, and the configuration says this issuer
-pub record IsSetUp (seen : Seen) (requests : List ℕ) (issuer : Setup) : Type 0 where
+-- the words are a command, with this name of a request file where there is one and this name of journals, and the configuration says
+-- this issuer
+pub record IsSetUp (seen : Seen) (requests : Option (List ℕ)) (journal : List ℕ) (issuer : Setup) : Type 0 where
   pub config : List ℕ
   pub content : List ℕ
-  pub serve : IsServe seen.words config requests
+  pub command : IsCommand seen.words config requests journal
   pub held : Tells (seen.desk.tells config) (Some content)
   pub says : configured content ≡ Ok issuer
 
--- lines of the request file were read and answered, and this is the text of their answers; `Answered` says which lines
-pub record AnswersLines (Answered : Setup → List ℕ → List ℕ → List ℕ → Type 0) (seen : Seen) (text : List ℕ) : Type 0 where
+-- lines of the request file were read and answered, and this is the text of their answers; the journals are kept meanwhile; `Answered`
+-- says which lines
+pub record AnswersLines (Answered : Setup → List Book → List Book → List ℕ → List ℕ → List ℕ → Type 0) (seen : Seen) (text : List ℕ) : Type 0 where
   pub requests : List ℕ
+  pub journal : List ℕ
   pub issuer : Setup
+  pub first : List Book
+  pub last : List Book
   pub input : SeenInput
   pub file : List ℕ
   pub read : List ℕ
   pub opened : HasOpened seen true true
   pub input_is : seen.requests ≡ Some input
-  pub set_up : IsSetUp seen requests issuer
+  pub set_up : IsSetUp seen (Some requests) journal issuer
+  pub kept : KeepJournals issuer journal seen first last
   pub held : Tells (seen.desk.tells requests) (Some file)
   pub was_read : WasRead file read input.left
-  pub answered : Answered issuer file read text
+  pub answered : Answered issuer first last file read text
+
+-- the journals are kept as they were loaded, and this is the text of all cards
+pub record IsShown (seen : Seen) (text : List ℕ) : Type 0 where
+  pub journal : List ℕ
+  pub issuer : Setup
+  pub books : List Book
+  pub opened : HasOpened seen true false
+  pub set_up : IsSetUp seen None journal issuer
+  pub kept : KeepJournals issuer journal seen books books
+  pub shown : text ≡ shown_text issuer books issuer.cards
 
 -- ---- the endings
 
--- status 0: all lines of the request file were answered
-abbrev pub IsServed : Seen → List ℕ → Type 0
-IsServed seen text = AnswersLines AllAnswered seen text
+-- status 0: all lines of the request file were answered, or all cards were shown
+abbrev pub IsDone : Seen → List ℕ → Type 0
+IsDone seen text = AnswersLines AllAnswered seen text ⊎ IsShown seen text
 
 -- status 1: the words are no command, and nothing was opened
 pub record IsUsage (seen : Seen) (text : List ℕ) : Type 0 where
   pub no_command : IsNoCommand seen.words
   pub opened : HasOpened seen false false
+  pub no_stores : seen.stores ≡ []
   pub last : text ≡ stop_text Usage
 
--- status 2: the configuration is broken, and its place is told; the request file was not opened
+-- status 2: the configuration is broken, and its place is told; no journal was opened, nor the request file
 pub record IsConfig (seen : Seen) (text : List ℕ) : Type 0 where
   pub config : List ℕ
-  pub requests : List ℕ
+  pub requests : Option (List ℕ)
+  pub journal : List ℕ
   pub content : List ℕ
   pub fault : ConfigFault
-  pub serve : IsServe seen.words config requests
+  pub command : IsCommand seen.words config requests journal
   pub opened : HasOpened seen true false
+  pub no_stores : seen.stores ≡ []
   pub held : Tells (seen.desk.tells config) (Some content)
   pub broken : configured content ≡ Err fault
   pub last : text ≡ stop_text (config_stop fault)
@@ -84,25 +112,32 @@ pub record IsConfig (seen : Seen) (text : List ℕ) : Type 0 where
 -- status 3: the desk failed at the configuration's name
 pub record CannotOpenConfig (seen : Seen) (text : List ℕ) : Type 0 where
   pub config : List ℕ
-  pub requests : List ℕ
-  pub serve : IsServe seen.words config requests
+  pub requests : Option (List ℕ)
+  pub journal : List ℕ
+  pub command : IsCommand seen.words config requests journal
   pub fails : FailsToOpen seen config false
+  pub no_stores : seen.stores ≡ []
   pub last : text ≡ stop_text ReadFault
 
 -- status 3: the configuration failed while it was read
 pub record CannotReadConfig (seen : Seen) (text : List ℕ) : Type 0 where
   pub config : List ℕ
-  pub requests : List ℕ
-  pub serve : IsServe seen.words config requests
+  pub requests : Option (List ℕ)
+  pub journal : List ℕ
+  pub command : IsCommand seen.words config requests journal
   pub opened : HasOpened seen true false
   pub failed : IsSomeAnd seen.config (λ input. 0 < input.faults)
+  pub no_stores : seen.stores ≡ []
   pub last : text ≡ stop_text ReadFault
 
--- status 3: the desk failed at the request file's name
+-- status 3: the desk failed at the request file's name, once the journals were loaded
 pub record CannotOpenRequests (seen : Seen) (text : List ℕ) : Type 0 where
   pub requests : List ℕ
+  pub journal : List ℕ
   pub issuer : Setup
-  pub set_up : IsSetUp seen requests issuer
+  pub books : List Book
+  pub set_up : IsSetUp seen (Some requests) journal issuer
+  pub kept : KeepJournals issuer journal seen books books
   pub fails : FailsToOpen seen requests true
   pub last : text ≡ stop_text ReadFault
 
@@ -118,12 +153,33 @@ abbrev pub IsReadFault : Seen → List ℕ → Type 0
 IsReadFault seen text =
     CannotOpenConfig seen text ⊎ (CannotReadConfig seen text ⊎ (CannotOpenRequests seen text ⊎ CannotReadRequests seen text))
 
+-- the journals gave no host, for this cause; the request file was not opened
+pub record HasNoHost (stop : Stop) (seen : Seen) (text : List ℕ) : Type 0 where
+  pub requests : Option (List ℕ)
+  pub journal : List ℕ
+  pub issuer : Setup
+  pub set_up : IsSetUp seen requests journal issuer
+  pub config_is : is_some seen.config ≡ true
+  pub requests_is : is_some seen.requests ≡ false
+  pub cause : GivesNoHost issuer journal seen.desk.logs
+      (record { before = seen.desk.faults_before; after = seen.desk.faults_after; last = seen.desk.last_fault }) seen.stores stop
+  pub last : text ≡ stop_text stop
+
+-- status 5: the desk failed at the name of a journal, or a store while it was loaded
+abbrev pub IsStoreFault : Seen → List ℕ → Type 0
+IsStoreFault seen text = (shard : ℕ) × HasNoHost (StoreFault shard) seen text
+
+-- status 6: a line of a journal is bad
+abbrev pub IsBadJournal : Seen → List ℕ → Type 0
+IsBadJournal seen text = (shard line : ℕ) × HasNoHost (BadJournal shard line) seen text
+
 -- status 7: no memory was left, before the request file was opened
 pub record IsNoMemory (seen : Seen) (text : List ℕ) : Type 0 where
   pub config : List ℕ
-  pub requests : List ℕ
+  pub requests : Option (List ℕ)
+  pub journal : List ℕ
   pub config_opened : Bool
-  pub serve : IsServe seen.words config requests
+  pub command : IsCommand seen.words config requests journal
   pub opened : HasOpened seen config_opened false
   pub last : text ≡ stop_text NoMemory
 
@@ -139,6 +195,8 @@ abbrev pub Stops : Stop → Seen → List ℕ → Type 0
 Stops Usage seen text = IsUsage seen text
 Stops (Config part index) seen text = IsConfig seen text
 Stops ReadFault seen text = IsReadFault seen text
+Stops (StoreFault shard) seen text = IsStoreFault seen text
+Stops (BadJournal shard line) seen text = IsBadJournal seen text
 Stops NoMemory seen text = IsNoMemory seen text
 Stops (TooLong line) seen text = IsTooLong seen text
 
@@ -146,9 +204,9 @@ Stops (TooLong line) seen text = IsTooLong seen text
 abbrev pub Writes : (Seen → List ℕ → Type 0) → Seen → Type 0
 Writes IsText seen = (text : List ℕ) × IsText seen text × Appends seen.sink.held_before seen.sink.held_after text
 
--- status 4: the texts of which the sink may have taken a front alone: that of a run that stops, or the answers so far
+-- status 4: the texts of which the sink may have taken a front alone: that of a run that stops, the answers so far, or the cards
 abbrev pub IsDue : Seen → List ℕ → Type 0
-IsDue seen text = ((stop : Stop) × Stops stop seen text) ⊎ AnswersLines FrontAnswered seen text
+IsDue seen text = ((stop : Stop) × Stops stop seen text) ⊎ (AnswersLines FrontAnswered seen text ⊎ IsShown seen text)
 
 -- status 4: the sink failed, and took a front of a text that was due, but not all of it
 pub record IsWriteFault (seen : Seen) : Type 0 where
@@ -159,25 +217,40 @@ pub record IsWriteFault (seen : Seen) : Type 0 where
 
 -- how a run ended
 abbrev pub EndsBy : Seen → Ending → Type 0
-EndsBy seen Served = Writes IsServed seen
+EndsBy seen Done = Writes IsDone seen
 EndsBy seen (Stopped stop) = Writes (Stops stop) seen
 EndsBy seen WriteFault = IsWriteFault seen
 
 -- ---- all in order
 
--- the words are the command, the desk tells of an issuer and of a request file within the limits, and no count rose
-pub record IsInOrder (seen : Seen) : Type 0 where
-  pub config : List ℕ
-  pub requests : List ℕ
+-- the desk tells of an issuer by this name and of its journals by that one, each the text of a legal history, and no count rose
+pub record IsInOrder (seen : Seen) (config journal : List ℕ) : Type 0 where
   pub content : List ℕ
   pub issuer : Setup
-  pub file : List ℕ
-  pub serve : IsServe seen.words config requests
   pub config_held : seen.desk.tells config ≡ Some (Some content)
   pub says : configured content ≡ Ok issuer
-  pub requests_held : seen.desk.tells requests ≡ Some (Some file)
-  pub within : IsWithinLimits (length (lines file)) (length file)
+  pub journals_held : (shard : ℕ) → shard < issuer.shards
+      → (history : List Entry) × IsTextOf (grounds_of issuer) shard (seen.desk.logs (journal_name journal shard)) history
   pub desk_stood : Rose seen.desk.faults_before seen.desk.faults_after → ⊥
   pub config_stood : IsSomeAnd seen.config (λ input. 0 < input.faults) → ⊥
   pub requests_stood : IsSomeAnd seen.requests (λ input. 0 < input.faults) → ⊥
+  pub stores_stood : (shard : ℕ) (store : SeenStore) → slice_get seen.stores shard ≡ Some store → 0 < store.faults → ⊥
   pub sink_stood : Rose seen.sink.faults_before seen.sink.faults_after → ⊥
+
+-- the words are the command to serve, all is in order, and the desk tells of a request file within the limits
+pub record ServesInOrder (seen : Seen) : Type 0 where
+  pub config : List ℕ
+  pub requests : List ℕ
+  pub journal : List ℕ
+  pub file : List ℕ
+  pub serve : IsServe seen.words config requests journal
+  pub in_order : IsInOrder seen config journal
+  pub requests_held : seen.desk.tells requests ≡ Some (Some file)
+  pub within : IsWithinLimits (length (lines file)) (length file)
+
+-- the words are the command to show, and all is in order
+pub record ShowsInOrder (seen : Seen) : Type 0 where
+  pub config : List ℕ
+  pub journal : List ℕ
+  pub show : IsShow seen.words config journal
+  pub in_order : IsInOrder seen config journal

@@ -1,19 +1,26 @@
--- What a run sees of the outside: its words, the desk, the inputs that it opened, and the sink.
-use Rattle.std.specs.Prelude.{ℕ, List, Option}
+-- What a run sees of the outside: its words, the desk, the inputs and the journals that it opened, and the sink.
+use Rattle.std.specs.Prelude.{ℕ, List, map, Option}
 use Rattle.std.specs.Option.{option_map}
 use Rattle.issuer_base.specs.Desk.{FailedCall}
+use Rattle.issuer_base.specs.Stores.{Disk}
 use Rattle.issuer_base.specs.declared.outside.Desk.{Ghosts as Desk}
 use Rattle.issuer_base.specs.declared.outside.Source.{Ghosts as Source}
 use Rattle.issuer_base.specs.declared.outside.Sink.{Ghosts as Sink}
+use Rattle.issuer_base.specs.declared.outside.store.Store.{Ghosts as Store}
 use Rattle.issuer_top.specs.declared.top_call.Ended.{Ended}
 
--- what a desk tells of its names: nothing, or the bytes that stand there, if there is an input
+-- what a desk tells of its inputs: nothing, or the bytes that stand under each name, if there is an input
 abbrev pub Told : Type 0
 Told = List ℕ → Option (Option (List ℕ))
 
--- the desk: what it tells of its names, its count of faults before and after the run, and its last call that failed
+-- what a desk tells of its journals: nothing, or the bytes of the one under each name
+abbrev pub Logged : Type 0
+Logged = List ℕ → Option (List ℕ)
+
+-- the desk: what it told of its inputs and journals before the run, its count of faults before and after, and its last call that failed
 pub record SeenDesk : Type 0 where
   pub tells : Told
+  pub logs : Logged
   pub faults_before : ℕ
   pub faults_after : ℕ
   pub last_fault : Option FailedCall
@@ -23,6 +30,12 @@ pub record SeenInput : Type 0 where
   pub faults : ℕ
   pub left : Option (List ℕ)
 
+-- the store of a journal that was opened, after the run: its bytes and its disk, where it tells, and its count of faults
+pub record SeenStore : Type 0 where
+  pub bytes : Option (List ℕ)
+  pub disk : Option Disk
+  pub faults : ℕ
+
 -- the sink: what it holds, where it tells, and its count of faults, before and after the run
 pub record SeenSink : Type 0 where
   pub held_before : Option (List ℕ)
@@ -30,18 +43,20 @@ pub record SeenSink : Type 0 where
   pub faults_before : ℕ
   pub faults_after : ℕ
 
--- all that a run sees; an input is there where it was opened
+-- all that a run sees; an input is there where it was opened, and the stores are those that were opened, in the order of their shards
 pub record Seen : Type 0 where
   pub words : List (List ℕ)
   pub desk : SeenDesk
   pub config : Option SeenInput
   pub requests : Option SeenInput
+  pub stores : List SeenStore
   pub sink : SeenSink
 
 -- the desk before and after
 abbrev pub desk_seen : {D I J : Type 0} → Desk D I J → D → D → SeenDesk
 desk_seen desk before after = record {
   tells = desk.holds before;
+  logs = desk.logs before;
   faults_before = desk.faults before;
   faults_after = desk.faults after;
   last_fault = desk.last_fault after;
@@ -50,6 +65,10 @@ desk_seen desk before after = record {
 -- an input after the run
 abbrev pub input_seen : {I : Type 0} → Source I → I → SeenInput
 input_seen source input = record { faults = source.faults input; left = source.left input }
+
+-- a store after the run
+abbrev pub store_seen : {J : Type 0} → Store J → J → SeenStore
+store_seen store journal = record { bytes = store.bytes journal; disk = store.disk journal; faults = store.faults journal }
 
 -- the sink before and after
 abbrev pub sink_seen : {W : Type 0} → Sink W → W → W → SeenSink
@@ -61,12 +80,12 @@ sink_seen sink before after = record {
 }
 
 -- all that was seen, in the order of the fields
-abbrev pub seen_of : List (List ℕ) → SeenDesk → Option SeenInput → Option SeenInput → SeenSink → Seen
-seen_of words desk config requests sink =
-    record { words = words; desk = desk; config = config; requests = requests; sink = sink }
+abbrev pub seen_of : List (List ℕ) → SeenDesk → Option SeenInput → Option SeenInput → List SeenStore → SeenSink → Seen
+seen_of words desk config requests stores sink =
+    record { words = words; desk = desk; config = config; requests = requests; stores = stores; sink = sink }
 
 -- all that was seen of the words, of the desk that was given and of what was given back, and of the sink before and after
-abbrev pub seen_by : {D I J W : Type 0} → Desk D I J → Source I → Sink W → List (List ℕ) → D → Ended D I J → W → W → Seen
-seen_by desk source sink words given ended before after =
+abbrev pub seen_by : {D I J W : Type 0} → Desk D I J → Source I → Store J → Sink W → List (List ℕ) → D → Ended D I J → W → W → Seen
+seen_by desk source store sink words given ended before after =
     seen_of words (desk_seen desk given ended.desk) (option_map (input_seen source) ended.config)
-    (option_map (input_seen source) ended.requests) (sink_seen sink before after)
+    (option_map (input_seen source) ended.requests) (map (store_seen store) ended.stores.items) (sink_seen sink before after)

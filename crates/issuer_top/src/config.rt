@@ -1,10 +1,12 @@
 //! The configuration: read to its end, and taken as an issuer's keys and cards.
-ghost use Rattle.std.specs.Prelude.{◌≡◌, false, IfOk, IfErr};
+ghost use Rattle.std.specs.Prelude.{◌≡◌, false, length, All, IfOk, IfErr};
 ghost use Rattle.issuer_base.specs.OutsideFaults.{CountsFaults};
+ghost use Rattle.shard_book.specs.Grounds.{HasTable};
 ghost use Rattle.issuer_top.specs.Configuration.{IsRead, is_read_fault, Says, GivesNoIssuer, is_read_cause, is_read_stop, config_stop};
 
 use answer_text::Stop;
 use config_read::{ConfigFault, MAX_CONFIG_BYTES, read_config};
+use decision_table::TableRow;
 use issuer_base::{ReadFault, Source};
 use issuer_setup::Issuer;
 use std::alloc::Global;
@@ -43,6 +45,7 @@ pub(crate) fn read_text<S: Source>(alloc: Global, source: &mut S) -> Result<Vec<
 /// The issuer that a configuration says, or why it says none.
 pub(crate) fn read_issuer<S: Source>(alloc: Global, source: &mut S) -> Result<Issuer, Stop>
     ensures says { IfOk result (λ issuer. Says (S.left source.old) issuer) }
+    ensures table { IfOk result HasTable }
     ensures none { IfErr result (GivesNoIssuer (S.left source.old)) }
     ensures count { CountsFaults (S.faults source.old) (S.faults source.new) (is_read_stop result) }
 {
@@ -52,9 +55,28 @@ pub(crate) fn read_issuer<S: Source>(alloc: Global, source: &mut S) -> Result<Is
         Err(TextFault::NoMemory) => return Err(Stop::NoMemory),
     };
     match read_config(alloc, &text) {
-        Ok(issuer) => Ok(issuer),
+        Ok(issuer) => {
+            whole_updates(issuer.table().rows());
+            Ok(issuer)
+        }
         Err(fault) => Err(config_stop(fault)),
     }
+}
+
+/// Each row of a table has a card status update of four bytes: of one row its type says so, of all a proof sees it row by row.
+fn whole_updates(rows: &[TableRow])
+    ensures { All (λ row. length row.csu ≡ 4) rows.now }
+{
+    for row in rows {
+        update_of(row);
+    }
+}
+
+/// The card status update of a row.
+fn update_of(row: &TableRow) -> [u8; 4]
+    ensures { length row.now.csu ≡ 4 }
+{
+    row.csu
 }
 
 /// How a run stops where its configuration says no issuer.

@@ -7,8 +7,8 @@ use answer_text::Stop;
 /// How a run ends.
 #[derive(Clone, Copy)]
 pub(crate) enum Ending {
-    /// All lines were answered.
-    Served,
+    /// All lines were answered, or all cards were shown.
+    Done,
     /// The run stopped early, and wrote its last line.
     Stopped(Stop),
     /// The sink failed.
@@ -20,7 +20,7 @@ pub(crate) fn status_of(ending: Ending) -> u8
     ensures { result ≡ status_of ending }
 {
     match ending {
-        Ending::Served => 0,
+        Ending::Done => 0,
         Ending::Stopped(stop) => stop.status(),
         Ending::WriteFault => 4,
     }

@@ -1,9 +1,12 @@
-//! The whole run of the program: words, configuration, request lines and answers, over any desk and sink.
+//! The whole run of the program: words, configuration, journals, request lines and answers, over any desk and sink.
 #![tactic(auto)]
 
+mod block;
 mod config;
 mod ending;
+mod journals;
 mod serve;
+mod show;
 mod stopping;
 mod top_call;
 mod words;

@@ -1,11 +1,11 @@
 //! Whole runs over a desk and a sink in memory.
-ghost use Rattle.std.specs.Prelude.{None};
+ghost use Rattle.std.specs.Prelude.{◌≡◌, [], None, IfOk};
 
-mod scripts;
+mod journals;
 
 use super::*;
 use issuer_base::{
-    Desk, DeskFault, MemorySink, MemorySource, ReadFault, Sink, Source, Words, WriteFault,
+    Desk, DeskFault, MemorySink, MemorySource, NoMemory, ReadFault, Sink, Source, Words, WriteFault,
 };
 use std::alloc::{AllocError, Global};
 use std::process::Abort;
@@ -22,7 +22,17 @@ const CONFIG: &str = r#"{"shards":1,
   {"tvr_mask":"0000000000","tvr_value":"0000000000","cvr_mask":"0000000000","cvr_value":"0000000000","least":0,"most":500000,"status":null,"arc":"3030","approve":true,"csu":"00800000"},
   {"tvr_mask":"0000000000","tvr_value":"0000000000","cvr_mask":"0000000000","cvr_value":"0000000000","least":0,"most":999999999999,"status":null,"arc":"3035","approve":false,"csu":"00000000"}]}"#;
 
-const COMMAND: [&str; 5] = ["serve", "--config", "config", "--requests", "requests"];
+const COMMAND: [&str; 7] = [
+    "serve",
+    "--config",
+    "config",
+    "--requests",
+    "requests",
+    "--journal",
+    "journal",
+];
+
+const SHOW: [&str; 5] = ["show", "--config", "config", "--journal", "journal"];
 
 const AC: &str = "6317DE17856BF19A";
 
@@ -48,14 +58,24 @@ fn request(
 fn status_of<D: Desk + Drop>(ended: Ended<D>) -> u8
 where
     D::Input: Drop,
+    D::Journal: Drop,
 {
     let Ended {
         status,
         desk: _desk,
         config: _config,
         requests: _requests,
+        stores: _stores,
     } = ended;
     status
+}
+
+/// An empty store in memory.
+fn empty_store(alloc: Global) -> Result<MemoryStore, NoMemory>
+    ensures untouched { IfOk result (λ store. store.disk.past ≡ []) }
+    ensures new { IfOk result (λ store. store.calls.faults ≡ 0) }
+{
+    MemoryStore::new(alloc, Vec::new(alloc), 65_536, Vec::new(alloc))
 }
 
 fn words_of(alloc: Global, words: &[&str]) -> Result<Words, Fail> {
@@ -130,33 +150,6 @@ fn answers_repeats_and_old_counters(rt: HostRuntime) -> Result<(), Fail> {
 }
 
 #[test]
-fn keeps_a_request_however_it_is_spelled(rt: HostRuntime) -> Result<(), Fail> {
-    let alloc = rt.alloc();
-    let forged = line(alloc, 7, "6317DE17856BF19B")?;
-    let seven = line(alloc, 7, AC)?;
-    let longer = seven.as_str().replace(alloc, "9F36020007", "9F3681020007")?;
-    let lines = format!(in alloc; "{forged}{seven}{longer}")?;
-    check(
-        &rt,
-        lines.as_str(),
-        "refused 9\nfresh 0 0 yes 3030 8a023030910a02369be26b4161bc3030\nkept 0 0 yes 3030 8a023030910a02369be26b4161bc3030\n",
-    )
-}
-
-#[test]
-fn answers_the_least_and_the_greatest_counter(rt: HostRuntime) -> Result<(), Fail> {
-    let alloc = rt.alloc();
-    let least = line(alloc, 0, "3E3303B6A6EF1E00")?;
-    let greatest = line(alloc, 65_535, "1E18E39C18AB6CAF")?;
-    let both = format!(in alloc; "{least}{greatest}")?;
-    check(
-        &rt,
-        both.as_str(),
-        "fresh 0 0 yes 3030 8a023030910a7689da1068630d733030\nfresh 0 1 yes 3030 8a023030910ad85c87f2f624e6e23030\n",
-    )
-}
-
-#[test]
 fn refuses_by_the_first_cause(rt: HostRuntime) -> Result<(), Fail> {
     check(
         &rt,
@@ -211,44 +204,6 @@ fn refuses_by_the_first_cause(rt: HostRuntime) -> Result<(), Fail> {
 }
 
 #[test]
-fn drops_what_is_past_the_longest_line(rt: HostRuntime) -> Result<(), Fail> {
-    let alloc = rt.alloc();
-    let seven = line(alloc, 7, AC)?;
-    for (count, answer) in [
-        (1_024, "refused 3 5a\n"),
-        (1_025, "refused 1 2051\n"),
-        (2_500, "refused 1 2051\n"),
-    ] {
-        let mut text = String::from_str(alloc, "A ")?;
-        for _ in 0..count {
-            text.push_str("00")?;
-        }
-        text.push_str("\n")?;
-        text.push_str(seven.as_str())?;
-        let expected = format!(in alloc; "{answer}{FRESH}")?;
-        check(&rt, text.as_str(), expected.as_str())?;
-    }
-    Ok(())
-}
-
-#[test]
-fn decides_by_amount(rt: HostRuntime) -> Result<(), Fail> {
-    let alloc = rt.alloc();
-    let greatest = line(alloc, 7, "4768C8FA75F31625")?
-        .as_str()
-        .replace(alloc, "9F0206000000012345", "9F0206000000500000")?;
-    let above = line(alloc, 8, "1386B7992D51CD70")?
-        .as_str()
-        .replace(alloc, "9F0206000000012345", "9F0206000000500001")?;
-    let both = format!(in alloc; "{greatest}{above}")?;
-    check(
-        &rt,
-        both.as_str(),
-        "fresh 0 0 yes 3030 8a023030910a8022f687d456485e3030\nfresh 0 1 no 3035 8a023035910a3ab012c7d40cd2803035\n",
-    )
-}
-
-#[test]
 fn counts_places_by_shard(rt: HostRuntime) -> Result<(), Fail> {
     let alloc = rt.alloc();
     let first = line(alloc, 7, AC)?;
@@ -269,32 +224,57 @@ fn counts_places_by_shard(rt: HostRuntime) -> Result<(), Fail> {
 fn takes_words_in_any_order_each_once(rt: HostRuntime) -> Result<(), Fail> {
     for (words, expected, last) in [
         (
-            "serve --config config --requests requests",
+            "serve --config config --requests requests --journal j",
             0,
             "refused 1 1\n",
         ),
         (
-            "serve --requests requests --config config",
+            "serve --journal j --requests requests --config config",
             0,
             "refused 1 1\n",
         ),
-        ("serve --config config --config config", 1, "stop 1\n"),
+        ("show --journal j --config config", 0, UNTOUCHED),
+        ("serve --config config --requests requests", 1, "stop 1\n"),
         (
-            "serve --config config --config config --requests requests",
+            "serve --config config --requests requests --journal j --journal j",
             1,
             "stop 1\n",
         ),
-        ("serve --config=config --requests requests", 1, "stop 1\n"),
-        ("serve --config -c --requests requests", 1, "stop 1\n"),
-        ("serve --config  --requests requests", 1, "stop 1\n"),
-        ("Serve --config config --requests requests", 1, "stop 1\n"),
-        ("serve --config config --journal requests", 1, "stop 1\n"),
-        ("serve --config config --requests", 1, "stop 1\n"),
-        ("serve --config", 1, "stop 1\n"),
+        (
+            "serve --config config --requests requests --journal -j",
+            1,
+            "stop 1\n",
+        ),
+        (
+            "serve --config config --requests requests --journal ",
+            1,
+            "stop 1\n",
+        ),
+        (
+            "serve --config=config --requests requests --journal j",
+            1,
+            "stop 1\n",
+        ),
+        (
+            "show --config config --requests requests --journal j",
+            1,
+            "stop 1\n",
+        ),
+        ("show --config config", 1, "stop 1\n"),
+        ("Show --config config --journal j", 1, "stop 1\n"),
+        ("show --config config --journal", 1, "stop 1\n"),
         ("serve", 1, "stop 1\n"),
         ("", 1, "stop 1\n"),
-        ("serve --config none --requests requests", 3, "stop 3\n"),
-        ("serve --config config --requests none", 3, "stop 3\n"),
+        (
+            "serve --config none --requests requests --journal j",
+            3,
+            "stop 3\n",
+        ),
+        (
+            "serve --config config --requests none --journal j",
+            3,
+            "stop 3\n",
+        ),
     ] {
         let (status, text) = run_words(&rt, words)?;
         assert_eq!(rt; status, expected, "{words}");
@@ -302,6 +282,10 @@ fn takes_words_in_any_order_each_once(rt: HostRuntime) -> Result<(), Fail> {
     }
     Ok(())
 }
+
+/// What is shown of the two cards on an empty journal.
+const UNTOUCHED: &str =
+    "4000000000000002 00 hi - status 0 queued 0 done 0 flight - ok\n4000000000000010 00 hi - status 0 queued 0 done 0 flight - ok\n";
 
 /// The status of a run of these words, parted by spaces, over one line that is no request, and what it writes.
 fn run_words<R: AllocGlobal>(rt: &R, words: &str) -> Result<(u8, String), Fail> {
@@ -378,7 +362,10 @@ impl Desk for SippingDesk {
     }
 
     fn log(&mut self, _name: &str) -> Result<MemoryStore, DeskFault> {
-        Err(DeskFault::NoMemory)
+        match empty_store(self.alloc) {
+            Ok(store) => Ok(store),
+            Err(NoMemory) => Err(DeskFault::NoMemory),
+        }
     }
 }
 
@@ -489,6 +476,7 @@ impl Source for Repeated {
 #[derive(Drop)]
 struct LongDesk {
     lines: u32,
+    alloc: Global,
 }
 
 impl Desk for LongDesk {
@@ -515,7 +503,10 @@ impl Desk for LongDesk {
     }
 
     fn log(&mut self, _name: &str) -> Result<MemoryStore, DeskFault> {
-        Err(DeskFault::NoMemory)
+        match empty_store(self.alloc) {
+            Ok(store) => Ok(store),
+            Err(NoMemory) => Err(DeskFault::NoMemory),
+        }
     }
 }
 
@@ -537,7 +528,10 @@ impl Sink for Counting {
 #[test]
 fn stops_at_a_line_too_many(rt: HostRuntime) -> Result<(), Fail> {
     let mut out = Counting { bytes: 0 };
-    let desk = LongDesk { lines: 1_048_577 };
+    let desk = LongDesk {
+        lines: 1_048_577,
+        alloc: rt.alloc(),
+    };
     let status = status_of(issue(&rt, &words_of(rt.alloc(), &COMMAND)?, desk, &mut out));
     assert_eq!(rt; status, 8);
     // 1,048,576 times `refused 1 1`, and `stop 8 1048577`.

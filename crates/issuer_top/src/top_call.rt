@@ -1,27 +1,31 @@
 //! The top call.
-ghost use Rattle.std.specs.Prelude.{◌≡◌, ◌⊎◌, ℕ, List, Some, IfOk, IfErr};
+ghost use Rattle.std.specs.Prelude.{◌≡◌, ◌<◌, ◌⊎◌, ℕ, List, map, None, Some};
 ghost use Rattle.std.specs.Option.{option_map};
-ghost use Rattle.issuer_base.specs.OutsideFaults.{CountsFaults};
-ghost use Rattle.issuer_top.specs.Configuration.{Says, GivesNoIssuer, is_read_stop};
-ghost use Rattle.issuer_top.specs.Opening.{GivesInput, stop_of};
-ghost use Rattle.issuer_top.specs.Serving.{IsNew};
+ghost use Rattle.host_calls.specs.OneHistory.{LoadsAgain};
+ghost use Rattle.issuer_top.specs.Opening.{stop_of};
+ghost use Rattle.issuer_top.specs.Journals.{IsReady};
 ghost use Rattle.issuer_top.specs.Status.{IsStatus};
-ghost use Rattle.issuer_top.specs.Seen.{SeenDesk, SeenInput, seen_of, seen_by, desk_seen, input_seen, sink_seen};
-ghost use Rattle.issuer_top.specs.Endings.{IsSetUp, EndsBy, Writes, IsServed, IsUsage, IsConfig, IsReadFault, IsWriteFault, IsNoMemory, IsTooLong, IsInOrder};
+ghost use Rattle.issuer_top.specs.Stopping.{EndsServing, shown_ending};
+ghost use Rattle.issuer_top.specs.Seen.{SeenDesk, SeenInput, seen_of, seen_by, desk_seen, input_seen, store_seen, sink_seen};
+ghost use Rattle.issuer_top.specs.Endings.{IsSetUp, EndsBy, Writes, IsDone, IsUsage, IsConfig, IsReadFault, IsStoreFault, IsBadJournal, IsWriteFault, IsNoMemory, IsTooLong, ServesInOrder, ShowsInOrder};
 
 use crate::config::read_issuer;
 use crate::ending::{Ending, status_of};
+use crate::journals::{NoHost, load_host};
 use crate::serve::{Served, Server};
+use crate::show::show;
 use crate::stopping::stop_with;
 use crate::words::read_words;
 use answer_text::Stop;
-use issuer_base::{Desk, DeskFault, NoMemory, Sink, Source, Words};
+use host_calls::Solo;
+use issuer_base::{Desk, DeskFault, NoMemory, Sink, Store, Words, WriteFault};
 use std::alloc::Global;
 
-/// What a run gives back: its status, the desk, and the inputs that were opened.
+/// What a run gives back: its status, the desk, and all that was opened.
 pub struct Ended<D: Desk> {
-    /// 0: all lines were answered; 1: the words are no command; 2: the configuration is none; 3: an
-    /// input failed; 4: the sink failed; 7: no memory was left; 8: the request file goes past a limit.
+    /// 0: all lines were answered, or all cards shown; 1: the words are no command; 2: the configuration is none; 3: an
+    /// input failed; 4: the sink failed; 5: a journal can't be opened, or its store failed while it was loaded; 6: a line
+    /// of a journal is bad; 7: no memory was left; 8: the request file goes past a limit.
     pub status: u8,
     /// The desk that was given.
     pub desk: D,
@@ -29,10 +33,12 @@ pub struct Ended<D: Desk> {
     pub config: Option<D::Input>,
     /// The request file, if it was opened.
     pub requests: Option<D::Input>,
+    /// The stores of the journals that were opened, in the order of their shards.
+    pub stores: Vec<D::Journal>,
 }
 
-/// Does all that the program does: reads the words, the configuration and the request file at the desk, and
-/// answers each request line at the sink.
+/// Does all that the program does: reads the words and the configuration, loads the journals, and answers each line of the
+/// request file, or shows all cards.
 pub fn issue<R: AllocGlobal, D: Desk, W: Sink>(
     rt: &R,
     words: &Words,
@@ -41,99 +47,117 @@ pub fn issue<R: AllocGlobal, D: Desk, W: Sink>(
 ) -> Ended<D>
     ensures statuses { IsStatus result.status }
 
-    // What each status says of the words, the desk, the inputs that were opened, and what was written.
-    ensures served { result.status ≡ 0
-        → Writes IsServed (seen_by D.Desk D.Input.Source W.Sink words.now desk result out.old out.new) }
+    // What each status says of the words, the desk, all that was opened, and what was written.
+    ensures done { result.status ≡ 0
+        → Writes IsDone (seen_by D.Desk D.Input.Source D.Journal.Store W.Sink words.now desk result out.old out.new) }
     ensures usage { result.status ≡ 1
-        → Writes IsUsage (seen_by D.Desk D.Input.Source W.Sink words.now desk result out.old out.new) }
+        → Writes IsUsage (seen_by D.Desk D.Input.Source D.Journal.Store W.Sink words.now desk result out.old out.new) }
     ensures config { result.status ≡ 2
-        → Writes IsConfig (seen_by D.Desk D.Input.Source W.Sink words.now desk result out.old out.new) }
+        → Writes IsConfig (seen_by D.Desk D.Input.Source D.Journal.Store W.Sink words.now desk result out.old out.new) }
     ensures read_fault { result.status ≡ 3
-        → Writes IsReadFault (seen_by D.Desk D.Input.Source W.Sink words.now desk result out.old out.new) }
+        → Writes IsReadFault (seen_by D.Desk D.Input.Source D.Journal.Store W.Sink words.now desk result out.old out.new) }
     ensures write_fault { result.status ≡ 4
-        → IsWriteFault (seen_by D.Desk D.Input.Source W.Sink words.now desk result out.old out.new) }
+        → IsWriteFault (seen_by D.Desk D.Input.Source D.Journal.Store W.Sink words.now desk result out.old out.new) }
+    ensures store_fault { result.status ≡ 5
+        → Writes IsStoreFault (seen_by D.Desk D.Input.Source D.Journal.Store W.Sink words.now desk result out.old out.new) }
+    ensures bad_journal { result.status ≡ 6
+        → Writes IsBadJournal (seen_by D.Desk D.Input.Source D.Journal.Store W.Sink words.now desk result out.old out.new) }
     ensures no_memory { result.status ≡ 7
-        → Writes IsNoMemory (seen_by D.Desk D.Input.Source W.Sink words.now desk result out.old out.new) }
+        → Writes IsNoMemory (seen_by D.Desk D.Input.Source D.Journal.Store W.Sink words.now desk result out.old out.new) }
     ensures too_long { result.status ≡ 8
-        → Writes IsTooLong (seen_by D.Desk D.Input.Source W.Sink words.now desk result out.old out.new) }
+        → Writes IsTooLong (seen_by D.Desk D.Input.Source D.Journal.Store W.Sink words.now desk result out.old out.new) }
 
-    // Where words, configuration and request file are in order and no count rose, all lines are answered, or memory was wanting.
-    ensures in_order { IsInOrder (seen_by D.Desk D.Input.Source W.Sink words.now desk result out.old out.new)
+    // Where words, configuration, journals and request file are in order and no count rose, all is done, or memory was wanting.
+    ensures serves { ServesInOrder (seen_by D.Desk D.Input.Source D.Journal.Store W.Sink words.now desk result out.old out.new)
+        → (result.status ≡ 0) ⊎ (result.status ≡ 7) }
+    ensures shows { ShowsInOrder (seen_by D.Desk D.Input.Source D.Journal.Store W.Sink words.now desk result out.old out.new)
         → (result.status ≡ 0) ⊎ (result.status ≡ 7) }
 {
     let Outcome {
         ending,
         config,
         requests,
+        stores,
     } = run(rt.alloc(), words, &mut desk, out);
     Ended {
         status: status_of(ending),
         desk,
         config,
         requests,
+        stores,
     }
 }
 
-/// How a run ended, and the inputs that it opened.
-struct Outcome<I> {
+/// How a run ended, and all that it opened.
+struct Outcome<I, J> {
     ending: Ending,
     config: Option<I>,
     requests: Option<I>,
+    stores: Vec<J>,
 }
 
-/// Reads words, configuration and request file, answers each line, and says how the run ended.
+/// Reads words and configuration, loads the journals, does what the command asks, and says how the run ended.
 fn run<D: Desk, W: Sink>(
     alloc: Global,
     words: &Words,
     desk: &mut D,
     out: &mut W,
-) -> Outcome<D::Input>
+) -> Outcome<D::Input, D::Journal>
     ensures { EndsBy (seen_of words.now (desk_seen D.Desk desk.old desk.new)
         (option_map (input_seen D.Input.Source) result.config) (option_map (input_seen D.Input.Source) result.requests)
-        (sink_seen W.Sink out.old out.new)) result.ending }
+        (map (store_seen D.Journal.Store) result.stores.items) (sink_seen W.Sink out.old out.new)) result.ending }
 {
     let Some(names) = read_words(words) else {
         return Outcome {
             ending: stop_with(Stop::Usage, out),
             config: None,
             requests: None,
+            stores: Vec::new(alloc),
         };
     };
     let mut config = match desk.read(names.config) {
-        Ok(input) => input,
+        Ok(config) => config,
         Err(fault) => {
             return Outcome {
                 ending: stop_with(stop_at(fault), out),
                 config: None,
                 requests: None,
+                stores: Vec::new(alloc),
             };
         }
     };
-    let mut server = match set_up(alloc, &mut config) {
-        Ok(server) => server,
+    let issuer = match read_issuer(alloc, &mut config) {
+        Ok(issuer) => issuer,
         Err(cause) => {
             return Outcome {
                 ending: stop_with(cause, out),
                 config: Some(config),
                 requests: None,
+                stores: Vec::new(alloc),
             };
         }
     };
-    let mut requests = match desk.read(names.requests) {
-        Ok(input) => input,
-        Err(fault) => {
+    let host = match load_host(alloc, desk, names.journal, issuer) {
+        Ok(host) => host,
+        Err(NoHost { cause, stores }) => {
             return Outcome {
-                ending: stop_with(stop_at(fault), out),
+                ending: stop_with(cause, out),
                 config: Some(config),
                 requests: None,
+                stores,
             };
         }
     };
-    let ending = answer_requests(&mut server, &mut requests, out);
+    let Finished {
+        ending,
+        requests,
+        stores,
+    } = do_command(alloc, host, desk, names.requests, out);
     Outcome {
         ending,
         config: Some(config),
-        requests: Some(requests),
+        requests,
+        stores,
     }
 }
 
@@ -147,36 +171,116 @@ fn stop_at(fault: DeskFault) -> Stop
     }
 }
 
-/// A server of the issuer that the configuration says, with all the memory that it needs.
-fn set_up<S: Source>(alloc: Global, config: &mut S) -> Result<Server, Stop>
-    ensures new { IfOk result (λ server. IsNew server server.host.issuer) }
-    ensures says { IfOk result (λ server. Says (S.left config.old) server.host.issuer) }
-    ensures none { IfErr result (GivesNoIssuer (S.left config.old)) }
-    ensures count { CountsFaults (S.faults config.old) (S.faults config.new) (is_read_stop result) }
+/// How a command ended, and what its host leaves.
+struct Finished<I, J> {
+    ending: Ending,
+    requests: Option<I>,
+    stores: Vec<J>,
+}
+
+/// Answers all lines of the request file under this name, or shows all cards where there is none.
+fn do_command<D: Desk, W: Sink>(
+    alloc: Global,
+    host: Solo<D::Journal>,
+    desk: &mut D,
+    requests: Option<&str>,
+    out: &mut W,
+) -> Finished<D::Input, D::Journal>
+    requires { 0 < host.issuer.shards }
+    ensures { (words : List (List ℕ)) (given : D) (config : SeenInput) (journal : List ℕ)
+        → let seen = seen_of words (desk_seen D.Desk given desk.new) (Some config) (option_map (input_seen D.Input.Source) result.requests)
+        (map (store_seen D.Journal.Store) result.stores.items) (sink_seen W.Sink out.old out.new) in
+        IsSetUp seen (option_map (λ name. name.now) requests.entry) journal host.issuer
+        → IsReady host.issuer journal (D.logs given) host.shards.items → LoadsAgain host.issuer
+        → D.holds desk.old ≡ D.holds given → D.faults desk.old ≡ D.faults given → EndsBy seen result.ending }
 {
-    let issuer = match read_issuer(alloc, config) {
-        Ok(issuer) => issuer,
-        Err(cause) => return Err(cause),
-    };
-    match Server::new(alloc, issuer) {
-        Ok(server) => Ok(server),
-        Err(NoMemory) => Err(Stop::NoMemory),
+    match requests {
+        Some(name) => serve_requests(alloc, host, desk, name, out),
+        None => show_cards::<D, W>(host, out),
     }
 }
 
-/// Answers all lines of the request file, and says how the run ends.
-fn answer_requests<S: Source, W: Sink>(server: &mut Server, requests: &mut S, out: &mut W) -> Ending
-    requires new { IsNew server.old server.old.host.issuer }
-    requires fresh { S.faults requests.old ≡ 0 }
-    ensures { (words : List (List ℕ)) (desk : SeenDesk) (config : SeenInput) (name : List ℕ)
-        → let seen = seen_of words desk (Some config) (Some (input_seen S.Source requests.new)) (sink_seen W.Sink out.old out.new) in
-        IsSetUp seen name server.old.host.issuer → GivesInput (desk.tells name) (S.left requests.old)
-        → desk.faults_after ≡ desk.faults_before → EndsBy seen result }
+/// Answers all lines of the request file under this name.
+fn serve_requests<D: Desk, W: Sink>(
+    alloc: Global,
+    host: Solo<D::Journal>,
+    desk: &mut D,
+    name: &str,
+    out: &mut W,
+) -> Finished<D::Input, D::Journal>
+    ensures { (words : List (List ℕ)) (given : D) (config : SeenInput) (journal : List ℕ)
+        → let seen = seen_of words (desk_seen D.Desk given desk.new) (Some config) (option_map (input_seen D.Input.Source) result.requests)
+        (map (store_seen D.Journal.Store) result.stores.items) (sink_seen W.Sink out.old out.new) in
+        IsSetUp seen (Some name.now) journal host.issuer → IsReady host.issuer journal (D.logs given) host.shards.items → LoadsAgain host.issuer
+        → D.holds desk.old ≡ D.holds given → D.faults desk.old ≡ D.faults given → EndsBy seen result.ending }
 {
-    match server.serve(requests, out) {
-        Served::All => Ending::Served,
+    let mut host = host;
+    let mut server = match Server::new(alloc) {
+        Ok(server) => server,
+        Err(NoMemory) => {
+            return Finished {
+                ending: stop_with(Stop::NoMemory, out),
+                requests: None,
+                stores: host.close(),
+            };
+        }
+    };
+    let mut requests = match desk.read(name) {
+        Ok(requests) => requests,
+        Err(fault) => {
+            return Finished {
+                ending: stop_with(stop_at(fault), out),
+                requests: None,
+                stores: host.close(),
+            };
+        }
+    };
+    let served = server.serve(&mut host, &mut requests, out);
+    Finished {
+        ending: end_serving(served, out),
+        requests: Some(requests),
+        stores: host.close(),
+    }
+}
+
+/// Writes the last line where serving stopped early, and says how the run ends.
+fn end_serving<W: Sink>(served: Served, out: &mut W) -> Ending
+    ensures { EndsServing (W.held out.old) (W.held out.new) (W.faults out.old) (W.faults out.new) served result }
+{
+    match served {
+        Served::All => Ending::Done,
         Served::ReadFault => stop_with(Stop::ReadFault, out),
         Served::WriteFault => Ending::WriteFault,
         Served::TooLong { line } => stop_with(Stop::TooLong { line }, out),
+    }
+}
+
+/// Shows all cards of the host.
+fn show_cards<D: Desk, W: Sink>(
+    host: Solo<D::Journal>,
+    out: &mut W,
+) -> Finished<D::Input, D::Journal>
+    requires { 0 < host.issuer.shards }
+    ensures { (words : List (List ℕ)) (desk : SeenDesk) (config : SeenInput) (journal : List ℕ)
+        → let seen = seen_of words desk (Some config) (option_map (input_seen D.Input.Source) result.requests)
+        (map (store_seen D.Journal.Store) result.stores.items) (sink_seen W.Sink out.old out.new) in
+        IsSetUp seen None journal host.issuer → IsReady host.issuer journal desk.logs host.shards.items → LoadsAgain host.issuer
+        → desk.faults_after ≡ desk.faults_before → EndsBy seen result.ending }
+{
+    let ending = end_showing(show(&host, out));
+    Finished {
+        ending,
+        requests: None,
+        stores: host.close(),
+    }
+}
+
+/// How a run ends that shows all cards.
+fn end_showing(shown: Result<(), WriteFault>) -> Ending
+    ensures { result ≡ shown_ending shown }
+{
+    match shown {
+        Ok(()) => Ending::Done,
+        Err(WriteFault) => Ending::WriteFault,
     }
 }

@@ -1,32 +1,48 @@
 -- How a run ends, stage by stage.
-use Rattle.std.proofs.Common.{refl, subst, ◌∙◌}
+use Rattle.std.proofs.Common.{refl, subst, ap, sym, ◌∙◌}
+use Rattle.std.specs.Prelude.{map}
+use Rattle.issuer_top.specs.Seen.{store_seen}
 use Rattle.issuer_top.specs.Opening.{GivesInput}
-use Rattle.issuer_top.proofs.EndingSteps.{gives_input, ends_no_config, ends_no_issuer, ends_no_requests, IsSetUp-from_said}
+use Rattle.issuer_top.proofs.EndingSteps.{gives_input, ends_usage, ends_no_config, ends_no_issuer, ends_no_host, IsSetUp-from_said, set_up-under}
+use Rattle.shard_book.proofs.OwnDecisions.{legal-then}
+use Rattle.issuer_top.proofs.EndingSteps.{no_host-since, ready-since, again-under}
 use Rattle.issuer_top.proofs.top_call.run.Goals as goal
+
+pub returns-in_default : goal.returns-in_default
+returns-in_default g c =
+    ends_usage _ _ c.in_default.ensures.other (record { config_is = refl; requests_is = refl; desk_stood = refl })
+    (ap (map (store_seen g.D.Journal.Store)) c.new.ensures.items)
+    (record { stops = c.stop_with.ensures.ended; count = c.stop_with.ensures.count })
 
 pub returns-in-Err : goal.returns-in-Err
 returns-in-Err g c =
-    ends_no_config _ _ _ _ c.in-Some.ensures.serve (Unit {0}) _ c.in-Err.fault refl refl c.in-Err.ensures.count c.in-Err.ensures.last
+    ends_no_config _ _ _ _ _ c.in-Some.ensures.command (Unit {0}) _ c.in-Err.fault refl refl
+    (ap (map (store_seen g.D.Journal.Store)) c.new-in-Err.ensures.items) c.in-Err.ensures.count c.in-Err.ensures.last
     (record { stops = rw c.stop_at.ensures at c.stop_with-in-Err.ensures.ended; count = c.stop_with-in-Err.ensures.count })
 
-pub returns-in-Err-set_up : goal.returns-in-Err-set_up
-returns-in-Err-set_up g c =
-    ends_no_issuer _ _ _ _ c.in-Some.ensures.serve (Unit {0}) _ _ _ c.in-Err-set_up.cause
+pub returns-in-Err-read_issuer : goal.returns-in-Err-read_issuer
+returns-in-Err-read_issuer g c =
+    ends_no_issuer _ _ _ _ _ c.in-Some.ensures.command (Unit {0}) _ _ _ c.in-Err-read_issuer.cause
     (record { config_is = refl; requests_is = refl; desk_stood = c.in-Ok.ensures.count.counted }) refl
-    (gives_input _ _ c.in-Ok.ensures.input c.in-Ok.ensures.absent) c.in-Err-set_up.ensures.none c.in-Ok.ensures.new c.in-Err-set_up.ensures.count
-    (record { stops = c.stop_with-in-Err-set_up.ensures.ended; count = c.stop_with-in-Err-set_up.ensures.count })
+    (ap (map (store_seen g.D.Journal.Store)) c.new-in-Err-read_issuer.ensures.items)
+    (gives_input _ _ c.in-Ok.ensures.input c.in-Ok.ensures.absent) c.in-Err-read_issuer.ensures.none c.in-Ok.ensures.new
+    c.in-Err-read_issuer.ensures.count
+    (record { stops = c.stop_with-in-Err-read_issuer.ensures.ended; count = c.stop_with-in-Err-read_issuer.ensures.count })
 
-pub returns-in-Err-read : goal.returns-in-Err-read
-returns-in-Err-read g c =
-    ends_no_requests _ _ _ _ c.in-Some.ensures.serve (Unit {0}) _ _ _ c.in-Err-read.fault refl refl
-    (IsSetUp-from_said _ _ _ _ _ c.in-Some.ensures.serve (gives_input _ _ c.in-Ok.ensures.input c.in-Ok.ensures.absent) c.in-Ok-set_up.ensures.says)
-    c.in-Ok.ensures.count.counted c.in-Err-read.ensures.count c.in-Err-read.ensures.last
-    (record { stops = rw c.stop_at-in-Err-read.ensures at c.stop_with-in-Err-read.ensures.ended; count = c.stop_with-in-Err-read.ensures.count })
+pub returns-in-Err-load_host : goal.returns-in-Err-load_host
+returns-in-Err-load_host g c =
+    let set_up = IsSetUp-from_said _ _ _ _ _ _ c.in-Some.ensures.command (gives_input _ _ c.in-Ok.ensures.input c.in-Ok.ensures.absent)
+    c.in-Ok-read_issuer.ensures.says in
+    ends_no_host _ _ _ _ _ set_up _ refl refl
+    (no_host-since _ _ _ _ _ _ _ _ _ _ c.in-Ok.ensures.kept_logs c.in-Ok.ensures.count.counted c.in-Err-load_host.ensures.none)
+    (record { stops = c.stop_with-in-Err-load_host.ensures.ended; count = c.stop_with-in-Err-load_host.ensures.count })
 
 pub returns : goal.returns
 returns g c =
-    c.answer_requests-ending.ensures _ _ _ _
-    (IsSetUp-from_said _ _ _ _ _ c.in-Some.ensures.serve (gives_input _ _ c.in-Ok.ensures.input c.in-Ok.ensures.absent) c.in-Ok-set_up.ensures.says)
-    (subst (λ told. GivesInput (told c.in-Some.names.requests.now) (g.D.Input.Source.left c.in-Ok-read.input)) c.in-Ok.ensures.kept
-    (gives_input _ _ c.in-Ok-read.ensures.input c.in-Ok-read.ensures.absent))
-    (c.in-Ok-read.ensures.count.counted ∙ c.in-Ok.ensures.count.counted)
+    let said = c.in-Ok-read_issuer.ensures.says in
+    let same = c.in-Ok-load_host.ensures.issuer in
+    let set_up = IsSetUp-from_said _ _ _ _ _ _ c.in-Some.ensures.command (gives_input _ _ c.in-Ok.ensures.input c.in-Ok.ensures.absent) said in
+    c.do_command-ending.ensures _ _ _ _ (set_up-under _ _ _ _ _ same set_up)
+    (ready-since _ _ _ _ _ _ c.in-Ok.ensures.kept_logs same c.in-Ok-load_host.ensures.ready)
+    (again-under _ _ same (legal-then c.in-Ok-read_issuer.issuer c.in-Ok-read_issuer.ensures.table))
+    (c.in-Ok-load_host.ensures.kept ∙ c.in-Ok.ensures.kept) (c.in-Ok-load_host.ensures.stood refl ∙ c.in-Ok.ensures.count.counted)

@@ -1,51 +1,44 @@
 -- Serving goes on by a line, and ends in one of its ways.
-use Rattle.std.proofs.Common.{rules, refl, sym, subst, ◌∙◌}
-use Rattle.issuer_top.proofs.ServingSteps.{HasServed, HasServed-none, HasServed-line, serves-end, serves-rest, serves-broken_line, serves-broken_rest}
-use Rattle.issuer_top.proofs.ServingSteps.{serves-fault, serves-limit}
+use Rattle.std.proofs.Common.{rules, refl, sym, ◌∙◌, arith}
+use Rattle.issuer_top.proofs.ServingSteps.{HasServed-none, HasServed-line, answered-under, serves-end, serves-rest, serves-broken_line, serves-fault}
+use Rattle.issuer_top.proofs.ServingSteps.{serves-limit}
 use Rattle.issuer_top.proofs.serve.Server.serve.Goals as goal
-
-pub loop-self-init : goal.loop-self-init
-loop-self-init g c = record {
-  served = HasServed-none _ _ _ _ _ c.requires.issuer_is c.requires.stands c.requires.none_recorded c.requires.reads_first;
-  source_stood = refl;
-  sink_stood = refl;
-}
 
 pub loop-self-preserved : goal.loop-self-preserved
 loop-self-preserved g c =
-    let answered = c.in-Ok.ensures.answered in
+    let answered = answered-under _ _ _ _ _ _ c.loop-self.invariant.same_issuer c.answer_line.ensures.answered in
     record {
-      served = subst
-          (λ r. HasServed c.args.self.now.host.issuer (g.S.Source.left c.args.source.now) (g.S.Source.left c.next_line.new.source)
-          (g.W.Sink.held c.args.out.now) (g.W.Sink.held c.answer_line.new.out) c.answer_line.new.self.host r)
-          (sym answered.same_reader)
-          (HasServed-line _ _ _ _ _ _ _ _ _ _ _ answered.answer c.loop-self.invariant.served answered.turn (c.in-Line.ensures.line refl)
-          answered.same_issuer answered.one_more answered.prints);
+      served = λ first starts.
+          HasServed-line _ first _ _ _ _ _ _ _ _ _ _ _ (c.loop-self.invariant.served first starts) answered _ _ _ (c.in-Line.ensures.line refl)
+          c.in-Ok.ensures.written (c.in-Ok.ensures.reader ∙ answered.same_reader);
+      same_issuer = c.answer_line.ensures.issuer ∙ c.loop-self.invariant.same_issuer;
+      room = c.in-Ok.ensures.room;
       source_stood = c.in-Line.ensures.count.counted ∙ c.loop-self.invariant.source_stood;
       sink_stood = c.in-Ok.ensures.count.counted ∙ c.loop-self.invariant.sink_stood;
     }
 
 pub returns-in-Err-clause-served : goal.returns-in-Err-clause-served
-returns-in-Err-clause-served g c =
-    let answered = c.in-Err.ensures.answered in
-    serves-broken_line _ _ _ _ _ _ _ _ _ _ _ answered.answer c.loop-self.invariant.served answered.turn (c.in-Line.ensures.line refl) answered.prints
+returns-in-Err-clause-served g c = λ first starts.
+    let answered = answered-under _ _ _ _ _ _ c.loop-self.invariant.same_issuer c.answer_line.ensures.answered in
+    serves-broken_line _ first _ _ _ _ _ _ _ _ _ _ _ (c.loop-self.invariant.served first starts) answered _ starts.lawful (c.in-Line.ensures.line refl)
+    c.in-Err.ensures.written
 
-pub returns-in-Ok-answer_line-clause-served : goal.returns-in-Ok-answer_line-clause-served
-returns-in-Ok-answer_line-clause-served g c =
-    let answered = c.in-Ok-answer_line.ensures.answered in
-    serves-rest _ _ _ _ _ _ _ _ _ _ _ answered.answer c.loop-self.invariant.served answered.turn (c.in-Rest.ensures.rest refl) answered.prints
-
-pub returns-in-Err-answer_line-clause-served : goal.returns-in-Err-answer_line-clause-served
-returns-in-Err-answer_line-clause-served g c =
-    let answered = c.in-Err-answer_line.ensures.answered in
-    serves-broken_rest _ _ _ _ _ _ _ _ _ _ _ answered.answer c.loop-self.invariant.served answered.turn (c.in-Rest.ensures.rest refl) answered.prints
+pub returns-in-Rest-clause-served : goal.returns-in-Rest-clause-served
+returns-in-Rest-clause-served g c = λ first starts.
+    let answered = answered-under _ _ _ _ _ _ c.loop-self.invariant.same_issuer c.answer_line-in-Rest.ensures.answered in
+    serves-rest _ first _ _ _ _ _ _ _ _ _ _ _ (c.loop-self.invariant.served first starts) answered (c.in-Rest.ensures.rest refl) starts.lawful _ _
+    c.end.ensures.ended
 
 pub returns-in-End-clause-served : goal.returns-in-End-clause-served
-returns-in-End-clause-served g c = serves-end _ _ _ _ _ _ _ _ _ c.loop-self.invariant.served (c.in-End.ensures.end refl)
+returns-in-End-clause-served g c = λ first starts.
+    serves-end _ first _ _ _ _ _ _ _ _ _ _ _ (c.loop-self.invariant.served first starts) starts.lawful _ (c.in-End.ensures.end refl) c.end-in-End.ensures.ended
 
 pub returns-in-Fault-clause-served : goal.returns-in-Fault-clause-served
-returns-in-Fault-clause-served g c = serves-fault _ _ _ _ _ _ _ _ _ c.loop-self.invariant.served (c.in-Fault.ensures.fault refl)
+returns-in-Fault-clause-served g c = λ first starts.
+    serves-fault _ first _ _ _ _ _ _ _ _ _ _ _ (c.loop-self.invariant.served first starts) starts.lawful _ (c.in-Fault.ensures.fault refl)
+    c.end-in-Fault.ensures.ended
 
 pub returns-in-TooLong-clause-served : goal.returns-in-TooLong-clause-served
-returns-in-TooLong-clause-served g c =
-    serves-limit _ _ _ _ _ _ _ _ _ c.loop-self.invariant.served _ (c.in-TooLong.ensures.too_long refl) (search rules)
+returns-in-TooLong-clause-served g c = λ first starts.
+    serves-limit _ first _ _ _ _ _ _ _ _ _ _ _ (c.loop-self.invariant.served first starts) starts.lawful _ _ (c.in-TooLong.ensures.too_long refl)
+    c.end-in-TooLong.ensures.ended (search rules)

@@ -1,0 +1,204 @@
+-- All goes well where all is in order.
+use Rattle.std.proofs.Common.{◌≡◌, ℕ, ◌-◌, ◌<◌, ◌≤◌, ◌⊎◌, List, [], ◌∷◌, ◌++◌, length, Option, None, Some, Ok, Err, inl, inr, ⊎_elim, refl, sym, subst, ap, ◌∙◌, arith}
+use Rattle.std.proofs.lemmas.List.{length-append, take-append-le}
+use Rattle.std.specs.List.{flat_map}
+use Rattle.std.specs.Prelude.{IsSomeAnd, IfSome, codes}
+use Rattle.issuer_base.specs.Tells.{Tells}
+use Rattle.line_reader.specs.declared.limits.TheConstants.{MAX_BYTES}
+use Rattle.line_reader.specs.Lines.{lines, ended, IsUnbroken}
+use Rattle.line_reader.specs.Reading.{IsWithinLimits, PassesLimit}
+use Rattle.line_reader.proofs.LineLaws.{BeginsWithLines-given}
+use Rattle.line_reader.proofs.WholeLines.{PassesLimit-over}
+use Rattle.issuer_setup.specs.IssuerSetup.{Setup}
+use Rattle.config_read.specs.declared.fault.ConfigFault.{ConfigFault}
+use Rattle.config_read.specs.Configuration.{configured}
+use Rattle.answer_text.specs.declared.stop_line.Stop.TheVariants.{Usage, Config, ReadFault, StoreFault, BadJournal, NoMemory, TooLong}
+use Rattle.shard_book.specs.declared.replay.LoadFault.{LoadFault}
+use Rattle.shard_book.specs.declared.replay.LoadFault.TheVariants.{BadLine, BadRecord}
+use Rattle.shard_book.specs.Loading.{StopsAt, StopsText, IsOutside}
+use Rattle.shard_book.proofs.Exactly.{stops-outside}
+use Rattle.host_calls.specs.Books.{Book}
+use Rattle.issuer_top.specs.declared.words.Command.{Command}
+use Rattle.issuer_top.specs.declared.words.Command.TheVariants.{Serve, Show}
+use Rattle.issuer_top.specs.declared.ending.Ending.{Ending}
+use Rattle.issuer_top.specs.declared.ending.Ending.TheVariants.{Done, Stopped, WriteFault}
+use Rattle.issuer_top.specs.Command.{IsCommand}
+use Rattle.issuer_top.specs.Pairs.{value_in}
+use Rattle.issuer_top.specs.Seen.{Told, Seen, SeenInput}
+use Rattle.issuer_top.specs.Answered.{PassedAnswered, WasRead}
+use Rattle.issuer_top.specs.Journals.{journal_name}
+use Rattle.issuer_top.specs.Loading.{DeskFaults, IsBadAt}
+use Rattle.issuer_top.specs.Status.{status_of}
+use Rattle.issuer_top.specs.Endings.{EndsBy, IsReadFault, HasNoHost, IsInOrder, ServesInOrder, ShowsInOrder}
+use Rattle.issuer_top.proofs.CommandWords.{AreNames, HasRequests, command-names, same-command}
+
+-- ---- what is said once
+
+-- words are a command in one way
+record AreSame (config other_config : List ℕ) (requests other_requests : Option (List ℕ)) (journal other_journal : List ℕ) : Type 0 where
+  config_is : config ≡ other_config
+  requests_are : requests ≡ other_requests
+  journal_is : journal ≡ other_journal
+
+one-value : (value first second : Option (List ℕ)) (x y : List ℕ) → value ≡ Some x → value ≡ Some y → x ≡ y
+one-value value first second x y one two = let e : Some x ≡ Some y = sym one ∙ two in cc
+
+same-requests : (command : Command) (words : List (List ℕ)) (requests other : Option (List ℕ)) → HasRequests command words requests → HasRequests command words other
+    → requests ≡ other
+same-requests Serve words requests other first second =
+    let names : first.0 ≡ second.0 = (let e : Some first.0 ≡ Some second.0 = sym first.2 ∙ second.2 in cc) in
+    first.1 ∙ ap Some names ∙ sym second.1
+same-requests Show words requests other first second = first ∙ sym second
+
+same-names : (words : List (List ℕ)) (config other_config : List ℕ) (requests other_requests : Option (List ℕ)) (journal other_journal : List ℕ)
+    → IsCommand words config requests journal → IsCommand words other_config other_requests other_journal
+    → AreSame config other_config requests other_requests journal other_journal
+same-names words config other_config requests other_requests journal other_journal first second =
+    let one = command-names words config requests journal first in
+    let two = command-names words other_config other_requests other_journal second in
+    let begins = sym one.1.are.first ∙ two.1.are.first in
+    let command : one.0 ≡ two.0 = same-command one.0 two.0 (cc) in
+    let other = subst (λ (c : Command). AreNames c words other_config other_requests other_journal) (sym command) two.1 in
+    record {
+      config_is = one-value (value_in words (codes "--config")) None None config other_config one.1.config_is other.config_is;
+      requests_are = same-requests one.0 words requests other_requests one.1.requests_are other.requests_are;
+      journal_is = one-value (value_in words (codes "--journal")) None None journal other_journal one.1.journal_is other.journal_is;
+    }
+
+-- what stands under a name that the desk tells of is what it tells
+same-content : (desk : Told) (name other content told : List ℕ) → other ≡ name → desk name ≡ Some (Some told) → Tells (desk other) (Some content)
+    → content ≡ told
+same-content desk name other content told same tells holds =
+    let at_name : Tells (desk name) (Some content) = subst (λ (n : List ℕ). Tells (desk n) (Some content)) same holds in
+    let e : Some told ≡ Some content = subst (λ (t : Option (Option (List ℕ))). Tells t (Some content)) tells at_name in
+    cc
+
+-- a text doesn't say an issuer and a fault, and no two issuers
+not-both : (content told : List ℕ) (issuer : Setup) (fault : ConfigFault) → content ≡ told → configured told ≡ Ok issuer → configured content ≡ Err fault → ⊥
+not-both content told issuer fault same says broken =
+    let e : Err fault ≡ Ok issuer = sym broken ∙ ap configured same ∙ says in cc
+
+one-issuer : (content told : List ℕ) (issuer other : Setup) → content ≡ told → configured told ≡ Ok issuer → configured content ≡ Ok other → other ≡ issuer
+one-issuer content told issuer other same says others =
+    let e : configured told ≡ Ok other = sym (ap configured same) ∙ others in cc
+
+-- ---- a request file within the limits
+
+-- only an empty list is a front of the empty list
+front-nil : (xs ys : List ℕ) → xs ++ ys ≡ [] → xs ≡ []
+front-nil [] ys e = refl
+front-nil (x ∷ xs) ys e = cc
+
+-- what goes past a limit goes past it with more behind it
+passes-more : (lines_before bytes : ℕ) (ahead rest : List ℕ) → PassesLimit lines_before bytes ahead → PassesLimit lines_before bytes (ahead ++ rest)
+passes-more lines_before bytes ahead rest passes =
+    ⊎_elim
+    (λ begun. inl (begun.0, λ none. begun.1 (front-nil ahead rest none)))
+    (λ long.
+    let within : MAX_BYTES - bytes ≤ length ahead = omega (arith, long.1) in
+    inr (subst IsUnbroken (sym (take-append-le (MAX_BYTES - bytes) ahead rest within)) long.0, omega (arith, long.1, length-append ahead rest)))
+    passes
+
+-- a file within the limits goes past none
+not-past : (issuer : Setup) (first last : List Book) (file told read answers : List ℕ) (number : ℕ) (left : Option (List ℕ)) → file ≡ told
+    → IsWithinLimits (length (lines told)) (length told) → WasRead file read left → PassedAnswered number issuer first last file read answers → ⊥
+not-past issuer first last file told read answers number left same within was_read passed =
+    let parted = BeginsWithLines-given read passed.whole passed.ahead was_read.unread passed.parted in
+    let over = passes-more (length passed.whole) (length (flat_map ended passed.whole)) passed.ahead was_read.unread passed.passes in
+    ⊎_elim
+    (λ lines_over. omega (arith, lines_over, within.lines_within, ap (λ t. length (lines t)) (sym was_read.split ∙ same)))
+    (λ bytes_over. omega (arith, bytes_over, within.bytes_within, ap length (sym was_read.split ∙ same)))
+    (PassesLimit-over (read ++ was_read.unread) passed.whole (passed.ahead ++ was_read.unread) parted over)
+
+-- ---- nothing failed
+
+-- the desk's faults, as they were seen
+abbrev desk_faults : Seen → DeskFaults
+desk_faults seen = record { before = seen.desk.faults_before; after = seen.desk.faults_after; last = seen.desk.last_fault }
+
+-- an input that counts a fault is one that was opened
+counted : (input : Option SeenInput) (seen : SeenInput) → input ≡ Some seen → 0 < seen.faults → IsSomeAnd input (λ i. 0 < i.faults)
+counted input seen is failed = subst (λ o. IsSomeAnd o (λ (i : SeenInput). 0 < i.faults)) (sym is) failed
+
+module _ (seen : Seen) (config journal : List ℕ) (requests : Option (List ℕ)) (command : IsCommand seen.words config requests journal)
+    (order : IsInOrder seen config journal) where
+  -- nothing could not be read
+  not-unread : (text : List ℕ) → IsReadFault seen text → ⊥
+  not-unread text cannot =
+      ⊎_elim (λ a. order.desk_stood a.fails.rose)
+      (λ more. ⊎_elim (λ b. order.config_stood b.failed)
+      (λ more. ⊎_elim (λ c. order.desk_stood c.fails.rose)
+      (λ d. order.requests_stood (counted seen.requests d.lines.input d.lines.input_is d.failed)) more) more)
+      cannot
+
+  -- no journal is bad
+  not-bad : (fault : LoadFault) (line : ℕ) → (fault ≡ BadLine line) ⊎ (fault ≡ BadRecord line) → IsOutside fault → ⊥
+  not-bad fault line is outside =
+      ⊎_elim (λ bad. subst IsOutside bad outside) (λ bad. subst IsOutside bad outside) is
+
+  stops-text : (issuer : Setup) (shard : ℕ) (bytes : Option (List ℕ)) (fault : LoadFault) (line : ℕ) → (fault ≡ BadLine line) ⊎ (fault ≡ BadRecord line)
+      → IfSome bytes (λ text. StopsAt issuer shard [] text fault) → StopsText issuer shard bytes fault
+  stops-text issuer shard bytes fault line is stops =
+      ⊎_elim
+      (λ bad. subst (StopsText issuer shard bytes) (sym bad)
+      (subst (λ (f : LoadFault). IfSome bytes (λ text. StopsAt issuer shard [] text f)) bad stops))
+      (λ bad. subst (StopsText issuer shard bytes) (sym bad)
+      (subst (λ (f : LoadFault). IfSome bytes (λ text. StopsAt issuer shard [] text f)) bad stops))
+      is
+
+  not-bad_journal : (shard line : ℕ) (text : List ℕ) → HasNoHost (BadJournal shard line) seen text → ⊥
+  not-bad_journal shard line text none =
+      let same = same-names seen.words config none.set_up.config requests none.requests journal none.journal command none.set_up.command in
+      let content = same-content seen.desk.tells config none.set_up.config none.set_up.content order.content (sym same.config_is) order.config_held none.set_up.held in
+      let issuer = one-issuer none.set_up.content order.content order.issuer none.issuer content order.says none.set_up.says in
+      let logs = seen.desk.logs in
+      let bad = subst (λ (i : Setup). IsBadAt i none.journal logs (desk_faults seen) seen.stores shard line) issuer none.cause in
+      let named = subst (λ (j : List ℕ). IsBadAt order.issuer j logs (desk_faults seen) seen.stores shard line) (sym same.journal_is) bad in
+      let held = order.journals_held shard named.within in
+      let told = logs (journal_name journal shard) in
+      let stops = stops-text order.issuer shard told named.fault line named.line_is named.stops in
+      not-bad named.fault line named.line_is (stops-outside order.issuer shard told held.0 held.1 named.fault stops)
+
+  not-unstored : (shard : ℕ) (text : List ℕ) → HasNoHost (StoreFault shard) seen text → ⊥
+  not-unstored shard text none =
+      ⊎_elim (λ log. order.desk_stood log.rose) (λ load. order.stores_stood shard load.store load.store_is load.failed) none.cause
+
+  -- where the request file isn't too long, the status is 0 or 7
+  in-order : (status : ℕ) (ending : Ending) → status ≡ status_of ending → EndsBy seen ending
+      → ((line : ℕ) → ending ≡ Stopped (TooLong line) → ⊥) → (status ≡ 0) ⊎ (status ≡ 7)
+  in-order status Done is ends short = inl is
+  in-order status (Stopped Usage) is ends short = absurd (ends.1.no_command config requests journal command)
+  in-order status (Stopped (Config part index)) is ends short =
+      let same = same-names seen.words config ends.1.config requests ends.1.requests journal ends.1.journal command ends.1.command in
+      let content = same-content seen.desk.tells config ends.1.config ends.1.content order.content (sym same.config_is) order.config_held ends.1.held in
+      absurd (not-both ends.1.content order.content order.issuer ends.1.fault content order.says ends.1.broken)
+  in-order status (Stopped ReadFault) is ends short = absurd (not-unread ends.0 ends.1)
+  in-order status (Stopped (StoreFault shard)) is ends short = absurd (not-unstored ends.1.0 ends.0 ends.1.1)
+  in-order status (Stopped (BadJournal shard line)) is ends short = absurd (not-bad_journal ends.1.0 ends.1.1 ends.0 ends.1.2)
+  in-order status (Stopped NoMemory) is ends short = inr is
+  in-order status (Stopped (TooLong line)) is ends short = absurd (short line refl)
+  in-order status WriteFault is ends short = absurd (order.sink_stood ends.rose)
+
+-- ---- the two commands
+
+pub serves-in_order : (seen : Seen) (status : ℕ) (ending : Ending) → status ≡ status_of ending → EndsBy seen ending → ServesInOrder seen
+    → (status ≡ 0) ⊎ (status ≡ 7)
+serves-in_order seen status ending is ends order =
+    in-order seen order.config order.journal (Some order.requests) order.serve order.in_order status ending is ends
+    (λ line long.
+    let passed = subst (EndsBy seen) long ends in
+    let l = passed.1.lines in
+    let same = same-names seen.words order.config l.set_up.config (Some order.requests) (Some l.requests) order.journal l.journal order.serve l.set_up.command in
+    let name : l.requests ≡ order.requests = (let e : Some order.requests ≡ Some l.requests = same.requests_are in cc) in
+    let content = same-content seen.desk.tells order.requests l.requests l.file order.file name order.requests_held l.held in
+    not-past l.issuer l.first l.last l.file order.file l.read passed.1.answers passed.1.number l.input.left content order.within l.was_read l.answered)
+
+pub shows-in_order : (seen : Seen) (status : ℕ) (ending : Ending) → status ≡ status_of ending → EndsBy seen ending → ShowsInOrder seen
+    → (status ≡ 0) ⊎ (status ≡ 7)
+shows-in_order seen status ending is ends order =
+    in-order seen order.config order.journal None order.show order.in_order status ending is ends
+    (λ line long.
+    let passed = subst (EndsBy seen) long ends in
+    let l = passed.1.lines in
+    let same = same-names seen.words order.config l.set_up.config None (Some l.requests) order.journal l.journal order.show l.set_up.command in
+    (let e : None ≡ Some l.requests = same.requests_are in cc))

@@ -1,0 +1,76 @@
+-- Why opened journals gave no host.
+use Rattle.std.proofs.Common.{◌≡◌, ℕ, ◌<◌, List, length, Option, None, Some, refl, sym, ap, ◌∙◌, subst, arith, inl, inr, true}
+use Rattle.std.specs.Prelude.{slice_get, map, IfSome}
+use Rattle.std.specs.Option.{option_map}
+use Rattle.std.proofs.lemmas.Option.{slice_get-map}
+use Rattle.issuer_base.specs.OutsideFaults.{Rose, CountsFaults}
+use Rattle.issuer_base.specs.declared.outside.store.Store.{Ghosts}
+use Rattle.issuer_base.proofs.ManyCalls.{Rose-from_none}
+use Rattle.issuer_setup.specs.IssuerSetup.{Setup}
+use Rattle.shard_book.specs.declared.replay.LoadFault.{LoadFault}
+use Rattle.shard_book.specs.declared.replay.LoadFault.TheVariants.{BadLine, BadRecord, StoreFault, NoMemory}
+use Rattle.shard_book.specs.Loading.{StopsAt}
+use Rattle.host_calls.specs.Loading.{ComeBack, IsNotLoaded}
+use Rattle.issuer_top.specs.Seen.{Logged, store_seen}
+use Rattle.issuer_top.specs.Journals.{journal_name, IsOpened, AreOpened}
+use Rattle.issuer_top.specs.Loading.{DeskFaults, HasOpenedAll, GivesNoHost, stop_of_load}
+use Rattle.issuer_top.proofs.KeptSteps.{at-place, mapped}
+
+-- what is true of the bytes of a store is true of what the desk told of it
+told-held : (P : List ℕ → Type 0) (held bytes : Option (List ℕ)) → IfSome held (λ told. bytes ≡ Some told) → IfSome bytes P → IfSome held P
+told-held P None bytes same holds = tt
+told-held P (Some told) bytes same holds = subst (λ (b : Option (List ℕ)). IfSome b P) same holds
+
+module _ {S : Type 0} (G : Ghosts S) (issuer : Setup) (prefix : List ℕ) (logs : Logged) (desk : DeskFaults) (stores back : List S) (failed : ℕ)
+    (opened : AreOpened G prefix logs stores) (count : length stores ≡ issuer.shards) (stood : desk.after ≡ desk.before) where
+  module _ (fault : LoadFault) (come : ComeBack G.bytes G.disk G.faults issuer stores failed fault back) where
+    all-opened : HasOpenedAll issuer desk (map (store_seen G) back)
+    all-opened = record { stores_are = mapped (store_seen G) back ∙ come.count_is ∙ count; desk_stood = stood }
+
+    within : failed < issuer.shards
+    within = (let w = come.within in omega (arith, w, count))
+
+    -- the store that failed, before and after
+    before : (store : S) × (slice_get stores failed ≡ Some store)
+    before = at-place stores failed come.within
+
+    after : (store : S) × (slice_get back failed ≡ Some store)
+    after = at-place back failed (let w = come.within in let c = come.count_is in omega (arith, w, c))
+
+    not-loaded : IsNotLoaded G.bytes G.disk G.faults issuer failed before.0 fault after.0
+    not-loaded = come.at before.0 after.0 before.1 after.1
+
+    log : IsOpened G (logs (journal_name prefix failed)) before.0
+    log = opened failed before.0 before.1
+
+    seen-after : slice_get (map (store_seen G) back) failed ≡ Some (store_seen G after.0)
+    seen-after = slice_get-map (store_seen G) back failed ∙ ap (option_map (store_seen G)) after.1
+
+  pub gives-no_host : (fault : LoadFault) → ComeBack G.bytes G.disk G.faults issuer stores failed fault back
+      → GivesNoHost issuer prefix logs desk (map (store_seen G) back) (stop_of_load fault failed)
+  gives-no_host StoreFault come =
+      let new = log StoreFault come in
+      let not = not-loaded StoreFault come in
+      let rose : Rose 0 (G.faults (after StoreFault come).0) = subst (λ (n : ℕ). Rose n (G.faults (after StoreFault come).0)) new.new not.counts.counted in
+      inr (record {
+        opened = all-opened StoreFault come;
+        within = within StoreFault come;
+        store = store_seen G (after StoreFault come).0;
+        store_is = seen-after StoreFault come;
+        failed = Rose-from_none (G.faults (after StoreFault come).0) rose;
+      })
+  gives-no_host (BadLine line) come = record {
+    opened = all-opened (BadLine line) come;
+    within = within (BadLine line) come;
+    fault = BadLine line;
+    line_is = inl refl;
+    stops = told-held _ _ _ (log (BadLine line) come).bytes_are (not-loaded (BadLine line) come).stops;
+  }
+  gives-no_host (BadRecord line) come = record {
+    opened = all-opened (BadRecord line) come;
+    within = within (BadRecord line) come;
+    fault = BadRecord line;
+    line_is = inr refl;
+    stops = told-held _ _ _ (log (BadRecord line) come).bytes_are (not-loaded (BadRecord line) come).stops;
+  }
+  gives-no_host NoMemory come = stood

@@ -1,0 +1,23 @@
+-- One journal more is opened, or not.
+use Rattle.std.proofs.Common.{◌≡◌, ◌+◌, ◌<◌, ◌≤◌, ℕ, refl, sym, ap, subst, ◌∙◌, arith, length}
+use Rattle.issuer_top.specs.Journals.{journal_name, AreOpened}
+use Rattle.issuer_top.proofs.JournalSteps.{names-apart, opened-more, length-more}
+use Rattle.issuer_top.proofs.journals.open_journals.Goals as goal
+
+pub loop-shard-preserved : goal.loop-shard-preserved
+loop-shard-preserved g c =
+    let before = c.loop-shard.invariant in
+    let named = before.ahead c.loop-shard.shard (omega arith) in
+    record {
+      count = ap length c.push_reserved.ensures.items ∙ length-more g.D.Journal.Store c.loop-shard.stores.items c.in-Ok-open_journal.store ∙ ap (λ n. n + 1) before.count;
+      room = c.push_reserved.ensures.capacity ∙ before.room;
+      opened = subst (AreOpened g.D.Journal.Store c.args.prefix.now (g.D.Desk.logs c.args.desk.now)) (sym c.push_reserved.ensures.items)
+          (opened-more g.D.Journal.Store c.args.prefix.now (g.D.Desk.logs c.args.desk.now) c.loop-shard.stores.items c.in-Ok-open_journal.store
+          c.loop-shard.shard (g.D.Desk.logs c.loop-shard.desk (journal_name c.args.prefix.now c.loop-shard.shard)) before.opened (sym before.count) named c.in-Ok-open_journal.ensures.opened);
+      stood = c.in-Ok-open_journal.ensures.count.counted ∙ before.stood;
+      kept = c.open_journal.ensures.kept ∙ before.kept;
+      ahead = λ shard later.
+          c.open_journal.ensures.others (journal_name c.args.prefix.now shard) (λ same.
+          let twice = names-apart c.args.prefix.now shard c.loop-shard.shard same in
+          omega (arith, twice, later)) ∙ before.ahead shard (omega (arith, later));
+    }

@@ -1,0 +1,44 @@
+-- What the pairs from the last one on give the option.
+use Rattle.std.proofs.Common.{◌≡◌, ◌+◌, ◌-◌, ◌*◌, ◌<◌, ◌≤◌, true, false, refl, sym, ap, ◌∙◌, arith, length, drop, rules}
+use Rattle.std.specs.Prelude.{slice_get}
+use Rattle.std.specs.Str.{bytes_eq}
+use Rattle.issuer_top.specs.Command.{values_of}
+use Rattle.issuer_top.specs.Pairs.{only, pairs_of}
+use Rattle.issuer_top.proofs.CommandWords.{values-more, values-same, only-by_count}
+use Rattle.issuer_top.proofs.words.value_of.Goals as goal
+
+pub loop-left-preserved-then-eq : goal.loop-left-preserved-then-eq
+loop-left-preserved-then-eq c =
+    let some : 0 < c.loop-left.left = omega arith in
+    let same : bytes_eq c.word-name.result.now c.args.option.now ≡ true = search rules in
+    let more = values-more c.args.words.now c.loop-left.left some c.word-name.result.now c.word-given.result.now c.word-name.ensures c.word-given.ensures
+    c.args.option.now same in
+    let before = c.loop-left.invariant.count in
+    let long = ap length more in
+    record { first = sym (ap (λ values. slice_get values 0) more); count = omega (arith, before, long); few = omega arith; within = omega arith }
+
+pub loop-left-preserved : goal.loop-left-preserved
+loop-left-preserved c =
+    let some : 0 < c.loop-left.left = omega arith in
+    let other : bytes_eq c.word-name.result.now c.args.option.now ≡ false = search rules in
+    let same = values-same c.args.words.now c.loop-left.left some c.word-name.result.now c.word-given.result.now c.word-name.ensures c.word-given.ensures c.args.option.now other in
+    record {
+      first = c.loop-left.invariant.first ∙ sym (ap (λ values. slice_get values 0) same);
+      count = c.loop-left.invariant.count ∙ sym (ap length same);
+      few = omega arith;
+      within = omega arith;
+    }
+
+pub returns-then-times-eq1 : goal.returns-then-times-eq1
+returns-then-times-eq1 c =
+    let none : c.loop-left.left ≡ 0 = omega arith in
+    let at = ap (λ n. values_of c.args.option.now (pairs_of (drop (2 * n + 1) c.args.words.now))) none in
+    let found = only-by_count _ _ _ c.loop-left.invariant.first c.loop-left.invariant.count in
+    sym (found.0 c.if-times-eq1.true) ∙ ap only at
+
+pub returns-else-times-eq1 : goal.returns-else-times-eq1
+returns-else-times-eq1 c =
+    let none : c.loop-left.left ≡ 0 = omega arith in
+    let at = ap (λ n. values_of c.args.option.now (pairs_of (drop (2 * n + 1) c.args.words.now))) none in
+    let found = only-by_count _ _ _ c.loop-left.invariant.first c.loop-left.invariant.count in
+    sym (found.1 c.if-times-eq1.false) ∙ ap only at

@@ -1,0 +1,77 @@
+-- Why the journals of an issuer's shards gave no host.
+use Rattle.std.specs.Prelude.{◌≡◌, ℕ, ◌<◌, ◌⊎◌, Bool, true, false, List, [], length, slice_get, Option, Some, IfSome, Result, Err}
+use Rattle.issuer_base.specs.Desk.{FailedCall}
+use Rattle.issuer_base.specs.OutsideFaults.{Rose}
+use Rattle.issuer_base.specs.declared.outside.DeskCall.TheVariants.{Log}
+use Rattle.answer_text.specs.declared.stop_line.Stop.{Stop}
+use Rattle.answer_text.specs.declared.stop_line.Stop.TheVariants.{Usage, Config, ReadFault, StoreFault, BadJournal, NoMemory, TooLong}
+use Rattle.issuer_setup.specs.IssuerSetup.{Setup}
+use Rattle.shard_book.specs.declared.replay.LoadFault.{LoadFault}
+use Rattle.shard_book.specs.declared.replay.LoadFault.TheVariants.{BadLine, BadRecord, StoreFault as FailedStore, NoMemory as NoRoom}
+use Rattle.shard_book.specs.Loading.{StopsAt}
+use Rattle.issuer_top.specs.Seen.{Logged, SeenStore}
+use Rattle.issuer_top.specs.Journals.{journal_name}
+
+-- the desk's counts of faults before and after, and its last call that failed
+pub record DeskFaults : Type 0 where
+  pub before : ℕ
+  pub after : ℕ
+  pub last : Option FailedCall
+
+-- the desk failed at the name of this shard's journal, once those of the shards before were opened
+pub record FailsToLog (issuer : Setup) (prefix : List ℕ) (desk : DeskFaults) (stores : List SeenStore) (shard : ℕ) : Type 0 where
+  pub within : shard < issuer.shards
+  pub stores_are : length stores ≡ shard
+  pub rose : Rose desk.before desk.after
+  pub call_is : desk.last ≡ Some (record { call = Log; name = journal_name prefix shard })
+
+-- all journals were opened, and the desk failed at none
+pub record HasOpenedAll (issuer : Setup) (desk : DeskFaults) (stores : List SeenStore) : Type 0 where
+  pub stores_are : length stores ≡ issuer.shards
+  pub desk_stood : desk.after ≡ desk.before
+
+-- the store of this shard failed while its journal was loaded
+pub record FailsToLoad (issuer : Setup) (desk : DeskFaults) (stores : List SeenStore) (shard : ℕ) : Type 0 where
+  pub opened : HasOpenedAll issuer desk stores
+  pub within : shard < issuer.shards
+  pub store : SeenStore
+  pub store_is : slice_get stores shard ≡ Some store
+  pub failed : 0 < store.faults
+
+-- a line with this number is bad: it is that of no record, or of one that may not come next
+abbrev pub IsBadLine : LoadFault → ℕ → Type 0
+IsBadLine fault line = (fault ≡ BadLine line) ⊎ (fault ≡ BadRecord line)
+
+-- where the desk told of this shard's journal, it had the text of a legal history, and behind it this bad line
+pub record IsBadAt (issuer : Setup) (prefix : List ℕ) (logs : Logged) (desk : DeskFaults) (stores : List SeenStore) (shard line : ℕ) : Type 0 where
+  pub opened : HasOpenedAll issuer desk stores
+  pub within : shard < issuer.shards
+  pub fault : LoadFault
+  pub line_is : IsBadLine fault line
+  pub stops : IfSome (logs (journal_name prefix shard)) (λ text. StopsAt issuer shard [] text fault)
+
+-- why there is no host
+abbrev pub GivesNoHost : Setup → List ℕ → Logged → DeskFaults → List SeenStore → Stop → Type 0
+GivesNoHost issuer prefix logs desk stores (StoreFault shard) = FailsToLog issuer prefix desk stores shard ⊎ FailsToLoad issuer desk stores shard
+GivesNoHost issuer prefix logs desk stores (BadJournal shard line) = IsBadAt issuer prefix logs desk stores shard line
+GivesNoHost issuer prefix logs desk stores NoMemory = desk.after ≡ desk.before
+GivesNoHost issuer prefix logs desk stores Usage = ⊥
+GivesNoHost issuer prefix logs desk stores (Config part index) = ⊥
+GivesNoHost issuer prefix logs desk stores ReadFault = ⊥
+GivesNoHost issuer prefix logs desk stores (TooLong line) = ⊥
+
+-- how a run stops where a shard can't be loaded
+abbrev pub stop_of_load : LoadFault → ℕ → Stop
+stop_of_load FailedStore shard = StoreFault shard
+stop_of_load (BadLine line) shard = BadJournal shard line
+stop_of_load (BadRecord line) shard = BadJournal shard line
+stop_of_load NoRoom shard = NoMemory
+
+-- why a journal can't be opened
+abbrev pub IsUnopened : ℕ → Stop → Type 0
+IsUnopened shard stop = (stop ≡ StoreFault shard) ⊎ (stop ≡ NoMemory)
+
+-- whether the desk failed at it
+abbrev pub is_log_fault : {T : Type 0} → Result T Stop → Bool
+is_log_fault (Err (StoreFault shard)) = true
+is_log_fault _ = false

@@ -1,0 +1,134 @@
+//! Runs over journals: across restarts, with stores that fail, and over journals that can't be loaded.
+
+use super::*;
+use issuer_base::Store;
+
+/// What a run over this desk writes, its status, and the bytes of its first journal.
+fn run_over<R: AllocGlobal>(
+    rt: &R,
+    words: &[&str],
+    desk: MemoryDesk,
+) -> Result<(u8, String, Vec<u8>), Fail> {
+    let mut out = MemorySink::new(rt.alloc(), 65_536, Vec::new(rt.alloc()))?;
+    let Ended {
+        status,
+        desk: _desk,
+        config: _config,
+        requests: _requests,
+        stores,
+    } = issue(rt, &words_of(rt.alloc(), words)?, desk, &mut out);
+    let text = String::from_utf8(out.bytes().to_vec(rt.alloc())?)?;
+    Ok((status, text, first_bytes(rt.alloc(), &stores)))
+}
+
+/// The bytes of the first store, all of which are safe; none where there is no store.
+fn first_bytes(alloc: Global, stores: &[MemoryStore]) -> Vec<u8> {
+    let Some(store) = stores.first() else {
+        return Vec::new(alloc);
+    };
+    match store.image(store.len()) {
+        Ok(Some(bytes)) => bytes,
+        _ => Vec::new(alloc),
+    }
+}
+
+/// A desk over the configuration, these lines, and a first journal of these bytes whose store fails at these calls.
+fn desk_over(
+    alloc: Global,
+    requests: &str,
+    journal: &[u8],
+    fails: &[u64],
+) -> Result<MemoryDesk, Fail> {
+    let mut desk = desk_of(alloc, CONFIG, requests)?;
+    let name = String::from_str(alloc, "journal.00")?;
+    desk.journal(name, journal.to_vec(alloc)?, 65_536, fails.to_vec(alloc)?)?;
+    Ok(desk)
+}
+
+const KEPT: &str = "kept 0 0 yes 3030 8a023030910a02369be26b4161bc3030\n";
+
+#[test]
+fn answers_across_runs_as_the_journal_says(rt: HostRuntime) -> Result<(), Fail> {
+    let alloc = rt.alloc();
+    let seven = line(alloc, 7, AC)?;
+    let twice = format!(in alloc; "{seven}{seven}")?;
+    let (status, text, bytes) = run_over(
+        &rt,
+        &COMMAND,
+        desk_over(alloc, twice.as_str(), b"", &[])?,
+    )?;
+    let expected = format!(in alloc; "{FRESH}{KEPT}")?;
+    assert_eq!(rt; text, expected);
+    assert_eq!(rt; status, 0);
+
+    let desk = desk_over(alloc, seven.as_str(), bytes.as_slice(), &[])?;
+    let (status, text, bytes) = run_over(&rt, &COMMAND, desk)?;
+    assert_eq!(rt; text.as_str(), KEPT);
+    assert_eq!(rt; status, 0);
+
+    let (status, text, _bytes) = run_over(
+        &rt,
+        &SHOW,
+        desk_over(alloc, "", bytes.as_slice(), &[])?,
+    )?;
+    assert_eq!(rt;
+        text.as_str(),
+        "4000000000000002 00 hi 7 status 0 queued 0 done 0 flight 7 0 ok\n4000000000000010 00 hi - status 0 queued 0 done 0 flight - ok\n"
+    );
+    assert_eq!(rt; status, 0);
+    Ok(())
+}
+
+#[test]
+fn names_the_journal_that_it_cannot_open_or_load(rt: HostRuntime) -> Result<(), Fail> {
+    let alloc = rt.alloc();
+    let mut desk = MemoryDesk::new(alloc, vec![in alloc; 1]?);
+    let name = String::from_str(alloc, "config")?;
+    desk.input(name, CONFIG.as_bytes().to_vec(alloc)?, Vec::new(alloc))?;
+    let (status, text, _bytes) = run_over(&rt, &COMMAND, desk)?;
+    assert_eq!(rt; text.as_str(), "stop 5 0\n");
+    assert_eq!(rt; status, 5);
+
+    for (journal, fails, status, last) in [
+        (
+            b"s 4000000000000002ffff 00 3\nx\n".as_slice(),
+            [9],
+            6,
+            "stop 6 0 2\n",
+        ),
+        (
+            b"s 4000000000000002ffff 00 3\n".as_slice(),
+            [0],
+            5,
+            "stop 5 0\n",
+        ),
+        (b"s 4000000000000002ffff 00 3\ns 40".as_slice(), [9], 0, ""),
+    ] {
+        let desk = desk_over(alloc, "", journal, &fails)?;
+        let (found, text, _bytes) = run_over(&rt, &COMMAND, desk)?;
+        assert_eq!(rt; text.as_str(), last);
+        assert_eq!(rt; found, status);
+    }
+    Ok(())
+}
+
+/// The source gives a line a read, and the sink fails at the first answer.
+#[test]
+fn answers_before_it_waits_for_more(rt: HostRuntime) -> Result<(), Fail> {
+    let desk = LongDesk {
+        lines: 3,
+        alloc: rt.alloc(),
+    };
+    let mut out = MemorySink::new(rt.alloc(), 0, Vec::new(rt.alloc()))?;
+    let ended = issue(&rt, &words_of(rt.alloc(), &COMMAND)?, desk, &mut out);
+    let Ended {
+        status,
+        desk: _desk,
+        config: _config,
+        requests,
+        stores: _stores,
+    } = ended;
+    assert_eq!(rt; status, 4);
+    assert_eq!(rt; requests.map(|source| source.times), Some(2));
+    Ok(())
+}
