@@ -23,6 +23,7 @@ fn main(rt: HostRuntime) -> ExitCode {
         desk: _desk,
         config: _config,
         requests: _requests,
+        stores: _stores,
     } = ended;
     ExitCode::from(status)
 }
