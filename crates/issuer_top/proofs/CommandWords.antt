@@ -213,7 +213,6 @@ pub record AreNames (command : Command) (words : List (List ℕ)) (config : List
   pub journal_is : value_in words (codes "--journal") ≡ Some journal
   pub requests_are : HasRequests command words requests
 
-
 pub serve-from : (words : List (List ℕ)) (config requests journal : List ℕ) → AreWordsOf Serve words
     → value_in words (codes "--config") ≡ Some config → value_in words (codes "--requests") ≡ Some requests
     → value_in words (codes "--journal") ≡ Some journal → IsServe words config requests journal
@@ -243,7 +242,7 @@ serve-names words config requests journal call =
     let parts = parted Serve words (config ∷ requests ∷ journal ∷ []) call in
     let pairs = pairs_of (drop 1 words) in
     let lists : values_of (codes "--config") pairs ∷ values_of (codes "--requests") pairs ∷ values_of (codes "--journal") pairs ∷ []
-        ≡ (config ∷ []) ∷ (requests ∷ []) ∷ (journal ∷ []) ∷ [] = parts.once in
+    ≡ (config ∷ []) ∷ (requests ∷ []) ∷ (journal ∷ []) ∷ [] = parts.once in
     let c : values_of (codes "--config") pairs ≡ config ∷ [] = cc in
     let r : values_of (codes "--requests") pairs ≡ requests ∷ [] = cc in
     let j : values_of (codes "--journal") pairs ≡ journal ∷ [] = cc in

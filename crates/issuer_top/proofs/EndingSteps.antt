@@ -216,30 +216,35 @@ module _ (seen : Seen) (requests : Option (List ℕ)) (journal : List ℕ) (issu
       (record { before = seen.desk.faults_before; after = seen.desk.faults_after; last = seen.desk.last_fault }) seen.stores stop
       → StopsAtOnce seen stop ending → EndsBy seen ending
   ends_no_host (StoreFault shard) with_config no_requests cause stopping =
-      ends_at_once seen (StoreFault shard) ending
-      (shard, record {
-        requests = requests;
-        journal = journal;
-        issuer = issuer;
-        set_up = set_up;
-        config_is = with_config;
-        requests_is = no_requests;
-        cause = cause;
-        last = refl;
-      })
+      ends_at_once seen (StoreFault shard) ending (
+        shard,
+        record {
+          requests = requests;
+          journal = journal;
+          issuer = issuer;
+          set_up = set_up;
+          config_is = with_config;
+          requests_is = no_requests;
+          cause = cause;
+          last = refl;
+        },
+      )
       stopping
   ends_no_host (BadJournal shard line) with_config no_requests cause stopping =
-      ends_at_once seen (BadJournal shard line) ending
-      (shard, line, record {
-        requests = requests;
-        journal = journal;
-        issuer = issuer;
-        set_up = set_up;
-        config_is = with_config;
-        requests_is = no_requests;
-        cause = cause;
-        last = refl;
-      })
+      ends_at_once seen (BadJournal shard line) ending (
+        shard,
+        line,
+        record {
+          requests = requests;
+          journal = journal;
+          issuer = issuer;
+          set_up = set_up;
+          config_is = with_config;
+          requests_is = no_requests;
+          cause = cause;
+          last = refl;
+        },
+      )
       stopping
   ends_no_host NoMemory with_config no_requests cause stopping =
       ends_without_memory (record { config_is = with_config; requests_is = no_requests; desk_stood = cause }) stopping
@@ -351,10 +356,10 @@ pub ends_showing : (seen : Seen) (journal : List ℕ) (issuer : Setup) (books : 
     → WritesAll seen.sink.held_before seen.sink.held_after result (shown_text issuer books issuer.cards)
     → CountsFaults seen.sink.faults_before seen.sink.faults_after (is_err result) → EndsBy seen (shown_ending result)
 ends_showing seen journal issuer books (Ok done) opened set_up kept written counts = (
-      shown_text issuer books issuer.cards,
-      inr (record { journal = journal; issuer = issuer; books = books; opened = opened; set_up = set_up; kept = kept; shown = refl }),
-      written,
-    )
+  shown_text issuer books issuer.cards,
+  inr (record { journal = journal; issuer = issuer; books = books; opened = opened; set_up = set_up; kept = kept; shown = refl }),
+  written,
+)
 ends_showing seen journal issuer books (Err fault) opened set_up kept written counts = record {
   rose = counts.counted;
   text = shown_text issuer books issuer.cards;

@@ -21,7 +21,7 @@ module _ {S : Type 0} {G : Ghosts S} where
       (now next : List (Shard S G)) (books : List Book) (line : List ℕ) (answer : Answer)
       → HasRun issuer loaded first lines answers now books
       → ((books : List Book) → Stand issuer now books
-        → (after : List Book) × Stand issuer next after × Turn issuer books (reading issuer line) answer after)
+      → (after : List Book) × Stand issuer next after × Turn issuer books (reading issuer line) answer after)
       → ((books : List Book) → Stand issuer now books → LeaveBetween issuer books books now next)
       → (after : List Book) × HasRun issuer loaded first (lines ++ line ∷ []) (answers ++ answer ∷ []) next after
   run-line issuer loaded first lines answers now next books line answer run turn leaves =

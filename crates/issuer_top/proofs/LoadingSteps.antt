@@ -37,9 +37,6 @@ module _ {S : Type 0} (G : Ghosts S) (issuer : Setup) (prefix : List ℕ) (logs 
     after : (store : S) × (slice_get back failed ≡ Some store)
     after = at-place back failed (let w = come.within in let c = come.count_is in omega (arith, w, c))
 
-
-
-
     not-loaded : IsNotLoaded G.bytes G.disk G.faults issuer failed before.0 fault after.0
     not-loaded = come.at before.0 after.0 before.1 after.1
 

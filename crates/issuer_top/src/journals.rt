@@ -38,11 +38,13 @@ pub(crate) fn load_host<D: Desk>(
     let stores = open_journals(alloc, desk, prefix, &issuer)?;
     match Solo::load(alloc, stores, issuer) {
         Ok(host) => Ok(host),
-        Err(HostBack {
-            fault,
-            shard,
-            stores,
-        }) => Err(NoHost {
+        Err(
+            HostBack {
+                fault,
+                shard,
+                stores,
+            },
+        ) => Err(NoHost {
             cause: stop_of_load(fault, shard),
             stores,
         }),

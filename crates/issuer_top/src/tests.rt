@@ -1,5 +1,5 @@
 //! Whole runs over a desk and a sink in memory.
-ghost use Rattle.std.specs.Prelude.{None};
+ghost use Rattle.std.specs.Prelude.{◌≡◌, [], None, IfOk};
 
 mod journals;
 
@@ -23,7 +23,13 @@ const CONFIG: &str = r#"{"shards":1,
   {"tvr_mask":"0000000000","tvr_value":"0000000000","cvr_mask":"0000000000","cvr_value":"0000000000","least":0,"most":999999999999,"status":null,"arc":"3035","approve":false,"csu":"00000000"}]}"#;
 
 const COMMAND: [&str; 7] = [
-    "serve", "--config", "config", "--requests", "requests", "--journal", "journal",
+    "serve",
+    "--config",
+    "config",
+    "--requests",
+    "requests",
+    "--journal",
+    "journal",
 ];
 
 const SHOW: [&str; 5] = ["show", "--config", "config", "--journal", "journal"];
@@ -65,7 +71,10 @@ where
 }
 
 /// An empty store in memory.
-fn empty_store(alloc: Global) -> Result<MemoryStore, NoMemory> {
+fn empty_store(alloc: Global) -> Result<MemoryStore, NoMemory>
+    ensures untouched { IfOk result (λ store. store.disk.past ≡ []) }
+    ensures new { IfOk result (λ store. store.calls.faults ≡ 0) }
+{
     MemoryStore::new(alloc, Vec::new(alloc), 65_536, Vec::new(alloc))
 }
 
@@ -275,7 +284,8 @@ fn takes_words_in_any_order_each_once(rt: HostRuntime) -> Result<(), Fail> {
 }
 
 /// What is shown of the two cards on an empty journal.
-const UNTOUCHED: &str = "4000000000000002 00 hi - status 0 queued 0 done 0 flight - ok\n4000000000000010 00 hi - status 0 queued 0 done 0 flight - ok\n";
+const UNTOUCHED: &str =
+    "4000000000000002 00 hi - status 0 queued 0 done 0 flight - ok\n4000000000000010 00 hi - status 0 queued 0 done 0 flight - ok\n";
 
 /// The status of a run of these words, parted by spaces, over one line that is no request, and what it writes.
 fn run_words<R: AllocGlobal>(rt: &R, words: &str) -> Result<(u8, String), Fail> {
@@ -352,7 +362,10 @@ impl Desk for SippingDesk {
     }
 
     fn log(&mut self, _name: &str) -> Result<MemoryStore, DeskFault> {
-        empty_store(self.alloc).map_err(|_| DeskFault::NoMemory)
+        match empty_store(self.alloc) {
+            Ok(store) => Ok(store),
+            Err(NoMemory) => Err(DeskFault::NoMemory),
+        }
     }
 }
 
@@ -490,7 +503,10 @@ impl Desk for LongDesk {
     }
 
     fn log(&mut self, _name: &str) -> Result<MemoryStore, DeskFault> {
-        empty_store(self.alloc).map_err(|_| DeskFault::NoMemory)
+        match empty_store(self.alloc) {
+            Ok(store) => Ok(store),
+            Err(NoMemory) => Err(DeskFault::NoMemory),
+        }
     }
 }
 

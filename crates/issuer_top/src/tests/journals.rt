@@ -52,7 +52,11 @@ fn answers_across_runs_as_the_journal_says(rt: HostRuntime) -> Result<(), Fail> 
     let alloc = rt.alloc();
     let seven = line(alloc, 7, AC)?;
     let twice = format!(in alloc; "{seven}{seven}")?;
-    let (status, text, bytes) = run_over(&rt, &COMMAND, desk_over(alloc, twice.as_str(), b"", &[])?)?;
+    let (status, text, bytes) = run_over(
+        &rt,
+        &COMMAND,
+        desk_over(alloc, twice.as_str(), b"", &[])?,
+    )?;
     let expected = format!(in alloc; "{FRESH}{KEPT}")?;
     assert_eq!(rt; text, expected);
     assert_eq!(rt; status, 0);
@@ -62,7 +66,11 @@ fn answers_across_runs_as_the_journal_says(rt: HostRuntime) -> Result<(), Fail> 
     assert_eq!(rt; text.as_str(), KEPT);
     assert_eq!(rt; status, 0);
 
-    let (status, text, _bytes) = run_over(&rt, &SHOW, desk_over(alloc, "", bytes.as_slice(), &[])?)?;
+    let (status, text, _bytes) = run_over(
+        &rt,
+        &SHOW,
+        desk_over(alloc, "", bytes.as_slice(), &[])?,
+    )?;
     assert_eq!(rt;
         text.as_str(),
         "4000000000000002 00 hi 7 status 0 queued 0 done 0 flight 7 0 ok\n4000000000000010 00 hi - status 0 queued 0 done 0 flight - ok\n"
@@ -82,8 +90,18 @@ fn names_the_journal_that_it_cannot_open_or_load(rt: HostRuntime) -> Result<(), 
     assert_eq!(rt; status, 5);
 
     for (journal, fails, status, last) in [
-        (b"s 4000000000000002ffff 00 3\nx\n".as_slice(), [9], 6, "stop 6 0 2\n"),
-        (b"s 4000000000000002ffff 00 3\n".as_slice(), [0], 5, "stop 5 0\n"),
+        (
+            b"s 4000000000000002ffff 00 3\nx\n".as_slice(),
+            [9],
+            6,
+            "stop 6 0 2\n",
+        ),
+        (
+            b"s 4000000000000002ffff 00 3\n".as_slice(),
+            [0],
+            5,
+            "stop 5 0\n",
+        ),
         (b"s 4000000000000002ffff 00 3\ns 40".as_slice(), [9], 0, ""),
     ] {
         let desk = desk_over(alloc, "", journal, &fails)?;

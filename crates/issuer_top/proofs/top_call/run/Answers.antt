@@ -32,7 +32,7 @@ returns-in-Err-read_issuer g c =
 pub returns-in-Err-load_host : goal.returns-in-Err-load_host
 returns-in-Err-load_host g c =
     let set_up = IsSetUp-from_said _ _ _ _ _ _ c.in-Some.ensures.command (gives_input _ _ c.in-Ok.ensures.input c.in-Ok.ensures.absent)
-        c.in-Ok-read_issuer.ensures.says in
+    c.in-Ok-read_issuer.ensures.says in
     ends_no_host _ _ _ _ _ set_up _ refl refl
     (no_host-since _ _ _ _ _ _ _ _ _ _ c.in-Ok.ensures.kept_logs c.in-Ok.ensures.count.counted c.in-Err-load_host.ensures.none)
     (record { stops = c.stop_with-in-Err-load_host.ensures.ended; count = c.stop_with-in-Err-load_host.ensures.count })

@@ -19,7 +19,7 @@ returns-in-Err-read g c = λ words given config journal set_up ready again same_
     let shards = c.args.host.are_shards in
     let first = begins c.args.host.issuer journal (g.D.Desk.logs given) c.args.host.shards.items ready shards in
     let kept = keep-journals _ journal _ c.args.host.shards.items c.args.host.shards.items ready shards shards
-        (g.met.D.Journal.Store g.world.𝓛 g.world.𝓜 g.world.𝓡 (λ s h. h, λ h. h, λ h. h, λ h. h)).told_bytes (ap (map (store_seen g.D.Journal.Store)) c.close-in-Err-read.ensures) first.books first.has_run.stand first.has_run.leave in
+    (g.met.D.Journal.Store g.world.𝓛 g.world.𝓜 g.world.𝓡 (λ s h. h, λ h. h, λ h. h, λ h. h)).told_bytes (ap (map (store_seen g.D.Journal.Store)) c.close-in-Err-read.ensures) first.books first.has_run.stand first.has_run.leave in
     ends_no_requests _ c.args.name.now journal _ set_up (Unit {0}) _ _ c.in-Err-read.fault _ _ refl refl kept same_faults c.in-Err-read.ensures.count
     c.in-Err-read.ensures.last (record { stops = rw c.stop_at.ensures at c.stop_with-in-Err-read.ensures.ended; count = c.stop_with-in-Err-read.ensures.count })
 

@@ -12,7 +12,7 @@ loop-left-preserved-then-eq c =
     let some : 0 < c.loop-left.left = omega arith in
     let same : bytes_eq c.word-name.result.now c.args.option.now ≡ true = search rules in
     let more = values-more c.args.words.now c.loop-left.left some c.word-name.result.now c.word-given.result.now c.word-name.ensures c.word-given.ensures
-        c.args.option.now same in
+    c.args.option.now same in
     let before = c.loop-left.invariant.count in
     let long = ap length more in
     record { first = sym (ap (λ values. slice_get values 0) more); count = omega (arith, before, long); few = omega arith; within = omega arith }
