@@ -1,7 +1,7 @@
 -- The words of a command: their pairs, and what each option is given.
 use Rattle.std.proofs.Common.{◌≡◌, ℕ, ◌+◌, ◌-◌, ◌*◌, ◌<◌, ◌≤◌, zero, suc, Bool, true, false, List, [], ◌∷◌, length, drop, Option, refl, sym, ap, ◌∙◌, subst, arith, add-one}
-use Rattle.std.proofs.Common.{drop-cons, get_or}
-use Rattle.std.specs.Prelude.{◌||◌, ◌&&◌, ◌==◌, ◌≢◌, ◌%◌, ◌/◌, not, if◌then◌else◌, map, slice_get, Some, None, IsTrue, codes, All}
+use Rattle.std.proofs.Common.{drop-cons}
+use Rattle.std.specs.Prelude.{◌&&◌, ◌==◌, ◌%◌, ◌/◌, not, if◌then◌else◌, map, slice_get, Some, None, IsTrue, codes}
 use Rattle.std.specs.Str.{bytes_eq}
 use Rattle.std.specs.List.{AllByRecursion}
 use Rattle.std.proofs.lemmas.Bool.{eq-eqb, eqb-true, false_from_ne_true}
@@ -10,7 +10,7 @@ use Rattle.std.proofs.lemmas.List.{drop_all}
 use Rattle.std.proofs.lemmas.List.Elements.{All-from_recursion, recursion_from_All}
 use Rattle.issuer_top.specs.declared.words.Command.{Command}
 use Rattle.issuer_top.specs.declared.words.Command.TheVariants.{Serve, Show}
-use Rattle.issuer_top.specs.Command.{IsValue, Pair, words_of, values_of, is_one_of, IsCall, IsServe, IsShow, IsCommand, serve_options, show_options}
+use Rattle.issuer_top.specs.Command.{IsValue, Pair, words_of, values_of, is_one_of, IsCall, IsServe, IsShow, IsCommand}
 use Rattle.issuer_top.specs.Pairs.{is_value, first_word, options_of, pairs_of, is_pair, are_pairs, only, value_in}
 
 -- ---- the pairs of words

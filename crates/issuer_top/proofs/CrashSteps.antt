@@ -1,5 +1,5 @@
 -- What a crash since a journal was opened may leave of it.
-use Rattle.std.proofs.Common.{◌≡◌, ℕ, ◌≤◌, List, [], ◌∷◌, ◌++◌, length, Option, None, Some, refl, sym, ap, ◌∙◌, subst, arith, inl, inr, append_assoc}
+use Rattle.std.proofs.Common.{◌≡◌, ℕ, List, [], ◌∷◌, ◌++◌, length, Option, None, Some, sym, ap, ◌∙◌, subst, arith, inl, inr, append_assoc}
 use Rattle.std.specs.Prelude.{IfSome, ◌⊎◌}
 use Rattle.issuer_base.specs.Stores.{BothTold, Disk, Moment, LeavesOnly, LeavesSince, present, timeline}
 use Rattle.issuer_base.specs.Tells.{Tells}

@@ -1,7 +1,7 @@
 -- How a run ends, from what its parts did.
-use Rattle.std.proofs.Common.{◌≡◌, ℕ, ◌<◌, ◌≤◌, Bool, true, false, List, [], ◌++◌, Option, None, Some, Err, Ok, cond, inl, inr, ⊎_elim}
-use Rattle.std.proofs.Common.{refl, sym, subst, ap, ◌∙◌, arith, length}
-use Rattle.std.specs.Prelude.{is_some, IsSomeAnd, map, Result, is_err}
+use Rattle.std.proofs.Common.{◌≡◌, ℕ, ◌<◌, ◌≤◌, Bool, true, false, List, [], ◌++◌, Option, None, Some, Err, Ok, inl, inr, ⊎_elim}
+use Rattle.std.proofs.Common.{refl, sym, subst, ap, ◌∙◌, arith}
+use Rattle.std.specs.Prelude.{is_some, IsSomeAnd, Result, is_err}
 use Rattle.std.specs.Io.KnownBytes.{Appends}
 use Rattle.std.proofs.KnownBytes.{Appends-nil, Appends-trans}
 use Rattle.issuer_base.specs.OutsideFaults.{Rose, CountsFaults}
@@ -19,27 +19,25 @@ use Rattle.answer_text.specs.declared.stop_line.Stop.{Stop}
 use Rattle.answer_text.specs.declared.stop_line.Stop.TheVariants.{Usage, Config, ReadFault, StoreFault, BadJournal, NoMemory, TooLong}
 use Rattle.issuer_setup.specs.IssuerSetup.{Setup}
 use Rattle.shard_book.specs.declared.shard.Shard.{Shard}
-use Rattle.shard_book.specs.Shards.{store_in}
 use Rattle.host_calls.specs.Books.{Book}
-use Rattle.host_calls.specs.Hosts.{AreShards, Stand}
+use Rattle.host_calls.specs.Hosts.{Stand}
 use Rattle.host_calls.specs.OneHistory.{LoadsAgain}
 use Rattle.host_calls.specs.Runs.{LeaveBetween}
 use Rattle.issuer_top.specs.declared.ending.Ending.{Ending}
-use Rattle.issuer_top.specs.declared.ending.Ending.TheVariants.{Done, WriteFault}
 use Rattle.issuer_top.specs.declared.serve.Served.{Served}
 use Rattle.issuer_top.specs.declared.serve.Served.TheVariants.{All, ReadFault as ReadStopped, WriteFault as SinkFault, TooLong as LongStopped}
-use Rattle.issuer_top.specs.Seen.{Seen, SeenInput, SeenStore, Logged, store_seen}
+use Rattle.issuer_top.specs.Seen.{Seen, SeenInput, SeenStore, Logged}
 use Rattle.issuer_top.specs.Answered.{AllAnswered, WholeAnswered, FrontAnswered, PassedAnswered}
 use Rattle.issuer_top.specs.Configuration.{Says, GivesNoIssuer, is_read_stop}
 use Rattle.issuer_top.specs.Opening.{GivesInput, stop_of}
 use Rattle.issuer_top.specs.Command.{IsCommand, IsNoCommand}
 use Rattle.issuer_top.specs.Journals.{IsReady}
-use Rattle.issuer_top.specs.Loading.{DeskFaults, GivesNoHost}
+use Rattle.issuer_top.specs.Loading.{GivesNoHost}
 use Rattle.issuer_top.specs.Kept.{KeepJournals}
 use Rattle.issuer_top.specs.Shown.{shown_text}
-use Rattle.issuer_top.specs.Serving.{ServesLines, Serves, StartsFrom, read_failed, write_failed}
-use Rattle.issuer_top.specs.Stopping.{StopsBy, is_broken, GivesStop, GivesNothing, EndsServing, shown_ending}
-use Rattle.issuer_top.specs.Endings.{HasOpened, IsSetUp, AnswersLines, IsShown, Stops, EndsBy}
+use Rattle.issuer_top.specs.Serving.{ServesLines, Serves, read_failed, write_failed}
+use Rattle.issuer_top.specs.Stopping.{is_broken, GivesStop, EndsServing, shown_ending}
+use Rattle.issuer_top.specs.Endings.{HasOpened, IsSetUp, AnswersLines, Stops, EndsBy}
 
 -- an input that a desk gave is one that stands there
 pub gives_input : (told : Option (Option (List ℕ))) (left : Option (List ℕ)) → Tells told left → (told ≡ Some None → false ≡ true) → GivesInput told left

@@ -1,5 +1,5 @@
 -- The journals of a run: what they were and what they are.
-use Rattle.std.proofs.Common.{◌≡◌, ℕ, ◌<◌, zero, suc, List, [], ◌∷◌, ◌++◌, length, Option, None, Some, refl, sym, ap, ◌∙◌, subst, arith, inl, inr}
+use Rattle.std.proofs.Common.{◌≡◌, ℕ, ◌<◌, zero, suc, List, [], ◌∷◌, length, Option, None, Some, refl, sym, ap, ◌∙◌, subst, arith}
 use Rattle.std.specs.Prelude.{slice_get, map, IfSome}
 use Rattle.std.proofs.lemmas.Option.{slice_get_within}
 use Rattle.issuer_base.specs.Tells.{Tells}
@@ -14,7 +14,7 @@ use Rattle.host_calls.specs.Runs.{LeaveBetween}
 use Rattle.host_calls.proofs.Running.{Begins, run-none, begins-legal, holds-journal}
 use Rattle.issuer_top.specs.Seen.{Seen, SeenStore, store_seen, Logged}
 use Rattle.issuer_top.specs.Journals.{journal_name, IsReady}
-use Rattle.issuer_top.specs.Kept.{WasJournal, CrashLeaves, KeepsJournal, KeepJournals}
+use Rattle.issuer_top.specs.Kept.{KeepsJournal, KeepJournals}
 use Rattle.issuer_top.specs.Serving.{StartsFrom}
 use Rattle.issuer_top.proofs.HostRuns.{recorded}
 use Rattle.issuer_top.proofs.CrashSteps.{crash-leaves}

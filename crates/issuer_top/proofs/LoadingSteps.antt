@@ -1,15 +1,14 @@
 -- Why opened journals gave no host.
-use Rattle.std.proofs.Common.{◌≡◌, ℕ, ◌<◌, List, length, Option, None, Some, refl, sym, ap, ◌∙◌, subst, arith, inl, inr, true}
+use Rattle.std.proofs.Common.{◌≡◌, ℕ, ◌<◌, List, length, Option, None, Some, refl, ap, ◌∙◌, subst, arith, inl, inr}
 use Rattle.std.specs.Prelude.{slice_get, map, IfSome}
 use Rattle.std.specs.Option.{option_map}
 use Rattle.std.proofs.lemmas.Option.{slice_get-map}
-use Rattle.issuer_base.specs.OutsideFaults.{Rose, CountsFaults}
+use Rattle.issuer_base.specs.OutsideFaults.{Rose}
 use Rattle.issuer_base.specs.declared.outside.store.Store.{Ghosts}
 use Rattle.issuer_base.proofs.ManyCalls.{Rose-from_none}
 use Rattle.issuer_setup.specs.IssuerSetup.{Setup}
 use Rattle.shard_book.specs.declared.replay.LoadFault.{LoadFault}
 use Rattle.shard_book.specs.declared.replay.LoadFault.TheVariants.{BadLine, BadRecord, StoreFault, NoMemory}
-use Rattle.shard_book.specs.Loading.{StopsAt}
 use Rattle.host_calls.specs.Loading.{ComeBack, IsNotLoaded}
 use Rattle.issuer_top.specs.Seen.{Logged, store_seen}
 use Rattle.issuer_top.specs.Journals.{journal_name, IsOpened, AreOpened}

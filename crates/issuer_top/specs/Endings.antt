@@ -1,7 +1,6 @@
 -- How a run may end: for each ending a relation of what the run saw and of the text that was due at the sink.
 use Rattle.std.specs.Prelude.{◌≡◌, ℕ, ◌<◌, ◌⊎◌, Bool, true, false, List, [], length, ◌++◌, slice_get, Option, Some, None, is_some, IsSomeAnd, Ok, Err}
 use Rattle.std.specs.Io.KnownBytes.{Appends}
-use Rattle.issuer_base.specs.Desk.{FailedCall}
 use Rattle.issuer_base.specs.OutsideFaults.{Rose}
 use Rattle.issuer_base.specs.Sink.{AppendsFront}
 use Rattle.issuer_base.specs.Tells.{Tells}
@@ -22,7 +21,7 @@ use Rattle.issuer_top.specs.Command.{IsServe, IsShow, IsCommand, IsNoCommand}
 use Rattle.issuer_top.specs.Seen.{Seen, SeenInput, SeenStore}
 use Rattle.issuer_top.specs.Configuration.{config_stop}
 use Rattle.issuer_top.specs.Journals.{journal_name}
-use Rattle.issuer_top.specs.Loading.{DeskFaults, GivesNoHost}
+use Rattle.issuer_top.specs.Loading.{GivesNoHost}
 use Rattle.issuer_top.specs.Answered.{WasRead, AllAnswered, WholeAnswered, PassedAnswered, FrontAnswered}
 use Rattle.issuer_top.specs.Kept.{KeepJournals}
 use Rattle.issuer_top.specs.Shown.{shown_text}

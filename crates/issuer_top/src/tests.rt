@@ -2,6 +2,7 @@
 ghost use Rattle.std.specs.Prelude.{◌≡◌, [], None, IfOk};
 
 mod journals;
+mod scripts;
 
 use super::*;
 use issuer_base::{

@@ -4,7 +4,7 @@ use super::*;
 use issuer_base::Store;
 
 /// What a run over this desk writes, its status, and the bytes of its first journal.
-fn run_over<R: AllocGlobal>(
+pub(super) fn run_over<R: AllocGlobal>(
     rt: &R,
     words: &[&str],
     desk: MemoryDesk,
@@ -33,7 +33,7 @@ fn first_bytes(alloc: Global, stores: &[MemoryStore]) -> Vec<u8> {
 }
 
 /// A desk over the configuration, these lines, and a first journal of these bytes whose store fails at these calls.
-fn desk_over(
+pub(super) fn desk_over(
     alloc: Global,
     requests: &str,
     journal: &[u8],
@@ -130,5 +130,52 @@ fn answers_before_it_waits_for_more(rt: HostRuntime) -> Result<(), Fail> {
     } = ended;
     assert_eq!(rt; status, 4);
     assert_eq!(rt; requests.map(|source| source.times), Some(2));
+    Ok(())
+}
+
+/// The calls of the store are the sync of the load, an append, and the sync that fails.
+#[test]
+fn decides_anew_where_a_sync_failed(rt: HostRuntime) -> Result<(), Fail> {
+    let alloc = rt.alloc();
+    let seven = line(alloc, 7, AC)?;
+    let twice = format!(in alloc; "{seven}{seven}")?;
+    let desk = desk_over(alloc, twice.as_str(), b"", &[2])?;
+    let (status, text, bytes) = run_over(&rt, &COMMAND, desk)?;
+    let expected = format!(in alloc; "refused 15\n{FRESH}")?;
+    assert_eq!(rt; text, expected);
+    assert_eq!(rt; status, 0);
+
+    let desk = desk_over(alloc, seven.as_str(), bytes.as_slice(), &[])?;
+    let (status, text, _bytes) = run_over(&rt, &COMMAND, desk)?;
+    assert_eq!(rt; text.as_str(), KEPT);
+    assert_eq!(rt; status, 0);
+    Ok(())
+}
+
+/// The record of a decision for the first card, with a newline.
+fn decided(alloc: Global, counter: u16, ac: &str, arpc: &str) -> Result<String, AllocError> {
+    format!(in alloc;
+        "d 4000000000000002ffff003900{counter:04x}000000800026011500000000012345000000000000027609781a2b3c4d800fa501a00000000000000000000000000f000000000000000000000000000000{ac} 3030 1 8a023030910a{arpc}3030\n"
+    )
+}
+
+/// The journal has three records, the second of which has one digit changed or is the first again.
+#[test]
+fn stops_at_a_record_that_no_run_wrote(rt: HostRuntime) -> Result<(), Fail> {
+    let alloc = rt.alloc();
+    let first = decided(alloc, 1, "7c5104b1ce25f56e", "21aa145ef9f7fca4")?;
+    let third = decided(alloc, 3, "749e114d39716009", "eebfc442869f933d")?;
+    for (counter, ac, arpc) in [
+        (2, "cbfa5f912723fc40", "8c25c52ab4d925d9"),
+        (1, "7c5104b1ce25f56e", "21aa145ef9f7fca4"),
+    ] {
+        let second = decided(alloc, counter, ac, arpc)?;
+        let journal = format!(in alloc; "{first}{second}{third}")?;
+        let desk = desk_over(alloc, "X\n", journal.as_bytes(), &[])?;
+        let (status, text, bytes) = run_over(&rt, &COMMAND, desk)?;
+        assert_eq!(rt; text.as_str(), "stop 6 0 2\n");
+        assert_eq!(rt; status, 6);
+        assert_eq!(rt; bytes.as_slice(), journal.as_bytes());
+    }
     Ok(())
 }

@@ -1,5 +1,5 @@
 -- One more row has an update of four bytes.
-use Rattle.std.proofs.Common.{◌≡◌, length, subst, sym, arith, All}
+use Rattle.std.proofs.Common.{◌≡◌, length, sym, arith}
 use Rattle.std.proofs.lemmas.List.{take_all}
 use Rattle.std.proofs.lemmas.List.Elements.{All-more, All-same}
 use Rattle.decision_table.specs.declared.row.TableRow.{TableRow}

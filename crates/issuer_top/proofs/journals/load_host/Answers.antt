@@ -1,6 +1,5 @@
 -- The opened journals gave no host.
-use Rattle.std.proofs.Common.{subst, sym, ◌∙◌, refl}
-use Rattle.issuer_top.specs.Loading.{GivesNoHost}
+use Rattle.std.proofs.Common.{refl}
 use Rattle.issuer_top.proofs.LoadingSteps.{gives-no_host}
 use Rattle.issuer_top.proofs.journals.load_host.Goals as goal
 

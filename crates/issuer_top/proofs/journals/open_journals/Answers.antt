@@ -1,5 +1,5 @@
 -- One journal more is opened, or not.
-use Rattle.std.proofs.Common.{◌≡◌, ◌+◌, ◌<◌, ◌≤◌, ℕ, refl, sym, ap, subst, ◌∙◌, arith, length}
+use Rattle.std.proofs.Common.{◌+◌, sym, ap, subst, ◌∙◌, arith, length}
 use Rattle.issuer_top.specs.Journals.{journal_name, AreOpened}
 use Rattle.issuer_top.proofs.JournalSteps.{names-apart, opened-more, length-more}
 use Rattle.issuer_top.proofs.journals.open_journals.Goals as goal

@@ -1,5 +1,5 @@
 -- The journals of the first shards are opened.
-use Rattle.std.proofs.Common.{◌≡◌, ◌≤◌, ℕ, length, vec_len}
+use Rattle.std.proofs.Common.{◌≡◌, ◌≤◌, ℕ, length}
 use Rattle.std.specs.Prelude.{vec_capacity}
 use Rattle.issuer_top.specs.Journals.{journal_name, AreOpened}
 use Rattle.issuer_top.proofs.journals.open_journals.Given as goal

@@ -1,5 +1,5 @@
 -- One card more is shown, or the sink failed at it.
-use Rattle.std.proofs.Common.{◌≡◌, Some, refl, sym, ap, ◌∙◌, subst}
+use Rattle.std.proofs.Common.{◌≡◌, Some, ◌∙◌, subst}
 use Rattle.std.specs.Prelude.{slice_get}
 use Rattle.issuer_setup.specs.IssuerSetup.{Setup}
 use Rattle.issuer_top.proofs.ShowSteps.{shown-more, shown-front, shown-line, writes-err}

@@ -1,5 +1,5 @@
 -- The first cards are shown.
-use Rattle.std.proofs.Common.{◌≡◌, List, take, ℕ}
+use Rattle.std.proofs.Common.{◌≡◌, List, take}
 use Rattle.std.specs.Io.KnownBytes.{Appends}
 use Rattle.host_calls.specs.Books.{Book}
 use Rattle.host_calls.specs.Hosts.{Stand}

@@ -1,8 +1,7 @@
 -- How a run ends, stage by stage.
-use Rattle.std.proofs.Common.{refl, subst, ap, sym, ◌∙◌}
+use Rattle.std.proofs.Common.{refl, ap, ◌∙◌}
 use Rattle.std.specs.Prelude.{map}
 use Rattle.issuer_top.specs.Seen.{store_seen}
-use Rattle.issuer_top.specs.Opening.{GivesInput}
 use Rattle.issuer_top.proofs.EndingSteps.{gives_input, ends_usage, ends_no_config, ends_no_issuer, ends_no_host, IsSetUp-from_said, set_up-under}
 use Rattle.shard_book.proofs.OwnDecisions.{legal-then}
 use Rattle.issuer_top.proofs.EndingSteps.{no_host-since, ready-since, again-under}

@@ -1,5 +1,5 @@
 -- How a run ends that came to its request file.
-use Rattle.std.proofs.Common.{refl, ap, ◌∙◌, subst, sym}
+use Rattle.std.proofs.Common.{refl, ap, ◌∙◌, subst}
 use Rattle.std.specs.Prelude.{map}
 use Rattle.issuer_setup.specs.IssuerSetup.{Setup}
 use Rattle.host_calls.specs.Hosts.{AreShards}

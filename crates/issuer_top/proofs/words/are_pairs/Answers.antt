@@ -1,5 +1,5 @@
 -- The pairs from the last one on.
-use Rattle.std.proofs.Common.{◌≡◌, ◌+◌, ◌-◌, ◌*◌, ◌<◌, ◌≤◌, true, false, refl, sym, ap, ◌∙◌, arith, length, drop, rules}
+use Rattle.std.proofs.Common.{◌≡◌, ◌+◌, ◌*◌, ◌<◌, true, false, ap, ◌∙◌, arith, drop, rules}
 use Rattle.issuer_top.specs.Pairs.{are_pairs, options_of, pairs_of}
 use Rattle.issuer_top.proofs.CommandWords.{all-more, all-none}
 use Rattle.issuer_top.proofs.words.are_pairs.Goals as goal

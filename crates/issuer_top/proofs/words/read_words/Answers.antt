@@ -1,7 +1,6 @@
 -- Words that aren't taken are no command, and those that are taken are one.
-use Rattle.std.proofs.Common.{◌≡◌, ◌+◌, refl, sym, ap, subst, ◌∙◌, rules, arith, Some, None}
-use Rattle.std.specs.Prelude.{◌%◌, slice_get, length}
-use Rattle.issuer_top.specs.declared.words.Command.TheVariants.{Serve, Show}
+use Rattle.std.proofs.Common.{◌≡◌, sym, ap, subst, ◌∙◌, rules, arith, Some}
+use Rattle.issuer_top.specs.declared.words.Command.TheVariants.{Serve}
 use Rattle.issuer_top.specs.Pairs.{first_word}
 use Rattle.issuer_top.proofs.CommandWords.{AreWordsOf, command-names, names-of, serve-from, show-from}
 use Rattle.issuer_top.proofs.words.read_words.Goals as goal

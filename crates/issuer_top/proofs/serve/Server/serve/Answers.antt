@@ -1,6 +1,6 @@
 -- Serving goes on by a line, and ends in one of its ways.
-use Rattle.std.proofs.Common.{rules, refl, sym, ◌∙◌, arith}
-use Rattle.issuer_top.proofs.ServingSteps.{HasServed-none, HasServed-line, answered-under, serves-end, serves-rest, serves-broken_line, serves-fault}
+use Rattle.std.proofs.Common.{rules, refl, ◌∙◌}
+use Rattle.issuer_top.proofs.ServingSteps.{HasServed-line, answered-under, serves-end, serves-rest, serves-broken_line, serves-fault}
 use Rattle.issuer_top.proofs.ServingSteps.{serves-limit}
 use Rattle.issuer_top.proofs.serve.Server.serve.Goals as goal
 
