@@ -41,7 +41,8 @@ module _ (words : List ℕ) (index counter : ℕ) (small : counter < COUNTERS) (
       (get_or-set_same words (word_of index counter) (with_bit (get_or words (word_of index counter) 0) counter) 0 within)
       ∙ bit_at_set_same w64 (get_or words (word_of index counter) 0) (counter % WORD_COUNTERS) (omega arith)
 
-  bit-other : (other_index other : ℕ) → other < COUNTERS → ((other_index ≡ index) × (other ≡ counter) → ⊥) → bit after other_index other ≡ bit words other_index other
+  bit-other : (other_index other : ℕ) → other < COUNTERS → ((other_index ≡ index) × (other ≡ counter) → ⊥)
+      → bit after other_index other ≡ bit words other_index other
   bit-other other_index other also apart =
       elim (cases_eq (word_of other_index other) (word_of index counter)) [
         | inl same ↦
@@ -80,7 +81,8 @@ added sets new index counter word long known small word_is new_is other_index ot
           ∙ ap (λ (c : ℕ). bit (after sets.words index counter small within) index c) same.1
           ∙ bit-same sets.words index counter small within in
           and_from (ltb other COUNTERS) (eqb (bit new.words other_index other) 1) (lt-ltb other COUNTERS also) (eq-eqb (bit new.words other_index other) 1 here)
-          ∙ sym (or_right (has sets other_index other) _ (and_from (eqb other_index index) (eqb other counter) (eq-eqb other_index index same.0) (eq-eqb other counter same.1)))
+          ∙ sym (or_right (has sets other_index other) _
+          (and_from (eqb other_index index) (eqb other counter) (eq-eqb other_index index same.0) (eq-eqb other counter same.1)))
       | inr apart ↦
           let none : (eqb other_index index && eqb other counter) ≡ false =
           elim (cases_eq other_index index) [

@@ -76,7 +76,8 @@ pub counted-listed : (sets : CounterSets) (index next counter : ℕ) (its : Bool
 counted-listed sets index next counter its there =
     elim (cases_eq next counter) [
       | inl same ↦
-          ap (λ (has_it : Bool). one_if (its && (eqb next counter && has_it))) (ap (has sets index) (sym same) ∙ there) ∙ ap one_if (and-true its (eqb next counter))
+          ap (λ (has_it : Bool). one_if (its && (eqb next counter && has_it))) (ap (has sets index) (sym same) ∙ there)
+          ∙ ap one_if (and-true its (eqb next counter))
       | inr apart ↦
           let none = ne_eqb next counter apart in
           ap (λ (here : Bool). one_if (its && (here && has sets index counter))) none ∙ ap (λ (here : Bool). one_if (its && here)) (sym none)
@@ -88,7 +89,8 @@ pub counted-none : (sets : CounterSets) (index next counter : ℕ) (its : Bool) 
 counted-none sets index next counter its none =
     elim (cases_eq next counter) [
       | inl same ↦
-          ap (λ (has_it : Bool). one_if (its && (eqb next counter && has_it))) (ap (has sets index) (sym same) ∙ none) ∙ ap one_if (and-false its (eqb next counter))
+          ap (λ (has_it : Bool). one_if (its && (eqb next counter && has_it))) (ap (has sets index) (sym same) ∙ none)
+          ∙ ap one_if (and-false its (eqb next counter))
       | inr apart ↦ ap (λ (here : Bool). one_if (its && (here && has sets index counter))) (ne_eqb next counter apart) ∙ ap one_if (and_right its false refl)
     ]
 
@@ -100,7 +102,8 @@ below-all sets index counter last all =
       | inl below ↦
           ap (λ (small : Bool). small && has sets index counter) (lt-ltb counter last (omega arith))
       | inr past ↦
-          and_left (ltb counter last) (has sets index counter) (le-ltb counter last (omega arith)) ∙ sym (and_left (ltb counter COUNTERS) _ (le-ltb counter COUNTERS past))
+          and_left (ltb counter last) (has sets index counter) (le-ltb counter last (omega arith))
+          ∙ sym (and_left (ltb counter COUNTERS) _ (le-ltb counter COUNTERS past))
     ]
 
 -- what stood at the front stays there, and again

@@ -98,8 +98,10 @@ next-record (entry ∷ entries) (other ∷ history) line ahead rest all others u
     let behind = texts_of entries ++ (line ++ newline ∷ ahead) in
     let whole : text_of entry ++ behind ≡ text_of other ++ (texts_of history ++ rest) =
     sym (append_assoc (text_of entry) (texts_of entries) (line ++ newline ∷ ahead)) ∙ same ∙ append_assoc (text_of other) (texts_of history) rest in
-    let both = text_of-apart entry other behind (texts_of history ++ rest) (All-head IsRecord entry entries all) (All-head IsRecord other history others) whole in
-    let more = next-record entries history line ahead rest (All-tail IsRecord entry entries all) (All-tail IsRecord other history others) unbroken torn both.1 in
+    let both =
+    text_of-apart entry other behind (texts_of history ++ rest) (All-head IsRecord entry entries all) (All-head IsRecord other history others) whole in
+    let more =
+    next-record entries history line ahead rest (All-tail IsRecord entry entries all) (All-tail IsRecord other history others) unbroken torn both.1 in
     record {
       next = more.next;
       at = more.at;
@@ -114,7 +116,8 @@ module _ (issuer : Setup) (shard : ℕ) (bytes : Option (List ℕ)) (history : L
   -- records that were loaded are the history's
   same-history : (other : List Entry) (rest : List ℕ) → Tells bytes (texts_of other ++ rest) → IsUnbroken rest → All IsRecord other → other ≡ history
   same-history other rest told unbroken records =
-      let whole : texts_of history ++ text.rest ≡ texts_of other ++ rest = subst (λ (b : Option (List ℕ)). Tells b (texts_of other ++ rest)) text.text_is told in
+      let whole : texts_of history ++ text.rest ≡ texts_of other ++ rest =
+      subst (λ (b : Option (List ℕ)). Tells b (texts_of other ++ rest)) text.text_is told in
       (texts_of-one_reading other history rest text.rest records text.records unbroken text.unbroken (sym whole)).0
 
   next-there : (fault : LoadFault) (stops : StopsAt issuer shard [] (texts_of history ++ text.rest) fault) → HasNext stops.entries history stops.line

@@ -1,6 +1,7 @@
 -- What is known of a store's text once a part of its bytes is read, and once all are.
 use Rattle.std.proofs.Common.{◌≡◌, ◌≢◌, ◌+◌, ◌-◌, ◌<◌, ◌≤◌, ℕ, min, Bool, true, false, List, [], ◌∷◌, ◌++◌, length, take, drop, refl, sym, ap, subst, ◌∙◌}
-use Rattle.std.proofs.Common.{arith, inl, inr, Option, None, Some, IfSome, Result, Err, MatchOption, MatchBool, append_assoc, length-append, length-drop, length-take, All}
+use Rattle.std.proofs.Common.{arith, inl, inr, Option, None, Some, IfSome, Result}
+use Rattle.std.proofs.Common.{Err, MatchOption, MatchBool, append_assoc, length-append, length-drop, length-take, All}
 use Rattle.std.proofs.Math.Seq.{take-add}
 use Rattle.std.proofs.lemmas.Bool.{cases_lt}
 use Rattle.std.proofs.lemmas.List.{take_all, take-append-drop, length-take-le, take-take, drop-drop}
@@ -29,7 +30,8 @@ unbroken-both front back = All-append (λ byte. byte ≢ newline) front back
 -- what is unbroken goes on unbroken
 pub unbroken-later : (bytes : List ℕ) (at count : ℕ) → IsUnbroken (take at bytes) → IsUnbroken (take count (drop at bytes))
     → IsUnbroken (take (at + count) bytes)
-unbroken-later bytes at count front more = subst IsUnbroken (sym (take-add at count bytes)) (unbroken-both (take at bytes) (take count (drop at bytes)) front more)
+unbroken-later bytes at count front more =
+    subst IsUnbroken (sym (take-add at count bytes)) (unbroken-both (take at bytes) (take count (drop at bytes)) front more)
 
 -- where a line stands ahead behind what is unbroken, a longer one stands ahead
 pub line-later : (bytes : List ℕ) (at count n : ℕ) → IsUnbroken (take at bytes) → at ≤ length bytes
@@ -166,7 +168,8 @@ module _ (issuer : Setup) (shard : ℕ) where
       let parts : ahead ≡ whole ++ newline ∷ behind =
       sym (take-append-drop room ahead)
       ∙ ap (λ l. take room ahead ++ l)
-      (sym (take-append-drop (count + 1) (drop room ahead)) ∙ ap (λ l. l ++ behind) its.ends ∙ append_assoc (take count (drop room ahead)) (newline ∷ []) behind)
+      (sym (take-append-drop (count + 1) (drop room ahead)) ∙ ap (λ l. l ++ behind) its.ends
+      ∙ append_assoc (take count (drop room ahead)) (newline ∷ []) behind)
       ∙ sym (append_assoc (take room ahead) (take count (drop room ahead)) (newline ∷ behind)) in
       record {
         entries = reads.history;

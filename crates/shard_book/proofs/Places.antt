@@ -1,5 +1,6 @@
 -- Where the row of a card stands among those of its shard.
-use Rattle.std.proofs.Common.{◌≡◌, ◌≢◌, ℕ, ◌+◌, ◌-◌, ◌*◌, ◌/◌, ◌%◌, ◌^◌, ◌<◌, ◌≤◌, ◌↔◌, false, List, [], ◌∷◌, ◌++◌, length, Some, ap, sym, ◌∙◌, subst, inl, inr, arith}
+use Rattle.std.proofs.Common.{◌≡◌, ◌≢◌, ℕ, ◌+◌, ◌-◌, ◌*◌, ◌/◌, ◌%◌, ◌^◌, ◌<◌, ◌≤◌, ◌↔◌, false}
+use Rattle.std.proofs.Common.{List, [], ◌∷◌, ◌++◌, length, Some, ap, sym, ◌∙◌, subst, inl, inr, arith}
 use Rattle.std.proofs.Math.Nat.{div-add-mod, mul_comm, mul-le-mul_right}
 use Rattle.std.proofs.lemmas.Bool.{cases_eq, cases_lt}
 use Rattle.std.proofs.lemmas.Nat.{le-div, div-add-mod'}

@@ -61,7 +61,8 @@ number-test shard shards index number inside =
           let home : number % shards ≡ shard = ap (λ (n : ℕ). n % shards) (sym same) ∙ at-home shard index shards inside in
           let place : index ≡ number / shards = sym (at-place shard index shards inside) ∙ ap (λ (n : ℕ). n / shards) same in
           eq-eqb (shard + index * shards) number same
-          ∙ sym (and_from (eqb (number % shards) shard) (eqb index (number / shards)) (eq-eqb (number % shards) shard home) (eq-eqb index (number / shards) place))
+          ∙ sym (and_from (eqb (number % shards) shard) (eqb index (number / shards))
+          (eq-eqb (number % shards) shard home) (eq-eqb index (number / shards) place))
       | inr apart ↦
           ne_eqb (shard + index * shards) number apart
           ∙ sym (elim (cases_eq (number % shards) shard) [
@@ -124,15 +125,18 @@ module _ (issuer : Setup) (rows : ShardRows) (covers : Covers rows) (history : L
   listed-if_recorded recorded =
       let home : number % rows.shards ≡ rows.shard = ap (λ (shards : ℕ). number % shards) stands.of_issuer.shards_are ∙ recorded.home in
       let within : number < rows.cards =
-      let below = slice_get_within issuer.cards number recorded.card recorded.card_is in let cards = stands.of_issuer.cards_are in omega (arith, below, cards) in
+      let below = slice_get_within issuer.cards number recorded.card recorded.card_is in
+      let cards = stands.of_issuer.cards_are in omega (arith, below, cards) in
       let row = stands.each number recorded.card (record { within = within; home = home }) recorded.card_is in
       let place = (covers.sets number home).0 within in
       let decisions = decided (name_of recorded.card) history in
       let on : eqb counter (get_or decisions recorded.is_decided.0 recorded.decision).request.atc ≡ true =
       eq-eqb counter _ (sym (ap (λ (decision : Decision). decision.request.atc) recorded.is_decided.2 ∙ recorded.on_counter)) in
-      let any = list_any_at (λ (decision : Decision). eqb counter decision.request.atc) decisions recorded.is_decided.0 recorded.decision recorded.is_decided.1 on in
+      let any =
+      list_any_at (λ (decision : Decision). eqb counter decision.request.atc) decisions recorded.is_decided.0 recorded.decision recorded.is_decided.1 on in
       and_from (eqb (number % rows.shards) rows.shard) _ (eq-eqb (number % rows.shards) rows.shard home)
-      (and_from (ltb (number / rows.shards) rows.bits.cards) (has rows.bits (number / rows.shards) counter) (lt-ltb (number / rows.shards) rows.bits.cards place)
+      (and_from (ltb (number / rows.shards) rows.bits.cards)
+      (has rows.bits (number / rows.shards) counter) (lt-ltb (number / rows.shards) rows.bits.cards place)
       (row.counters_are counter ∙ any))
 
 -- so the list has got the recorded counters

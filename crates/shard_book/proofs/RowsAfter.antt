@@ -109,7 +109,8 @@ pub step-more : (issuer : Setup) (rows now : ShardRows) → rows ≡ now → (nu
     → IsHome now number → slice_get rows.rows place ≡ Some row → (card : CardInfo) (history : List Entry) (entry : Entry) → StandsFor issuer now history
     → IsCardOf issuer number card → card_in entry ≡ name_of card → (bits : CounterSets) → Marks rows.bits bits place entry
     → (RowStandsFor card row history → RowStandsFor card new (history ++ entry ∷ []))
-    → StandsFor issuer (record { shard = rows.shard; shards = rows.shards; cards = rows.cards; rows = set rows.rows place new; bits = bits }) (history ++ entry ∷ [])
+    → StandsFor issuer (record { shard = rows.shard; shards = rows.shards; cards = rows.cards; rows = set rows.rows place new; bits = bits })
+    (history ++ entry ∷ [])
 step-more issuer rows now view number place place_is row new home row_is card history entry stands known its bits marks gains =
     let marks_there : Marks rows.bits bits (number / rows.shards) entry = subst (λ place. Marks rows.bits bits place entry) place_is marks in
     let home_inside = subst (λ (rows : ShardRows). IsHome rows number) (sym view) home in

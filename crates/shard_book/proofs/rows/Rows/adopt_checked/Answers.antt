@@ -64,7 +64,8 @@ returns-clause-adopted c accepted issuer card history stands known its at_end =
     let row_is = slice_get_read rows.rows _ c.index_of-index.result c.index_mut.result.now refl within c.index_mut.ensures.value in
     let on_counter : c.parts.result.now.atc ≡ c.args.found.request.atc = ap (λ (request : Request). request.atc) c.parts.ensures.same in
     let marks = subst (λ (atc : ℕ). (other counter : ℕ)
-    → has c.add.new.self other counter ≡ (has rows.bits other counter || (eqb other c.index_of-index.result && eqb counter atc))) on_counter c.add.ensures.added in
+    → has c.add.new.self other counter ≡ (has rows.bits other counter || (eqb other c.index_of-index.result && eqb counter atc)))
+    on_counter c.add.ensures.added in
     step-more issuer rows c.args.self.now c.self.view_is number c.index_of-index.result c.index_of-index.ensures c.index_mut.result.now c.adopt_under.new.self
     c.requires.home row_is card history (Decided c.args.found.request c.args.reply) stands known its c.add.new.self marks
     (λ before. c.adopt_under.ensures.adopted c.if-not-adopt_under.false card history before its at_end)

@@ -26,6 +26,8 @@ returns-clause-applied c issuer card history stands known next its =
     let row_is = slice_get_read rows.rows _ c.index_of-index.result c.index_mut.result.now refl within c.index_mut.ensures.value in
     let on_counter : c.parts.result.now.atc ≡ c.args.step.request.atc = ap (λ (request : Request). request.atc) (c.parts.ensures.same ∙ sym its) in
     let marks = subst (λ (atc : ℕ). (other counter : ℕ)
-    → has c.add.new.self other counter ≡ (has rows.bits other counter || (eqb other c.index_of-index.result && eqb counter atc))) on_counter c.add.ensures.added in
-    step-more issuer rows c.args.self.now c.self.view_is number c.index_of-index.result c.index_of-index.ensures c.index_mut.result.now c.apply.new.self c.requires
+    → has c.add.new.self other counter ≡ (has rows.bits other counter || (eqb other c.index_of-index.result && eqb counter atc)))
+    on_counter c.add.ensures.added in
+    step-more issuer rows c.args.self.now c.self.view_is number c.index_of-index.result
+    c.index_of-index.ensures c.index_mut.result.now c.apply.new.self c.requires
     row_is card history entry stands known next.of_card c.add.new.self marks (λ before. c.apply.ensures card history before next)
