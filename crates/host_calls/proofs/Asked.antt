@@ -184,7 +184,8 @@ asks-status issuer line pan psn status read = said-status issuer line (line_of l
 
 -- ---- refusals
 
-right-refusal : (right : Bool) (request : Request) → (let says : Result Asked Refusal = if right then Ok (Decide request) else Err BadCryptogram in says) ≡ Err StoreFault → ⊥
+right-refusal : (right : Bool) (request : Request) → (let says : Result Asked Refusal = if right then Ok (Decide request) else Err BadCryptogram in
+    says) ≡ Err StoreFault → ⊥
 right-refusal true request passes = cc
 right-refusal false request passes = cc
 

@@ -1,5 +1,6 @@
 -- Every run of turns on legal histories goes on legally, and answers by its records.
-use Rattle.std.proofs.Common.{◌≡◌, ◌≤◌, ◌<◌, ◌^◌, ◌-◌, ℕ, zero, suc, List, [], ◌∷◌, length, get_or, None, Some, Ok, refl, sym, ap, subst, ◌∙◌, inl, inr, ⊎_elim, arith}
+use Rattle.std.proofs.Common.{◌≡◌, ◌≤◌, ◌<◌, ◌^◌, ◌-◌, ℕ, zero, suc, List, [], ◌∷◌, length}
+use Rattle.std.proofs.Common.{get_or, None, Some, Ok, refl, sym, ap, subst, ◌∙◌, inl, inr, ⊎_elim, arith}
 use Rattle.std.proofs.lemmas.Bool.{cases_eq}
 use Rattle.std.proofs.lemmas.Option.{same_Some, slice_get_within, slice_get-get_or}
 use Rattle.std.specs.List.{slice_get, slice_index_or}
@@ -61,7 +62,8 @@ books-then issuer first second third on more =
           );
     }
 
-books-turn : (issuer : Setup) → LoadsAgain issuer → (before : List Book) (line : List ℕ) (answer : Answer) (after : List Book) → AreRecorded after → AreLegalBooks issuer before
+books-turn : (issuer : Setup) → LoadsAgain issuer → (before : List Book) (line : List ℕ) (answer : Answer) (after : List Book)
+    → AreRecorded after → AreLegalBooks issuer before
     → Turn issuer before (reading issuer line) answer after → BooksGoOn issuer before after
 books-turn issuer again before line answer after recorded legal turn =
     let adds = turn-adds issuer before line answer after (reading issuer line) refl turn in
@@ -161,7 +163,8 @@ module _ (issuer : Setup) (again : LoadsAgain issuer) where
               failed-within issuer first first between last (books-none issuer first legal) now others.on
               (turn-failed issuer first line answer between (reading issuer line) refl turn told)
           | suc index ↦ λ is.
-              failed-within issuer first between last last now others.on (books-none issuer last (on-legal issuer between last others.on)) (others.blamed index is)
+              failed-within issuer first between last last now others.on
+              (books-none issuer last (on-legal issuer between last others.on)) (others.blamed index is)
         ];
       }
 

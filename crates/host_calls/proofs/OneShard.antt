@@ -49,6 +49,23 @@ module _ {S : Type 0} {G : Ghosts S} where
     pub under : IsUnder issuer new
     pub number_is : number_in new ≡ number_in old
 
+  -- the clauses of the call, put together
+  pub is-called : (issuer : Setup) (old new : Shard S G) (answer : Answer) (Changes : ℕ → List Entry → List Entry → Type 0)
+      → ((history : List Entry) → StandsFor issuer old history → (after : List Entry) × StandsFor issuer new after × Changes (number_in old) history after)
+      → ((history : List Entry) → StandsFor issuer old history
+      → BothTold (LeavesOnly (IsImageOf (grounds_now issuer) (number_in old) history)) (disk_in old) (disk_in new))
+      → CountsFaults (faults_in old) (faults_in new) (is_store_fault answer) → told_in new ≡ told_after (told_in old) (is_store_fault answer)
+      → (IsUndoubted old → IsUndoubted new) → IsUnder issuer new → number_in new ≡ number_in old → IsCalled issuer old new answer Changes
+  is-called issuer old new answer Changes answers leaves counts told_is undoubted under number_is = record {
+    answers = answers;
+    leaves = leaves;
+    counts = counts;
+    told_is = told_is;
+    undoubted = undoubted;
+    under = under;
+    number_is = number_is;
+  }
+
   -- a card's number is that of a card of its shard
   pub card-at_home : (issuer : Setup) (shards : List (Shard S G)) → AreShards issuer shards → (number home : ℕ) (shard : Shard S G)
       → number < length issuer.cards → slice_get shards home ≡ Some shard → home ≡ number % issuer.shards → HasCard shard number
@@ -189,7 +206,8 @@ module _ {S : Type 0} {G : Ghosts S} where
                 let left = called.leaves was.history (subst (λ (shard : Shard S G). StandsFor issuer shard was.history) (sym old_at) stands) in
                 let number_is : number_in old ≡ number = are.numbers_are home old old_is ∙ sym same in
                 between-same issuer number before after was.history is.history same_book
-                (subst (λ (before : Shard S G). BothTold (LeavesOnly (IsImageOf (grounds_now issuer) number was.history)) (disk_in before) (disk_in after)) old_at
+                (subst (λ (before : Shard S G). BothTold (LeavesOnly (IsImageOf (grounds_now issuer) number was.history)) (disk_in before) (disk_in after))
+                old_at
                 (subst (λ (after : Shard S G). BothTold (LeavesOnly (IsImageOf (grounds_now issuer) number was.history)) (disk_in old) (disk_in after)) new_at
                 (subst (λ number. BothTold (LeavesOnly (IsImageOf (grounds_now issuer) number was.history)) (disk_in old) (disk_in new)) number_is left)))
             | inr apart ↦

@@ -108,7 +108,8 @@ module _ (issuer : Setup) (before : List Book) (name : CardName) (answer : Answe
     adds = λ shard was is was_is is_is.
         elim (cases_eq shard home) [
           | inl same ↦
-              let was_at : answers.old ≡ was = same_Some answers.old was (sym answers.old_is ∙ subst (λ shard. slice_get before shard ≡ Some was) same was_is) in
+              let was_at : answers.old ≡ was =
+              same_Some answers.old was (sym answers.old_is ∙ subst (λ shard. slice_get before shard ≡ Some was) same was_is) in
               let is_at : answers.new ≡ is = same_Some answers.new is (sym book-there ∙ subst (λ shard. slice_get after shard ≡ Some is) same is_is) in
               subst (λ shard. AddsAtMostOne issuer shard was.history is.history) (sym same)
               (subst (λ (was : Book). AddsAtMostOne issuer home was.history is.history) was_at
@@ -119,7 +120,8 @@ module _ (issuer : Setup) (before : List Book) (name : CardName) (answer : Answe
     counts = λ shard was is was_is is_is.
         elim (cases_eq shard home) [
           | inl same ↦
-              let was_at : answers.old ≡ was = same_Some answers.old was (sym answers.old_is ∙ subst (λ shard. slice_get before shard ≡ Some was) same was_is) in
+              let was_at : answers.old ≡ was =
+              same_Some answers.old was (sym answers.old_is ∙ subst (λ shard. slice_get before shard ≡ Some was) same was_is) in
               let is_at : answers.new ≡ is = same_Some answers.new is (sym book-there ∙ subst (λ shard. slice_get after shard ≡ Some is) same is_is) in
               subst (λ (was : Book). was.faults ≤ is.faults) was_at
               (subst (λ (is : Book). answers.old.faults ≤ is.faults) is_at answers.counts.never_falls)

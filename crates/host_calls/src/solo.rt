@@ -1,7 +1,8 @@
 //! The host of one caller.
 ghost use Rattle.std.specs.Prelude.{◌≡◌, ◌<◌, ◌≤◌, ◌%◌, ℕ, List, [], ◌∷◌, ◌++◌, length, map, reverse, vec_capacity, slice_get, Some, Ok, IfOk, IfErr};
 ghost use Rattle.card_history.specs.declared.decision.Asked.TheVariants.{Decide, Queue, Status};
-ghost use Rattle.issuer_setup.specs.CardList.{name_of};
+ghost use Rattle.card_history.specs.Records.{CardName};
+ghost use Rattle.issuer_setup.specs.CardList.{name_of, number_of};
 ghost use Rattle.issuer_setup.specs.IssuerSetup.{shard_of};
 ghost use Rattle.issuer_setup.specs.declared.card.CardInfo.{CardInfo};
 ghost use Rattle.line_checks.specs.AtHand.{IsRequestAtHand, IsCommandAtHand, IsStatusAtHand};
@@ -99,7 +100,7 @@ impl<S: Store> Solo<S> {
     {
         let cards = self.issuer.cards();
         prove!(card < cards);
-        let row = self.shards[usize::from(self.issuer.shard_of(card))].row(card);
+        let row = self.shards[self.home(card)].row(card);
         CardView {
             hi: row.hi(),
             status: row.status(),
@@ -122,6 +123,15 @@ impl<S: Store> Solo<S> {
         take_stores(shards, back)
     }
 
+    /// The place of the shard of the card with this number.
+    fn home(&self, card: u32) -> usize
+        ensures number { result ≡ card % self.now.issuer.shards }
+        ensures within { result < length self.now.shards.items }
+        ensures shard { (name : CardName) → number_of name self.now.issuer.cards ≡ Some card → result ≡ shard_of self.now.issuer name }
+    {
+        usize::from(self.issuer.shard_of(card))
+    }
+
     /// The answer to a request that was checked, in the shard of its card.
     fn decide(&mut self, found: &CheckedRequest) -> Answer
         requires at_hand { IsRequestAtHand self.old.issuer found.now }
@@ -133,7 +143,7 @@ impl<S: Store> Solo<S> {
             → LeaveBetween self.old.issuer books books self.old.shards.items self.new.shards.items }
         ensures issuer { self.new.issuer ≡ self.old.issuer }
     {
-        let shard = usize::from(self.issuer.shard_of(found.card));
+        let shard = self.home(found.card);
         self.shards[shard].answer(&self.issuer, found, true)
     }
 
@@ -147,7 +157,7 @@ impl<S: Store> Solo<S> {
             → LeaveBetween self.old.issuer books books self.old.shards.items self.new.shards.items }
         ensures issuer { self.new.issuer ≡ self.old.issuer }
     {
-        let shard = usize::from(self.issuer.shard_of(found.card));
+        let shard = self.home(found.card);
         self.shards[shard].queue(&self.issuer, found)
     }
 
@@ -161,7 +171,7 @@ impl<S: Store> Solo<S> {
             → LeaveBetween self.old.issuer books books self.old.shards.items self.new.shards.items }
         ensures issuer { self.new.issuer ≡ self.old.issuer }
     {
-        let shard = usize::from(self.issuer.shard_of(found.card));
+        let shard = self.home(found.card);
         self.shards[shard].set_status(&self.issuer, found)
     }
 }

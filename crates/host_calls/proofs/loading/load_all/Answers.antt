@@ -21,7 +21,8 @@ returns-in-Err-clause-stopped g c =
     let fault = c.in-Err.field-0.fault in
     let back =
     come-back issuer stores shards c.unwrap-store.result left fault after loading
-    (subst (λ number. IsNotLoaded g.S.Store.bytes g.S.Store.disk g.S.Store.faults issuer number c.unwrap-store.result fault after) (sym number_is) not_loaded) in
+    (subst (λ number. IsNotLoaded g.S.Store.bytes g.S.Store.disk g.S.Store.faults issuer number c.unwrap-store.result fault after)
+    (sym number_is) not_loaded) in
     subst (λ all. ComeBack g.S.Store.bytes g.S.Store.disk g.S.Store.faults issuer stores c.loop-number.number fault all)
     (sym (c.all_stores.ensures ∙ ap (λ taken. taken ++ after ∷ left) c.take_stores.ensures.stores))
     (subst (λ number. ComeBack g.S.Store.bytes g.S.Store.disk g.S.Store.faults issuer stores number fault
