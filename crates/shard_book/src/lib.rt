@@ -6,9 +6,11 @@ mod reading;
 mod replay;
 mod rows;
 mod shard;
+mod table;
 
 pub use replay::LoadFault;
 pub use shard::{LoadBack, Shard};
+pub use table::has_table;
 
 #[cfg(test)]
 mod tests;

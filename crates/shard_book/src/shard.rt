@@ -26,7 +26,7 @@ ghost use Rattle.shard_book.specs.Answering.{is_store_fault, told_after, Answers
 use crate::reading::take_over;
 use crate::replay::{LoadFault, Taken, TakenOver};
 use crate::rows::Rows;
-use decision_table::TableRow;
+use crate::table::has_table;
 use issuer_base::{
     Answer, Entry, MAX_FAULTS_TOLD, NoMemory, Refusal, Reply, Request, Store, StoreFail,
 };
@@ -91,7 +91,7 @@ impl<S: Store> Shard<S> {
         ensures count { IfOk result (λ loaded. CountsFaults (S.faults store) (faults_in loaded) false) }
         ensures failed { IfErr result (λ back. CountsFaults (S.faults store) (S.faults back.store) (is_store_failure back.fault)) }
     {
-        whole_updates(issuer.table().rows());
+        has_table(issuer);
         let mut store = store;
         match take_over(alloc, &mut store, issuer, shard) {
             Ok(TakenOver { rows, taken }) => open(store, rows, taken),
@@ -346,22 +346,6 @@ fn open<S: Store>(store: S, rows: Rows, taken: Taken) -> Result<Shard<S>, LoadBa
             store,
         }),
     }
-}
-
-/// Each row of a table has a card status update of four bytes: of one row its type says so, of all a proof sees it row by row.
-fn whole_updates(rows: &[TableRow])
-    ensures { All (λ row. length row.csu ≡ 4) rows.now }
-{
-    for row in rows {
-        update_of(row);
-    }
-}
-
-/// The card status update of a row.
-fn update_of(row: &TableRow) -> [u8; 4]
-    ensures { length row.now.csu ≡ 4 }
-{
-    row.csu
 }
 
 /// How many answers told that the store failed, after one more answer.

@@ -1,5 +1,5 @@
 -- What is loaded, what a load that failed leaves, and what a crash leaves meanwhile.
-use Rattle.shard_book.proofs.Exactly.{has-table, image-outside, leaves-bytes, leaves-cut, leaves-disk, leaves-failed, loads-exactly, loads-image}
+use Rattle.shard_book.proofs.Exactly.{image-outside, leaves-bytes, leaves-cut, leaves-disk, leaves-failed, loads-exactly, loads-image}
 use Rattle.shard_book.proofs.Exactly.{opens-loaded, opens-stopped, stops-outside}
 use Rattle.shard_book.proofs.LoadCrash.{crash-read, crash-opened, crash-back}
 use Rattle.shard_book.proofs.shard.Shard.load.Goals as goal
@@ -21,7 +21,7 @@ returns-in-Ok-clause-exact g c history text =
 pub returns-in-Ok-clause-image : goal.returns-in-Ok-clause-image
 returns-in-Ok-clause-image g c history left =
     let reads = c.in-Ok.ensures.taken in
-    let table = has-table c.args.issuer.now _ _ c.table.ensures c.rows.ensures.same c.rows.ensures.valid c.whole_updates.ensures in
+    let table = c.has_table.ensures in
     loads-image c.args.issuer.now table c.args.shard (g.S.Store.bytes c.args.store) history left c.open.result
     (opens-loaded c.args.issuer.now c.args.shard (g.S.Store.bytes c.args.store) (g.S.Store.bytes c.take_over.new.store) c.in-Ok.field-0.rows
     c.in-Ok.field-0.taken reads c.open.result c.in-Ok.ensures.bytes c.in-Ok.ensures.rows.1 c.open.ensures.rows c.open.ensures.holds)
@@ -29,7 +29,7 @@ returns-in-Ok-clause-image g c history left =
     c.in-Ok.field-0.taken reads c.open.result c.open.ensures.fault)
 
 pub returns-in-Ok-clause-table : goal.returns-in-Ok-clause-table
-returns-in-Ok-clause-table g c = has-table c.args.issuer.now _ _ c.table.ensures c.rows.ensures.same c.rows.ensures.valid c.whole_updates.ensures
+returns-in-Ok-clause-table g c = c.has_table.ensures
 
 pub returns-in-Ok-clause-kept : goal.returns-in-Ok-clause-kept
 returns-in-Ok-clause-kept g c =
@@ -51,11 +51,11 @@ returns-in-Err-clause-exact g c history text =
 
 pub returns-in-Err-clause-image : goal.returns-in-Err-clause-image
 returns-in-Err-clause-image g c history left =
-    let table = has-table c.args.issuer.now _ _ c.table.ensures c.rows.ensures.same c.rows.ensures.valid c.whole_updates.ensures in
+    let table = c.has_table.ensures in
     image-outside c.args.issuer.now table c.args.shard (g.S.Store.bytes c.args.store) history left c.in-Err.fault c.in-Err.ensures.stopped
 
 pub returns-in-Err-clause-table : goal.returns-in-Err-clause-table
-returns-in-Err-clause-table g c = has-table c.args.issuer.now _ _ c.table.ensures c.rows.ensures.same c.rows.ensures.valid c.whole_updates.ensures
+returns-in-Err-clause-table g c = c.has_table.ensures
 
 pub returns-in-Err-clause-kept : goal.returns-in-Err-clause-kept
 returns-in-Err-clause-kept g c = leaves-bytes c.in-Err.fault _ _ c.in-Err.ensures.bytes

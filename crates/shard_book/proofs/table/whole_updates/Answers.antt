@@ -3,7 +3,7 @@ use Rattle.std.proofs.Common.{◌≡◌, length, sym, arith}
 use Rattle.std.proofs.lemmas.List.{take_all}
 use Rattle.std.proofs.lemmas.List.Elements.{All-more, All-same}
 use Rattle.decision_table.specs.declared.row.TableRow.{TableRow}
-use Rattle.shard_book.proofs.shard.whole_updates.Goals as goal
+use Rattle.shard_book.proofs.table.whole_updates.Goals as goal
 
 pub loop-row-preserved : goal.loop-row-preserved
 loop-row-preserved c =
