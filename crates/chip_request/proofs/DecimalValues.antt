@@ -1,11 +1,13 @@
 -- A value of decimal digits alone is an account number where it has 4 to 9 bytes.
-use Rattle.std.proofs.Common.{◌≡◌, ℕ, ◌*◌, ◌/◌, ◌%◌, ◌≤◌, Bool, true, List, [], ◌∷◌, length, drop, take_while, nat_le, cond, refl, ap, ◌∙◌, arith}
+use Rattle.std.proofs.Common.{◌≡◌, ℕ, ◌*◌, ◌/◌, ◌%◌, ◌≤◌, Bool, true, false, List, [], ◌∷◌, length, drop, take_while, nat_le, cond, Option, Some, None, if◌then◌else◌}
+use Rattle.std.proofs.Common.{refl, sym, ap, ◌∙◌, arith}
 use Rattle.std.specs.List.{list_all, flat_map}
 use Rattle.std.proofs.lemmas.Bool.{and_parts, and_from, le-leb}
 use Rattle.std.proofs.lemmas.List.Sums.{take_while-cons}
-use Rattle.issuer_base.specs.CardNumber.{is_pan}
+use Rattle.issuer_base.specs.CardNumber.{is_pan, pan_from}
 use Rattle.issuer_base.specs.ChipData.{is_bcd, digits_of}
 use Rattle.chip_request.specs.Fields.{leading_digits, has_account_number}
+use Rattle.chip_request.specs.Forms.{account_number_in}
 
 are_digits : (value : List ℕ) → list_all is_bcd value ≡ true → list_all (λ digit. nat_le digit 9) (flat_map digits_of value) ≡ true
 unfolding is_bcd
@@ -39,3 +41,29 @@ all_decimal value least most all =
     (le-leb (length (flat_map digits_of value)) 19 (omega arith))) digits in
     let sized = and_from _ _ (le-leb 4 (length value) least) (le-leb (length value) 10 (omega arith)) in
     rw (whole, none_left) (and_from _ _ (and_from _ _ sized pan) refl)
+
+all_leading : (value : List ℕ) → is_pan (flat_map digits_of value) ≡ true → leading_digits value ≡ flat_map digits_of value
+unfolding leading_digits is_pan
+all_leading value pan = all_taken (λ nibble. nat_le nibble 9) (flat_map digits_of value) (and_parts _ _ pan).1
+
+has_digits : (value : List ℕ) → 4 ≤ length value → length value ≤ 10 → is_pan (flat_map digits_of value) ≡ true → has_account_number value ≡ true
+unfolding has_account_number
+has_digits value least most pan =
+    let sized = and_from _ _ (le-leb 4 (length value) least) (le-leb (length value) 10 most) in
+    rw (all_leading value pan, none_left) (and_from _ _ (and_from _ _ sized pan) refl)
+
+record IsNumber (is : Bool) (digits pan : List ℕ) : Type 0 where
+  valid : is ≡ true
+  same : digits ≡ pan
+
+number_of_digits : (is : Bool) (digits pan : List ℕ) → (if is then Some digits else None) ≡ Some pan → IsNumber is digits pan
+number_of_digits true digits pan e = record { valid = refl; same = cc }
+number_of_digits false digits pan e = absurd cc
+
+-- where all nibbles of a value are those of an account number, it is the number in the value
+pub digits_alone : (value pan : List ℕ) → 4 ≤ length value → length value ≤ 10 → pan_from (flat_map digits_of value) ≡ Some pan
+    → Some pan ≡ account_number_in value
+unfolding pan_from
+digits_alone value pan least most found =
+    let number = number_of_digits (is_pan (flat_map digits_of value)) (flat_map digits_of value) pan found in
+    rw (has_digits value least most number.valid) (ap Some (sym number.same ∙ sym (all_leading value number.valid)))

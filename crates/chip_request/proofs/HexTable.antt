@@ -41,7 +41,7 @@ low_at byte d below =
     ap (λ xs. get_or xs byte d) every_low
     ∙ get_or-map-range_with_len (λ byte. low_of (hex_digit_value byte)) 0 256 byte byte d below (omega arith)
 
-small_at : (byte : ℕ) → byte < 256 → is_small (hex_digit_value byte) ≡ true
+pub small_at : (byte : ℕ) → byte < 256 → is_small (hex_digit_value byte) ≡ true
 small_at byte below =
     sym (get_or-map-range_with_len (λ byte. is_small (hex_digit_value byte)) 0 256 byte byte true below (omega arith))
     ∙ ap (λ xs. get_or xs byte true) every_value ∙ get_or-map-range_with_len (λ _. true) 0 256 byte byte true below (omega arith)

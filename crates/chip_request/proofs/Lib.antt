@@ -1,7 +1,9 @@
 -- The laws of this crate.
 pub mod Walk
 pub mod DecimalValues
+pub mod HexDistance
 pub mod HexTable
+pub mod HexWord
 pub mod PairLoop
 pub mod Found
 pub mod Meaning

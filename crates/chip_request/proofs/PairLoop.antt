@@ -1,9 +1,11 @@
 -- Reading pairs of digits place by place.
-use Rattle.std.proofs.Common.{◌≡◌, ℕ, ◌+◌, ◌-◌, ◌*◌, ◌<◌, ◌≤◌, ◌==◌, true, false, List, [], ◌∷◌, length, take}
-use Rattle.std.proofs.Common.{drop, get_or, set, Option, Some, None, Ok, Err, is_err, refl, sym, ap, ◌∙◌, length-drop, arith}
+use Rattle.std.proofs.Common.{◌≡◌, ℕ, ◌+◌, ◌-◌, ◌*◌, ◌<◌, ◌≤◌, ◌==◌, Bool, true, false, List, [], ◌∷◌, length, take}
+use Rattle.std.proofs.Common.{drop, get_or, set, Option, Some, None, is_some, Ok, Err, is_err, refl, sym, ap, ◌∙◌, length-drop, arith}
 use Rattle.std.proofs.lemmas.Bool.{ne_eqb, eqb-false}
 use Rattle.std.proofs.lemmas.List.{drop_more, take_rest}
 use Rattle.std.proofs.lemmas.Grind.{take-set_at}
+use Rattle.std.specs.List.{list_all}
+use Rattle.issuer_base.proofs.Decimal.{list_all-at}
 use Rattle.hex.specs.Hex.{hex_digit_value}
 use Rattle.chip_request.specs.HexDigits.{value_below, pair_of}
 use Rattle.chip_request.specs.LineParts.{Part, ◌>>=◌, value_in_front, hex_digit_at, pair_at, data_at}
@@ -155,3 +157,45 @@ no_pair limit place pairs bytes text rest here room stopped found =
     data_at-stopped (limit - place) (limit - (place + 1)) (take place bytes) (drop (2 * place) text) rest (omega arith)
     (ap (λ n. pair_at (drop (2 * n) text)) here ∙ stopped)
     ∙ found
+
+-- the bytes so far and those of the rest are those of the text, and the bytes so far alone where nothing is left
+pub record HasFront (limit place : ℕ) (bytes text : List ℕ) : Type 0 where
+  pub more : 2 * place < length text → behind_bytes (take place bytes) (data_at (limit - place) (drop (2 * place) text)) ≡ data_at limit text
+  pub end : length text ≤ 2 * place → Ok (take place bytes) ≡ data_at limit text
+
+-- before the first pair of a text
+pub no_front : (limit : ℕ) (bytes text : List ℕ) → 0 < length text → HasFront limit 0 bytes text
+no_front limit bytes text some =
+    let all : limit - 0 ≡ limit = omega arith in
+    record { more = λ _. rw all (behind_none (data_at limit text)); end = λ none. absurd (omega (arith, some, none)) }
+
+-- what is the byte of each pair that spells one is the byte of two digits
+both_digits : (high low : Option ℕ) (byte : ℕ) → is_some high ≡ true → is_some low ≡ true
+    → ((spelled : ℕ) → pair_of high low ≡ Some spelled → byte ≡ spelled) → pair_of high low ≡ Some byte
+both_digits None low byte h l spelled = absurd cc
+both_digits (Some high) None byte h l spelled = absurd cc
+both_digits (Some high) (Some low) byte h l spelled = ap Some (sym (spelled (16 * high + low) refl))
+
+-- one more pair, where all bytes are digits
+pub front_goes_on : (limit place byte : ℕ) (bytes text : List ℕ) → place < limit → place < length bytes → 2 * place + 1 < length text
+    → list_all (λ digit. is_some (hex_digit_value digit)) text ≡ true
+    → ((spelled : ℕ) → pair_of (hex_digit_value (get_or text (2 * place) 0)) (hex_digit_value (get_or text (2 * place + 1) 0)) ≡ Some spelled
+    → byte ≡ spelled)
+    → HasFront limit place bytes text → HasFront limit (place + 1) (set bytes place byte) text
+front_goes_on limit place byte bytes text room here within digits spelled front =
+    let is_digit : ℕ → Bool = λ digit. is_some (hex_digit_value digit) in
+    let high = list_all-at is_digit text digits (2 * place) (omega (arith, within)) in
+    let low = list_all-at is_digit text digits (2 * place + 1) within in
+    let pair = ap pair_at (two_ahead text place 0 0 within)
+        ∙ front_pair (get_or text (2 * place) 0) (get_or text (2 * place + 1) 0) byte (drop (2 * (place + 1)) text) (both_digits _ _ byte high low spelled) in
+    let before = front.more (omega (arith, within)) in
+    record {
+      more = goes_on limit place byte bytes text room here pair before;
+      end = ends_here limit place byte bytes text room here pair before;
+    }
+
+-- behind the last pair
+pub whole_front : (limit place pairs : ℕ) (bytes text : List ℕ) → place ≡ pairs → length text ≤ 2 * pairs → HasFront limit place bytes text
+    → Ok (take pairs bytes) ≡ data_at limit text
+whole_front limit place pairs bytes text here all front =
+    ap (λ n. Ok (take n bytes)) (sym here) ∙ front.end (omega (arith, here, all))

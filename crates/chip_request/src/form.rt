@@ -46,15 +46,19 @@ fn is_account_number(value: &[u8]) -> bool
     account_number(value).is_some()
 }
 
-/// The account number in a value of that form.
+/// The account number in a value of that form. Most values are digits alone, which are tried first.
 #[tactic(auto, unfolding(crate::specs::Fields::has_account_number, crate::specs::Fields::leading_digits, issuer_base::specs::CardNumber::pan_from))]
 pub(crate) fn account_number(value: &[u8]) -> Option<Pan>
     ensures { result ≡ account_number_in value.now }
 {
-    if !(4..=10).contains(&value.len()) {
+    let count = value.len();
+    if count < 4 || count > 10 {
         return None;
     }
     let nibbles = nibbles_of(value);
+    if let Some(pan) = Pan::new(nibbles.as_slice()) {
+        return Some(pan);
+    }
     let (digits, filling) = nibbles
         .as_slice()
         .split_at(digits_in_front(nibbles.as_slice()));

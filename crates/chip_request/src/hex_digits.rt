@@ -1,5 +1,6 @@
 //! The bytes that pairs of hexadecimal digits spell, by two tables.
-ghost use Rattle.std.specs.Prelude.{◌≡◌, ◌<◌, IsTrue, is_some};
+ghost use Rattle.std.specs.Prelude.{◌≡◌, ◌==◌, ◌<◌, ℕ, IsTrue, Some, is_some};
+ghost use Rattle.std.specs.List.{list_all};
 ghost use Rattle.hex.specs.Hex.{hex_digit_value};
 ghost use Rattle.chip_request.specs.HexDigits.{value_below, pair_of};
 
@@ -51,4 +52,35 @@ pub(crate) fn is_hex_digit(byte: u8) -> bool
     ensures { result ≡ is_some (hex_digit_value byte) }
 {
     LOW_DIGITS[usize::from(byte)] < 256
+}
+
+/// The byte that two digits of either case spell, the high one first, and some byte where one is none.
+///
+/// Both values are found at once in one word, so that a loop takes many pairs in one step.
+pub(crate) fn spelled_byte(high: u8, low: u8) -> u8
+    ensures { (byte : ℕ) → pair_of (hex_digit_value high) (hex_digit_value low) ≡ Some byte → result ≡ byte }
+{
+    let word = u16::from_le_bytes([high, low]);
+    let values = (word & 0x0F0F) + 9 * ((word >> 6) & 0x0101);
+    (values % 16 * 16 + values / 256 % 16) as u8
+}
+
+/// Whether all bytes are digits of either case. No byte is tested by itself, so that the loop takes many in one step.
+pub(crate) fn are_hex_digits(text: &[u8]) -> bool
+    ensures { result ≡ list_all (λ byte. is_some (hex_digit_value byte)) text.now }
+{
+    let mut farthest: u8 = 0;
+    for byte in text {
+        farthest = farthest.max(distance_from_digits(*byte));
+    }
+    farthest == 0
+}
+
+/// How far a byte is from the digits of either case: 0 for a digit alone.
+fn distance_from_digits(byte: u8) -> u8
+    ensures { (result == 0) ≡ is_some (hex_digit_value byte) }
+{
+    let from_decimal = byte.wrapping_sub(b'0').saturating_sub(9);
+    let from_letters = (byte | 0x20).wrapping_sub(b'a').saturating_sub(5);
+    from_decimal.min(from_letters)
 }

@@ -1,11 +1,11 @@
 //! The parts of a line, each read from the front of a text: its value and the text behind it, or the text from the
 //! first byte on that can't stand there.
-ghost use Rattle.std.specs.Prelude.{◌≡◌, ◌<◌, ◌≤◌, IfOk, Err, true, take, is_err};
+ghost use Rattle.std.specs.Prelude.{◌≡◌, ◌<◌, ◌≤◌, IfOk, IfSome, Ok, Err, true, take, is_err};
 ghost use Rattle.std.specs.Result.{result_map_both};
 ghost use Rattle.issuer_base.specs.declared.limits.TheConstants.{MAX_CHIP_BYTES};
 ghost use Rattle.chip_request.specs.LineParts.{byte_at, card_at, account_number_at, digits_at, last_digit_at, digit_at, data_at, pair_at};
 
-use crate::hex_digits::{is_hex_digit, pair_value};
+use crate::hex_digits::{are_hex_digits, is_hex_digit, pair_value, spelled_byte};
 use arrayvec::ArrayVec;
 use issuer_base::{MAX_CHIP_BYTES, MAX_PAN_DIGITS, Pan};
 
@@ -88,6 +88,38 @@ fn read_digit(text: &[u8]) -> Result<(u8, &[u8]), &[u8]>
 
 /// The bytes of 1 to `limit` pairs of hexadecimal digits, up to the end of the text: they are written in front of `bytes`, and counted.
 pub(crate) fn read_data<'a>(
+    text: &'a [u8],
+    limit: usize,
+    bytes: &mut [u8; MAX_CHIP_BYTES],
+) -> Result<usize, &'a [u8]>
+    requires { 1 ≤ limit × limit ≤ MAX_CHIP_BYTES }
+    ensures bytes { result_map_both (λ count. take count bytes.new) (λ rest. rest.now) result ≡ data_at limit text.now }
+    ensures within { IfOk result (λ count. count ≤ limit) }
+{
+    match spelled_data(text, limit, bytes) {
+        Some(count) => Ok(count),
+        None => read_pairs(text, limit, bytes),
+    }
+}
+
+/// The bytes of a text that is all such pairs, where it is so.
+fn spelled_data(text: &[u8], limit: usize, bytes: &mut [u8; MAX_CHIP_BYTES]) -> Option<usize>
+    requires { limit ≤ MAX_CHIP_BYTES }
+    ensures bytes { IfSome result (λ count. Ok (take count bytes.new) ≡ data_at limit text.now) }
+    ensures within { IfSome result (λ count. count ≤ limit) }
+{
+    let pairs = text.len() / 2;
+    if pairs == 0 || pairs > limit || text.len() % 2 == 1 || !are_hex_digits(text) {
+        return None;
+    }
+    for place in 0..pairs {
+        bytes[place] = spelled_byte(text[2 * place], text[2 * place + 1]);
+    }
+    Some(pairs)
+}
+
+/// The same, pair by pair, up to the first one that is wrong.
+fn read_pairs<'a>(
     text: &'a [u8],
     limit: usize,
     bytes: &mut [u8; MAX_CHIP_BYTES],

@@ -18,17 +18,8 @@ pub fn check_line(issuer: &Issuer, line: &[u8]) -> Result<Checked, Refusal>
 {
     let mut bytes = [0; MAX_CHIP_BYTES];
     match read_line_into(line, &mut bytes).map_err(Refusal::BadLine)? {
-        LineForm::Ask { count } => {
-            let found = check_data(issuer, &bytes[..count])?;
-            Ok(Checked::Decide(found))
-        }
-        LineForm::Queue { pan, psn, count } => {
-            let found = check_command(issuer, pan, psn, &bytes[..count])?;
-            Ok(Checked::Queue(found))
-        }
-        LineForm::Set { pan, psn, status } => {
-            let found = check_status(issuer, pan, psn, status)?;
-            Ok(Checked::Status(found))
-        }
+        LineForm::Ask { count } => check_data(issuer, &bytes[..count]),
+        LineForm::Queue { pan, psn, count } => check_command(issuer, pan, psn, &bytes[..count]),
+        LineForm::Set { pan, psn, status } => check_status(issuer, pan, psn, status),
     }
 }

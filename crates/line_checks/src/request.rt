@@ -4,9 +4,9 @@ ghost use Rattle.std.specs.Result.{result_map_both};
 ghost use Rattle.card_history.specs.declared.decision.Asked.TheVariants.{Decide};
 ghost use Rattle.chip_request.specs.Reading.{request_of};
 ghost use Rattle.line_checks.specs.Reading.{refusal_of, checked, checked_data};
-ghost use Rattle.line_checks.specs.AtHand.{IsRequestAtHand};
+ghost use Rattle.line_checks.specs.AtHand.{asked_of, IsAtHand, IsRequestAtHand};
 
-use crate::checked::CheckedRequest;
+use crate::checked::{Checked, CheckedRequest};
 use chip_request::{RequestFault, read_request};
 use cryptogram_in::holds_under;
 use issuer_base::{MAX_CHIP_BYTES, Refusal, Request};
@@ -14,13 +14,14 @@ use issuer_setup::Issuer;
 use key_derive::SessionKey;
 
 /// The request that these chip data say, checked by the issuer's cards and keys.
-pub(crate) fn check_data(issuer: &Issuer, bytes: &[u8]) -> Result<CheckedRequest, Refusal>
+pub(crate) fn check_data(issuer: &Issuer, bytes: &[u8]) -> Result<Checked, Refusal>
     requires { length bytes.now ≤ MAX_CHIP_BYTES }
-    ensures request { result_map_both (λ found. Decide found.request) (λ refusal. refusal) result ≡ checked_data issuer.now (request_of bytes.now) }
-    ensures at_hand { IfOk result (IsRequestAtHand issuer.now) }
+    ensures request { result_map_both asked_of (λ refusal. refusal) result ≡ checked_data issuer.now (request_of bytes.now) }
+    ensures at_hand { IfOk result (IsAtHand issuer.now) }
 {
     let request = read_request(bytes).map_err(refusal_of)?;
-    check_request(issuer, request)
+    let found = check_request(issuer, request)?;
+    Ok(Checked::Decide(found))
 }
 
 fn refusal_of(fault: RequestFault) -> Refusal

@@ -2,11 +2,14 @@
 ghost use Rattle.std.specs.Prelude.{◌≡◌, ◌==◌, option_map, take_while, length};
 ghost use Rattle.tlv_objects.specs.Tlv.{tag_at, length_at, front_object};
 
-/// The number of 00 bytes at the front.
+/// The number of 00 bytes at the front, where there mostly is none.
 pub(crate) fn zeros_in_front(bytes: &[u8]) -> usize
     ensures { result ≡ length (take_while (λ byte. byte == 0) bytes.now) }
 {
-    bytes.iter().take_while(|byte| **byte == 0).count()
+    match bytes {
+        [0, ..] => bytes.iter().take_while(|byte| **byte == 0).count(),
+        _ => 0,
+    }
 }
 
 /// The tag at the front, and the bytes behind it.
@@ -14,15 +17,21 @@ pub(crate) fn zeros_in_front(bytes: &[u8]) -> usize
 fn read_tag(bytes: &[u8]) -> Option<(u32, &[u8])>
     ensures { option_map (λ found. (found.0, found.1.now)) result ≡ tag_at bytes.now }
 {
-    match bytes {
-        [first, rest @ ..] if first & 0x1F != 0x1F => Some((u32::from(*first), rest)),
-        [first, last @ 0x00..=0x7F, rest @ ..] => {
-            Some((u32::from(*first) * 0x100 + u32::from(*last), rest))
-        }
-        [first, second, last @ 0x00..=0x7F, rest @ ..] => {
-            let front = u32::from(*first) * 0x100 + u32::from(*second);
-            Some((front * 0x100 + u32::from(*last), rest))
-        }
+    let [first, rest @ ..] = bytes else {
+        return None;
+    };
+    if first & 0x1F != 0x1F {
+        return Some((u32::from(*first), rest));
+    }
+    let [second, rest @ ..] = rest else {
+        return None;
+    };
+    let front = u32::from(*first) * 0x100 + u32::from(*second);
+    if *second <= 0x7F {
+        return Some((front, rest));
+    }
+    match rest {
+        [third @ 0x00..=0x7F, rest @ ..] => Some((front * 0x100 + u32::from(*third), rest)),
         _ => None,
     }
 }
@@ -32,10 +41,13 @@ fn read_tag(bytes: &[u8]) -> Option<(u32, &[u8])>
 fn read_length(bytes: &[u8]) -> Option<(usize, &[u8])>
     ensures { option_map (λ found. (found.0, found.1.now)) result ≡ length_at bytes.now }
 {
-    match bytes {
-        [length @ 0x00..=0x7F, rest @ ..] => Some((usize::from(*length), rest)),
-        [0x81, length, rest @ ..] => Some((usize::from(*length), rest)),
-        [0x82, high, low, rest @ ..] => {
+    let [first, rest @ ..] = bytes else {
+        return None;
+    };
+    match (*first, rest) {
+        (0x00..=0x7F, rest) => Some((usize::from(*first), rest)),
+        (0x81, [length, rest @ ..]) => Some((usize::from(*length), rest)),
+        (0x82, [high, low, rest @ ..]) => {
             Some((usize::from(*high) * 0x100 + usize::from(*low), rest))
         }
         _ => None,

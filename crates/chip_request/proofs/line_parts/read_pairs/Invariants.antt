@@ -2,7 +2,7 @@
 use Rattle.std.proofs.Common.{◌≡◌, ◌<◌, ◌*◌, ◌-◌, ◌≤◌, Ok, length, take, drop}
 use Rattle.chip_request.specs.LineParts.{data_at}
 use Rattle.chip_request.proofs.LoopsOfParts.{behind_bytes}
-use Rattle.chip_request.proofs.line_parts.read_data.Given as goal
+use Rattle.chip_request.proofs.line_parts.read_pairs.Given as goal
 
 -- the bytes so far and those of the rest are those of the text, and the bytes so far alone where nothing is left
 abbrev pub invariant-loop-place : goal.invariant-loop-place

@@ -2,7 +2,7 @@
 use Rattle.std.proofs.Common.{◌*◌, refl, sym, ◌∙◌, eqb-true, length-drop, arith}
 use Rattle.std.proofs.lemmas.List.{take_rest}
 use Rattle.chip_request.proofs.PairLoop.{no_text, pair_ahead, pair_fails, short_fails, goes_on, goes_beyond, ends_here, no_room, no_pair}
-use Rattle.chip_request.proofs.line_parts.read_data.Goals as goal
+use Rattle.chip_request.proofs.line_parts.read_pairs.Goals as goal
 
 pub returns-then-is_empty-clause-bytes : goal.returns-then-is_empty-clause-bytes
 returns-then-is_empty-clause-bytes c = no_text c.args.limit c.args.text.now (omega arith) (eqb-true _ _ (sym c.is_empty.ensures ∙ c.if-is_empty.true))

@@ -1,0 +1,10 @@
+-- The account number where all nibbles are its digits.
+use Rattle.std.proofs.Common.{sym, ap, ◌∙◌, arith}
+use Rattle.issuer_base.specs.CardNumber.{pan_from}
+use Rattle.chip_request.proofs.DecimalValues.{digits_alone}
+use Rattle.chip_request.proofs.form.account_number.Goals as goal
+
+pub returns-in-Some : goal.returns-in-Some
+returns-in-Some c =
+    digits_alone c.args.value.now c.in-Some.pan (omega arith) (omega arith)
+    (ap pan_from (sym (c.as_slice.ensures.value ∙ c.nibbles_of-nibbles.ensures)) ∙ sym c.in-Some.ensures)
