@@ -187,7 +187,7 @@ front_goes_on limit place byte bytes text room here within digits spelled front 
     let high = list_all-at is_digit text digits (2 * place) (omega (arith, within)) in
     let low = list_all-at is_digit text digits (2 * place + 1) within in
     let pair = ap pair_at (two_ahead text place 0 0 within)
-        ∙ front_pair (get_or text (2 * place) 0) (get_or text (2 * place + 1) 0) byte (drop (2 * (place + 1)) text) (both_digits _ _ byte high low spelled) in
+    ∙ front_pair (get_or text (2 * place) 0) (get_or text (2 * place + 1) 0) byte (drop (2 * (place + 1)) text) (both_digits _ _ byte high low spelled) in
     let before = front.more (omega (arith, within)) in
     record {
       more = goes_on limit place byte bytes text room here pair before;

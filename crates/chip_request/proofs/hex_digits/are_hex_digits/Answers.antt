@@ -1,5 +1,5 @@
 -- Whether all bytes are digits.
-use Rattle.std.proofs.Common.{◌==◌, ap, ◌∙◌, refl, is_some}
+use Rattle.std.proofs.Common.{◌==◌, ap, ◌∙◌, is_some}
 use Rattle.hex.specs.Hex.{hex_digit_value}
 use Rattle.chip_request.proofs.HexDistance.{none_so_far, none_at_all}
 use Rattle.chip_request.proofs.hex_digits.are_hex_digits.Goals as goal
