@@ -7,6 +7,7 @@ ghost use Rattle.issuer_base.specs.CardNumber.{is_pan};
 ghost use Rattle.journal_rec.specs.RecordText.{pan_bytes, request_bytes, request_fields, text_of};
 ghost use Rattle.journal_rec.specs.Record.{IsCommand, IsRecord, IsReply, IsRequest, is_record, request_sizes};
 
+use crate::digits::encode_into;
 use crate::limits::{COMMAND_BYTES, RECORD_ROOM, REQUEST_BYTES};
 use crate::pan::pan_bytes;
 use arrayvec::ArrayVec;
@@ -108,7 +109,7 @@ fn put_word(line: &mut ArrayVec<u8, RECORD_ROOM>, bytes: &[u8])
 {
     let mut digits = [0; WORD_DIGITS];
     let digits = &mut digits[..2 * bytes.len()];
-    hex::encode_to_slice(bytes, digits).unwrap();
+    encode_into(bytes, digits);
     line.push(b' ');
     put(line, digits);
 }
