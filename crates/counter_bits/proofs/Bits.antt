@@ -1,8 +1,10 @@
 -- One bit that is set, and the sets that the words then are.
-use Rattle.std.proofs.Common.{◌≡◌, ℕ, ◌+◌, ◌-◌, ◌*◌, ◌/◌, ◌%◌, ◌^◌, ◌<◌, ◌≤◌, ◌⊎◌, List, [], ◌++◌, length, set, get_or, bit_and, bit_or, w64, inl, inr, sym, ap, ◌∙◌, refl, subst}
+use Rattle.std.proofs.Common.{◌≡◌, ℕ, ◌+◌, ◌-◌, ◌*◌, ◌/◌, ◌%◌, ◌^◌, ◌<◌, ◌≤◌, ◌⊎◌, List, []}
+use Rattle.std.proofs.Common.{◌++◌, length, set, get_or, bit_and, bit_or, w64, inl, inr, sym, ap, ◌∙◌, refl, subst}
 use Rattle.std.proofs.Common.{Bool, true, false, ◌&&◌, ◌||◌, eqb, ltb, arith, get_or-set_same, get_or-set_other, replicate}
 use Rattle.std.proofs.lemmas.Bool.{cases_eq, cases_lt, and_from, and_left, and_right, eq-eqb, ne_eqb, lt-ltb, le-ltb, or_right}
-use Rattle.std.proofs.lemmas.List.{get_or_read, get_or_past, get_or-replicate, length-replicate, get_or_append_left, get_or-append_right, append-nil, length-append}
+use Rattle.std.proofs.lemmas.List.{get_or_read, get_or_past, get_or-replicate, length-replicate}
+use Rattle.std.proofs.lemmas.List.{get_or_append_left, get_or-append_right, append-nil, length-append}
 use Rattle.std.proofs.lemmas.Nat.{mul-add-lt, same_from_place}
 use Rattle.std.proofs.lemmas.Nat.Bits.{bit_at_set_same, bit_at_set_other, bit_at-zero, shr_and_one}
 use Rattle.std.specs.Int.{bit_at}
@@ -134,7 +136,8 @@ added sets new opened more index counter word known small same_cards opened_is w
           ∙ ap (λ (words : List ℕ). eqb (bit sets.cards words index counter) 1) words_are
           ∙ eq-eqb _ 1 (bit-same sets.cards opened index counter known small within) in
           ap (λ (i : ℕ). has new i other) same.0 ∙ ap (has new index) same.1 ∙ now
-          ∙ sym (or_right (has sets other_index other) _ (and_from (eqb other_index index) (eqb other counter) (eq-eqb other_index index same.0) (eq-eqb other counter same.1)))
+          ∙ sym (or_right (has sets other_index other) _
+              (and_from (eqb other_index index) (eqb other counter) (eq-eqb other_index index same.0) (eq-eqb other counter same.1)))
       | inr apart ↦
           let none : (eqb other_index index && eqb other counter) ≡ false =
           elim (cases_eq other_index index) [

@@ -32,20 +32,32 @@ pub fn write_entry(entry: &Entry) -> ArrayVec<u8, RECORD_ROOM>
     }
 }
 
+/// Writes the text of a decided request into an empty line: what [`write_entry`] gives for the entry with this request and reply.
+/// The reply has to have a byte.
 #[tactic(auto, unfolding(crate::specs::RecordText::text_of))]
-fn decided_line(request: &Request, reply: &Reply) -> ArrayVec<u8, RECORD_ROOM>
-    ensures text { result.items ≡ text_of (Entry.Decided request.now reply.now) }
-    ensures request { IsRequest request.now }
-    ensures reply { IsReply reply.now }
+pub fn write_decided(line: &mut ArrayVec<u8, RECORD_ROOM>, request: &Request, reply: &Reply)
+    requires empty { line.old.items ≡ [] }
+    requires some { 1 ≤ length reply.now.bytes.items }
+    ensures text { line.new.items ≡ text_of (Entry.Decided request.now reply.now) }
+    ensures record { IsRecord (Entry.Decided request.now reply.now) }
 {
-    let mut line = ArrayVec::new();
     line.push(b'd');
-    put_word(&mut line, request_bytes(request.parts()).as_slice());
-    put_word(&mut line, &reply.arc);
+    put_word(line, request_bytes(request.parts()).as_slice());
+    put_word(line, &reply.arc);
     line.push(b' ');
     line.push(if reply.approve { b'1' } else { b'0' });
-    put_word(&mut line, reply.bytes.as_slice());
+    put_word(line, reply.bytes.as_slice());
     line.push(NEWLINE);
+}
+
+/// The text of a decided request.
+fn decided_line(request: &Request, reply: &Reply) -> ArrayVec<u8, RECORD_ROOM>
+    requires { 1 ≤ length reply.now.bytes.items }
+    ensures text { result.items ≡ text_of (Entry.Decided request.now reply.now) }
+    ensures record { IsRecord (Entry.Decided request.now reply.now) }
+{
+    let mut line = ArrayVec::new();
+    write_decided(&mut line, request, reply);
     line
 }
 
