@@ -93,7 +93,7 @@ fn card_line(letter: u8, pan: &Pan, psn: u8) -> ArrayVec<u8, RECORD_ROOM>
 {
     let mut line = ArrayVec::new();
     line.push(letter);
-    put_word(&mut line, pan_bytes(pan).as_slice());
+    put_word(&mut line, &pan_bytes(pan));
     put_word(&mut line, &[psn]);
     line
 }
@@ -143,7 +143,7 @@ fn request_bytes(parts: &Parts) -> ArrayVec<u8, REQUEST_BYTES>
     ensures counter { parts.now.atc < 2 ^ 16 }
 {
     let mut bytes = ArrayVec::new();
-    put(&mut bytes, pan_bytes(&parts.pan).as_slice());
+    put(&mut bytes, &pan_bytes(&parts.pan));
     put(&mut bytes, &[parts.psn]);
     put(&mut bytes, &parts.aip);
     put(&mut bytes, &parts.atc.to_be_bytes());
