@@ -137,7 +137,7 @@ added sets new opened more index counter word known small same_cards opened_is w
           ∙ eq-eqb _ 1 (bit-same sets.cards opened index counter known small within) in
           ap (λ (i : ℕ). has new i other) same.0 ∙ ap (has new index) same.1 ∙ now
           ∙ sym (or_right (has sets other_index other) _
-              (and_from (eqb other_index index) (eqb other counter) (eq-eqb other_index index same.0) (eq-eqb other counter same.1)))
+          (and_from (eqb other_index index) (eqb other counter) (eq-eqb other_index index same.0) (eq-eqb other counter same.1)))
       | inr apart ↦
           let none : (eqb other_index index && eqb other counter) ≡ false =
           elim (cases_eq other_index index) [

@@ -78,7 +78,7 @@ counted-listed sets index next counter its there =
     elim (cases_eq next counter) [
       | inl same ↦
           ap (λ (has_it : Bool). one_if (its && (eqb next counter && has_it))) (ap (has sets index) (sym same) ∙ there)
-              ∙ ap one_if (and-true its (eqb next counter))
+          ∙ ap one_if (and-true its (eqb next counter))
       | inr apart ↦
           let none = ne_eqb next counter apart in
           ap (λ (here : Bool). one_if (its && (here && has sets index counter))) none ∙ ap (λ (here : Bool). one_if (its && here)) (sym none)
@@ -91,7 +91,7 @@ counted-none sets index next counter its none =
     elim (cases_eq next counter) [
       | inl same ↦
           ap (λ (has_it : Bool). one_if (its && (eqb next counter && has_it))) (ap (has sets index) (sym same) ∙ none)
-              ∙ ap one_if (and-false its (eqb next counter))
+          ∙ ap one_if (and-false its (eqb next counter))
       | inr apart ↦ ap (λ (here : Bool). one_if (its && (here && has sets index counter))) (ne_eqb next counter apart) ∙ ap one_if (and_right its false refl)
     ]
 

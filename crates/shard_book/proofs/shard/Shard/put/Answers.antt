@@ -17,7 +17,7 @@ returns-clause-put g c issuer history stands =
 pub returns-clause-failed : goal.returns-clause-failed
 returns-clause-failed g c issuer history stands legal failed =
     c.put_text.ensures.failed issuer history c.args.entry.now c.write_entry.ensures.record
-        (c.as_slice.ensures.value ∙ c.write_entry.ensures.text) stands legal failed
+    (c.as_slice.ensures.value ∙ c.write_entry.ensures.text) stands legal failed
 
 pub returns-clause-crash : goal.returns-clause-crash
 returns-clause-crash g c issuer history stands legal =
