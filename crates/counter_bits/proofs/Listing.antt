@@ -6,6 +6,7 @@ use Rattle.std.proofs.lemmas.List.{take-take}
 use Rattle.std.proofs.lemmas.List.Sums.{sum_by_push, sum_by-append}
 use Rattle.counter_bits.specs.declared.counter_bits.TheConstants.{COUNTERS}
 use Rattle.counter_bits.specs.CounterSets.{CounterSets, has, times, one_if}
+use Rattle.counter_bits.proofs.Bits.{nowhere}
 
 -- one pair more
 pub times-push : (number counter : ℕ) (pairs : List (ℕ × ℕ)) (pair : ℕ × ℕ)
@@ -96,14 +97,13 @@ counted-none sets index next counter its none =
 
 -- all counters are below 65,536
 pub below-all : (sets : CounterSets) (index counter last : ℕ) → last ≡ COUNTERS → (ltb counter last && has sets index counter) ≡ has sets index counter
-unfolding has
 below-all sets index counter last all =
     elim (cases_lt counter COUNTERS) [
       | inl below ↦
           ap (λ (small : Bool). small && has sets index counter) (lt-ltb counter last (omega arith))
       | inr past ↦
           and_left (ltb counter last) (has sets index counter) (le-ltb counter last (omega arith))
-          ∙ sym (and_left (ltb counter COUNTERS) _ (le-ltb counter COUNTERS past))
+          ∙ sym (nowhere sets index counter (λ held. let low = held.1 in omega (arith, low, past)))
     ]
 
 -- what stood at the front stays there, and again

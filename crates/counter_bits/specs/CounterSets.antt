@@ -1,20 +1,22 @@
 -- Which transaction counters the sets have, and how often a list names one: EMV 4.3 Book 3, Annex A, tag 9F36.
 use Rattle.std.specs.Prelude.{ℕ, ◌+◌, ◌*◌, ◌/◌, ◌%◌, List, slice_index, Bool, ◌&&◌, ◌==◌, nat_lt, cond, count_by}
 use Rattle.std.specs.Int.{bit_at}
-use Rattle.counter_bits.specs.declared.counter_bits.TheConstants.{COUNTERS, WORD_COUNTERS, CARD_WORDS}
+use Rattle.counter_bits.specs.declared.counter_bits.TheConstants.{COUNTERS, WORD_COUNTERS}
 
--- a set for each of so many cards, in words of 64 bits
+-- a set for each of so many cards, in words of 64 bits; words behind these are 0
 pub record CounterSets : Type 0 where
   pub cards : ℕ
   pub words : List ℕ
 
--- the word with the bit of this counter of this card
-abbrev pub word_of : ℕ → ℕ → ℕ
-word_of index counter = CARD_WORDS * index + counter / WORD_COUNTERS
+-- the place of the word with the bit of this counter of this card, of so many cards: a word of each card stands before the next of any
+abbrev pub word_of : ℕ → ℕ → ℕ → ℕ
+word_of cards index counter = counter / WORD_COUNTERS * cards + index
 
 -- whether the set of this card has the counter
 unfoldable pub has : CounterSets → ℕ → ℕ → Bool
-has sets index counter = nat_lt counter COUNTERS && bit_at (slice_index sets.words (word_of index counter)) (counter % WORD_COUNTERS) == 1
+has sets index counter =
+    nat_lt index sets.cards
+    && (nat_lt counter COUNTERS && bit_at (slice_index sets.words (word_of sets.cards index counter)) (counter % WORD_COUNTERS) == 1)
 
 -- how often the counter of the card with this number stands in a list
 unfoldable pub times : ℕ → ℕ → List (ℕ × ℕ) → ℕ

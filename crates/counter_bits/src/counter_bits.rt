@@ -1,5 +1,5 @@
 //! A set of transaction counters for each of so many cards.
-ghost use Rattle.std.specs.Prelude.{◌≡◌, ℕ, Bool, false, ◌+◌, ◌<◌, ◌≤◌, ◌^◌, ◌==◌, ◌&&◌, ◌||◌, length, take, IfOk};
+ghost use Rattle.std.specs.Prelude.{◌≡◌, ℕ, Bool, false, ◌+◌, ◌-◌, ◌*◌, ◌<◌, ◌≤◌, ◌^◌, ◌==◌, ◌&&◌, ◌||◌, ◌++◌, length, replicate, take, slice_index, vec_capacity, IfOk};
 ghost use Rattle.counter_bits.specs.CounterSets.{has, times, one_if, word_of};
 
 use issuer_base::NoMemory;
@@ -17,23 +17,26 @@ pub(crate) const CARD_WORDS: usize = 1_024;
 
 /// A set of transaction counters for each of so many cards, in memory of fixed size.
 ///
+/// The words of all cards for counters 0 to 63 stand first, then those for the next 64, and so on. A word is opened once a counter
+/// is added in it or behind it; those that aren't open yet are 0. So cards with low counters take little of the memory.
+///
 /// A contract sees how many sets there are, and which counters each has.
 #[derive(Drop)]
 pub struct CounterBits {
     cards: u32,
-    words: Vec<u64>,
+    opened: Vec<u64>,
 }
 
 impl Model for CounterBits {
-    ghost use Rattle.std.specs.Prelude.{◌≡◌, ◌*◌, ◌^◌, ◌<◌, length};
+    ghost use Rattle.std.specs.Prelude.{◌*◌, ◌^◌, ◌<◌, ◌≤◌, length, vec_capacity};
     ghost use Rattle.counter_bits.specs.declared.counter_bits.TheConstants.{CARD_WORDS};
     ghost use Rattle.counter_bits.specs.CounterSets.{CounterSets};
 
     ghost Value = { CounterSets };
 
-    ghost view = { λ bits. record { cards = bits.cards; words = bits.words.items } };
+    ghost view = { λ bits. record { cards = bits.cards; words = bits.opened.items } };
 
-    ghost invariant = { λ bits. (length bits.words.items ≡ CARD_WORDS * bits.cards) × (bits.cards < 2 ^ 32) };
+    ghost invariant = { λ bits. (CARD_WORDS * bits.cards ≤ vec_capacity bits.opened) × (bits.cards < 2 ^ 32) };
 }
 
 impl CounterBits {
@@ -42,10 +45,8 @@ impl CounterBits {
         ensures cards { IfOk result (λ bits. bits.cards ≡ cards) }
         ensures empty { IfOk result (λ bits. (index counter : ℕ) → has bits index counter ≡ false) }
     {
-        Ok(CounterBits {
-            cards,
-            words: vec![in alloc; 0; CARD_WORDS * cards as usize]?,
-        })
+        let opened = Vec::with_capacity(alloc, CARD_WORDS * cards as usize)?;
+        Ok(CounterBits { cards, opened })
     }
 
     /// How many cards there is a set for.
@@ -62,7 +63,9 @@ impl CounterBits {
             → has self.new other_index other ≡ (has self.old other_index other || (other_index == index && other == counter)) }
         ensures cards { self.new.cards ≡ self.old.cards }
     {
-        self.words[word_of(index, counter)] |= 1 << (counter as u32 % 64);
+        let word = word_of(self.cards, index, counter);
+        open_to(&mut self.opened, word);
+        self.opened[word] |= 1 << (counter as u32 % 64);
     }
 
     /// Whether the set of this card has the counter.
@@ -70,7 +73,8 @@ impl CounterBits {
         requires { index < self.now.cards }
         ensures { result ≡ has self.now index counter }
     {
-        (self.words[word_of(index, counter)] >> (counter as u32 % 64)) & 1 == 1
+        let word = word_at(self.opened.as_slice(), word_of(self.cards, index, counter));
+        (word >> (counter as u32 % 64)) & 1 == 1
     }
 
     /// Lists each counter of this card's set once, beside this number, behind what the list has. Where memory runs out, some of
@@ -112,10 +116,32 @@ impl CounterBits {
     }
 }
 
-/// The word with the bit of this counter of this card.
-fn word_of(index: usize, counter: u16) -> usize
-    requires { index < 2 ^ 32 }
-    ensures { result ≡ word_of index counter }
+/// The place of the word with the bit of this counter of this card, of so many cards.
+fn word_of(cards: u32, index: usize, counter: u16) -> usize
+    requires { index < cards }
+    ensures place { result ≡ word_of cards index counter }
+    ensures within { result < CARD_WORDS * cards }
 {
-    CARD_WORDS * index + (counter as usize >> 6)
+    (counter as usize >> 6) * cards as usize + index
+}
+
+/// The word at a place, which is 0 where it isn't open.
+fn word_at(opened: &[u64], word: usize) -> u64
+    ensures { result ≡ slice_index opened.now word }
+{
+    if word < opened.len() { opened[word] } else { 0 }
+}
+
+/// Opens the words up to this one, which are 0.
+fn open_to(opened: &mut Vec<u64>, word: usize)
+    requires { word < vec_capacity opened.old }
+    ensures grown { opened.new.items ≡ opened.old.items ++ replicate (word + 1 - length opened.old.items) 0 }
+    ensures room { vec_capacity opened.new ≡ vec_capacity opened.old }
+{
+    if word < opened.len() {
+        return;
+    }
+    for _ in opened.len()..word + 1 {
+        opened.push_reserved(0);
+    }
 }

@@ -1,5 +1,6 @@
 //! Hexadecimal digits in lower case.
-ghost use Rattle.std.specs.Prelude.{◌≡◌, ◌≤◌, ◌*◌, length, if◌then◌else◌, option_map, unwrap_or};
+ghost use Rattle.std.specs.Prelude.{◌≡◌, ◌<◌, ◌≤◌, ◌*◌, length, slice_index, if◌then◌else◌, option_map, unwrap_or};
+ghost use Rattle.hex.specs.Hex.{encode_lower, lower_digits, IsBytes};
 ghost use Rattle.journal_rec.specs.Reading.{byte_of, digit_value, spelled, spelled_within};
 
 use arrayvec::ArrayVec;
@@ -75,4 +76,27 @@ pub(crate) fn decode<const CAP: usize>(digits: &[u8]) -> Option<ArrayVec<u8, CAP
         return None;
     }
     Some(bytes)
+}
+
+/// Writes the digits of the bytes. The digits come from sums, not from a table, so that several bytes are done at once.
+pub(crate) fn encode_into(bytes: &[u8], out: &mut [u8])
+    requires { length out.old ≡ 2 * length bytes.now }
+    ensures digits { out.new ≡ encode_lower bytes.now }
+    ensures bytes { IsBytes bytes.now }
+{
+    'bytes: for i in 0..bytes.len() {
+        let high = digit(bytes[i] >> 4);
+        let low = digit(bytes[i] & 0x0F);
+        out[2 * i] = high;
+        out[2 * i + 1] = low;
+    }
+}
+
+/// The digit of a value.
+fn digit(value: u8) -> u8
+    requires { value < 16 }
+    ensures { result ≡ slice_index lower_digits value }
+{
+    let letters = if value < 10 { 0 } else { b'a' - b'0' - 10 };
+    b'0' + value + letters
 }

@@ -49,9 +49,9 @@ fn values(digits: &[u8]) -> ArrayVec<u8, PAN_DIGITS>
 
 /// The bytes of an account number.
 #[tactic(auto, unfolding(crate::specs::RecordText::pan_bytes))]
-pub(crate) fn pan_bytes(pan: &Pan) -> ArrayVec<u8, PAN_BYTES>
-    ensures bytes { result.items ≡ pan_bytes pan.now }
-    ensures size { length result.items ≡ PAN_BYTES }
+pub(crate) fn pan_bytes(pan: &Pan) -> [u8; PAN_BYTES]
+    ensures bytes { result ≡ pan_bytes pan.now }
+    ensures size { length result ≡ PAN_BYTES }
     ensures valid { IsTrue (is_pan pan.now) }
 {
     packed(filled(pan.digits()).as_slice())
@@ -69,15 +69,14 @@ fn filled(digits: &[u8]) -> ArrayVec<u8, PAN_DIGITS>
     nibbles
 }
 
-fn packed(nibbles: &[u8]) -> ArrayVec<u8, PAN_BYTES>
+fn packed(nibbles: &[u8]) -> [u8; PAN_BYTES]
     requires size { length nibbles.now ≡ PAN_DIGITS }
     requires nibbles { All (λ nibble. nibble < 16) nibbles.now }
-    ensures bytes { result.items ≡ packed nibbles.now }
-    ensures size { length result.items ≡ PAN_BYTES }
+    ensures { result ≡ packed nibbles.now }
 {
-    let mut bytes = ArrayVec::new();
+    let mut bytes = [0; PAN_BYTES];
     'bytes: for i in 0..PAN_BYTES {
-        bytes.push(16 * nibbles[2 * i] + nibbles[2 * i + 1]);
+        bytes[i] = 16 * nibbles[2 * i] + nibbles[2 * i + 1];
     }
     bytes
 }

@@ -7,6 +7,7 @@ ghost use Rattle.issuer_base.specs.CardNumber.{is_pan};
 ghost use Rattle.journal_rec.specs.RecordText.{pan_bytes, request_bytes, request_fields, text_of};
 ghost use Rattle.journal_rec.specs.Record.{IsCommand, IsRecord, IsReply, IsRequest, is_record, request_sizes};
 
+use crate::digits::encode_into;
 use crate::limits::{COMMAND_BYTES, RECORD_ROOM, REQUEST_BYTES};
 use crate::pan::pan_bytes;
 use arrayvec::ArrayVec;
@@ -31,20 +32,32 @@ pub fn write_entry(entry: &Entry) -> ArrayVec<u8, RECORD_ROOM>
     }
 }
 
+/// Writes the text of a decided request into an empty line: what [`write_entry`] gives for the entry with this request and reply.
+/// The reply has to have a byte.
 #[tactic(auto, unfolding(crate::specs::RecordText::text_of))]
-fn decided_line(request: &Request, reply: &Reply) -> ArrayVec<u8, RECORD_ROOM>
-    ensures text { result.items ≡ text_of (Entry.Decided request.now reply.now) }
-    ensures request { IsRequest request.now }
-    ensures reply { IsReply reply.now }
+pub fn write_decided(line: &mut ArrayVec<u8, RECORD_ROOM>, request: &Request, reply: &Reply)
+    requires empty { line.old.items ≡ [] }
+    requires some { 1 ≤ length reply.now.bytes.items }
+    ensures text { line.new.items ≡ text_of (Entry.Decided request.now reply.now) }
+    ensures record { IsRecord (Entry.Decided request.now reply.now) }
 {
-    let mut line = ArrayVec::new();
     line.push(b'd');
-    put_word(&mut line, request_bytes(request.parts()).as_slice());
-    put_word(&mut line, &reply.arc);
+    put_word(line, request_bytes(request.parts()).as_slice());
+    put_word(line, &reply.arc);
     line.push(b' ');
     line.push(if reply.approve { b'1' } else { b'0' });
-    put_word(&mut line, reply.bytes.as_slice());
+    put_word(line, reply.bytes.as_slice());
     line.push(NEWLINE);
+}
+
+/// The text of a decided request.
+fn decided_line(request: &Request, reply: &Reply) -> ArrayVec<u8, RECORD_ROOM>
+    requires { 1 ≤ length reply.now.bytes.items }
+    ensures text { result.items ≡ text_of (Entry.Decided request.now reply.now) }
+    ensures record { IsRecord (Entry.Decided request.now reply.now) }
+{
+    let mut line = ArrayVec::new();
+    write_decided(&mut line, request, reply);
     line
 }
 
@@ -80,7 +93,7 @@ fn card_line(letter: u8, pan: &Pan, psn: u8) -> ArrayVec<u8, RECORD_ROOM>
 {
     let mut line = ArrayVec::new();
     line.push(letter);
-    put_word(&mut line, pan_bytes(pan).as_slice());
+    put_word(&mut line, &pan_bytes(pan));
     put_word(&mut line, &[psn]);
     line
 }
@@ -108,7 +121,7 @@ fn put_word(line: &mut ArrayVec<u8, RECORD_ROOM>, bytes: &[u8])
 {
     let mut digits = [0; WORD_DIGITS];
     let digits = &mut digits[..2 * bytes.len()];
-    hex::encode_to_slice(bytes, digits).unwrap();
+    encode_into(bytes, digits);
     line.push(b' ');
     put(line, digits);
 }
@@ -130,7 +143,7 @@ fn request_bytes(parts: &Parts) -> ArrayVec<u8, REQUEST_BYTES>
     ensures counter { parts.now.atc < 2 ^ 16 }
 {
     let mut bytes = ArrayVec::new();
-    put(&mut bytes, pan_bytes(&parts.pan).as_slice());
+    put(&mut bytes, &pan_bytes(&parts.pan));
     put(&mut bytes, &[parts.psn]);
     put(&mut bytes, &parts.aip);
     put(&mut bytes, &parts.atc.to_be_bytes());

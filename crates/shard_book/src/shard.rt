@@ -12,7 +12,9 @@ ghost use Rattle.row_core.specs.Plan.{IsNext, IsForRequest};
 ghost use Rattle.row_core.specs.Replying.{reply_to};
 ghost use Rattle.line_checks.specs.AtHand.{IsRequestAtHand, IsCommandAtHand, IsStatusAtHand};
 ghost use Rattle.line_checks.specs.Reading.{checked};
-ghost use Rattle.journal_rec.specs.Record.{is_record};
+ghost use Rattle.journal_rec.specs.Record.{is_record, IsRecord};
+ghost use Rattle.journal_rec.specs.RecordText.{text_of};
+ghost use Rattle.journal_rec.specs.declared.limits.TheConstants.{LEAST_RECORD_BYTES};
 ghost use Rattle.issuer_base.specs.Tells.{Tells};
 ghost use Rattle.record_store.specs.Holding.{Holds};
 ghost use Rattle.record_store.specs.Images.{IsCutImage};
@@ -27,11 +29,12 @@ use crate::reading::take_over;
 use crate::replay::{LoadFault, Taken, TakenOver};
 use crate::rows::Rows;
 use crate::table::has_table;
+use arrayvec::ArrayVec;
 use issuer_base::{
     Answer, Entry, MAX_FAULTS_TOLD, NoMemory, Refusal, Reply, Request, Store, StoreFail,
 };
 use issuer_setup::Issuer;
-use journal_rec::write_entry;
+use journal_rec::{write_decided, write_entry};
 use line_checks::{CheckedCommand, CheckedRequest, CheckedStatus};
 use record_store::Journal;
 use row_core::{Outcome, Row, Step};
@@ -279,11 +282,9 @@ impl<S: Store> Shard<S> {
         ensures under { (issuer : Setup) → IsUnder issuer self.old → IsUnder issuer self.new }
         ensures number { number_in self.new ≡ number_in self.old }
     {
-        let entry = Entry::Decided {
-            request: found.request.copy(),
-            reply: reply.copy(),
-        };
-        let Ok(place) = self.put(&entry) else {
+        let mut text = ArrayVec::new();
+        write_decided(&mut text, &found.request, &reply);
+        let Ok(place) = self.put_text(text.as_slice()) else {
             return Answer::Refused(Refusal::StoreFault);
         };
         self.rows.apply(found, step);
@@ -310,8 +311,26 @@ impl<S: Store> Shard<S> {
         ensures told { told_in self.new ≡ told_after (told_in self.old) (is_err result) }
         ensures undoubted { IsUndoubted self.new }
     {
-        let text = write_entry(entry);
-        let written = self.journal.put(text.as_slice());
+        self.put_text(write_entry(entry).as_slice())
+    }
+
+    /// Writes this text of a record and makes it safe, and gives its place.
+    fn put_text(&mut self, text: &[u8]) -> Result<u64, StoreFail>
+        requires { LEAST_RECORD_BYTES ≤ length text.now }
+        ensures put { (issuer : Setup) (history : List Entry) (entry : Entry) → IsRecord entry → text.now ≡ text_of entry → StandsFor issuer self.old history
+            → IfOk result (λ place. (place ≡ length history)
+            × HoldsHistory (grounds_now issuer) (number_in self.old) self.new.journal (history ++ entry ∷ [])) }
+        ensures failed { (issuer : Setup) (history : List Entry) (entry : Entry) → IsRecord entry → text.now ≡ text_of entry → StandsFor issuer self.old history
+            → IsLegal (grounds_now issuer) (number_in self.old) history entry → IsErr result → StandsFor issuer self.new history }
+        ensures rows { self.new.rows ≡ self.old.rows }
+        ensures crash { (issuer : Setup) (history : List Entry) (entry : Entry) → IsRecord entry → text.now ≡ text_of entry → StandsFor issuer self.old history
+            → IsLegal (grounds_now issuer) (number_in self.old) history entry
+            → BothTold (LeavesOnly (IsImageOf (grounds_now issuer) (number_in self.old) history)) (disk_in self.old) (disk_in self.new) }
+        ensures count { CountsFaults (faults_in self.old) (faults_in self.new) (is_err result) }
+        ensures told { told_in self.new ≡ told_after (told_in self.old) (is_err result) }
+        ensures undoubted { IsUndoubted self.new }
+    {
+        let written = self.journal.put(text);
         self.told = told_after(self.told, written.is_err());
         written
     }

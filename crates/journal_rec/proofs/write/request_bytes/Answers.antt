@@ -23,7 +23,6 @@ returns-clause-bytes c =
       c.put-2.ensures.text,
       c.put.ensures.text,
       c.new-bytes.ensures,
-      c.as_slice.ensures.value,
       c.pan_bytes.ensures.bytes,
       c.to_be_bytes.ensures,
     ) (fold-concat [] (request_fields c.args.parts.now))

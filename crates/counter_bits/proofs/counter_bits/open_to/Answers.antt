@@ -1,0 +1,9 @@
+-- The words are opened up to the one that is asked for.
+use Rattle.std.proofs.Common.{ℕ, ◌++◌, replicate, ap, ◌∙◌, arith}
+use Rattle.counter_bits.proofs.counter_bits.open_to.Goals as goal
+
+pub returns-clause-grown : goal.returns-clause-grown
+returns-clause-grown c =
+    c.loop.invariant.grown
+    ∙ ap (λ (n : ℕ). c.args.opened.now.items ++ replicate n 0)
+    (let past = c.loop-test.false in let end = c.loop.auto.counter-end in omega (arith, past, end))

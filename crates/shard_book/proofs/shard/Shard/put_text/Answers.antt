@@ -1,0 +1,34 @@
+-- What is held once the text of a record was put into the journal, or not, and what a crash leaves meanwhile.
+use Rattle.std.proofs.Common.{length, ap, sym, arith, ◌∙◌}
+use Rattle.journal_rec.specs.RecordText.{texts_of}
+use Rattle.shard_book.specs.Answering.{told_after}
+use Rattle.shard_book.specs.Grounds.{grounds_now}
+use Rattle.shard_book.proofs.ShardSteps.{put-done, put-failed, put-crash, put-undoubted}
+use Rattle.shard_book.proofs.shard.Shard.put_text.Goals as goal
+
+pub returns-clause-put : goal.returns-clause-put
+returns-clause-put g c issuer history entry is_record its stands =
+    let h = stands.journal_holds in
+    put-done (grounds_now issuer) c.args.self.now.rows.shard history entry c.args.self.now.journal c.put-written.new.self h c.args.text.now
+    its is_record c.put-written.result (c.put-written.ensures.put (length history) (texts_of history) h.tail h.holds)
+
+pub returns-clause-failed : goal.returns-clause-failed
+returns-clause-failed g c issuer history entry is_record its stands legal failed =
+    let h = stands.journal_holds in
+    record {
+      rows_stand = stands.rows_stand;
+      journal_holds =
+          put-failed (grounds_now issuer) c.args.self.now.rows.shard history entry c.args.self.now.journal c.put-written.new.self h c.args.text.now
+          its is_record legal (c.put-written.ensures.failed (length history) (texts_of history) h.tail h.holds failed);
+    }
+
+pub returns-clause-crash : goal.returns-clause-crash
+returns-clause-crash g c issuer history entry is_record its stands legal =
+    let h = stands.journal_holds in
+    put-crash (grounds_now issuer) c.args.self.now.rows.shard history entry c.args.self.now.journal c.put-written.new.self h c.args.text.now
+    its is_record legal _ _ (c.put-written.ensures.crash (length history) (texts_of history) h.tail h.holds)
+
+pub returns-clause-undoubted : goal.returns-clause-undoubted
+returns-clause-undoubted g c none =
+    put-undoubted c.args.self.now.told c.put-written.new.self c.put-written.result c.put-written.ensures.settled
+    (ap (told_after c.args.self.now.told) (sym c.is_err.ensures.value) ∙ sym c.told_after-self.ensures ∙ none)
