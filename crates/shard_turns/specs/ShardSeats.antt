@@ -11,6 +11,7 @@ use Rattle.turn_book.specs.Seats.{opening_of, view_of, IsOf}
 use Rattle.shard_turns.specs.declared.logs.LogHead.{LogHead}
 use Rattle.shard_turns.specs.declared.logs.LogItem.{LogItem}
 use Rattle.shard_turns.specs.declared.turns.ShardTurns.{ShardTurns}
+use Rattle.shard_turns.specs.Opening.{head_with}
 use Rattle.shard_turns.specs.ShardLogs.{StandsForLog}
 
 module _ {S : Type 0} {G : Ghosts S} where
@@ -22,7 +23,7 @@ module _ {S : Type 0} {G : Ghosts S} where
   pub record AreTurnsOf (issuer : Setup) (turns : ShardTurns S G) : Type 0 where
     pub count_is : length (opening_in turns) ≡ issuer.shards
     pub heads_are : (number : ℕ) (head : LogHead) → slice_get (heads_of (opening_in turns)) number ≡ Some head
-        → (head.issuer ≡ issuer) × (head.shard ≡ number)
+        → head ≡ head_with issuer number head.faults head.records
 
   -- the seat is one of these turns', and is in no turn
   pub record IsSeatOf (turns : ShardTurns S G) (seat : TurnSeat LogItem LogHead) : Type 0 where

@@ -1,7 +1,9 @@
 //! A shard as the value of a shard's log, and what a call of a shard adds to the log.
 ghost use Rattle.shard_book.specs.Shards.{faults_in};
 ghost use Rattle.shard_turns.specs.ShardLogs.{StandsForLog};
-ghost use Rattle.shard_turns.specs.Turned.{item_by};
+ghost use Rattle.std.specs.Prelude.{◌≡◌};
+ghost use Rattle.std.specs.Option.{is_some};
+ghost use Rattle.shard_turns.specs.Turned.{item_by, added_by};
 
 use crate::logs::{LogHead, LogItem};
 use issuer_base::{Entry, Store};
@@ -30,4 +32,13 @@ pub(crate) struct Called<S: Store> {
 
 impl<S: Store> Item<LogItem> for Called<S> {
     ghost item = { λ called. item_by called.entry (faults_in called.shard) };
+}
+
+impl<S: Store> Called<S> {
+    /// Whether the call added something to the log.
+    pub(crate) fn adds(&self) -> bool
+        ensures { result ≡ is_some (added_by self.now.entry self.now.fault (faults_in self.now.shard)) }
+    {
+        self.entry.is_some() || self.fault
+    }
 }

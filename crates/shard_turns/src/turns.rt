@@ -243,7 +243,7 @@ impl<S: Store> ShardTurns<S> {
         ensures seat { IsSeatOf self.now seat.new }
         ensures view { view_of seat.new ≡ free (counted_if number (added_by called.entry called.fault (faults_in called.shard)) (view_of seat.old)) }
     {
-        if called.entry.is_some() || called.fault {
+        if called.adds() {
             self.turns.added(seat, number, &called);
         }
         let Called {
