@@ -5,3 +5,5 @@ pub mod Standing
 pub mod Answered
 pub mod Ending
 pub mod Turning
+pub mod Shown
+pub mod ListLemmas

@@ -1,5 +1,6 @@
 //! The logs that shards open with. They exist in proofs alone, so a mark of no bytes shows them.
-ghost use Rattle.std.specs.Prelude.{◌≡◌, ◌<◌, ◌≤◌, List, [], All, length, map, vec_len, IfOk, IfErr};
+ghost use Rattle.std.specs.Prelude.{◌≡◌, ◌<◌, ◌≤◌, List, [], All, length, map, vec_len, true, IfOk, IfErr};
+ghost use Rattle.issuer_setup.specs.Shards.{are_shards};
 ghost use Rattle.issuer_base.specs.declared.limits.TheConstants.{MAX_SHARDS};
 ghost use Rattle.shard_book.specs.Grounds.{HasTable};
 ghost use Rattle.turn_book.specs.declared.logs.Log.{Log};
@@ -122,10 +123,12 @@ fn start_with<J: OpeningLogs<LogItem, LogHead>, S: Store>(
     Turns::load::<J>(alloc, held, counts)
 }
 
-/// The issuer has a table: of its card status updates its type says so, of all a proof sees it row by row.
-pub(crate) fn has_table(issuer: &Issuer)
-    ensures { HasTable issuer.now }
+/// The issuer has 1 to 16 shards, and a table, of whose rows a proof sees one by one that their card status updates are whole.
+pub(crate) fn has_parts(issuer: &Issuer)
+    ensures shards { are_shards issuer.now.shards ≡ true }
+    ensures table { HasTable issuer.now }
 {
+    issuer.shards();
     whole_updates(issuer.table().rows());
 }
 

@@ -20,7 +20,7 @@ ghost use Rattle.shard_turns.specs.Turned.{DecidesInTurn, QueuesInTurn, SetsInTu
 use crate::held::{Called, HeldShard};
 use crate::lists::{Lists, Spare, hold_all, release_all, take_lists};
 use crate::logs::{LogHead, LogItem};
-use crate::opening::{has_table, opening_logs, start};
+use crate::opening::{has_parts, opening_logs, start};
 use crate::views::row_shown;
 use issuer_base::{Answer, Entry, MAX_FAULTS_TOLD, Refusal, Store};
 use issuer_setup::Issuer;
@@ -64,7 +64,7 @@ impl<S: Store> ShardTurns<S> {
         let Ok(mut lists) = take_lists(alloc, shards.len()) else {
             return Err(shards);
         };
-        has_table(issuer);
+        has_parts(issuer);
         hold_all(issuer, &logs, shards, &mut lists);
         let Lists {
             held,

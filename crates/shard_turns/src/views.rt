@@ -1,15 +1,12 @@
 //! What is shown of a card's row.
-ghost use Rattle.std.specs.Prelude.{◌≡◌};
+ghost use Rattle.shard_turns.specs.CardViews.{IsShownBy};
 
 use row_core::Row;
 use show_text::CardView;
 
 /// What is shown of the card of this row.
 pub fn row_shown(row: &Row) -> CardView
-    ensures hi { result.hi ≡ row.now.hi }
-    ensures status { result.status ≡ row.now.status }
-    ensures queued { result.queued ≡ row.now.scripts.commands.queued }
-    ensures scripts { (result.done ≡ row.now.scripts.done) × (result.flight ≡ row.now.scripts.flight) × (result.halted ≡ row.now.scripts.halted) }
+    ensures { IsShownBy row.now result }
 {
     CardView {
         hi: row.hi(),
