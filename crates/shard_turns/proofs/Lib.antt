@@ -4,6 +4,6 @@ pub mod LogSteps
 pub mod Standing
 pub mod Answered
 pub mod Ending
-pub mod Turning
 pub mod Shown
+pub mod Turning
 pub mod ListLemmas

@@ -1,6 +1,7 @@
 -- The shards of a host in lists: as they come in they stand for their opening logs, and as they go out each stands for its own.
-use Rattle.std.proofs.Common.{◌≡◌, ℕ, zero, suc, ◌+◌, ◌<◌, ◌≤◌, ◌&&◌, leb, true, Bool, List, [], ◌∷◌, ◌++◌, length, map, take, reverse, Option, Some, refl, sym, ap, subst, ◌∙◌, arith}
+use Rattle.std.proofs.Common.{◌≡◌, ℕ, zero, suc, ◌+◌, ◌<◌, ◌≤◌, ◌&&◌, leb, true, Bool, List, [], ◌∷◌, ◌++◌, length, map, take, reverse, Option, Some, append_assoc, refl, sym, ap, subst, ◌∙◌, arith}
 use Rattle.std.specs.List.{slice_get}
+use Rattle.std.proofs.lemmas.List.{length-map, length_push, reverse-append}
 use Rattle.std.proofs.lemmas.Option.{same_Some, none-some, slice_get_within}
 use Rattle.issuer_base.specs.declared.entry.Entry.{Entry}
 use Rattle.issuer_base.specs.declared.limits.TheConstants.{MAX_FAULTS_TOLD}
@@ -101,6 +102,19 @@ module _ {S : Type 0} {G : Ghosts S} where
   stand-for (first ∷ held) (log ∷ logs) long each =
       (each 0 first.shard log refl refl, stand-for held logs (omega arith) (λ number. each (suc number)))
 
+  -- so do those of shards that were just loaded
+  pub held-stand : (issuer : Setup) (shards : List (Shard S G)) (logs : List (Log LogItem LogHead)) (held : List (HeldShard S G)) → HasTable issuer
+      → AreJustLoaded issuer shards → AreOpeningLogs issuer shards logs → map (λ (held : HeldShard S G). held.shard) held ≡ shards
+      → StandFor (λ (held : HeldShard S G) head items. StandsForLog held.shard head items) held logs
+  held-stand issuer shards logs held table just opening are =
+      let long = length-map held (λ (held : HeldShard S G). held.shard) in
+      let same = ap (λ (shards : List (Shard S G)). length shards) are in
+      let count = opening.count_is in
+      stand-for held logs (omega (arith, long, same, count)) (λ number shard log there is.
+      let its : slice_get shards number ≡ Some shard = ap (λ (shards : List (Shard S G)). slice_get shards number) (sym are) ∙ there in
+      opening-stands issuer number shard log table (just.each number shard its) (opening.each number shard log its is))
+
+  -- and values that stand for logs stand for each
   pub stand-each : (held : List (HeldShard S G)) (logs : List (Log LogItem LogHead))
       → StandFor (λ (held : HeldShard S G) head items. StandsForLog held.shard head items) held logs
       → StandForLogs (map (λ (held : HeldShard S G). held.shard) held) logs
@@ -138,3 +152,38 @@ module _ {S : Type 0} {G : Ghosts S} where
         sym log.2 ∙ ap (λ (log : Log LogItem LogHead). log.head) its.log_is in
         subst (λ (head : LogHead). head ≡ head_with issuer number head.faults head.records) (sym head_is) refl;
   }
+
+  -- one shard more is held
+  pub held-next : (shards : List (Shard S G)) (held : List (HeldShard S G)) (next : HeldShard S G) (left : List (Shard S G))
+      → map (λ (held : HeldShard S G). held.shard) held ++ next.shard ∷ left ≡ shards
+      → map (λ (held : HeldShard S G). held.shard) (held ++ next ∷ []) ++ left ≡ shards
+  held-next shards held next left all =
+      ap (λ (front : List (Shard S G)). front ++ left) (map-push (λ (held : HeldShard S G). held.shard) held next)
+      ∙ append_assoc (map (λ (held : HeldShard S G). held.shard) held) (next.shard ∷ []) left ∙ all
+
+  pub counts-next : (issuer : Setup) (shards : List (Shard S G)) (logs : List (Log LogItem LogHead)) → AreOpeningLogs issuer shards logs
+      → (held : List (HeldShard S G)) (next : HeldShard S G) (left : List (Shard S G)) (counts : List ℕ) (places : ℕ)
+      → map (λ (held : HeldShard S G). held.shard) held ++ next.shard ∷ left ≡ shards
+      → counts ≡ map (λ (log : Log LogItem LogHead). length log.items) (take (length held) logs)
+      → ((issuer : Setup) (history : List Entry) → StandsFor issuer next.shard history → places ≡ length history)
+      → counts ++ places ∷ [] ≡ map (λ (log : Log LogItem LogHead). length log.items) (take (length (held ++ next ∷ [])) logs)
+  counts-next issuer shards logs opening held next left counts places all counts_are counted =
+      let size : Log LogItem LogHead → ℕ = λ (log : Log LogItem LogHead). length log.items in
+      let front : List (Shard S G) = map (λ (held : HeldShard S G). held.shard) held in
+      let long : length front ≡ length held = length-map held (λ (held : HeldShard S G). held.shard) in
+      let there : slice_get shards (length held) ≡ Some next.shard =
+      subst (λ (shards : List (Shard S G)). slice_get shards (length held) ≡ Some next.shard) all
+      (subst (λ place. slice_get (front ++ next.shard ∷ left) place ≡ Some next.shard) long (read-next front next.shard left)) in
+      let within = slice_get_within shards (length held) next.shard there in
+      let many = opening.count_is in
+      let log = read-within logs (length held) (omega arith) in
+      let count : places ≡ size log.0 = opening-length issuer (length held) next.shard log.0 places (opening.each (length held) next.shard log.0 there log.1) counted in
+      let more : length (held ++ next ∷ []) ≡ suc (length held) = omega (arith, length_push held next) in
+      ap (λ (counts : List ℕ). counts ++ places ∷ []) counts_are
+      ∙ ap (λ count. map size (take (length held) logs) ++ count ∷ []) count
+      ∙ sym (map-push size (take (length held) logs) log.0)
+      ∙ ap (map size) (sym (take-next logs (length held) log.0 log.1) ∙ sym (ap (λ n. take n logs) more))
+
+-- the last of a list that is taken from its end is the next of the list in reverse
+pub next-ahead : {X : Type 0} (ahead left : List X) (x : X) → ahead ≡ left ++ x ∷ [] → reverse ahead ≡ x ∷ reverse left
+next-ahead ahead left x parts = ap reverse parts ∙ reverse-append left (x ∷ [])

@@ -1,27 +1,36 @@
-use Rattle.std.proofs.Common.{rules, ◌≡◌, ◌<◌, ◌≤◌, ◌&&◌, nat_lt, ℕ, IfOk, IfErr, Ok, length, IsTrue, map, ◌+◌, ◌-◌, ◌*◌, ◌/◌, ◌%◌, Bool, true, false, nat_eq, List, [], ◌∷◌, ◌++◌, slice_index_or, slice_set, bit_and, bit_or, Fits, w8, w32, w64, Bor, MutBor}
-use Rattle.issuer_base.specs.declared.limits.TheConstants.{MAX_FAULTS_TOLD}
-use Rattle.issuer_base.specs.declared.entry.Entry.{Entry}
-use Rattle.card_history.specs.declared.decision.Asked.TheVariants.{Decide}
-use Rattle.card_history.specs.Records.{named}
-use Rattle.seat_names.specs.SeatNames.{IsWhole}
-use Rattle.line_checks.specs.AtHand.{IsRequestAtHand, IsCommandAtHand, IsStatusAtHand}
-use Rattle.line_checks.specs.Reading.{checked}
-use Rattle.shard_book.specs.Answering.{is_store_fault}
-use Rattle.shard_book.specs.Grounds.{HasTable}
-use Rattle.shard_book.specs.Shards.{faults_in}
-use Rattle.turn_book.specs.Logs.{items_at, with_items, IsFront, StandFor}
+-- The card's row in its shard is shown.
+use Rattle.std.proofs.Common.{◌≡◌, ◌%◌, ℕ, List, Some, None, sym, ap, subst, ◌∙◌}
+use Rattle.std.proofs.lemmas.Option.{same_Some}
+use Rattle.issuer_setup.specs.IssuerSetup.{Setup}
+use Rattle.row_core.specs.CardRow.{CardRow, StandsFor as RowStandsFor}
+use Rattle.turn_book.specs.declared.logs.Log.{Log}
+use Rattle.turn_book.specs.Logs.{items_at}
 use Rattle.turn_book.specs.Seats.{view_of}
-use Rattle.turn_book.specs.TurnRule.{between}
-use Rattle.turn_book.specs.TurnViews.{times, first_view, entered, free, parent_view, child_view, joined}
-use Rattle.shard_turns.specs.Opening.{AreJustLoaded, AreOpeningLogs}
-use Rattle.shard_turns.specs.Turned.{DecidesInTurn, QueuesInTurn, SetsInTurn, ShowsInTurn, decided_by, recorded_by, added_by, log_after, counted_if}
-use Rattle.shard_turns.specs.ShardSeats.{opening_in, AreTurnsOf, IsSeatOf, IsInside, StandsIn, StandForLogs}
+use Rattle.turn_book.specs.TurnViews.{entered, free}
+use Rattle.shard_turns.specs.declared.logs.LogHead.{LogHead}
+use Rattle.shard_turns.specs.declared.logs.LogItem.{LogItem}
+use Rattle.shard_turns.specs.ShardLogs.{records_of}
+use Rattle.shard_turns.specs.Turned.{ShowsInTurn}
+use Rattle.shard_turns.proofs.Shown.{row-view}
+use Rattle.shard_turns.proofs.Turning.{has-found, has-card, turn-shows}
 use Rattle.shard_turns.proofs.turns.ShardTurns.show.Goals as goal
 
--- src/turns.rt:193:30
 pub row-requires : goal.row-requires
-row-requires g c = ?
+row-requires g c =
+    let logs : List (Log LogItem LogHead) = (view_of c.enter-held.new.seat).seen in
+    let number : ℕ = c.shard_of-number.result in
+    let found = has-found c.args.issuer.now c.args.self.now c.requires.turns logs number c.enter-held.result c.enter-held.ensures.seat.heads
+    c.enter-held.ensures.value in
+    has-card c.args.issuer.now logs number c.enter-held.result.shard found c.args.card c.shard_of-number.ensures.number c.requires.card
 
--- src/turns.rt:178:5
 pub returns-clause-turn : goal.returns-clause-turn
-returns-clause-turn g c = ?
+returns-clause-turn g c =
+    let issuer : Setup = c.args.issuer.now in
+    let before = view_of c.args.seat.now in
+    let logs : List (Log LogItem LogHead) = (view_of c.enter-held.new.seat).seen in
+    let number : ℕ = c.shard_of-number.result in
+    let found = has-found issuer c.args.self.now c.requires.turns logs number c.enter-held.result c.enter-held.ensures.seat.heads c.enter-held.ensures.value in
+    let items : List LogItem = items_at logs number in
+    turn-shows issuer logs number c.enter-held.result.shard found c.args.card c.shard_of-number.ensures.number c.requires.card c.row.result.now c.row.ensures
+    c.row_shown-view.result c.row_shown-view.ensures before (view_of c.leave.new.seat) c.enter-held.ensures.front
+    (c.leave.ensures.view ∙ ap (λ view. free view) c.enter-held.ensures.view)
