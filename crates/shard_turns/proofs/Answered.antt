@@ -26,7 +26,7 @@ use Rattle.line_checks.specs.Reading.{checked}
 use Rattle.row_core.specs.Replying.{reply_to}
 use Rattle.shard_book.specs.declared.shard.Shard.{Shard}
 use Rattle.shard_book.specs.Answering.{is_store_fault, told_after, AnswersClaimed, AnswersQueueing, AnswersSetting}
-use Rattle.shard_book.specs.Grounds.{IsCardOfShard, HasTable, grounds_of, grounds_now}
+use Rattle.shard_book.specs.Grounds.{IsCardOfShard, grounds_of, grounds_now}
 use Rattle.shard_book.specs.Shards.{number_in, IsUnder, faults_in, told_in, IsUndoubted, StandsFor}
 use Rattle.shard_book.proofs.Lines.{legal-more}
 use Rattle.shard_book.proofs.OwnDecisions.{legal-then}

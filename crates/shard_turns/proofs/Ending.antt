@@ -7,13 +7,12 @@ use Rattle.shard_book.specs.declared.shard.Shard.{Shard}
 use Rattle.turn_book.specs.declared.logs.Log.{Log}
 use Rattle.turn_book.specs.declared.view.Turn.TheVariants.{Free}
 use Rattle.turn_book.specs.declared.view.TurnView.{TurnView}
-use Rattle.turn_book.specs.Logs.{heads_of, items_at, with_items, StandsAt}
+use Rattle.turn_book.specs.Logs.{items_at, with_items}
 use Rattle.turn_book.specs.TurnViews.{entered, free, counted}
 use Rattle.turn_book.proofs.LogLemmas.{items-with_same, items-with_other, stands_below, heads-with, heads-length}
-use Rattle.shard_turns.specs.declared.held.HeldShard.{HeldShard}
 use Rattle.shard_turns.specs.declared.logs.LogHead.{LogHead}
 use Rattle.shard_turns.specs.declared.logs.LogItem.{LogItem}
-use Rattle.shard_turns.specs.ShardLogs.{records_of, faults_of, StandsForLog}
+use Rattle.shard_turns.specs.ShardLogs.{records_of, StandsForLog}
 use Rattle.shard_turns.specs.ShardSeats.{StandsIn}
 use Rattle.shard_turns.specs.Turned.{log_after, turned, counted_if, item_by, added_by}
 use Rattle.shard_turns.proofs.LogSteps.{items-length, texts-length}

@@ -1,5 +1,5 @@
 -- The shards of a host in lists: as they come in they stand for their opening logs, and as they go out each stands for its own.
-use Rattle.std.proofs.Common.{◌≡◌, ℕ, zero, suc, ◌+◌, ◌<◌, ◌≤◌, ◌&&◌, leb, true, Bool, List, [], ◌∷◌, ◌++◌, length, map, take, reverse, Option, Some, append_assoc, refl, sym, ap, subst, ◌∙◌, arith}
+use Rattle.std.proofs.Common.{◌≡◌, ℕ, zero, suc, ◌<◌, ◌≤◌, List, [], ◌∷◌, ◌++◌, length, map, take, reverse, Some, append_assoc, refl, sym, ap, subst, ◌∙◌, arith}
 use Rattle.std.specs.List.{slice_get}
 use Rattle.std.proofs.lemmas.List.{length-map, length_push, reverse-append}
 use Rattle.std.proofs.lemmas.Option.{same_Some, none-some, slice_get_within}
@@ -10,7 +10,7 @@ use Rattle.card_history.specs.LegalRecords.{IsLegalHistory}
 use Rattle.issuer_setup.specs.IssuerSetup.{Setup}
 use Rattle.shard_book.specs.declared.shard.Shard.{Shard}
 use Rattle.shard_book.specs.Grounds.{HasTable, grounds_of}
-use Rattle.shard_book.specs.Shards.{number_in, faults_in, told_in, StandsFor}
+use Rattle.shard_book.specs.Shards.{number_in, faults_in, StandsFor}
 use Rattle.turn_book.specs.declared.logs.Log.{Log}
 use Rattle.turn_book.specs.Logs.{heads_of, StandFor}
 use Rattle.shard_turns.specs.declared.held.HeldShard.{HeldShard}
@@ -18,8 +18,8 @@ use Rattle.shard_turns.specs.declared.logs.LogHead.{LogHead}
 use Rattle.shard_turns.specs.declared.logs.LogItem.{LogItem}
 use Rattle.shard_turns.specs.declared.logs.LogItem.TheVariants.{Record}
 use Rattle.shard_turns.specs.declared.turns.ShardTurns.{ShardTurns}
-use Rattle.shard_turns.specs.Opening.{head_with, log_with, IsJustLoaded, AreJustLoaded, IsOpeningLog, AreOpeningLogs}
-use Rattle.shard_turns.specs.ShardLogs.{records_of, faults_of, RiseTo, StandsForLog}
+use Rattle.shard_turns.specs.Opening.{head_with, IsJustLoaded, AreJustLoaded, IsOpeningLog, AreOpeningLogs}
+use Rattle.shard_turns.specs.ShardLogs.{RiseTo, StandsForLog}
 use Rattle.shard_turns.specs.ShardSeats.{opening_in, AreTurnsOf, StandForLogs}
 use Rattle.shard_turns.proofs.LogSteps.{records-alone, faults-alone}
 

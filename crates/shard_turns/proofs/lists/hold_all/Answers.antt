@@ -1,5 +1,5 @@
 -- One shard more is held, and counted.
-use Rattle.std.proofs.Common.{rules, ◌≡◌, ◌++◌, ◌∷◌, [], List, map, reverse, sym, ap, subst, ◌∙◌}
+use Rattle.std.proofs.Common.{rules, ◌≡◌, ◌++◌, ◌∷◌, List, map, reverse, subst}
 use Rattle.shard_book.specs.declared.shard.Shard.{Shard}
 use Rattle.shard_turns.specs.declared.held.HeldShard.{HeldShard}
 use Rattle.shard_turns.proofs.ListLemmas.{next-ahead, held-next, counts-next}

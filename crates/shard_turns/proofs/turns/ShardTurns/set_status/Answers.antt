@@ -1,13 +1,12 @@
 -- The status is answered in its card's shard, whose log tells what was added.
-use Rattle.std.proofs.Common.{◌≡◌, ◌<◌, ◌%◌, ℕ, List, length, Option, sym, ap, subst, ◌∙◌, arith}
+use Rattle.std.proofs.Common.{ℕ, List, ap, subst, ◌∙◌}
 use Rattle.issuer_base.specs.declared.entry.Entry.{Entry}
 use Rattle.issuer_base.specs.declared.entry.Entry.TheVariants.{Status}
 use Rattle.card_history.specs.Records.{CardName, named}
-use Rattle.issuer_setup.specs.IssuerSetup.{Setup, shard_of}
+use Rattle.issuer_setup.specs.IssuerSetup.{Setup}
 use Rattle.shard_book.specs.Answering.{AnswersSetting}
 use Rattle.shard_book.specs.Shards.{faults_in}
 use Rattle.turn_book.specs.declared.logs.Log.{Log}
-use Rattle.turn_book.specs.Logs.{items_at}
 use Rattle.turn_book.specs.TurnViews.{free}
 use Rattle.turn_book.specs.Seats.{view_of}
 use Rattle.shard_turns.specs.declared.logs.LogHead.{LogHead}

@@ -1,17 +1,12 @@
 -- The card's row in its shard is shown.
-use Rattle.std.proofs.Common.{◌≡◌, ◌%◌, ℕ, List, Some, None, sym, ap, subst, ◌∙◌}
-use Rattle.std.proofs.lemmas.Option.{same_Some}
+use Rattle.std.proofs.Common.{ℕ, List, ap, ◌∙◌}
 use Rattle.issuer_setup.specs.IssuerSetup.{Setup}
-use Rattle.row_core.specs.CardRow.{CardRow, StandsFor as RowStandsFor}
 use Rattle.turn_book.specs.declared.logs.Log.{Log}
 use Rattle.turn_book.specs.Logs.{items_at}
 use Rattle.turn_book.specs.Seats.{view_of}
-use Rattle.turn_book.specs.TurnViews.{entered, free}
+use Rattle.turn_book.specs.TurnViews.{free}
 use Rattle.shard_turns.specs.declared.logs.LogHead.{LogHead}
 use Rattle.shard_turns.specs.declared.logs.LogItem.{LogItem}
-use Rattle.shard_turns.specs.ShardLogs.{records_of}
-use Rattle.shard_turns.specs.Turned.{ShowsInTurn}
-use Rattle.shard_turns.proofs.Shown.{row-view}
 use Rattle.shard_turns.proofs.Turning.{has-found, has-card, turn-shows}
 use Rattle.shard_turns.proofs.turns.ShardTurns.show.Goals as goal
 
