@@ -1,5 +1,6 @@
 -- What is added to a shard's log as a turn ends.
-use Rattle.std.proofs.Common.{◌≡◌, ◌≢◌, ℕ, zero, suc, ◌^◌, ◌<◌, ◌≤◌, length-append, ◌∷◌, [], ◌++◌, List, Bool, true, false, Option, None, Some, length, ◌∙◌, sym, ap, subst, refl, arith}
+use Rattle.std.proofs.Common.{◌≡◌, ◌≢◌, ℕ, zero, suc, ◌^◌, ◌<◌, ◌≤◌, length-append, ◌∷◌, [], ◌++◌, List}
+use Rattle.std.proofs.Common.{Bool, true, false, Option, None, Some, length, ◌∙◌, sym, ap, subst, refl, arith}
 use Rattle.std.specs.Option.{is_some}
 use Rattle.issuer_base.specs.declared.outside.store.Store.{Ghosts}
 use Rattle.issuer_base.specs.declared.entry.Entry.{Entry}
@@ -30,7 +31,8 @@ abbrev view-with : List (Log LogItem LogHead) → List (ℕ × ℕ) → TurnView
 view-with seen mine view = record view { seen = seen; mine = mine; turn = Free }
 
 -- what is added, where something is
-pub added-is : (entry : Option Entry) (fault : Bool) (count : ℕ) → is_some (added_by entry fault count) ≡ true → added_by entry fault count ≡ Some (item_by entry count)
+pub added-is : (entry : Option Entry) (fault : Bool) (count : ℕ) → is_some (added_by entry fault count) ≡ true
+    → added_by entry fault count ≡ Some (item_by entry count)
 added-is None true count adds = refl
 added-is None false count adds = absurd (cc)
 added-is (Some entry) fault count adds = refl
@@ -48,7 +50,8 @@ with-own (log ∷ logs) (suc number) = λ i. log ∷ with-own logs number i
 -- the shard stands for the log with the item, and for the log as it was where there is none
 module _ {S : Type 0} {G : Ghosts S} (shard : Shard S G) (view : TurnView LogItem LogHead) (number : ℕ) (added : Option LogItem)
     (stands : StandsIn shard (with_items view.seen number (log_after (items_at view.seen number) added)) number) where
-  pub stands-with : (item : LogItem) (after : TurnView LogItem LogHead) → added ≡ Some item → after ≡ counted number item view → StandsIn shard after.seen number
+  pub stands-with : (item : LogItem) (after : TurnView LogItem LogHead) → added ≡ Some item → after ≡ counted number item view
+      → StandsIn shard after.seen number
   stands-with item after is after_is =
       subst (λ (after : TurnView LogItem LogHead). StandsIn shard after.seen number) (sym after_is)
       (subst (λ (added : Option LogItem). StandsIn shard (with_items view.seen number (log_after (items_at view.seen number) added)) number) is stands)

@@ -1,5 +1,6 @@
 -- The shards of a host in lists: as they come in they stand for their opening logs, and as they go out each stands for its own.
-use Rattle.std.proofs.Common.{◌≡◌, ℕ, zero, suc, ◌<◌, ◌≤◌, List, [], ◌∷◌, ◌++◌, length, map, take, reverse, Some, append_assoc, refl, sym, ap, subst, ◌∙◌, arith}
+use Rattle.std.proofs.Common.{◌≡◌, ℕ, zero, suc, ◌<◌, ◌≤◌, List, [], ◌∷◌, ◌++◌, length}
+use Rattle.std.proofs.Common.{map, take, reverse, Some, append_assoc, refl, sym, ap, subst, ◌∙◌, arith}
 use Rattle.std.specs.List.{slice_get}
 use Rattle.std.proofs.lemmas.List.{length-map, length_push, reverse-append}
 use Rattle.std.proofs.lemmas.Option.{same_Some, none-some, slice_get_within}
@@ -82,7 +83,8 @@ module _ {S : Type 0} {G : Ghosts S} where
         told_is = untold ∙ sym (ap (λ (counts : List ℕ). length counts) none);
         few = subst (λ (counts : List ℕ). length counts ≤ MAX_FAULTS_TOLD) (sym none) (omega arith);
         undoubted = just.undoubted;
-        counts = subst (λ (counts : List ℕ). RiseTo (faults_in shard) counts (faults_in shard)) (sym none) (let least : faults_in shard ≤ faults_in shard = omega arith in least);
+        counts = subst (λ (counts : List ℕ). RiseTo (faults_in shard) counts (faults_in shard)) (sym none)
+            (let least : faults_in shard ≤ faults_in shard = omega arith in least);
       }
 
   pub opening-stands : (issuer : Setup) (number : ℕ) (shard : Shard S G) (log : Log LogItem LogHead) → HasTable issuer → IsJustLoaded issuer number shard
@@ -177,7 +179,8 @@ module _ {S : Type 0} {G : Ghosts S} where
       let within = slice_get_within shards (length held) next.shard there in
       let many = opening.count_is in
       let log = read-within logs (length held) (omega arith) in
-      let count : places ≡ size log.0 = opening-length issuer (length held) next.shard log.0 places (opening.each (length held) next.shard log.0 there log.1) counted in
+      let opens = opening.each (length held) next.shard log.0 there log.1 in
+      let count : places ≡ size log.0 = opening-length issuer (length held) next.shard log.0 places opens counted in
       let more : length (held ++ next ∷ []) ≡ suc (length held) = omega (arith, length_push held next) in
       ap (λ (counts : List ℕ). counts ++ places ∷ []) counts_are
       ∙ ap (λ count. map size (take (length held) logs) ++ count ∷ []) count

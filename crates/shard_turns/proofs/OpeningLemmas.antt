@@ -28,7 +28,8 @@ module _ {S : Type 0} {G : Ghosts S} (issuer : Setup) where
       → IsOpeningLog issuer (place + first) shard log)
   logs-from first [] each = ([], refl, λ place shard log there. absurd (none-some shard there))
   logs-from first (shard ∷ shards) each =
-      let rest = logs-from (suc first) shards (λ place other there. subst (λ number. IsJustLoaded issuer number other) (omega arith) (each (suc place) other there)) in
+      let rest = logs-from (suc first) shards (λ place other there.
+      subst (λ number. IsJustLoaded issuer number other) (omega arith) (each (suc place) other there)) in
       let just = subst (λ number. IsJustLoaded issuer number shard) (omega arith) (each 0 shard refl) in (
         log-of first shard just ∷ rest.0,
         omega (arith, rest.1),

@@ -14,7 +14,8 @@ loop-shard-preserved g c =
     let ahead : reverse c.loop-shard.ahead.items ≡ next.shard ∷ left =
     next-ahead c.loop-shard.ahead.items c.pop.new.self.items next.shard (rw c.in-Some.is at c.pop.ensures.items) in
     let all : map (λ (held : HeldShard _ g.S.Store). held.shard) held ++ next.shard ∷ left ≡ shards =
-    subst (λ (ahead : List (Shard _ g.S.Store)). map (λ (held : HeldShard _ g.S.Store). held.shard) held ++ ahead ≡ shards) ahead c.loop-shard.invariant.all in
+    subst (λ (ahead : List (Shard _ g.S.Store)). map (λ (held : HeldShard _ g.S.Store). held.shard) held ++ ahead ≡ shards) ahead
+    c.loop-shard.invariant.all in
     record {
       all = rw c.push_reserved-in-Some.ensures.items (held-next shards held next left all);
       counts = rw (c.push_reserved.ensures.items, c.push_reserved-in-Some.ensures.items)

@@ -24,7 +24,8 @@ returns-clause-turn g c =
     let before = view_of c.args.seat.now in
     let logs : List (Log LogItem LogHead) = (view_of c.enter-held.new.seat).seen in
     let number : ℕ = c.shard_of-number.result in
-    let found = has-found issuer c.args.self.now c.requires.turns logs number c.enter-held.result c.enter-held.ensures.seat.heads c.enter-held.ensures.value in
+    let found = has-found issuer c.args.self.now c.requires.turns logs number c.enter-held.result c.enter-held.ensures.seat.heads
+    c.enter-held.ensures.value in
     let items : List LogItem = items_at logs number in
     turn-shows issuer logs number c.enter-held.result.shard found c.args.card c.shard_of-number.ensures.number c.requires.card c.row.result.now c.row.ensures
     c.row_shown-view.result c.row_shown-view.ensures before (view_of c.leave.new.seat) c.enter-held.ensures.front
