@@ -7,7 +7,6 @@ use Rattle.host_calls.proofs.solo.Solo.show.Goals as goal
 pub returns : goal.returns
 returns g c books info book stand info_is book_is =
     let host = c.args.self.now in
-    rw (c.hi.ensures, c.status.ensures, c.queued.ensures.count, c.queue.ensures, c.done.ensures, c.flight.ensures, c.halted.ensures)
-    (shown host.issuer host.shards.items host.are_shards c.cards-cards.ensures.valid c.args.card c.home.result c.home.ensures.number c.index.result.now
-    (slice_get_read host.shards.items _ c.home.result c.index.result.now refl c.home.ensures.within c.index.ensures) c.row-row.result.now
-    c.row-row.ensures books info book stand info_is book_is)
+    shown host.issuer host.shards.items host.are_shards c.cards-cards.ensures.valid c.args.card c.home.result c.home.ensures.number c.index.result.now
+    (slice_get_read host.shards.items _ c.home.result c.index.result.now refl c.home.ensures.within c.index.ensures) c.row.result.now
+    c.row.ensures c.row_shown.result c.row_shown.ensures books info book stand info_is book_is
