@@ -1,0 +1,6 @@
+-- The definitions that the contracts of this crate cite.
+pub mod SummaryText
+pub mod Setting
+pub mod Handing
+pub mod Moves
+pub mod Play

@@ -1,0 +1,149 @@
+//! A run: its steps, one after another, and what it comes to.
+ghost use Rattle.std.specs.Prelude.{◌≡◌, ◌*◌, ◌≤◌, IfOk};
+ghost use Rattle.issuer_base.specs.declared.limits.TheConstants.{MAX_CARDS};
+
+use crate::house::House;
+use crate::moves::moves_of;
+use crate::player::Player;
+use crate::setting::{KEY_SET, PSN, SHARDS, card_info, issuer, step_of};
+use crate::summary::Summary;
+use card_model::Card;
+use host_calls::{HostBack, Solo};
+use issuer_base::NoMemory;
+use issuer_setup::CardInfo;
+use key_derive::MasterCiphers;
+use std::alloc::Global;
+use store_edge::RoomStore;
+use world_net::fate;
+
+/// How many steps a run has at most.
+pub const MAX_STEPS: u32 = 200_000;
+
+/// How many bytes of room a store has for no step.
+const LEAST_ROOM: u64 = 64;
+
+/// How many bytes of room a store has for each step of its shard's cards.
+const STEP_ROOM: u64 = 1_024;
+
+/// Plays so many steps of so many cards: what it comes to. The seed turns the fates of the steps, and stands in their unpredictable numbers.
+///
+/// Where no memory is left nothing is told. All of the stores' memory is taken at first; later only what the cards run takes any.
+pub fn play(alloc: Global, cards: u32, steps: u32, seed: u32) -> Result<Summary, NoMemory>
+    requires cards { (1 ≤ cards) × (cards ≤ MAX_CARDS) }
+    requires steps { steps ≤ MAX_STEPS }
+    requires counters { steps ≤ 65_535 * cards }
+{
+    let mut players = players(alloc, cards)?;
+    let stores = stores(alloc, cards, steps)?;
+    let issuer = issuer(alloc, cards)?;
+    let mut house = House {
+        host: load(alloc, stores, issuer)?,
+        tally: Summary::default(),
+    };
+    let summary = play_on(&mut house, &mut players, steps, seed);
+    let House { host, tally: _ } = house;
+    host.close();
+    summary
+}
+
+/// Plays the steps in order, and sums up.
+fn play_on(
+    house: &mut House,
+    players: &mut Vec<Player>,
+    steps: u32,
+    seed: u32,
+) -> Result<Summary, NoMemory> {
+    play_steps(house, players, steps, seed)?;
+    sum_up(house, players.as_slice())
+}
+
+/// Plays the steps in order.
+fn play_steps(
+    house: &mut House,
+    players: &mut Vec<Player>,
+    steps: u32,
+    seed: u32,
+) -> Result<(), NoMemory> {
+    let cards = players.len() as u32;
+    for index in 0..steps {
+        let step = step_of(index, cards, seed);
+        let moves = moves_of(fate(u64::from(index), cards, seed));
+        players[step.card as usize].play(house, &step, moves)?;
+    }
+    Ok(())
+}
+
+/// The counts at the end: those so far, and what host and cards tell then.
+fn sum_up(house: &House, players: &[Player]) -> Result<Summary, NoMemory> {
+    let mut summary = house.tally;
+    for number in 0..house.host.issuer().cards() {
+        let view = house.host.show(number);
+        summary.done += u64::from(view.done);
+        if view.halted {
+            summary.halted += 1;
+        }
+    }
+    for player in players {
+        let ran = player.card.ran().len() as u64;
+        summary.ran = summary.ran.checked_add(ran).ok_or(NoMemory)?;
+    }
+    Ok(summary)
+}
+
+/// A player for each card.
+fn players(alloc: Global, cards: u32) -> Result<Vec<Player>, NoMemory> {
+    let ciphers = MasterCiphers::new(&KEY_SET);
+    let mut players = Vec::with_capacity(alloc, cards as usize)?;
+    for number in 0..cards {
+        let CardInfo { pan, psn: _, method } = card_info(number);
+        let keys = ciphers.card_keys(&pan, PSN);
+        players.push_reserved(Player {
+            card: Card::new(alloc, pan, PSN, KEY_SET.dki, method, keys),
+            request: None,
+            reply: None,
+            held: None,
+        });
+    }
+    Ok(players)
+}
+
+/// An empty store for each shard.
+fn stores(alloc: Global, cards: u32, steps: u32) -> Result<Vec<RoomStore>, NoMemory> {
+    let mut stores = Vec::with_capacity(alloc, usize::from(SHARDS))?;
+    for shard in 0..SHARDS {
+        let room = room_of(cards, steps, shard);
+        stores.push_reserved(RoomStore::new(alloc, room as usize)?);
+    }
+    Ok(stores)
+}
+
+/// The room of a shard's store.
+fn room_of(cards: u32, steps: u32, shard: u8) -> u64
+{
+    let rounds = u64::from(steps / cards);
+    let steps = rounds * cards_of(cards, shard) + cards_of(steps % cards, shard);
+    LEAST_ROOM + STEP_ROOM * steps
+}
+
+/// How many of the first cards are of this shard.
+fn cards_of(cards: u32, shard: u8) -> u64 {
+    (u64::from(cards) + u64::from(SHARDS - 1 - shard)) / u64::from(SHARDS)
+}
+
+/// The host of an issuer over these stores.
+fn load(
+    alloc: Global,
+    stores: Vec<RoomStore>,
+    issuer: issuer_setup::Issuer,
+) -> Result<Solo<RoomStore>, NoMemory> {
+    match Solo::load(alloc, stores, issuer) {
+        Ok(host) => Ok(host),
+        Err(
+            HostBack {
+                fault: _,
+                shard: _,
+                stores: _,
+            },
+        ) => Err(NoMemory),
+    }
+}
