@@ -1,6 +1,7 @@
 //! A run: its steps, one after another, and what it comes to.
 ghost use Rattle.std.specs.Prelude.{◌≡◌, ◌*◌, ◌≤◌, IfOk};
 ghost use Rattle.issuer_base.specs.declared.limits.TheConstants.{MAX_CARDS};
+ghost use Rattle.world_play.specs.Play.{ComesTo};
 
 use crate::house::House;
 use crate::moves::moves_of;
@@ -32,6 +33,7 @@ pub fn play(alloc: Global, cards: u32, steps: u32, seed: u32) -> Result<Summary,
     requires cards { (1 ≤ cards) × (cards ≤ MAX_CARDS) }
     requires steps { steps ≤ MAX_STEPS }
     requires counters { steps ≤ 65_535 * cards }
+    ensures { IfOk result (ComesTo cards steps seed) }
 {
     let mut players = players(alloc, cards)?;
     let stores = stores(alloc, cards, steps)?;
