@@ -4,3 +4,4 @@ pub mod Setting
 pub mod Handing
 pub mod Moves
 pub mod Play
+pub mod Reaching

@@ -93,21 +93,24 @@ after_tap step stage =
       tally = with_tap stage.tally next.0;
     }
 
--- the card is given the issuer's answer and, where it found that right, these commands
-abbrev pub given : List ℕ → List ℕ → List (List ℕ) → Stage → Stage
-given answer arc commands stage = record stage {
-  player = record stage.player { card = after_answer stage.player.card answer arc commands };
-  tally = with_finding stage.tally (authenticated stage.player.card answer arc).0;
-}
+-- the card that is given the issuer's answer of a reply, changed so, and the commands of the reply that are chosen so; nothing, where no
+-- answer is in it
+abbrev pub given_card : (List ℕ → List ℕ) → (List (List ℕ) → List (List ℕ)) → Reply → Option (List ℕ) → CardState → CardState
+given_card change choose reply None card = card
+given_card change choose reply (Some answer) card = after_answer card (change answer) reply.arc (choose (commands_in reply.bytes.items))
 
--- what a reply gives to the card, its answer changed and its commands chosen so; nothing, where there is no reply or no answer in it
-abbrev pub given_of : (List ℕ → List ℕ) → (List (List ℕ) → List (List ℕ)) → Reply → Option (List ℕ) → Stage → Stage
-given_of change choose reply None stage = stage
-given_of change choose reply (Some answer) stage = given (change answer) reply.arc (choose (commands_in reply.bytes.items)) stage
+-- and the counts then
+abbrev pub given_tally : (List ℕ → List ℕ) → Reply → Option (List ℕ) → CardState → Summary → Summary
+given_tally change reply None card tally = tally
+given_tally change reply (Some answer) card tally = with_finding tally (authenticated card (change answer) reply.arc).0
 
+-- the stage after the last reply arrived so; nothing arrives, where there is none
 abbrev pub handed : (List ℕ → List ℕ) → (List (List ℕ) → List (List ℕ)) → Option Reply → Stage → Stage
 handed change choose None stage = stage
-handed change choose (Some reply) stage = given_of change choose reply (answer_in reply.bytes.items) stage
+handed change choose (Some reply) stage = record stage {
+  player = record stage.player { card = given_card change choose reply (answer_in reply.bytes.items) stage.player.card };
+  tally = given_tally change reply (answer_in reply.bytes.items) stage.player.card stage.tally;
+}
 
 -- one move at a step leads from a stage to a stage
 abbrev pub Makes : Setup → Step → Move → Stage → Stage → Type 0
@@ -164,11 +167,15 @@ no_counts = record {
   halted = 0;
 }
 
+-- a shard without records, whose store never failed
+abbrev pub empty_book : Book
+empty_book = record { history = []; faults = 0; told = 0 }
+
 -- before the first step
 abbrev pub first_state : ℕ → State
 first_state cards = record {
   players = map new_player (range_with_len 0 cards);
-  books = replicate 4 (record { history = []; faults = 0; told = 0 });
+  books = replicate 4 empty_book;
   tally = no_counts;
 }
 

@@ -1,4 +1,11 @@
 //! A card, and its requests and reply on their way.
+ghost use Rattle.std.specs.Prelude.{◌≡◌, take, IfOk};
+ghost use Rattle.card_history.specs.OneReply.{reply_in};
+ghost use Rattle.world_play.specs.declared.moves.Move.TheVariants.{Tap};
+ghost use Rattle.world_play.specs.Handing.{spoil_first};
+ghost use Rattle.world_play.specs.Play.{Makes, MakesAll, IsAnswered, IsAsked, handed, spoiled};
+ghost use Rattle.world_play.specs.Reaching.{Reaches};
+
 use crate::handing::{hand, hand_first, hand_spoiled};
 use crate::house::{House, count};
 use crate::moves::Move;
@@ -19,7 +26,9 @@ pub(crate) struct Player {
 
 impl Player {
     /// Makes the moves of a step, in order.
-    pub(crate) fn play(&mut self, house: &mut House, step: &Step, moves: &[Move]) -> Result<(), NoMemory> {
+    pub(crate) fn play(&mut self, house: &mut House, step: &Step, moves: &[Move]) -> Result<(), NoMemory>
+        ensures { IfOk result (λ _. Reaches (MakesAll house.old.host.issuer step.now moves.now) house.old self.old house.new self.new) }
+    {
         for next in moves {
             self.make(house, step, *next)?;
         }
@@ -27,7 +36,9 @@ impl Player {
     }
 
     /// Makes one move of a step.
-    fn make(&mut self, house: &mut House, step: &Step, next: Move) -> Result<(), NoMemory> {
+    fn make(&mut self, house: &mut House, step: &Step, next: Move) -> Result<(), NoMemory>
+        ensures { IfOk result (λ _. Reaches (Makes house.old.host.issuer step.now next) house.old self.old house.new self.new) }
+    {
         match next {
             Move::Queue(number) => self.say(house, queue_line(step, number).as_slice()),
             Move::Tap => self.tap(house, step),
@@ -49,13 +60,17 @@ impl Player {
     }
 
     /// The host answers a line of this card; a reply in the answer is the last one.
-    fn say(&mut self, house: &mut House, line: &[u8]) -> Result<(), NoMemory> {
+    fn say(&mut self, house: &mut House, line: &[u8]) -> Result<(), NoMemory>
+        ensures { IfOk result (λ _. Reaches (IsAnswered house.old.host.issuer line.now) house.old self.old house.new self.new) }
+    {
         self.reply = reply_in(house.answer(line)?);
         Ok(())
     }
 
     /// A tap at the step's terminal.
-    fn tap(&mut self, house: &mut House, step: &Step) -> Result<(), NoMemory> {
+    fn tap(&mut self, house: &mut House, step: &Step) -> Result<(), NoMemory>
+        ensures { IfOk result (λ _. Reaches (Makes house.old.host.issuer step.now Tap) house.old self.old house.new self.new) }
+    {
         self.reply = None;
         self.request = self.card.tap(&terminal_of(step));
         if self.request.is_some() {
@@ -65,7 +80,9 @@ impl Player {
     }
 
     /// The line of the request in hand is answered.
-    fn ask(&mut self, house: &mut House) -> Result<(), NoMemory> {
+    fn ask(&mut self, house: &mut House) -> Result<(), NoMemory>
+        ensures { IfOk result (λ _. Reaches (λ before. IsAsked house.old.host.issuer (λ request. request) before.player.request before) house.old self.old house.new self.new) }
+    {
         let Some(request) = &self.request else {
             return Ok(());
         };
@@ -74,7 +91,9 @@ impl Player {
     }
 
     /// The line of the request in hand is answered, with the last bit of its cryptogram changed.
-    fn ask_spoiled(&mut self, house: &mut House) -> Result<(), NoMemory> {
+    fn ask_spoiled(&mut self, house: &mut House) -> Result<(), NoMemory>
+        ensures { IfOk result (λ _. Reaches (λ before. IsAsked house.old.host.issuer spoiled before.player.request before) house.old self.old house.new self.new) }
+    {
         let Some(request) = &self.request else {
             return Ok(());
         };
@@ -83,7 +102,9 @@ impl Player {
     }
 
     /// The last reply arrives.
-    fn hand(&mut self, house: &mut House) -> Result<(), NoMemory> {
+    fn hand(&mut self, house: &mut House) -> Result<(), NoMemory>
+        ensures { IfOk result (λ _. Reaches (λ before after. after ≡ handed (λ answer. answer) (λ commands. commands) before.player.reply before) house.old self.old house.new self.new) }
+    {
         let Some(reply) = &self.reply else {
             return Ok(());
         };
@@ -91,7 +112,9 @@ impl Player {
     }
 
     /// The last reply arrives, with its first command alone.
-    fn hand_first(&mut self, house: &mut House) -> Result<(), NoMemory> {
+    fn hand_first(&mut self, house: &mut House) -> Result<(), NoMemory>
+        ensures { IfOk result (λ _. Reaches (λ before after. after ≡ handed (λ answer. answer) (take 1) before.player.reply before) house.old self.old house.new self.new) }
+    {
         let Some(reply) = &self.reply else {
             return Ok(());
         };
@@ -99,7 +122,9 @@ impl Player {
     }
 
     /// The last reply arrives, with a spoiled answer.
-    fn hand_spoiled(&mut self, house: &mut House) -> Result<(), NoMemory> {
+    fn hand_spoiled(&mut self, house: &mut House) -> Result<(), NoMemory>
+        ensures { IfOk result (λ _. Reaches (λ before after. after ≡ handed spoil_first (λ commands. commands) before.player.reply before) house.old self.old house.new self.new) }
+    {
         let Some(reply) = &self.reply else {
             return Ok(());
         };
@@ -108,7 +133,9 @@ impl Player {
 }
 
 /// The reply that an answer gives, or none.
-fn reply_in(answer: Answer) -> Option<Reply> {
+fn reply_in(answer: Answer) -> Option<Reply>
+    ensures { result ≡ reply_in answer }
+{
     match answer {
         Answer::Fresh { reply, .. } => Some(reply),
         Answer::Kept { reply, .. } => Some(reply),
@@ -119,7 +146,9 @@ fn reply_in(answer: Answer) -> Option<Reply> {
 }
 
 /// A request with the last bit of its cryptogram changed.
-fn spoiled(request: &Request) -> Request {
+fn spoiled(request: &Request) -> Request
+    ensures { result ≡ spoiled request.now }
+{
     let mut parts = request.parts().copy();
     parts.ac[7] ^= 0x01;
     Request::new(parts).unwrap()

@@ -1,4 +1,7 @@
 //! What a terminal finds in a reply, and gives to the card.
+ghost use Rattle.std.specs.Prelude.{◌≡◌, take, option_map, IfOk};
+ghost use Rattle.world_play.specs.Handing.{value_of, values_of, answer_in, commands_in, spoil_first, after_commands};
+
 use arrayvec::ArrayVec;
 use card_model::Card;
 use issuer_base::{MAX_REPLY_BYTES, NoMemory};
@@ -14,7 +17,9 @@ const TEMPLATE: u32 = 0x72;
 const COMMAND: u32 = 0x86;
 
 /// The value of the first object with this tag; none where there is no such object.
-fn value_of(bytes: &[u8], tag: u32) -> Option<&[u8]> {
+fn value_of(bytes: &[u8], tag: u32) -> Option<&[u8]>
+    ensures { option_map (λ value. value.now) result ≡ value_of tag bytes.now }
+{
     for object in Objects::new(bytes) {
         let Ok(object) = object else {
             return None;
@@ -27,12 +32,16 @@ fn value_of(bytes: &[u8], tag: u32) -> Option<&[u8]> {
 }
 
 /// The issuer's answer in a reply.
-pub(crate) fn answer_in(reply: &[u8]) -> Option<&[u8]> {
+pub(crate) fn answer_in(reply: &[u8]) -> Option<&[u8]>
+    ensures { option_map (λ value. value.now) result ≡ answer_in reply.now }
+{
     value_of(reply, ISSUER_ANSWER)
 }
 
 /// An issuer's answer with the last bit of its first byte changed.
-pub(crate) fn spoiled(answer: &[u8]) -> Result<ArrayVec<u8, MAX_REPLY_BYTES>, NoMemory> {
+pub(crate) fn spoiled(answer: &[u8]) -> Result<ArrayVec<u8, MAX_REPLY_BYTES>, NoMemory>
+    ensures { IfOk result (λ copy. copy.items ≡ spoil_first answer.now) }
+{
     let mut copy = ArrayVec::new();
     let Ok(()) = copy.try_extend_from_slice(answer) else {
         return Err(NoMemory);
@@ -44,10 +53,19 @@ pub(crate) fn spoiled(answer: &[u8]) -> Result<ArrayVec<u8, MAX_REPLY_BYTES>, No
 }
 
 /// Gives the card all commands of a reply, in order.
-pub(crate) fn run_all(card: &mut Card, reply: &[u8]) -> Result<(), NoMemory> {
+pub(crate) fn run_all(card: &mut Card, reply: &[u8]) -> Result<(), NoMemory>
+    ensures { IfOk result (λ _. card.new ≡ after_commands card.old (commands_in reply.now)) }
+{
     let Some(template) = value_of(reply, TEMPLATE) else {
         return Ok(());
     };
+    run_template(card, template)
+}
+
+/// Gives the card all commands of a template, in order.
+fn run_template(card: &mut Card, template: &[u8]) -> Result<(), NoMemory>
+    ensures { IfOk result (λ _. card.new ≡ after_commands card.old (values_of 0x86 template.now)) }
+{
     for object in Objects::new(template) {
         let Ok(object) = object else {
             return Ok(());
@@ -60,7 +78,9 @@ pub(crate) fn run_all(card: &mut Card, reply: &[u8]) -> Result<(), NoMemory> {
 }
 
 /// Gives the card the first command of a reply alone.
-pub(crate) fn run_first(card: &mut Card, reply: &[u8]) -> Result<(), NoMemory> {
+pub(crate) fn run_first(card: &mut Card, reply: &[u8]) -> Result<(), NoMemory>
+    ensures { IfOk result (λ _. card.new ≡ after_commands card.old (take 1 (commands_in reply.now))) }
+{
     let Some(template) = value_of(reply, TEMPLATE) else {
         return Ok(());
     };

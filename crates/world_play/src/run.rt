@@ -1,7 +1,12 @@
 //! A run: its steps, one after another, and what it comes to.
-ghost use Rattle.std.specs.Prelude.{◌≡◌, ◌*◌, ◌≤◌, IfOk};
+ghost use Rattle.std.specs.Prelude.{◌≡◌, ℕ, ◌*◌, ◌<◌, ◌≤◌, [], length, map, replicate, All, IfOk};
+ghost use Rattle.std.specs.List.{range_with_len};
+ghost use Rattle.host_calls.specs.Hosts.{Stand};
+ghost use Rattle.host_calls.specs.Loading.{AreLoaded};
 ghost use Rattle.issuer_base.specs.declared.limits.TheConstants.{MAX_CARDS};
-ghost use Rattle.world_play.specs.Play.{ComesTo};
+ghost use Rattle.world_play.specs.Play.{ComesTo, empty_book, new_player, no_counts};
+ghost use Rattle.world_play.specs.Reaching.{IsAt};
+ghost use Rattle.world_play.specs.Setting.{issuer};
 
 use crate::house::House;
 use crate::moves::moves_of;
@@ -11,7 +16,7 @@ use crate::summary::Summary;
 use card_model::Card;
 use host_calls::{HostBack, Solo};
 use issuer_base::NoMemory;
-use issuer_setup::CardInfo;
+use issuer_setup::{CardInfo, Issuer};
 use key_derive::MasterCiphers;
 use std::alloc::Global;
 use store_edge::RoomStore;
@@ -36,13 +41,8 @@ pub fn play(alloc: Global, cards: u32, steps: u32, seed: u32) -> Result<Summary,
     ensures { IfOk result (ComesTo cards steps seed) }
 {
     let mut players = players(alloc, cards)?;
-    let stores = stores(alloc, cards, steps)?;
-    let issuer = issuer(alloc, cards)?;
-    let mut house = House {
-        host: load(alloc, stores, issuer)?,
-        tally: Summary::default(),
-    };
-    let summary = play_on(&mut house, &mut players, steps, seed);
+    let mut house = open(alloc, cards, steps)?;
+    let summary = play_on(&mut house, &mut players, cards, steps, seed);
     let House { host, tally: _ } = house;
     host.close();
     summary
@@ -52,10 +52,16 @@ pub fn play(alloc: Global, cards: u32, steps: u32, seed: u32) -> Result<Summary,
 fn play_on(
     house: &mut House,
     players: &mut Vec<Player>,
+    cards: u32,
     steps: u32,
     seed: u32,
-) -> Result<Summary, NoMemory> {
-    play_steps(house, players, steps, seed)?;
+) -> Result<Summary, NoMemory>
+    requires some { 1 ≤ cards }
+    requires players { length players.old.items ≡ cards }
+    requires first { IsAt cards seed 0 house.old players.old.items }
+    ensures { IfOk result (ComesTo cards steps seed) }
+{
+    play_steps(house, players, cards, steps, seed)?;
     sum_up(house, players.as_slice())
 }
 
@@ -63,10 +69,15 @@ fn play_on(
 fn play_steps(
     house: &mut House,
     players: &mut Vec<Player>,
+    cards: u32,
     steps: u32,
     seed: u32,
-) -> Result<(), NoMemory> {
-    let cards = players.len() as u32;
+) -> Result<(), NoMemory>
+    requires some { 1 ≤ cards }
+    requires players { length players.old.items ≡ cards }
+    requires first { IsAt cards seed 0 house.old players.old.items }
+    ensures { IfOk result (λ _. IsAt cards seed steps house.new players.new.items) }
+{
     for index in 0..steps {
         let step = step_of(index, cards, seed);
         let moves = moves_of(fate(u64::from(index), cards, seed));
@@ -76,7 +87,9 @@ fn play_steps(
 }
 
 /// The counts at the end: those so far, and what host and cards tell then.
-fn sum_up(house: &House, players: &[Player]) -> Result<Summary, NoMemory> {
+fn sum_up(house: &House, players: &[Player]) -> Result<Summary, NoMemory>
+    ensures { IfOk result (λ summary. (cards steps seed : ℕ) → IsAt cards seed steps house.now players.now → ComesTo cards steps seed summary) }
+{
     let mut summary = house.tally;
     for number in 0..house.host.issuer().cards() {
         let view = house.host.show(number);
@@ -93,7 +106,9 @@ fn sum_up(house: &House, players: &[Player]) -> Result<Summary, NoMemory> {
 }
 
 /// A player for each card.
-fn players(alloc: Global, cards: u32) -> Result<Vec<Player>, NoMemory> {
+fn players(alloc: Global, cards: u32) -> Result<Vec<Player>, NoMemory>
+    ensures { IfOk result (λ made. made.items ≡ map new_player (range_with_len 0 cards)) }
+{
     let ciphers = MasterCiphers::new(&KEY_SET);
     let mut players = Vec::with_capacity(alloc, cards as usize)?;
     for number in 0..cards {
@@ -109,8 +124,27 @@ fn players(alloc: Global, cards: u32) -> Result<Vec<Player>, NoMemory> {
     Ok(players)
 }
 
+/// The host of an issuer of so many cards, over empty stores with room for so many steps.
+fn open(alloc: Global, cards: u32, steps: u32) -> Result<House, NoMemory>
+    requires { 1 ≤ cards }
+    ensures issuer { IfOk result (λ house. house.host.issuer ≡ issuer cards) }
+    ensures books { IfOk result (λ house. Stand house.host.issuer house.host.shards.items (replicate 4 empty_book)) }
+    ensures tally { IfOk result (λ house. house.tally ≡ no_counts) }
+{
+    let stores = stores(alloc, cards, steps)?;
+    let issuer = issuer(alloc, cards)?;
+    Ok(House {
+        host: load(alloc, stores, issuer)?,
+        tally: Summary::default(),
+    })
+}
+
 /// An empty store for each shard.
-fn stores(alloc: Global, cards: u32, steps: u32) -> Result<Vec<RoomStore>, NoMemory> {
+fn stores(alloc: Global, cards: u32, steps: u32) -> Result<Vec<RoomStore>, NoMemory>
+    requires { 1 ≤ cards }
+    ensures count { IfOk result (λ made. length made.items ≡ 4) }
+    ensures empty { IfOk result (λ made. All (λ store. (store.held ≡ []) × (store.faults ≡ 0)) made.items) }
+{
     let mut stores = Vec::with_capacity(alloc, usize::from(SHARDS))?;
     for shard in 0..SHARDS {
         let room = room_of(cards, steps, shard);
@@ -121,6 +155,8 @@ fn stores(alloc: Global, cards: u32, steps: u32) -> Result<Vec<RoomStore>, NoMem
 
 /// The room of a shard's store.
 fn room_of(cards: u32, steps: u32, shard: u8) -> u64
+    requires some { 1 ≤ cards }
+    requires shard { shard < 4 }
 {
     let rounds = u64::from(steps / cards);
     let steps = rounds * cards_of(cards, shard) + cards_of(steps % cards, shard);
@@ -128,7 +164,10 @@ fn room_of(cards: u32, steps: u32, shard: u8) -> u64
 }
 
 /// How many of the first cards are of this shard.
-fn cards_of(cards: u32, shard: u8) -> u64 {
+fn cards_of(cards: u32, shard: u8) -> u64
+    requires { shard < 4 }
+    ensures { result ≤ cards }
+{
     (u64::from(cards) + u64::from(SHARDS - 1 - shard)) / u64::from(SHARDS)
 }
 
@@ -136,8 +175,12 @@ fn cards_of(cards: u32, shard: u8) -> u64 {
 fn load(
     alloc: Global,
     stores: Vec<RoomStore>,
-    issuer: issuer_setup::Issuer,
-) -> Result<Solo<RoomStore>, NoMemory> {
+    issuer: Issuer,
+) -> Result<Solo<RoomStore>, NoMemory>
+    requires { length stores.items ≡ issuer.shards }
+    ensures issuer { IfOk result (λ host. host.issuer ≡ issuer) }
+    ensures loaded { IfOk result (λ host. AreLoaded issuer stores.items host.shards.items) }
+{
     match Solo::load(alloc, stores, issuer) {
         Ok(host) => Ok(host),
         Err(
