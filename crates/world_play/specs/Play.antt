@@ -197,12 +197,17 @@ IsAfter cards seed (suc steps) state = (before : State) × IsAfter cards seed st
 abbrev pub shown : Setup → List Book → CardInfo → CardView
 shown setup books info = view_of (name_of info) (slice_index_or (histories_of books) (shard_of setup (name_of info)) [])
 
+-- one where it is so, and else none
+abbrev pub one_if : Bool → ℕ
+one_if true = 1
+one_if false = 0
+
 -- the counts at the end: the commands that are done and the halted cards as the host shows them, and the commands that the cards ran
 abbrev pub summed : Setup → State → Summary
 summed setup state = record state.tally {
   done = sum_by (λ info. (shown setup state.books info).done) setup.cards;
   ran = sum_by (λ player. length player.card.ran) state.players;
-  halted = sum_by (λ info. if (shown setup state.books info).halted then 1 else 0) setup.cards;
+  halted = sum_by (λ info. one_if (shown setup state.books info).halted) setup.cards;
 }
 
 -- what a run of so many cards and steps with this seed comes to

@@ -56,6 +56,7 @@ pub(crate) fn hand_spoiled(card: &mut Card, tally: &mut Summary, reply: &Reply) 
 }
 
 /// Whether the card found the issuer's answer right, which is counted.
+#[tactic(auto, unfolding(card_model::specs::CardSteps::CardStep))]
 fn is_right(card: &mut Card, tally: &mut Summary, answer: &[u8], arc: [u8; 2]) -> Result<bool, NoMemory>
     ensures card { IfOk result (λ right. (right, card.new) ≡ authenticated card.old answer.now arc) }
     ensures tally { IfOk result (λ right. tally.new ≡ with_finding tally.old right) }

@@ -5,11 +5,11 @@ ghost use Rattle.shard_book.specs.Answering.{is_store_fault};
 ghost use Rattle.host_calls.specs.Books.{Book};
 ghost use Rattle.host_calls.specs.Hosts.{Stand};
 ghost use Rattle.host_calls.specs.Turns.{Turn};
-ghost use Rattle.world_play.specs.Play.{with_answer};
+ghost use Rattle.world_play.specs.Play.{with_answer, with_tap};
 
 use crate::summary::Summary;
 use host_calls::Solo;
-use issuer_base::{Answer, NoMemory, Refusal};
+use issuer_base::{Answer, NoMemory, Refusal, Request};
 use store_edge::RoomStore;
 
 /// The host of the run's issuer, and the counts so far: what isn't known before the end is 0.
@@ -54,6 +54,16 @@ fn count_answer(tally: &mut Summary, answer: &Answer) -> Result<(), NoMemory>
         Answer::Refused(_) => count(&mut tally.refused)?,
     }
     Ok(())
+}
+
+/// Counts a tap that gave a request.
+pub(crate) fn count_tap(tally: &mut Summary, request: &Option<Request>) -> Result<(), NoMemory>
+    ensures { IfOk result (λ _. tally.new ≡ with_tap tally.old request.now) }
+{
+    match request {
+        Some(_) => count(&mut tally.taps),
+        None => Ok(()),
+    }
 }
 
 /// One more; a count that has no place for it is want of memory.

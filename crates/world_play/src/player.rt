@@ -7,7 +7,7 @@ ghost use Rattle.world_play.specs.Play.{Makes, MakesAll, IsAnswered, IsAsked, ha
 ghost use Rattle.world_play.specs.Reaching.{Reaches};
 
 use crate::handing::{hand, hand_first, hand_spoiled};
-use crate::house::{House, count};
+use crate::house::{House, count_tap};
 use crate::moves::Move;
 use crate::queue_line::queue_line;
 use crate::setting::{Step, terminal_of};
@@ -68,14 +68,14 @@ impl Player {
     }
 
     /// A tap at the step's terminal.
+    #[tactic(auto, using(crate::proofs::Moving::tapped_once))]
     fn tap(&mut self, house: &mut House, step: &Step) -> Result<(), NoMemory>
         ensures { IfOk result (λ _. Reaches (Makes house.old.host.issuer step.now Tap) house.old self.old house.new self.new) }
     {
+        let request = self.card.tap(&terminal_of(step));
+        count_tap(&mut house.tally, &request)?;
+        self.request = request;
         self.reply = None;
-        self.request = self.card.tap(&terminal_of(step));
-        if self.request.is_some() {
-            count(&mut house.tally.taps)?;
-        }
         Ok(())
     }
 
@@ -146,6 +146,7 @@ fn reply_in(answer: Answer) -> Option<Reply>
 }
 
 /// A request with the last bit of its cryptogram changed.
+#[tactic(auto, unfolding(issuer_base::specs::ChipData::request_from, issuer_base::specs::ChipData::is_request))]
 fn spoiled(request: &Request) -> Request
     ensures { result ≡ spoiled request.now }
 {

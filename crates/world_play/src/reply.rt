@@ -20,8 +20,8 @@ const COMMAND: u32 = 0x86;
 fn value_of(bytes: &[u8], tag: u32) -> Option<&[u8]>
     ensures { option_map (λ value. value.now) result ≡ value_of tag bytes.now }
 {
-    for object in Objects::new(bytes) {
-        let Ok(object) = object else {
+    for item in Objects::new(bytes) {
+        let Ok(object) = item else {
             return None;
         };
         if object.tag == tag {
@@ -63,11 +63,12 @@ pub(crate) fn run_all(card: &mut Card, reply: &[u8]) -> Result<(), NoMemory>
 }
 
 /// Gives the card all commands of a template, in order.
+#[tactic(auto, unfolding(card_model::specs::CardSteps::CardStep))]
 fn run_template(card: &mut Card, template: &[u8]) -> Result<(), NoMemory>
     ensures { IfOk result (λ _. card.new ≡ after_commands card.old (values_of 0x86 template.now)) }
 {
-    for object in Objects::new(template) {
-        let Ok(object) = object else {
+    for item in Objects::new(template) {
+        let Ok(object) = item else {
             return Ok(());
         };
         if object.tag == COMMAND {
@@ -78,6 +79,7 @@ fn run_template(card: &mut Card, template: &[u8]) -> Result<(), NoMemory>
 }
 
 /// Gives the card the first command of a reply alone.
+#[tactic(auto, using(crate::proofs::Giving::first_value), unfolding(card_model::specs::CardSteps::CardStep))]
 pub(crate) fn run_first(card: &mut Card, reply: &[u8]) -> Result<(), NoMemory>
     ensures { IfOk result (λ _. card.new ≡ after_commands card.old (take 1 (commands_in reply.now))) }
 {

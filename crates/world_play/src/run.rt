@@ -1,10 +1,11 @@
 //! A run: its steps, one after another, and what it comes to.
-ghost use Rattle.std.specs.Prelude.{◌≡◌, ℕ, ◌*◌, ◌<◌, ◌≤◌, [], length, map, replicate, All, IfOk};
+ghost use Rattle.std.specs.Prelude.{◌≡◌, ℕ, ◌*◌, ◌<◌, ◌≤◌, List, [], length, map, replicate, sum_by, All, IfOk};
 ghost use Rattle.std.specs.List.{range_with_len};
+ghost use Rattle.host_calls.specs.Books.{Book};
 ghost use Rattle.host_calls.specs.Hosts.{Stand};
 ghost use Rattle.host_calls.specs.Loading.{AreLoaded};
 ghost use Rattle.issuer_base.specs.declared.limits.TheConstants.{MAX_CARDS};
-ghost use Rattle.world_play.specs.Play.{ComesTo, empty_book, new_player, no_counts};
+ghost use Rattle.world_play.specs.Play.{ComesTo, empty_book, new_player, no_counts, one_if, shown};
 ghost use Rattle.world_play.specs.Reaching.{IsAt};
 ghost use Rattle.world_play.specs.Setting.{issuer};
 
@@ -90,19 +91,51 @@ fn play_steps(
 fn sum_up(house: &House, players: &[Player]) -> Result<Summary, NoMemory>
     ensures { IfOk result (λ summary. (cards steps seed : ℕ) → IsAt cards seed steps house.now players.now → ComesTo cards steps seed summary) }
 {
-    let mut summary = house.tally;
-    for number in 0..house.host.issuer().cards() {
-        let view = house.host.show(number);
-        summary.done += u64::from(view.done);
-        if view.halted {
-            summary.halted += 1;
-        }
+    let Shown { done, halted } = count_shown(&house.host);
+    let ran = count_ran(players)?;
+    Ok(Summary {
+        done,
+        ran,
+        halted,
+        ..house.tally
+    })
+}
+
+/// What a host shows, over all cards.
+struct Shown {
+    /// How many commands are done.
+    done: u64,
+
+    /// How many cards are halted.
+    halted: u64,
+}
+
+/// Counts what the host shows of its cards.
+fn count_shown(host: &Solo<RoomStore>) -> Shown
+    ensures done { (books : List Book) → Stand host.now.issuer host.now.shards.items books
+        → result.done ≡ sum_by (λ info. (shown host.now.issuer books info).done) host.now.issuer.cards }
+    ensures halted { (books : List Book) → Stand host.now.issuer host.now.shards.items books
+        → result.halted ≡ sum_by (λ info. one_if (shown host.now.issuer books info).halted) host.now.issuer.cards }
+{
+    let mut counts = Shown { done: 0, halted: 0 };
+    for number in 0..host.issuer().cards() {
+        let view = host.show(number);
+        counts.done += u64::from(view.done);
+        counts.halted += u64::from(view.halted);
     }
+    counts
+}
+
+/// Counts what the cards ran.
+fn count_ran(players: &[Player]) -> Result<u64, NoMemory>
+    ensures { IfOk result (λ ran. ran ≡ sum_by (λ player. length player.card.ran) players.now) }
+{
+    let mut total: u64 = 0;
     for player in players {
         let ran = player.card.ran().len() as u64;
-        summary.ran = summary.ran.checked_add(ran).ok_or(NoMemory)?;
+        total = total.checked_add(ran).ok_or(NoMemory)?;
     }
-    Ok(summary)
+    Ok(total)
 }
 
 /// A player for each card.

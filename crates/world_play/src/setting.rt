@@ -3,7 +3,7 @@ ghost use Rattle.std.specs.Prelude.{◌≡◌, ◌<◌, ◌≤◌, IfOk, IsTrue}
 ghost use Rattle.std.specs.List.{list_all};
 ghost use Rattle.issuer_base.specs.ChipData.{is_bcd};
 ghost use Rattle.issuer_base.specs.declared.limits.TheConstants.{MAX_CARDS};
-ghost use Rattle.world_play.specs.Setting.{key_set, card_info, table, issuer, terminal_of, step_of};
+ghost use Rattle.world_play.specs.Setting.{card_info, table, issuer, terminal_of, step_of, six_digits};
 
 use arrayvec::ArrayVec;
 use card_model::Terminal;
@@ -107,28 +107,27 @@ pub(crate) fn terminal_of(step: &Step) -> Terminal
     }
 }
 
-/// The card with this number: its account number ends with the number, and it takes the issuer's answer by method 1 where that is even.
-pub(crate) fn card_info(number: u32) -> CardInfo
-    ensures { result ≡ card_info number }
+/// The last six digits of a number, the most significant first.
+pub(crate) fn six_digits(number: u32) -> [u8; 6]
+    ensures { result ≡ six_digits number }
 {
-    let digits = [
-        4,
-        0,
-        0,
-        0,
-        0,
-        0,
-        0,
-        0,
-        0,
-        0,
+    [
         (number / 100_000 % 10) as u8,
         (number / 10_000 % 10) as u8,
         (number / 1_000 % 10) as u8,
         (number / 100 % 10) as u8,
         (number / 10 % 10) as u8,
         (number % 10) as u8,
-    ];
+    ]
+}
+
+/// The card with this number: its account number ends with the number, and it takes the issuer's answer by method 1 where that is even.
+#[tactic(auto, using(crate::proofs::Numbers::number_pan))]
+pub(crate) fn card_info(number: u32) -> CardInfo
+    ensures { result ≡ card_info number }
+{
+    let [a, b, c, d, e, f] = six_digits(number);
+    let digits = [4, 0, 0, 0, 0, 0, 0, 0, 0, 0, a, b, c, d, e, f];
     let method = if number % 2 == 0 {
         Method::One
     } else {
@@ -142,6 +141,7 @@ pub(crate) fn card_info(number: u32) -> CardInfo
 }
 
 /// The decision table: a great amount is declined, any other approved.
+#[tactic(auto, unfolding(decision_table::specs::Tables::table_from, decision_table::specs::Tables::is_table, decision_table::specs::Tables::takes_all, decision_table::specs::Tables::tells_approval))]
 fn table() -> Table
     ensures { result ≡ table }
 {
