@@ -2,3 +2,4 @@
 pub mod Moving
 pub mod Numbers
 pub mod Giving
+pub mod Opening

@@ -7,12 +7,12 @@ ghost use Rattle.host_calls.specs.Loading.{AreLoaded};
 ghost use Rattle.issuer_base.specs.declared.limits.TheConstants.{MAX_CARDS};
 ghost use Rattle.world_play.specs.Play.{ComesTo, empty_book, new_player, no_counts, one_if, shown};
 ghost use Rattle.world_play.specs.Reaching.{IsAt};
-ghost use Rattle.world_play.specs.Setting.{issuer};
+ghost use Rattle.world_play.specs.Setting.{issuer, key_set};
 
 use crate::house::House;
 use crate::moves::moves_of;
 use crate::player::Player;
-use crate::setting::{KEY_SET, PSN, SHARDS, card_info, issuer, step_of};
+use crate::setting::{KEY_SET, SHARDS, card_info, issuer, step_of};
 use crate::summary::Summary;
 use card_model::Card;
 use host_calls::{HostBack, Solo};
@@ -145,16 +145,26 @@ fn players(alloc: Global, cards: u32) -> Result<Vec<Player>, NoMemory>
     let ciphers = MasterCiphers::new(&KEY_SET);
     let mut players = Vec::with_capacity(alloc, cards as usize)?;
     for number in 0..cards {
-        let CardInfo { pan, psn: _, method } = card_info(number);
-        let keys = ciphers.card_keys(&pan, PSN);
-        players.push_reserved(Player {
-            card: Card::new(alloc, pan, PSN, KEY_SET.dki, method, keys),
-            request: None,
-            reply: None,
-            held: None,
-        });
+        players.push_reserved(new_player(alloc, &ciphers, number));
     }
     Ok(players)
+}
+
+/// The player of the card with this number, which did nothing yet.
+#[tactic(auto, unfolding(issuer_base::specs::ChipData::is_bcd))]
+fn new_player(alloc: Global, ciphers: &MasterCiphers, number: u32) -> Player
+    requires { ciphers.now ≡ key_set }
+    ensures { result ≡ new_player number }
+{
+    let info = card_info(number);
+    let keys = ciphers.card_keys(&info.pan, info.psn);
+    let CardInfo { pan, psn, method } = info;
+    Player {
+        card: Card::new(alloc, pan, psn, KEY_SET.dki, method, keys),
+        request: None,
+        reply: None,
+        held: None,
+    }
 }
 
 /// The host of an issuer of so many cards, over empty stores with room for so many steps.
