@@ -3,3 +3,4 @@ pub mod Moving
 pub mod Numbers
 pub mod Giving
 pub mod Opening
+pub mod Steps

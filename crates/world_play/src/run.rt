@@ -89,6 +89,7 @@ fn play_steps(
 
 /// The counts at the end: those so far, and what host and cards tell then.
 fn sum_up(house: &House, players: &[Player]) -> Result<Summary, NoMemory>
+    requires { 0 < house.now.host.issuer.shards }
     ensures { IfOk result (λ summary. (cards steps seed : ℕ) → IsAt cards seed steps house.now players.now → ComesTo cards steps seed summary) }
 {
     let Shown { done, halted } = count_shown(&house.host);
@@ -112,6 +113,7 @@ struct Shown {
 
 /// Counts what the host shows of its cards.
 fn count_shown(host: &Solo<RoomStore>) -> Shown
+    requires { 0 < host.now.issuer.shards }
     ensures done { (books : List Book) → Stand host.now.issuer host.now.shards.items books
         → result.done ≡ sum_by (λ info. (shown host.now.issuer books info).done) host.now.issuer.cards }
     ensures halted { (books : List Book) → Stand host.now.issuer host.now.shards.items books
@@ -121,9 +123,15 @@ fn count_shown(host: &Solo<RoomStore>) -> Shown
     for number in 0..host.issuer().cards() {
         let view = host.show(number);
         counts.done += u64::from(view.done);
-        counts.halted += u64::from(view.halted);
+        counts.halted += one_if(view.halted);
     }
     counts
+}
+
+fn one_if(so: bool) -> u64
+    ensures { result ≡ one_if so }
+{
+    if so { 1 } else { 0 }
 }
 
 /// Counts what the cards ran.

@@ -1,5 +1,5 @@
 -- The digits of a card's number are an account number.
-use Rattle.std.proofs.Common.{◌≡◌, ◌∙◌, sym, subst, rules}
+use Rattle.std.proofs.Common.{◌≡◌, ◌∙◌, refl, sym, subst, rules}
 use Rattle.std.specs.Option.{IsSome}
 use Rattle.std.proofs.lemmas.Option.{same_Some}
 use Rattle.world_play.proofs.Numbers.{digits_pan, info_is}
@@ -7,7 +7,7 @@ use Rattle.world_play.proofs.setting.card_info.Goals as goal
 
 pub unwrap-requires : goal.unwrap-requires
 unwrap-requires c =
-    subst (λ found. IsSome found) (sym (c.new.ensures ∙ digits_pan c.args.number c.six_digits.result c.six_digits.ensures)) tt
+    subst (λ found. IsSome found) (sym (c.new.ensures ∙ digits_pan c.args.number c.six_digits.result c.six_digits.ensures)) refl
 
 pub returns : goal.returns
 returns c =
