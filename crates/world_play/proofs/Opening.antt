@@ -1,6 +1,7 @@
 -- A host over empty stores stands for books without records.
 use Rattle.std.proofs.Common.{◌≡◌, ℕ, zero, suc, ◌<◌, List, [], ◌∷◌, ◌++◌, length, replicate, All, Option, None, Some, refl, sym, ap, subst, ◌∙◌, arith}
 use Rattle.std.specs.Prelude.{slice_get}
+use Rattle.std.proofs.lemmas.List.{length-replicate}
 use Rattle.std.proofs.lemmas.Option.{slice_get_within, get_or_from_slice_get}
 use Rattle.issuer_base.specs.Tells.{Tells}
 use Rattle.issuer_base.specs.declared.entry.Entry.{Entry}
@@ -30,7 +31,8 @@ module _ {S : Type 0} {G : Ghosts S} (setup : Setup) where
   history-none number store shard from empty =
       let told = subst (λ (bytes : Option (List ℕ)). Tells bytes (texts_of from.loaded.history ++ from.loaded.rest)) empty from.loaded.text_is in
       let none : List Entry = [] in
-      (texts_of-one_reading from.loaded.history none from.loaded.rest [] from.loaded.records ? from.loaded.unbroken ? (sym told)).0
+      (texts_of-one_reading from.loaded.history none from.loaded.rest [] from.loaded.records (λ place entry within. absurd (omega (arith, within)))
+      from.loaded.unbroken (λ place byte within. absurd (omega (arith, within))) (sym told)).0
 
   stands-empty : (number : ℕ) (store : S) (shard : Shard S G) → IsLoadedFrom setup number store shard → G.bytes store ≡ Some []
       → G.faults store ≡ 0 → StandsForBook setup shard empty_book
@@ -45,7 +47,7 @@ module _ {S : Type 0} {G : Ghosts S} (setup : Setup) where
       → ((number : ℕ) (store : S) → slice_get stores number ≡ Some store → (G.bytes store ≡ Some []) × (G.faults store ≡ 0))
       → AreLoaded setup stores shards → Stand setup shards (replicate count empty_book)
   opened stores shards count long empty loaded = record {
-    count_is = ?;
+    count_is = length-replicate count empty_book ∙ sym long ∙ sym loaded.count_is;
     each = λ number shard book shard_is book_is.
         let below = slice_get_within shards number shard shard_is in
         let same = loaded.count_is in
@@ -54,3 +56,7 @@ module _ {S : Type 0} {G : Ghosts S} (setup : Setup) where
         subst (λ (book : Book). StandsForBook setup shard book) (sym (replicate-at count empty_book number book book_is))
         (stands-empty number found.0 shard (loaded.each number found.0 shard found.1 shard_is) none.0 none.1);
   }
+
+-- what holds of each of a list holds of what stands at a place
+pub all_at : {X : Type 0} (P : X → Type 0) (xs : List X) → All P xs → (place : ℕ) (x : X) → slice_get xs place ≡ Some x → P x
+all_at P xs all place x is = subst P (get_or_from_slice_get xs place x x is) (all place x (slice_get_within xs place x is))
