@@ -4,3 +4,4 @@ pub mod Numbers
 pub mod Giving
 pub mod Opening
 pub mod Steps
+pub mod Text
