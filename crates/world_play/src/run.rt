@@ -223,11 +223,7 @@ fn cards_of(cards: u32, shard: u8) -> u64
 }
 
 /// The host of an issuer over these stores.
-fn load(
-    alloc: Global,
-    stores: Vec<RoomStore>,
-    issuer: Issuer,
-) -> Result<Solo<RoomStore>, NoMemory>
+fn load(alloc: Global, stores: Vec<RoomStore>, issuer: Issuer) -> Result<Solo<RoomStore>, NoMemory>
     requires { length stores.items ≡ issuer.shards }
     ensures issuer { IfOk result (λ host. host.issuer ≡ issuer) }
     ensures loaded { IfOk result (λ host. AreLoaded issuer stores.items host.shards.items) }

@@ -13,5 +13,5 @@ returns-clause-books c =
     subst (λ (setup : Setup). Stand setup shards (replicate 4 empty_book)) (sym c.in_ok-load.ensures.issuer)
     (opened c.in_ok-issuer.issuer stores shards 4 c.in_ok-stores.ensures.count
     (λ number store is.
-        let empty = all_at (λ store. (store.held ≡ []) × (store.faults ≡ 0)) stores c.in_ok-stores.ensures.empty number store is in
-        (ap Some empty.0, empty.1)) c.in_ok-load.ensures.loaded)
+    let empty = all_at (λ store. (store.held ≡ []) × (store.faults ≡ 0)) stores c.in_ok-stores.ensures.empty number store is in
+    (ap Some empty.0, empty.1)) c.in_ok-load.ensures.loaded)
