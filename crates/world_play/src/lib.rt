@@ -4,6 +4,7 @@
 mod handing;
 mod house;
 mod moves;
+mod opening;
 mod player;
 mod queue_line;
 mod reply;
@@ -12,6 +13,7 @@ mod setting;
 mod summary;
 #[cfg(test)]
 mod tests;
+mod totals;
 
 pub use run::{MAX_STEPS, play};
 pub use summary::{SUMMARY_ROOM, Summary, write_summary};

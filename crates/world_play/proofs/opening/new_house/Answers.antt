@@ -3,8 +3,8 @@ use Rattle.std.proofs.Common.{◌≡◌, [], replicate, ap, sym, subst, Some}
 use Rattle.issuer_setup.specs.IssuerSetup.{Setup}
 use Rattle.host_calls.specs.Hosts.{Stand}
 use Rattle.world_play.specs.Play.{empty_book}
-use Rattle.world_play.proofs.Opening.{opened, all_at}
-use Rattle.world_play.proofs.run.open.Goals as goal
+use Rattle.world_play.proofs.EmptyBooks.{opened, all_at}
+use Rattle.world_play.proofs.opening.new_house.Goals as goal
 
 pub returns-clause-books : goal.returns-clause-books
 returns-clause-books c =
