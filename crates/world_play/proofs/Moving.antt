@@ -1,10 +1,10 @@
 -- One move of a step, as the program makes it.
-use Rattle.std.proofs.Common.{◌≡◌, ℕ, zero, suc, ◌+◌, List, [], ◌∷◌, length, drop, Option, None, Some, refl, ap, sym, subst, ◌∙◌, add-one, arith}
+use Rattle.std.proofs.Common.{◌≡◌, ℕ, zero, suc, ◌+◌, List, [], ◌∷◌, length, drop, Option, None, Some, refl, ap, sym, subst, ◌∙◌, arith}
 use Rattle.std.specs.Prelude.{slice_get}
 use Rattle.issuer_setup.specs.IssuerSetup.{Setup}
 use Rattle.issuer_base.specs.declared.request.Parts.{Parts}
 use Rattle.card_model.specs.Application.{CardState}
-use Rattle.card_model.specs.CardSteps.{CardStep, Tap as TapEvent, tapped}
+use Rattle.card_model.specs.CardSteps.{CardStep, Tap as TapEvent}
 use Rattle.host_calls.specs.Books.{Book}
 use Rattle.host_calls.specs.Hosts.{Stand}
 use Rattle.world_play.specs.declared.house.House.{House}

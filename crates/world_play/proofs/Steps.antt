@@ -1,5 +1,5 @@
 -- The steps of a run, and the counts at its end.
-use Rattle.std.proofs.Common.{◌≡◌, ℕ, zero, suc, ◌+◌, ◌<◌, ◌%◌, List, [], ◌∷◌, length, take, drop, map, replicate, Option, None, Some, refl, ap, ap₂, sym, subst, ◌∙◌, arith}
+use Rattle.std.proofs.Common.{◌≡◌, ℕ, zero, suc, ◌+◌, ◌<◌, ◌%◌, List, [], ◌∷◌, length, take, map, replicate, Option, None, Some, refl, ap, ap₂, sym, subst, ◌∙◌, arith}
 use Rattle.std.specs.Prelude.{slice_get, slice_set, sum_by}
 use Rattle.std.specs.Option.{option_map, option_map_or}
 use Rattle.std.specs.List.{range_with_len}
@@ -22,7 +22,7 @@ use Rattle.world_play.specs.declared.moves.Move.{Move}
 use Rattle.world_play.specs.declared.player.Player.{Player}
 use Rattle.world_play.specs.declared.setting.Step.{Step}
 use Rattle.world_play.specs.Moves.{moves_of}
-use Rattle.world_play.specs.Play.{State, Stage, MakesAll, IsAfter, first_state, new_player, no_counts, empty_book, shown}
+use Rattle.world_play.specs.Play.{State, Stage, MakesAll, IsAfter, new_player, no_counts, empty_book, shown}
 use Rattle.world_play.specs.Reaching.{Reaches, IsAt, stage_at}
 use Rattle.world_play.specs.Setting.{issuer, step_of}
 

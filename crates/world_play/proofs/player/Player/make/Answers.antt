@@ -1,5 +1,5 @@
 -- A command is queued by its line.
-use Rattle.std.proofs.Common.{◌≡◌, ◌∙◌, List, ℕ, subst, sym}
+use Rattle.std.proofs.Common.{◌∙◌, List, ℕ, subst, sym}
 use Rattle.std.specs.Result.{IfOk}
 use Rattle.world_play.specs.declared.moves.Move.{Move}
 use Rattle.world_play.specs.Play.{Makes, IsAnswered}
