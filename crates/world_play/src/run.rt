@@ -1,0 +1,74 @@
+//! A run: its steps, one after another, and what it comes to.
+ghost use Rattle.std.specs.Prelude.{◌≡◌, ◌*◌, ◌≤◌, length, IfOk};
+ghost use Rattle.issuer_base.specs.declared.limits.TheConstants.{MAX_CARDS};
+ghost use Rattle.world_play.specs.Play.{ComesTo};
+ghost use Rattle.world_play.specs.Reaching.{IsAt};
+
+use crate::house::House;
+use crate::moves::moves_of;
+use crate::opening::{new_house, new_players};
+use crate::player::Player;
+use crate::setting::step_of;
+use crate::summary::Summary;
+use crate::totals::sum_up;
+use issuer_base::NoMemory;
+use std::alloc::Global;
+use world_net::fate;
+
+/// How many steps a run has at most.
+pub const MAX_STEPS: u32 = 200_000;
+
+/// Plays so many steps of so many cards: what it comes to. The seed turns the fates of the steps, and stands in their unpredictable numbers.
+///
+/// Where no memory is left nothing is told. All of the stores' memory is taken at first; later only what the cards run takes any.
+pub fn play(alloc: Global, cards: u32, steps: u32, seed: u32) -> Result<Summary, NoMemory>
+    requires cards { (1 ≤ cards) × (cards ≤ MAX_CARDS) }
+    requires steps { steps ≤ MAX_STEPS }
+    requires counters { steps ≤ 65_535 * cards }
+    ensures { IfOk result (ComesTo cards steps seed) }
+{
+    let mut players = new_players(alloc, cards)?;
+    let mut house = new_house(alloc, cards, steps)?;
+    let summary = play_on(&mut house, &mut players, cards, steps, seed);
+    let House { host, tally: _ } = house;
+    host.close();
+    summary
+}
+
+/// Plays the steps in order, and sums up.
+fn play_on(
+    house: &mut House,
+    players: &mut Vec<Player>,
+    cards: u32,
+    steps: u32,
+    seed: u32,
+) -> Result<Summary, NoMemory>
+    requires some { 1 ≤ cards }
+    requires players { length players.old.items ≡ cards }
+    requires first { IsAt cards seed 0 house.old players.old.items }
+    ensures { IfOk result (ComesTo cards steps seed) }
+{
+    play_steps(house, players, cards, steps, seed)?;
+    sum_up(house, players.as_slice())
+}
+
+/// Plays the steps in order.
+fn play_steps(
+    house: &mut House,
+    players: &mut Vec<Player>,
+    cards: u32,
+    steps: u32,
+    seed: u32,
+) -> Result<(), NoMemory>
+    requires some { 1 ≤ cards }
+    requires players { length players.old.items ≡ cards }
+    requires first { IsAt cards seed 0 house.old players.old.items }
+    ensures { IfOk result (λ _. IsAt cards seed steps house.new players.new.items) }
+{
+    for index in 0..steps {
+        let step = step_of(index, cards, seed);
+        let moves = moves_of(fate(u64::from(index), cards, seed));
+        players[step.card as usize].play(house, &step, moves)?;
+    }
+    Ok(())
+}
