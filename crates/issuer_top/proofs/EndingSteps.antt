@@ -21,14 +21,13 @@ use Rattle.issuer_setup.specs.IssuerSetup.{Setup}
 use Rattle.shard_book.specs.declared.shard.Shard.{Shard}
 use Rattle.host_calls.specs.Books.{Book}
 use Rattle.host_calls.specs.Hosts.{Stand}
-use Rattle.host_calls.specs.OneHistory.{LoadsAgain}
 use Rattle.host_calls.specs.Runs.{LeaveBetween}
 use Rattle.issuer_top.specs.declared.ending.Ending.{Ending}
 use Rattle.issuer_top.specs.declared.serve.Served.{Served}
 use Rattle.issuer_top.specs.declared.serve.Served.TheVariants.{All, ReadFault as ReadStopped, WriteFault as SinkFault, TooLong as LongStopped}
 use Rattle.issuer_top.specs.Seen.{Seen, SeenInput, SeenStore, Logged}
 use Rattle.issuer_top.specs.Answered.{AllAnswered, WholeAnswered, FrontAnswered, PassedAnswered}
-use Rattle.issuer_top.specs.Configuration.{Says, GivesNoIssuer, is_read_stop}
+use Rattle.issuer_top.specs.Configuration.{HasSoundParts, Says, GivesNoIssuer, is_read_stop}
 use Rattle.issuer_top.specs.Opening.{GivesInput, stop_of}
 use Rattle.issuer_top.specs.Command.{IsCommand, IsNoCommand}
 use Rattle.issuer_top.specs.Journals.{IsReady}
@@ -200,8 +199,8 @@ pub ready-since : {S : Type 0} {G : Ghosts S} (issuer under : Setup) (journal : 
 ready-since issuer under journal logs other shards told same ready =
     subst (λ (i : Setup). IsReady i journal logs shards) (sym same) (subst (λ (l : Logged). IsReady issuer journal l shards) told ready)
 
-pub again-under : (issuer other : Setup) → other ≡ issuer → LoadsAgain issuer → LoadsAgain other
-again-under issuer other same again = subst LoadsAgain (sym same) again
+pub sound-under : (issuer other : Setup) → other ≡ issuer → HasSoundParts issuer → HasSoundParts other
+sound-under issuer other same sound = subst HasSoundParts (sym same) sound
 
 module _ (seen : Seen) (requests : Option (List ℕ)) (journal : List ℕ) (issuer : Setup) (ending : Ending) (set_up : IsSetUp seen requests journal issuer) where
   -- no memory was left once the issuer was known

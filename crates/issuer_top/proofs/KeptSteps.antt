@@ -9,10 +9,10 @@ use Rattle.shard_book.specs.declared.shard.Shard.{Shard}
 use Rattle.shard_book.specs.Shards.{store_in, sure_in}
 use Rattle.host_calls.specs.Books.{Book}
 use Rattle.host_calls.specs.Hosts.{AreShards, Stand}
-use Rattle.host_calls.specs.OneHistory.{LoadsAgain}
 use Rattle.host_calls.specs.Runs.{LeaveBetween}
 use Rattle.host_calls.proofs.Running.{Begins, run-none, begins-legal, holds-journal}
 use Rattle.issuer_top.specs.Seen.{Seen, SeenStore, store_seen, Logged}
+use Rattle.issuer_top.specs.Configuration.{HasSoundParts}
 use Rattle.issuer_top.specs.Journals.{journal_name, IsReady}
 use Rattle.issuer_top.specs.Kept.{KeepsJournal, KeepJournals}
 use Rattle.issuer_top.specs.Serving.{StartsFrom}
@@ -55,12 +55,16 @@ module _ {S : Type 0} {G : Ghosts S} where
       run-none issuer ready.stores loaded (stores-opened issuer prefix logs loaded ready shards) ready.loaded
 
   pub starts : (issuer : Setup) (prefix : List ℕ) (logs : Logged) (loaded : List (Shard S G)) (ready : IsReady issuer prefix logs loaded)
-      (shards : AreShards issuer loaded) → LoadsAgain issuer → StartsFrom issuer loaded (begins issuer prefix logs loaded ready shards).books
-  starts issuer prefix logs loaded ready shards again =
+      (shards : AreShards issuer loaded) → HasSoundParts issuer → StartsFrom issuer loaded (begins issuer prefix logs loaded ready shards).books
+  starts issuer prefix logs loaded ready shards sound =
       let first = begins issuer prefix logs loaded ready shards in
       record {
         run = first.has_run;
-        lawful = record { legal = begins-legal issuer ready.stores loaded ready.loaded first; again = again };
+        lawful = record {
+          count_is = first.has_run.stand.count_is ∙ shards.count_is;
+          legal = begins-legal issuer ready.stores loaded ready.loaded first;
+          sound = sound;
+        };
       }
 
   module _ (issuer : Setup) (prefix : List ℕ) (seen : Seen) (loaded now : List (Shard S G)) (ready : IsReady issuer prefix seen.desk.logs loaded)

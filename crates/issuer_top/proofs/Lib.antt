@@ -1,6 +1,7 @@
 -- The lemmas of this crate.
 pub mod ConfigurationReads
 pub mod HostRuns
+pub mod WorldLaws
 pub mod ServingSteps
 pub mod CommandWords
 pub mod JournalSteps

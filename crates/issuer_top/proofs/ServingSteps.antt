@@ -29,7 +29,9 @@ use Rattle.issuer_top.specs.declared.serve.Served.{Served}
 use Rattle.issuer_top.specs.declared.serve.Served.TheVariants.{All, ReadFault, TooLong}
 use Rattle.issuer_top.specs.Answered.{AreAnswered, WasRead, AllAnswered, WholeAnswered, FrontAnswered, PassedAnswered}
 use Rattle.issuer_top.specs.Serving.{AreLawful, StartsFrom, AnswersLine, ServesLines, Serves, WritesDue, EndsBy}
+use Rattle.shard_book.proofs.OwnDecisions.{legal-then}
 use Rattle.host_calls.proofs.OneRun.{run-one_history}
+use Rattle.issuer_top.proofs.WorldLaws.{safe-worlds}
 use Rattle.issuer_top.proofs.HostRuns.{run-line, recorded}
 
 -- ---- what an input had
@@ -70,7 +72,8 @@ are_answered issuer first last asked other answers lawful recorded same run =
       answers = answers;
       run = turned;
       printed_is = refl;
-      one = run-one_history issuer lawful.again first last other answers lawful.legal recorded turned;
+      one = run-one_history issuer (legal-then issuer lawful.sound.table) first last other answers lawful.legal recorded turned;
+      worlds = safe-worlds issuer last lawful.sound;
     }
 
 -- the whole lines of what was read were answered: they are a front of the file

@@ -6,6 +6,7 @@ pub mod Configuration
 pub mod Opening
 pub mod Journals
 pub mod Loading
+pub mod Worlds
 pub mod Answered
 pub mod Kept
 pub mod Shown

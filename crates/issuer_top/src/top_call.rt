@@ -1,7 +1,7 @@
 //! The top call.
 ghost use Rattle.std.specs.Prelude.{◌≡◌, ◌<◌, ◌⊎◌, ℕ, List, map, None, Some};
 ghost use Rattle.std.specs.Option.{option_map};
-ghost use Rattle.host_calls.specs.OneHistory.{LoadsAgain};
+ghost use Rattle.issuer_top.specs.Configuration.{HasSoundParts};
 ghost use Rattle.issuer_top.specs.Opening.{stop_of};
 ghost use Rattle.issuer_top.specs.Journals.{IsReady};
 ghost use Rattle.issuer_top.specs.Status.{IsStatus};
@@ -191,7 +191,7 @@ fn do_command<D: Desk, W: Sink>(
         → let seen = seen_of words (desk_seen D.Desk given desk.new) (Some config) (option_map (input_seen D.Input.Source) result.requests)
         (map (store_seen D.Journal.Store) result.stores.items) (sink_seen W.Sink out.old out.new) in
         IsSetUp seen (option_map (λ name. name.now) requests.entry) journal host.issuer
-        → IsReady host.issuer journal (D.logs given) host.shards.items → LoadsAgain host.issuer
+        → IsReady host.issuer journal (D.logs given) host.shards.items → HasSoundParts host.issuer
         → D.holds desk.old ≡ D.holds given → D.faults desk.old ≡ D.faults given → EndsBy seen result.ending }
 {
     match requests {
@@ -211,7 +211,7 @@ fn serve_requests<D: Desk, W: Sink>(
     ensures { (words : List (List ℕ)) (given : D) (config : SeenInput) (journal : List ℕ)
         → let seen = seen_of words (desk_seen D.Desk given desk.new) (Some config) (option_map (input_seen D.Input.Source) result.requests)
         (map (store_seen D.Journal.Store) result.stores.items) (sink_seen W.Sink out.old out.new) in
-        IsSetUp seen (Some name.now) journal host.issuer → IsReady host.issuer journal (D.logs given) host.shards.items → LoadsAgain host.issuer
+        IsSetUp seen (Some name.now) journal host.issuer → IsReady host.issuer journal (D.logs given) host.shards.items → HasSoundParts host.issuer
         → D.holds desk.old ≡ D.holds given → D.faults desk.old ≡ D.faults given → EndsBy seen result.ending }
 {
     let mut host = host;
@@ -264,7 +264,7 @@ fn show_cards<D: Desk, W: Sink>(
     ensures { (words : List (List ℕ)) (desk : SeenDesk) (config : SeenInput) (journal : List ℕ)
         → let seen = seen_of words desk (Some config) (option_map (input_seen D.Input.Source) result.requests)
         (map (store_seen D.Journal.Store) result.stores.items) (sink_seen W.Sink out.old out.new) in
-        IsSetUp seen None journal host.issuer → IsReady host.issuer journal desk.logs host.shards.items → LoadsAgain host.issuer
+        IsSetUp seen None journal host.issuer → IsReady host.issuer journal desk.logs host.shards.items → HasSoundParts host.issuer
         → desk.faults_after ≡ desk.faults_before → EndsBy seen result.ending }
 {
     let ending = end_showing(show(&host, out));

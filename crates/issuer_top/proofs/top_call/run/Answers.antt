@@ -3,8 +3,7 @@ use Rattle.std.proofs.Common.{refl, ap, ◌∙◌}
 use Rattle.std.specs.Prelude.{map}
 use Rattle.issuer_top.specs.Seen.{store_seen}
 use Rattle.issuer_top.proofs.EndingSteps.{gives_input, ends_usage, ends_no_config, ends_no_issuer, ends_no_host, IsSetUp-from_said, set_up-under}
-use Rattle.shard_book.proofs.OwnDecisions.{legal-then}
-use Rattle.issuer_top.proofs.EndingSteps.{no_host-since, ready-since, again-under}
+use Rattle.issuer_top.proofs.EndingSteps.{no_host-since, ready-since, sound-under}
 use Rattle.issuer_top.proofs.top_call.run.Goals as goal
 
 pub returns-in_default : goal.returns-in_default
@@ -43,5 +42,5 @@ returns g c =
     let set_up = IsSetUp-from_said _ _ _ _ _ _ c.in-Some.ensures.command (gives_input _ _ c.in-Ok.ensures.input c.in-Ok.ensures.absent) said in
     c.do_command-ending.ensures _ _ _ _ (set_up-under _ _ _ _ _ same set_up)
     (ready-since _ _ _ _ _ _ c.in-Ok.ensures.kept_logs same c.in-Ok-load_host.ensures.ready)
-    (again-under _ _ same (legal-then c.in-Ok-read_issuer.issuer c.in-Ok-read_issuer.ensures.table))
+    (sound-under _ _ same c.in-Ok-read_issuer.ensures.sound)
     (c.in-Ok-load_host.ensures.kept ∙ c.in-Ok.ensures.kept) (c.in-Ok-load_host.ensures.stood refl ∙ c.in-Ok.ensures.count.counted)

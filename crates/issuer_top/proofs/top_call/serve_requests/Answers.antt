@@ -10,12 +10,12 @@ use Rattle.issuer_top.proofs.EndingSteps.{gives_input, ends_without_memory, ends
 use Rattle.issuer_top.proofs.top_call.serve_requests.Goals as goal
 
 pub returns-in-Err : goal.returns-in-Err
-returns-in-Err g c = λ words given config journal set_up ready again same_holds same_faults.
+returns-in-Err g c = λ words given config journal set_up ready sound same_holds same_faults.
     ends_without_memory _ _ journal _ _ set_up (record { config_is = refl; requests_is = refl; desk_stood = same_faults })
     (record { stops = c.stop_with.ensures.ended; count = c.stop_with.ensures.count })
 
 pub returns-in-Err-read : goal.returns-in-Err-read
-returns-in-Err-read g c = λ words given config journal set_up ready again same_holds same_faults.
+returns-in-Err-read g c = λ words given config journal set_up ready sound same_holds same_faults.
     let shards = c.args.host.are_shards in
     let first = begins c.args.host.issuer journal (g.D.Desk.logs given) c.args.host.shards.items ready shards in
     let kept = keep-journals _ journal _ c.args.host.shards.items c.args.host.shards.items ready shards shards
@@ -24,10 +24,10 @@ returns-in-Err-read g c = λ words given config journal set_up ready again same_
     c.in-Err-read.ensures.last (record { stops = rw c.stop_at.ensures at c.stop_with-in-Err-read.ensures.ended; count = c.stop_with-in-Err-read.ensures.count })
 
 pub returns : goal.returns
-returns g c = λ words given config journal set_up ready again same_holds same_faults.
+returns g c = λ words given config journal set_up ready sound same_holds same_faults.
     let shards = c.args.host.are_shards in
     let first = begins c.args.host.issuer journal (g.D.Desk.logs given) c.args.host.shards.items ready shards in
-    let begun = starts c.args.host.issuer journal (g.D.Desk.logs given) c.args.host.shards.items ready shards again in
+    let begun = starts c.args.host.issuer journal (g.D.Desk.logs given) c.args.host.shards.items ready shards sound in
     let after = subst (λ (i : Setup). AreShards i c.serve-served.new.host.shards.items) c.serve-served.ensures.issuer c.serve-served.new.host.are_shards in
     ends_serving _ c.args.name.now journal c.args.host.issuer set_up _ _
     (record { config_is = refl; requests_is = refl; desk_stood = c.in-Ok-read.ensures.count.counted ∙ same_faults }) refl

@@ -8,7 +8,7 @@ use Rattle.issuer_top.proofs.EndingSteps.{ends_showing}
 use Rattle.issuer_top.proofs.top_call.show_cards.Goals as goal
 
 pub returns : goal.returns
-returns g c = λ words desk config journal set_up ready again stood.
+returns g c = λ words desk config journal set_up ready sound stood.
     let shards = c.args.host.are_shards in
     let first = begins c.args.host.issuer journal desk.logs c.args.host.shards.items ready shards in
     let kept = keep-journals _ journal _ c.args.host.shards.items c.args.host.shards.items ready shards shards
