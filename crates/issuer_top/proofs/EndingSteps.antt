@@ -29,14 +29,15 @@ use Rattle.issuer_top.specs.Seen.{Seen, SeenInput, SeenStore, Logged}
 use Rattle.issuer_top.specs.Answered.{AllAnswered, WholeAnswered, FrontAnswered, PassedAnswered}
 use Rattle.issuer_top.specs.Configuration.{HasSoundParts, Says, GivesNoIssuer, is_read_stop}
 use Rattle.issuer_top.specs.Opening.{GivesInput, stop_of}
-use Rattle.issuer_top.specs.Command.{IsCommand, IsNoCommand}
+use Rattle.issuer_top.specs.Command.{IsWorld, IsCommand, IsNoCommand}
 use Rattle.issuer_top.specs.Journals.{IsReady}
 use Rattle.issuer_top.specs.Loading.{GivesNoHost}
 use Rattle.issuer_top.specs.Kept.{KeepJournals}
 use Rattle.issuer_top.specs.Shown.{shown_text}
 use Rattle.issuer_top.specs.Serving.{ServesLines, Serves, read_failed, write_failed}
-use Rattle.issuer_top.specs.Stopping.{is_broken, GivesStop, EndsServing, shown_ending}
-use Rattle.issuer_top.specs.Endings.{HasOpened, IsSetUp, AnswersLines, Stops, EndsBy}
+use Rattle.issuer_top.specs.Stopping.{is_broken, GivesStop, EndsServing, written_ending}
+use Rattle.issuer_top.specs.Played.{IsWorldText, GivesText, PlaysBy}
+use Rattle.issuer_top.specs.Endings.{HasOpened, IsSetUp, AnswersLines, IsPlayed, Stops, EndsBy}
 
 -- an input that a desk gave is one that stands there
 pub gives_input : (told : Option (Option (List ℕ))) (left : Option (List ℕ)) → Tells told left → (told ≡ Some None → false ≡ true) → GivesInput told left
@@ -95,7 +96,7 @@ module _ (seen : Seen) (config : List ℕ) (requests : Option (List ℕ)) (journ
   ends_no_memory : (config_opened : Bool) → HasOpened seen config_opened false → StopsAtOnce seen NoMemory ending → EndsBy seen ending
   ends_no_memory config_opened opened stopping =
       ends_at_once seen NoMemory ending
-      (record {
+      (inl (record {
         config = config;
         requests = requests;
         journal = journal;
@@ -103,7 +104,7 @@ module _ (seen : Seen) (config : List ℕ) (requests : Option (List ℕ)) (journ
         command = command;
         opened = opened;
         last = refl;
-      })
+      }))
       stopping
 
   -- the desk gave no configuration
@@ -351,15 +352,60 @@ module _ (seen : Seen) (name journal : List ℕ) (issuer : Setup) (set_up : IsSe
 pub ends_showing : (seen : Seen) (journal : List ℕ) (issuer : Setup) (books : List Book) (result : Result (Unit {0}) SinkFails)
     → HasOpened seen true false → IsSetUp seen None journal issuer → KeepJournals issuer journal seen books books
     → WritesAll seen.sink.held_before seen.sink.held_after result (shown_text issuer books issuer.cards)
-    → CountsFaults seen.sink.faults_before seen.sink.faults_after (is_err result) → EndsBy seen (shown_ending result)
+    → CountsFaults seen.sink.faults_before seen.sink.faults_after (is_err result) → EndsBy seen (written_ending result)
 ends_showing seen journal issuer books (Ok done) opened set_up kept written counts = (
   shown_text issuer books issuer.cards,
-  inr (record { journal = journal; issuer = issuer; books = books; opened = opened; set_up = set_up; kept = kept; shown = refl }),
+  inr (inl (record { journal = journal; issuer = issuer; books = books; opened = opened; set_up = set_up; kept = kept; shown = refl })),
   written,
 )
 ends_showing seen journal issuer books (Err fault) opened set_up kept written counts = record {
   rose = counts.counted;
   text = shown_text issuer books issuer.cards;
-  due = inr (inr (record { journal = journal; issuer = issuer; books = books; opened = opened; set_up = set_up; kept = kept; shown = refl }));
+  due = inr (inr (inl (record { journal = journal; issuer = issuer; books = books; opened = opened; set_up = set_up; kept = kept; shown = refl })));
   front = written;
 }
+
+-- ---- the ways that playing ends
+
+module _ (seen : Seen) (cards steps seed : ℕ) (world : IsWorld seen.words cards steps seed) (opened : HasOpened seen false false)
+    (no_stores : seen.stores ≡ []) where
+  -- the text of what the world came to was written, or a front of it
+  ends_played : (ending : Ending) (text : List ℕ) → IsWorldText cards steps seed text
+      → GivesText seen.sink.held_before seen.sink.held_after seen.sink.faults_before seen.sink.faults_after text ending → EndsBy seen ending
+  ends_played ending text is gives =
+      let played : IsPlayed seen text = record {
+        cards = cards;
+        steps = steps;
+        seed = seed;
+        world = world;
+        opened = opened;
+        no_stores = no_stores;
+        played = is;
+      } in
+      ⊎_elim
+      (λ whole. subst (EndsBy seen) (sym whole.0) (text, inr (inr played), whole.1))
+      (λ front.
+      let failed : CountsFaults seen.sink.faults_before seen.sink.faults_after true =
+      subst (λ e. CountsFaults seen.sink.faults_before seen.sink.faults_after (is_broken e)) front.0 gives.count in
+      subst (EndsBy seen) (sym front.0)
+      (record { rose = failed.counted; text = text; due = inr (inr (inr played)); front = front.1 }))
+      gives.written
+
+  pub ends_playing : (ending : Ending)
+      → PlaysBy cards steps seed seen.sink.held_before seen.sink.held_after seen.sink.faults_before seen.sink.faults_after ending → EndsBy seen ending
+  ends_playing ending plays =
+      ⊎_elim
+      (λ told. ends_played ending told.0 told.1 told.2)
+      (λ stopping.
+      ends_at_once seen NoMemory ending
+      (inr (record {
+        cards = cards;
+        steps = steps;
+        seed = seed;
+        world = world;
+        opened = opened;
+        no_stores = no_stores;
+        last = refl;
+      }))
+      stopping)
+      plays

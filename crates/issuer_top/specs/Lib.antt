@@ -14,3 +14,4 @@ pub mod Serving
 pub mod Status
 pub mod Endings
 pub mod Stopping
+pub mod Played
