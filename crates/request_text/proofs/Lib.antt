@@ -1,0 +1,3 @@
+-- The laws of this crate.
+pub mod NumberBytes
+pub mod ObjectsText

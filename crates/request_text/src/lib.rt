@@ -1,0 +1,7 @@
+//! Writing a request's chip data, and the line that asks for its check (EMV 4.3 Book 3, Annexes A and B).
+#![tactic(auto)]
+
+mod chip_text;
+mod number;
+
+pub use chip_text::{MAX_REQUEST_BYTES, MAX_REQUEST_LINE, chip_data, request_line};

@@ -1,0 +1,4 @@
+-- The laws of this crate.
+pub mod Moving
+pub mod Numbers
+pub mod Giving

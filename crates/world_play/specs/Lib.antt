@@ -1,0 +1,7 @@
+-- The definitions that the contracts of this crate cite.
+pub mod SummaryText
+pub mod Setting
+pub mod Handing
+pub mod Moves
+pub mod Play
+pub mod Reaching

@@ -1,0 +1,17 @@
+//! The world of many cards in one large run: cards at terminals, a network that loses, repeats, holds back and spoils, and their issuer's host.
+#![tactic(auto)]
+
+mod handing;
+mod house;
+mod moves;
+mod player;
+mod queue_line;
+mod reply;
+mod run;
+mod setting;
+mod summary;
+#[cfg(test)]
+mod tests;
+
+pub use run::{MAX_STEPS, play};
+pub use summary::{SUMMARY_ROOM, Summary, write_summary};
