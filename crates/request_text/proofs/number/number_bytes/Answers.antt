@@ -1,5 +1,5 @@
 -- The digits are those of an account number.
-use Rattle.std.proofs.Common.{◌≤◌, List, ℕ, length, ap, arith, IsTrue, get_or}
+use Rattle.std.proofs.Common.{length, ap, arith, IsTrue}
 use Rattle.std.proofs.lemmas.Grind.{get_or_default_zero}
 use Rattle.issuer_base.specs.CardNumber.{is_pan}
 use Rattle.issuer_base.proofs.CardNumberLemmas.{length-pan, digit-pan}

@@ -1,5 +1,5 @@
 -- The bytes so far, and those of the digits that are left.
-use Rattle.std.proofs.Common.{◌≡◌, ◌+◌, ◌*◌, ◌++◌, length, drop}
+use Rattle.std.proofs.Common.{◌≡◌, ◌*◌, ◌++◌, length, drop}
 use Rattle.request_text.specs.ChipText.{number_bytes}
 use Rattle.request_text.proofs.number.paired.Given as goal
 
