@@ -31,13 +31,13 @@ mapped f [] = refl
 mapped f (x ∷ xs) = ap suc (mapped f xs)
 
 -- what the desk tells of a store that tells its bytes, they are
-held-told : (held bytes : Option (List ℕ)) (text : List ℕ) → IfSome held (λ told. bytes ≡ Some told) → Tells bytes text → Tells held text
+pub held-told : (held bytes : Option (List ℕ)) (text : List ℕ) → IfSome held (λ told. bytes ≡ Some told) → Tells bytes text → Tells held text
 held-told None bytes text same tells = tt
 held-told (Some told) bytes text same tells = subst (λ (b : Option (List ℕ)). Tells b text) same tells
 
 module _ {S : Type 0} {G : Ghosts S} where
   -- a store that was seen is that of a shard
-  seen-at : (shards : List (Shard S G)) (k : ℕ) (store : SeenStore) → slice_get (map (store_seen G) (map store_in shards)) k ≡ Some store
+  pub seen-at : (shards : List (Shard S G)) (k : ℕ) (store : SeenStore) → slice_get (map (store_seen G) (map store_in shards)) k ≡ Some store
       → (shard : Shard S G) × (slice_get shards k ≡ Some shard) × (store_seen G (store_in shard) ≡ store)
   seen-at [] k store is = absurd (let e : None ≡ Some store = is in cc)
   seen-at (shard ∷ shards) zero store is = (shard, refl, (let e : Some (store_seen G (store_in shard)) ≡ Some store = is in cc))

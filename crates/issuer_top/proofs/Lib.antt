@@ -7,6 +7,7 @@ pub mod CommandWords
 pub mod JournalSteps
 pub mod CrashSteps
 pub mod KeptSteps
+pub mod LeftSteps
 pub mod LoadingSteps
 pub mod ShowSteps
 pub mod EndingSteps

@@ -24,6 +24,7 @@ use Rattle.issuer_top.specs.Journals.{journal_name}
 use Rattle.issuer_top.specs.Loading.{GivesNoHost}
 use Rattle.issuer_top.specs.Answered.{WasRead, AllAnswered, WholeAnswered, PassedAnswered, FrontAnswered}
 use Rattle.issuer_top.specs.Kept.{KeepJournals}
+use Rattle.issuer_top.specs.Left.{LeaveJournals}
 use Rattle.issuer_top.specs.Shown.{shown_text}
 use Rattle.issuer_top.specs.Played.{IsWorldText}
 use Rattle.issuer_top.specs.declared.ending.Ending.{Ending}
@@ -163,7 +164,7 @@ abbrev pub IsReadFault : Seen → List ℕ → Type 0
 IsReadFault seen text =
     CannotOpenConfig seen text ⊎ (CannotReadConfig seen text ⊎ (CannotOpenRequests seen text ⊎ CannotReadRequests seen text))
 
--- the journals gave no host, for this cause; the request file was not opened
+-- the journals gave no host, for this cause, and their whole lines stay; the request file was not opened
 pub record HasNoHost (stop : Stop) (seen : Seen) (text : List ℕ) : Type 0 where
   pub requests : Option (List ℕ)
   pub journal : List ℕ
@@ -173,6 +174,7 @@ pub record HasNoHost (stop : Stop) (seen : Seen) (text : List ℕ) : Type 0 wher
   pub requests_is : is_some seen.requests ≡ false
   pub cause : GivesNoHost issuer journal seen.desk.logs
       (record { before = seen.desk.faults_before; after = seen.desk.faults_after; last = seen.desk.last_fault }) seen.stores stop
+  pub left : LeaveJournals journal seen.desk.logs seen.stores
   pub last : text ≡ stop_text stop
 
 -- status 5: the desk failed at the name of a journal, or a store while it was loaded
@@ -183,7 +185,7 @@ IsStoreFault seen text = (shard : ℕ) × HasNoHost (StoreFault shard) seen text
 abbrev pub IsBadJournal : Seen → List ℕ → Type 0
 IsBadJournal seen text = (shard line : ℕ) × HasNoHost (BadJournal shard line) seen text
 
--- status 7: no memory was left for the work of a host, before the request file was opened
+-- status 7: no memory was left for the work of a host, before the request file was opened; the whole lines of journals that were opened stay
 pub record LacksMemory (seen : Seen) (text : List ℕ) : Type 0 where
   pub config : List ℕ
   pub requests : Option (List ℕ)
@@ -191,6 +193,7 @@ pub record LacksMemory (seen : Seen) (text : List ℕ) : Type 0 where
   pub config_opened : Bool
   pub command : IsCommand seen.words config requests journal
   pub opened : HasOpened seen config_opened false
+  pub left : LeaveJournals journal seen.desk.logs seen.stores
   pub last : text ≡ stop_text NoMemory
 
 -- status 7: no memory was left for a world; nothing was opened

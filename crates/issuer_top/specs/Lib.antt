@@ -9,6 +9,7 @@ pub mod Loading
 pub mod Worlds
 pub mod Answered
 pub mod Kept
+pub mod Left
 pub mod Shown
 pub mod Serving
 pub mod Status

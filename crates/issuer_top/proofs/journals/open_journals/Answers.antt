@@ -1,6 +1,7 @@
 -- One journal more is opened, or not.
 use Rattle.std.proofs.Common.{◌+◌, sym, ap, subst, ◌∙◌, arith, length}
 use Rattle.issuer_top.specs.Journals.{journal_name, AreOpened}
+use Rattle.issuer_top.proofs.LeftSteps.{opened-left}
 use Rattle.issuer_top.proofs.JournalSteps.{names-apart, opened-more, length-more}
 use Rattle.issuer_top.proofs.journals.open_journals.Goals as goal
 
@@ -21,3 +22,8 @@ loop-shard-preserved g c =
           let twice = names-apart c.args.prefix.now shard c.loop-shard.shard same in
           omega (arith, twice, later)) ∙ before.ahead shard (omega (arith, later));
     }
+
+pub returns-in-Err-clause-left : goal.returns-in-Err-clause-left
+returns-in-Err-clause-left g c =
+    opened-left g.D.Journal.Store (g.met.D.Journal.Store g.world.𝓛 g.world.𝓜 g.world.𝓡 (λ s h. h, λ h. h, λ h. h, λ h. h)).told_bytes
+    c.args.prefix.now (g.D.Desk.logs c.args.desk.now) c.loop-shard.stores.items c.loop-shard.invariant.opened

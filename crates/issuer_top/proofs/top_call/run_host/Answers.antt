@@ -2,7 +2,8 @@
 use Rattle.std.proofs.Common.{◌≡◌, refl, ap, sym, subst, ◌∙◌}
 use Rattle.std.specs.Prelude.{map, is_some}
 use Rattle.std.specs.Option.{option_map}
-use Rattle.issuer_top.specs.Seen.{input_seen, store_seen}
+use Rattle.issuer_top.specs.Seen.{Logged, input_seen, store_seen}
+use Rattle.issuer_top.specs.Left.{LeaveJournals}
 use Rattle.issuer_top.specs.Endings.{EndsBy}
 use Rattle.issuer_top.proofs.EndingSteps.{gives_input, ends_no_config, ends_no_issuer, ends_no_host, IsSetUp-from_said, set_up-under}
 use Rattle.issuer_top.proofs.EndingSteps.{no_host-since, ready-since, sound-under}
@@ -33,6 +34,8 @@ returns-in-Err-load_host g c = λ words command.
     c.in-Ok-read_issuer.ensures.says in
     ends_no_host _ _ _ _ _ set_up _ refl refl
     (no_host-since _ _ _ _ _ _ _ _ _ _ c.in-Ok.ensures.kept_logs c.in-Ok.ensures.count.counted c.in-Err-load_host.ensures.none)
+    (subst (λ (logs : Logged). LeaveJournals c.args.names.journal.now logs (map (store_seen g.D.Journal.Store) c.in-Err-load_host.field-0.stores.items))
+    c.in-Ok.ensures.kept_logs c.in-Err-load_host.ensures.left)
     (record { stops = c.stop_with-in-Err-load_host.ensures.ended; count = c.stop_with-in-Err-load_host.ensures.count })
 
 pub returns : goal.returns
