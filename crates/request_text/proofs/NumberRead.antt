@@ -1,6 +1,6 @@
 -- The bytes of an account number are read as this account number.
-use Rattle.std.proofs.Common.{◌≡◌, ℕ, zero, suc, ◌+◌, ◌*◌, ◌/◌, ◌%◌, ◌≤◌, ◌==◌, true, leb, nat_le, le-leb, List, [], ◌∷◌, ◌++◌, length, drop, take_while, IsTrue}
-use Rattle.std.proofs.Common.{refl, ap, ◌∙◌, append-nil, lit<, arith}
+use Rattle.std.proofs.Common.{◌≡◌, ℕ, zero, suc, ◌+◌, ◌*◌, ◌/◌, ◌%◌, ◌≤◌, ◌==◌, true, leb, nat_le, le-leb, List, [], ◌∷◌, ◌++◌, length, drop}
+use Rattle.std.proofs.Common.{take_while, IsTrue, refl, ap, ◌∙◌, append-nil, lit<, arith}
 use Rattle.std.proofs.lemmas.Bool.{and_parts, leb-true}
 use Rattle.std.proofs.lemmas.List.Sums.{take_while-cons}
 use Rattle.std.proofs.Math.Seq.{drop-append_seam}

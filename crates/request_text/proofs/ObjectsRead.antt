@@ -20,8 +20,14 @@ pub record IsShort (object : DataObject) : Type 0 where
   pub size : length object.value < 128
   pub value : IsBytes object.value
 
-pub short_object : (tag size : ℕ) (value : List ℕ) → IsTrue (is_tag_number tag) → tag < 0x10000 → size < 128 → IsField size value → IsShort (data_object tag value)
-short_object tag size value is_tag two few field = record { is_tag = is_tag; tag = two; size = subst (λ (n : ℕ). n < 128) (sym field.size) few; value = field.bytes }
+pub short_object : (tag size : ℕ) (value : List ℕ) → IsTrue (is_tag_number tag) → tag < 0x10000 → size < 128 → IsField size value
+    → IsShort (data_object tag value)
+short_object tag size value is_tag two few field = record {
+  is_tag = is_tag;
+  tag = two;
+  size = subst (λ (n : ℕ). n < 128) (sym field.size) few;
+  value = field.bytes;
+}
 
 -- all are
 abbrev pub AreShort : List DataObject → Type 0

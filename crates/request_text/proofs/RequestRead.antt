@@ -45,7 +45,8 @@ short_objects request held =
     & tt
 
 -- the chip data are read as these objects
-objects_of-chip_data : (request : Parts) → IsRequest request → objects_of (chip_data request) ≡ record { objects = placed 0 (request_objects request); torn = None }
+objects_of-chip_data : (request : Parts) → IsRequest request → objects_of (chip_data request)
+    ≡ record { objects = placed 0 (request_objects request); torn = None }
 unfolding chip_data
 objects_of-chip_data request held = objects_from-text (request_objects request) 0 (short_objects request held)
 

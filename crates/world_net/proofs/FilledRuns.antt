@@ -1,12 +1,14 @@
 -- Each list of legal histories is that of a run: each decided record is a claim and a write of its own bytes, each other record a queue or
 -- a status.
 use Rattle.std.proofs.Common.{◌≡◌, ◌≢◌, ℕ, zero, suc, ◌%◌, ◌<◌, ◌≤◌, true, List, [], ◌∷◌, ◌++◌, length, take, map, replicate, get_or, set, None, Some}
-use Rattle.std.proofs.Common.{refl, ap, sym, ◌∙◌, subst, inl, inr, arith, append-nil, append_assoc, Contains}
+use Rattle.std.proofs.Common.{All, Ok, refl, ap, sym, ◌∙◌, subst, inl, inr, arith, append-nil, append_assoc, Contains}
 use Rattle.std.proofs.lemmas.Bool.{cases_eq}
 use Rattle.std.proofs.lemmas.List.{get_or-set_same, get_or-set_other, take_at, length-map}
-use Rattle.std.proofs.lemmas.Option.{slice_get-map}
+use Rattle.std.proofs.lemmas.List.Elements.{All-append, All-cons, All-nil}
+use Rattle.std.proofs.lemmas.Option.{get_or_from_slice_get, slice_get-map, slice_get_within}
 use Rattle.std.specs.Option.{option_map}
 use Rattle.std.specs.List.{slice_get}
+use Rattle.issuer_base.specs.declared.limits.TheConstants.{MAX_CHIP_BYTES}
 use Rattle.issuer_base.specs.declared.request.Request.{Request}
 use Rattle.issuer_base.specs.declared.answer.Reply.{Reply}
 use Rattle.issuer_base.specs.declared.entry.Entry.{Entry}
@@ -21,6 +23,10 @@ use Rattle.key_derive.specs.declared.card.KeySet.{KeySet}
 use Rattle.key_derive.specs.CardKey.{card_keys}
 use Rattle.card_model.specs.Application.{CardState}
 use Rattle.card_model.specs.CardSteps.{new_card}
+use Rattle.chip_request.specs.Reading.{request_of}
+use Rattle.journal_rec.specs.Record.{IsEntry}
+use Rattle.request_text.specs.ChipText.{chip_data}
+use Rattle.request_text.proofs.RequestRead.{request_of-chip_data, length-chip_data}
 use Rattle.shard_book.specs.Grounds.{grounds_of}
 use Rattle.world_net.specs.declared.event.Event.{Event}
 use Rattle.world_net.specs.declared.event.Event.TheVariants.{Claim, Write, Queue, Status}
@@ -28,10 +34,28 @@ use Rattle.world_net.specs.declared.parts.OpenClaim.{OpenClaim}
 use Rattle.world_net.specs.WorldState.{WorldState, ShardState, no_shard, home_of, history_for, histories_of}
 use Rattle.world_net.specs.WorldRuns.{IsIssuer, IsRunFrom}
 use Rattle.world_net.specs.NewWorld.{AreNew}
-use Rattle.world_net.specs.Histories.{IsSaid, AreSaid, AreLegal, HasRun}
+use Rattle.world_net.specs.Histories.{AreLegal, AreHeld, HasRoom, HasRun}
 use Rattle.world_net.proofs.Hosts.{at, recorded, AreLawful, lawful-record, home-within, legal-home, histories-at, none-at, none-lawful}
 use Rattle.world_net.proofs.NetWrites.{home-shard}
 use Rattle.world_net.proofs.NewWorlds.{new-world}
+
+-- chip data say the request, as many as an event holds
+record IsSaid (request : Request) : Type 0 where
+  bytes : List ℕ
+  few : length bytes ≤ MAX_CHIP_BYTES
+  read : request_of bytes ≡ Ok request
+
+-- so do those that are written for it
+said-held : (request : Request) (reply : Reply) (entry : Entry) → IsEntry entry → entry ≡ Decided request reply → IsSaid request
+said-held request reply entry held is =
+    let decided : IsEntry (Decided request reply) = subst IsEntry is held in
+    let few = (length-chip_data request decided.0).1 in
+    record { bytes = chip_data request; few = omega arith; read = request_of-chip_data request decided.0 }
+
+-- what is known of each element is known of the one at a place
+held-at : (history : List Entry) (place : ℕ) (entry : Entry) → All IsEntry history → slice_get history place ≡ Some entry → IsEntry entry
+held-at history place entry held there =
+    subst IsEntry (get_or_from_slice_get history place entry entry there) (held place entry (slice_get_within history place entry there))
 
 -- two runs, one after the other, are a run
 run-append : (first middle last : WorldState) (events more : List Event) → IsRunFrom first events middle → IsRunFrom middle more last
@@ -61,6 +85,7 @@ module _ (issuer : Setup) (cards : List CardState) (valid : IsIssuer issuer) whe
   -- a run from some shards to others
   record Fills (before after : List ShardState) : Type 0 where
     events : List Event
+    room : All HasRoom events
     run : IsRunFrom (filled before) events (filled after)
 
   -- one decision: a claim and a write of the request's own bytes
@@ -76,6 +101,8 @@ module _ (issuer : Setup) (cards : List CardState) (valid : IsIssuer issuer) whe
       subst (λ shard. IsLegalDecision (grounds_of issuer) shard (at shards shard).history request reply) (sym home) legal in
       record {
         events = Claim 0 (record { items = said.bytes }) ∷ Write 0 true ∷ [];
+        room = All-cons HasRoom (Claim 0 (record { items = said.bytes })) (Write 0 true ∷ []) said.few
+            (All-cons HasRoom (Write 0 true) [] tt (All-nil HasRoom));
         run = (
           claimed,
           record {
@@ -113,6 +140,7 @@ module _ (issuer : Setup) (cards : List CardState) (valid : IsIssuer issuer) whe
       let home : number % issuer.shards ≡ shard = legal.home.home in
       record {
         events = Queue number command ∷ [];
+        room = All-cons HasRoom (Queue number command) [] tt (All-nil HasRoom);
         run = (
           filled (recorded shards shard (IsQueued pan psn command)),
           record {
@@ -135,6 +163,7 @@ module _ (issuer : Setup) (cards : List CardState) (valid : IsIssuer issuer) whe
       let home : number % issuer.shards ≡ shard = legal.home.home in
       record {
         events = Status number status ∷ [];
+        room = All-cons HasRoom (Status number status) [] tt (All-nil HasRoom);
         run = (
           filled (recorded shards shard (IsStatus pan psn status)),
           record {
@@ -152,11 +181,12 @@ module _ (issuer : Setup) (cards : List CardState) (valid : IsIssuer issuer) whe
       }
 
   fills-none : (shards : List ShardState) → Fills shards shards
-  fills-none shards = record { events = []; run = refl }
+  fills-none shards = record { events = []; room = All-nil HasRoom; run = refl }
 
   fills-then : (first middle last : List ShardState) → Fills first middle → Fills middle last → Fills first last
   fills-then first middle last one other = record {
     events = one.events ++ other.events;
+    room = All-append HasRoom one.events other.events one.room other.room;
     run = run-append (filled first) (filled middle) (filled last) one.events other.events one.run other.run;
   }
 
@@ -170,17 +200,17 @@ module _ (issuer : Setup) (cards : List CardState) (valid : IsIssuer issuer) whe
 
   -- the rest of a shard's history, record by record
   fill-rest : (history : List Entry) (shard : ℕ) → IsLegalHistory (grounds_of issuer) shard history
-      → ((place : ℕ) (request : Request) (reply : Reply) → slice_get history place ≡ Some (Decided request reply) → IsSaid request)
+      → All IsEntry history
       → (before rest : List Entry) → before ++ rest ≡ history → (shards : List ShardState) → AreLawful issuer shards
       → (at shards shard).history ≡ before → IsFilledAt shards shard history
-  fill-rest history shard legal said before [] whole shards lawful is = record {
+  fill-rest history shard legal held before [] whole shards lawful is = record {
     after = shards;
     fills = fills-none shards;
     lawful = lawful;
     here = is ∙ sym (append-nil before) ∙ whole;
     others = λ other apart. refl;
   }
-  fill-rest history shard legal said before (entry ∷ rest) whole shards lawful is =
+  fill-rest history shard legal held before (entry ∷ rest) whole shards lawful is =
       let there : slice_get history (length before) ≡ Some entry =
       ap (λ (l : List Entry). slice_get l (length before)) (sym whole) ∙ slice_get-middle before entry rest in
       let front : take (length before) history ≡ before = ap (take (length before)) (sym whole) ∙ take_at before (entry ∷ rest) (length before) refl in
@@ -192,10 +222,10 @@ module _ (issuer : Setup) (cards : List CardState) (valid : IsIssuer issuer) whe
       let new : ShardState = record { history = (at shards shard).history ++ entry ∷ []; doubt = None } in
       let more = recorded shards shard entry in
       let one = fills-record shards shard entry
-      (λ request reply its. said (length before) request reply (there ∙ ap (λ (e : Entry). Some e) its)) next in
+      (λ request reply its. said-held request reply entry (held-at history (length before) entry held there) its) next in
       let read : (at more shard).history ≡ before ++ entry ∷ [] =
       ap (λ (s : ShardState). s.history) (get_or-set_same shards shard new no_shard within) ∙ ap (λ (l : List Entry). l ++ entry ∷ []) is in
-      let rec = fill-rest history shard legal said (before ++ entry ∷ []) rest (append_assoc before (entry ∷ []) rest ∙ whole) more
+      let rec = fill-rest history shard legal held (before ++ entry ∷ []) rest (append_assoc before (entry ∷ []) rest ∙ whole) more
       (lawful-record issuer shards shard entry valid lawful next) read in
       record {
         after = rec.after;
@@ -213,18 +243,18 @@ module _ (issuer : Setup) (cards : List CardState) (valid : IsIssuer issuer) whe
     done : (shard : ℕ) → shard < count → (at after shard).history ≡ get_or histories shard []
     empty : (shard : ℕ) → count ≤ shard → at after shard ≡ no_shard
 
-  fill-to : (histories : List (List Entry)) → AreLegal issuer histories → AreSaid histories → (count : ℕ) → IsFilledTo histories count
-  fill-to histories legal said zero = record {
+  fill-to : (histories : List (List Entry)) → AreLegal issuer histories → AreHeld histories → (count : ℕ) → IsFilledTo histories count
+  fill-to histories legal held zero = record {
     after = replicate issuer.shards no_shard;
     fills = fills-none (replicate issuer.shards no_shard);
     lawful = none-lawful issuer;
     done = λ shard below. absurd (omega arith);
     empty = λ shard above. none-at issuer.shards shard;
   }
-  fill-to histories legal said (suc count) =
-      let before = fill-to histories legal said count in
+  fill-to histories legal held (suc count) =
+      let before = fill-to histories legal held count in
       let none : (at before.after count).history ≡ [] = ap (λ (s : ShardState). s.history) (before.empty count (omega arith)) in
-      let it = fill-rest (get_or histories count []) count (legal.each count) (λ place request reply is. said count place request reply is)
+      let it = fill-rest (get_or histories count []) count (legal.each count) (held count)
       [] (get_or histories count []) refl before.after before.lawful none in
       record {
         after = it.after;
@@ -270,14 +300,15 @@ first-key [] some = absurd (omega arith)
 first-key (set ∷ keys) some = (set, (0, omega arith, refl))
 
 -- so there is a run with these histories
-pub histories-run : (issuer : Setup) (histories : List (List Entry)) → IsIssuer issuer → AreKeys issuer.keys → AreLegal issuer histories → AreSaid histories
+pub histories-run : (issuer : Setup) (histories : List (List Entry)) → IsIssuer issuer → AreKeys issuer.keys → AreLegal issuer histories → AreHeld histories
     → HasRun issuer histories
-histories-run issuer histories valid keys legal said =
+histories-run issuer histories valid keys legal held =
     let set = first-key issuer.keys keys.some in
     let cards = cards_under issuer set.0 in
-    let to = fill-to issuer cards valid histories legal said issuer.shards in
+    let to = fill-to issuer cards valid histories legal held issuer.shards in
     record {
       events = to.fills.events;
+      room = to.fills.room;
       world = filled issuer cards valid to.after;
       run = (
         filled issuer cards valid (replicate issuer.shards no_shard),

@@ -6,7 +6,7 @@ ghost use Rattle.issuer_setup.specs.KeyList.{AreKeys};
 ghost use Rattle.world_net.specs.declared.event.Event.{Event};
 ghost use Rattle.world_net.specs.WorldState.{WorldState};
 ghost use Rattle.world_net.specs.WorldRuns.{IsIssuer, IsRun, IsGenuineRun};
-ghost use Rattle.world_net.specs.Histories.{AreLegal, AreSaid, HasRun};
+ghost use Rattle.world_net.specs.Histories.{AreLegal, AreHeld, HasRun};
 ghost use Rattle.world_net.specs.Safety.{IsSafe, RunsInOrder};
 
 /// Whatever happens in a world, no two decided records name the same card and counter, and each request has one reply.
@@ -27,9 +27,9 @@ pub fn every_card_runs_its_commands_in_order()
 /// For all legal histories there is a run that has them: each decided record is a claim and a write of the request's own bytes, each
 /// other record a command that is queued or a status that is given.
 ///
-/// The contract is a theorem on every issuer; the function does nothing. It asks that each request that was decided can be said by chip
-/// data.
+/// The contract is a theorem on every issuer; the function does nothing. Of the histories it asks, beside that they are legal, that
+/// their records are values of their types.
 pub fn every_legal_history_has_a_run()
     ensures { (issuer : Setup) (histories : List (List Entry)) → IsIssuer issuer → AreKeys issuer.keys → AreLegal issuer histories
-        → AreSaid histories → HasRun issuer histories }
+        → AreHeld histories → HasRun issuer histories }
 {}

@@ -21,7 +21,7 @@ const REQUEST: &str =
     "A 5A0840000000000000029F26086317DE17856BF19A9F2701809F10200FA501A00000000000000000000000000F0000000000000000000000000000009F37041A2B3C4D9F36020007950500000080009A032601159C01009F02060000000123455F2A020978820239009F1A020276";
 
 /// A purchase over 123.45.
-fn purchase() -> Terminal {
+pub(crate) fn purchase() -> Terminal {
     Terminal {
         tvr: [0x00, 0x00, 0x00, 0x80, 0x00],
         date: [0x26, 0x01, 0x15],
@@ -34,16 +34,21 @@ fn purchase() -> Terminal {
     }
 }
 
-/// An issuer of one shard and two cards. It declines a card of status 1 with the response code 06, approves amounts up to 500,000
-/// with 00, and declines all others with 05.
-fn issuer(alloc: Global) -> Result<Issuer, Fail> {
-    let mut keys = ArrayVec::new();
-    keys.push(KeySet {
+/// The key set of all the cards here.
+pub(crate) fn key_set() -> KeySet {
+    KeySet {
         dki: 0x01,
         option: MasterOption::A,
         ac: Key16(0x00010203_04050607_08090A0B_0C0D0E0F_u128.to_be_bytes()),
         smi: Key16(0x10111213_14151617_18191A1B_1C1D1E1F_u128.to_be_bytes()),
-    });
+    }
+}
+
+/// An issuer of one shard and two cards. It declines a card of status 1 with the response code 06, approves amounts up to 500,000
+/// with 00, and declines all others with 05.
+fn issuer(alloc: Global) -> Result<Issuer, Fail> {
+    let mut keys = ArrayVec::new();
+    keys.push(key_set());
     let mut cards = Vec::new(alloc);
     cards.push(card(0, 2, Method::One)?)?;
     cards.push(card(1, 0, Method::Two)?)?;
@@ -51,7 +56,7 @@ fn issuer(alloc: Global) -> Result<Issuer, Fail> {
     Ok(Issuer::new(alloc, 1, keys, cards, table).map_err(|_| "an issuer")?)
 }
 
-fn card(tens: u8, ones: u8, method: Method) -> Result<CardInfo, Fail> {
+pub(crate) fn card(tens: u8, ones: u8, method: Method) -> Result<CardInfo, Fail> {
     let pan = Pan::new(&[4, 0, 0, 0, 0, 0, 0, 0, 0, 0, 0, 0, 0, 0, tens, ones]).ok_or("a number")?;
     Ok(CardInfo {
         pan,
@@ -60,7 +65,7 @@ fn card(tens: u8, ones: u8, method: Method) -> Result<CardInfo, Fail> {
     })
 }
 
-fn table() -> Option<Table> {
+pub(crate) fn table() -> Option<Table> {
     let mut rows = ArrayVec::new();
     rows.push(TableRow {
         most: 999_999_999_999,

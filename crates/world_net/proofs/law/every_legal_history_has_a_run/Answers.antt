@@ -3,4 +3,4 @@ use Rattle.world_net.proofs.FilledRuns.{histories-run}
 use Rattle.world_net.proofs.law.every_legal_history_has_a_run.Goals as goal
 
 pub returns : goal.returns
-returns c issuer histories valid keys legal said = histories-run issuer histories valid keys legal said
+returns c = histories-run
