@@ -31,6 +31,7 @@ use Rattle.issuer_top.specs.Answered.{AreAnswered, WasRead, AllAnswered, WholeAn
 use Rattle.issuer_top.specs.Serving.{AreLawful, StartsFrom, AnswersLine, ServesLines, Serves, WritesDue, EndsBy}
 use Rattle.shard_book.proofs.OwnDecisions.{legal-then}
 use Rattle.host_calls.proofs.OneRun.{run-one_history}
+use Rattle.host_calls.proofs.Running.{run-on}
 use Rattle.issuer_top.proofs.WorldLaws.{safe-worlds}
 use Rattle.issuer_top.proofs.HostRuns.{run-line, recorded}
 
@@ -68,12 +69,13 @@ are_answered : (issuer : Setup) (first last : List Book) (asked other : List (Li
     → other ≡ asked → Run issuer first asked answers last → AreAnswered issuer first last other (flat_map printed answers)
 are_answered issuer first last asked other answers lawful recorded same run =
     let turned : Run issuer first other answers last = subst (λ (ls : List (List ℕ)). Run issuer first ls answers last) (sym same) run in
+    let one = run-one_history issuer (legal-then issuer lawful.sound.table) first last other answers lawful.legal recorded turned in
     record {
       answers = answers;
       run = turned;
       printed_is = refl;
-      one = run-one_history issuer (legal-then issuer lawful.sound.table) first last other answers lawful.legal recorded turned;
-      worlds = safe-worlds issuer last lawful.sound;
+      one = one;
+      worlds = safe-worlds issuer first last lawful.sound lawful.count_is (run-on issuer first other answers last turned).count_is one.goes_on recorded;
     }
 
 -- the whole lines of what was read were answered: they are a front of the file
