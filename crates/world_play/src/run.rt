@@ -7,12 +7,12 @@ ghost use Rattle.host_calls.specs.Loading.{AreLoaded};
 ghost use Rattle.issuer_base.specs.declared.limits.TheConstants.{MAX_CARDS};
 ghost use Rattle.world_play.specs.Play.{ComesTo, empty_book, new_player, no_counts, one_if, shown};
 ghost use Rattle.world_play.specs.Reaching.{IsAt};
-ghost use Rattle.world_play.specs.Setting.{issuer};
+ghost use Rattle.world_play.specs.Setting.{issuer, key_set};
 
 use crate::house::House;
 use crate::moves::moves_of;
 use crate::player::Player;
-use crate::setting::{KEY_SET, PSN, SHARDS, card_info, issuer, step_of};
+use crate::setting::{KEY_SET, SHARDS, card_info, issuer, step_of};
 use crate::summary::Summary;
 use card_model::Card;
 use host_calls::{HostBack, Solo};
@@ -89,6 +89,7 @@ fn play_steps(
 
 /// The counts at the end: those so far, and what host and cards tell then.
 fn sum_up(house: &House, players: &[Player]) -> Result<Summary, NoMemory>
+    requires { 0 < house.now.host.issuer.shards }
     ensures { IfOk result (λ summary. (cards steps seed : ℕ) → IsAt cards seed steps house.now players.now → ComesTo cards steps seed summary) }
 {
     let Shown { done, halted } = count_shown(&house.host);
@@ -112,6 +113,7 @@ struct Shown {
 
 /// Counts what the host shows of its cards.
 fn count_shown(host: &Solo<RoomStore>) -> Shown
+    requires { 0 < host.now.issuer.shards }
     ensures done { (books : List Book) → Stand host.now.issuer host.now.shards.items books
         → result.done ≡ sum_by (λ info. (shown host.now.issuer books info).done) host.now.issuer.cards }
     ensures halted { (books : List Book) → Stand host.now.issuer host.now.shards.items books
@@ -121,9 +123,15 @@ fn count_shown(host: &Solo<RoomStore>) -> Shown
     for number in 0..host.issuer().cards() {
         let view = host.show(number);
         counts.done += u64::from(view.done);
-        counts.halted += u64::from(view.halted);
+        counts.halted += one_if(view.halted);
     }
     counts
+}
+
+fn one_if(so: bool) -> u64
+    ensures { result ≡ one_if so }
+{
+    if so { 1 } else { 0 }
 }
 
 /// Counts what the cards ran.
@@ -145,16 +153,26 @@ fn players(alloc: Global, cards: u32) -> Result<Vec<Player>, NoMemory>
     let ciphers = MasterCiphers::new(&KEY_SET);
     let mut players = Vec::with_capacity(alloc, cards as usize)?;
     for number in 0..cards {
-        let CardInfo { pan, psn: _, method } = card_info(number);
-        let keys = ciphers.card_keys(&pan, PSN);
-        players.push_reserved(Player {
-            card: Card::new(alloc, pan, PSN, KEY_SET.dki, method, keys),
-            request: None,
-            reply: None,
-            held: None,
-        });
+        players.push_reserved(new_player(alloc, &ciphers, number));
     }
     Ok(players)
+}
+
+/// The player of the card with this number, which did nothing yet.
+#[tactic(auto, unfolding(issuer_base::specs::ChipData::is_bcd))]
+fn new_player(alloc: Global, ciphers: &MasterCiphers, number: u32) -> Player
+    requires { ciphers.now ≡ key_set }
+    ensures { result ≡ new_player number }
+{
+    let info = card_info(number);
+    let keys = ciphers.card_keys(&info.pan, info.psn);
+    let CardInfo { pan, psn, method } = info;
+    Player {
+        card: Card::new(alloc, pan, psn, KEY_SET.dki, method, keys),
+        request: None,
+        reply: None,
+        held: None,
+    }
 }
 
 /// The host of an issuer of so many cards, over empty stores with room for so many steps.

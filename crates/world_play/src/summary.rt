@@ -49,7 +49,7 @@ pub struct Summary {
 }
 
 /// Writes the text of a summary, eleven lines of a word, a space and a number, in place of what `out` held.
-#[tactic(auto, unfolding(crate::specs::SummaryText::summary_text, crate::specs::SummaryText::named_counts))]
+#[tactic(auto, using(crate::proofs::Text::lines_joined), unfolding(crate::specs::SummaryText::named_counts))]
 pub fn write_summary(summary: &Summary, out: &mut ArrayVec<u8, SUMMARY_ROOM>)
     ensures { out.new.items ≡ summary_text summary.now }
 {

@@ -1,0 +1,62 @@
+-- A host over empty stores stands for books without records.
+use Rattle.std.proofs.Common.{◌≡◌, ℕ, zero, suc, ◌<◌, List, [], ◌∷◌, ◌++◌, length, replicate, All, Option, None, Some, refl, sym, ap, subst, ◌∙◌, arith}
+use Rattle.std.specs.Prelude.{slice_get}
+use Rattle.std.proofs.lemmas.List.{length-replicate}
+use Rattle.std.proofs.lemmas.Option.{slice_get_within, get_or_from_slice_get}
+use Rattle.issuer_base.specs.Tells.{Tells}
+use Rattle.issuer_base.specs.declared.entry.Entry.{Entry}
+use Rattle.issuer_base.specs.declared.outside.store.Store.{Ghosts}
+use Rattle.issuer_setup.specs.IssuerSetup.{Setup}
+use Rattle.journal_rec.specs.RecordText.{texts_of}
+use Rattle.journal_rec.proofs.TextLaws.{texts_of-one_reading}
+use Rattle.shard_book.specs.declared.shard.Shard.{Shard}
+use Rattle.shard_book.specs.Shards.{faults_in}
+use Rattle.host_calls.specs.Books.{Book}
+use Rattle.host_calls.specs.Hosts.{Stand, StandsForBook}
+use Rattle.host_calls.specs.Loading.{IsLoadedFrom, AreLoaded}
+use Rattle.host_calls.proofs.Places.{read-within}
+use Rattle.host_calls.proofs.Running.{stands-loaded}
+use Rattle.world_play.specs.Play.{empty_book}
+
+-- what stands in a list of equals
+replicate-at : {X : Type 0} (n : ℕ) (x : X) (place : ℕ) (y : X) → slice_get (replicate n x) place ≡ Some y → y ≡ x
+replicate-at zero x place y is = absurd (let e : None ≡ Some y = is in cc)
+replicate-at (suc n) x zero y is = let e : Some x ≡ Some y = is in let w : y ≡ x = cc in w
+replicate-at (suc n) x (suc place) y is = replicate-at n x place y is
+
+module _ {S : Type 0} {G : Ghosts S} (setup : Setup) where
+  -- what was loaded from an empty store has no records
+  history-none : (number : ℕ) (store : S) (shard : Shard S G) → (from : IsLoadedFrom setup number store shard) → G.bytes store ≡ Some []
+      → from.loaded.history ≡ []
+  history-none number store shard from empty =
+      let told = subst (λ (bytes : Option (List ℕ)). Tells bytes (texts_of from.loaded.history ++ from.loaded.rest)) empty from.loaded.text_is in
+      let none : List Entry = [] in
+      (texts_of-one_reading from.loaded.history none from.loaded.rest [] from.loaded.records (λ place entry within. absurd (omega (arith, within)))
+      from.loaded.unbroken (λ place byte within. absurd (omega (arith, within))) (sym told)).0
+
+  stands-empty : (number : ℕ) (store : S) (shard : Shard S G) → IsLoadedFrom setup number store shard → G.bytes store ≡ Some []
+      → G.faults store ≡ 0 → StandsForBook setup shard empty_book
+  stands-empty number store shard from empty none =
+      subst (λ (book : Book). StandsForBook setup shard book)
+      (ap (λ (history : List Entry). record { history = history; faults = faults_in shard; told = 0 }) (history-none number store shard from empty)
+      ∙ ap (λ (faults : ℕ). record { history = []; faults = faults; told = 0 }) (from.counts.counted ∙ none))
+      (stands-loaded setup number store shard from)
+
+  -- the shards of empty stores
+  pub opened : (stores : List S) (shards : List (Shard S G)) (count : ℕ) → length stores ≡ count
+      → ((number : ℕ) (store : S) → slice_get stores number ≡ Some store → (G.bytes store ≡ Some []) × (G.faults store ≡ 0))
+      → AreLoaded setup stores shards → Stand setup shards (replicate count empty_book)
+  opened stores shards count long empty loaded = record {
+    count_is = length-replicate count empty_book ∙ sym long ∙ sym loaded.count_is;
+    each = λ number shard book shard_is book_is.
+        let below = slice_get_within shards number shard shard_is in
+        let same = loaded.count_is in
+        let found = read-within stores number (omega arith) in
+        let none = empty number found.0 found.1 in
+        subst (λ (book : Book). StandsForBook setup shard book) (sym (replicate-at count empty_book number book book_is))
+        (stands-empty number found.0 shard (loaded.each number found.0 shard found.1 shard_is) none.0 none.1);
+  }
+
+-- what holds of each of a list holds of what stands at a place
+pub all_at : {X : Type 0} (P : X → Type 0) (xs : List X) → All P xs → (place : ℕ) (x : X) → slice_get xs place ≡ Some x → P x
+all_at P xs all place x is = subst P (get_or_from_slice_get xs place x x is) (all place x (slice_get_within xs place x is))
