@@ -1,5 +1,6 @@
 -- The words of a command: their pairs, and what each option is given.
-use Rattle.std.proofs.Common.{◌≡◌, ℕ, ◌+◌, ◌-◌, ◌*◌, ◌<◌, ◌≤◌, zero, suc, Bool, true, false, List, [], ◌∷◌, length, drop, get_or, Option, refl, sym, ap, ◌∙◌, subst, arith, add-one}
+use Rattle.std.proofs.Common.{◌≡◌, ℕ, ◌+◌, ◌-◌, ◌*◌, ◌<◌, ◌≤◌, zero, suc, Bool, true, false, List, [], ◌∷◌, length, drop, get_or, Option}
+use Rattle.std.proofs.Common.{refl, sym, ap, ◌∙◌, subst, arith, add-one}
 use Rattle.std.proofs.Common.{drop-cons}
 use Rattle.std.specs.Prelude.{◌&&◌, ◌==◌, ◌%◌, ◌/◌, not, if◌then◌else◌, map, slice_get, Some, None, IsTrue, codes}
 use Rattle.std.specs.Prelude.{◌^◌}

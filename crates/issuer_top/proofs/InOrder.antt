@@ -1,5 +1,6 @@
 -- All goes well where all is in order.
-use Rattle.std.proofs.Common.{◌≡◌, ℕ, ◌-◌, ◌<◌, ◌≤◌, ◌⊎◌, List, [], ◌∷◌, ◌++◌, length, Option, None, Some, Ok, Err, inl, inr, ⊎_elim, refl, sym, subst, ap, ◌∙◌, arith}
+use Rattle.std.proofs.Common.{◌≡◌, ℕ, ◌-◌, ◌<◌, ◌≤◌, ◌⊎◌, List, [], ◌∷◌, ◌++◌, length, Option, None, Some, Ok, Err, inl, inr, ⊎_elim}
+use Rattle.std.proofs.Common.{refl, sym, subst, ap, ◌∙◌, arith}
 use Rattle.std.proofs.lemmas.List.{length-append, take-append-le}
 use Rattle.std.specs.List.{flat_map}
 use Rattle.std.specs.Prelude.{IsSomeAnd, IfSome, codes}
@@ -150,7 +151,8 @@ module _ (seen : Seen) (config journal : List ℕ) (requests : Option (List ℕ)
   not-bad_journal : (shard line : ℕ) (text : List ℕ) → HasNoHost (BadJournal shard line) seen text → ⊥
   not-bad_journal shard line text none =
       let same = same-names seen.words config none.set_up.config requests none.requests journal none.journal command none.set_up.command in
-      let content = same-content seen.desk.tells config none.set_up.config none.set_up.content order.content (sym same.config_is) order.config_held none.set_up.held in
+      let content =
+      same-content seen.desk.tells config none.set_up.config none.set_up.content order.content (sym same.config_is) order.config_held none.set_up.held in
       let issuer = one-issuer none.set_up.content order.content order.issuer none.issuer content order.says none.set_up.says in
       let logs = seen.desk.logs in
       let bad = subst (λ (i : Setup). IsBadAt i none.journal logs (desk_faults seen) seen.stores shard line) issuer none.cause in
@@ -189,7 +191,8 @@ serves-in_order seen status ending is ends order =
     (λ line long.
     let passed = subst (EndsBy seen) long ends in
     let l = passed.1.lines in
-    let same = same-names seen.words order.config l.set_up.config (Some order.requests) (Some l.requests) order.journal l.journal order.serve l.set_up.command in
+    let same =
+    same-names seen.words order.config l.set_up.config (Some order.requests) (Some l.requests) order.journal l.journal order.serve l.set_up.command in
     let name : l.requests ≡ order.requests = (let e : Some order.requests ≡ Some l.requests = same.requests_are in cc) in
     let content = same-content seen.desk.tells order.requests l.requests l.file order.file name order.requests_held l.held in
     not-past l.issuer l.first l.last l.file order.file l.read passed.1.answers passed.1.number l.input.left content order.within l.was_read l.answered)

@@ -69,10 +69,12 @@ module _ {S : Type 0} {G : Ghosts S} where
 
   module _ (issuer : Setup) (prefix : List ℕ) (seen : Seen) (loaded now : List (Shard S G)) (ready : IsReady issuer prefix seen.desk.logs loaded)
       (before : AreShards issuer loaded) (after : AreShards issuer now)
-      (told : (store : S) → IfSome (G.disk store) (λ disk. G.bytes store ≡ Some disk.now.bytes)) (stores_are : seen.stores ≡ map (store_seen G) (map store_in now)) where
+      (told : (store : S) → IfSome (G.disk store) (λ disk. G.bytes store ≡ Some disk.now.bytes))
+      (stores_are : seen.stores ≡ map (store_seen G) (map store_in now)) where
     module _ (last : List Book) (stand : Stand issuer now last)
         (leave : LeaveBetween issuer (begins issuer prefix seen.desk.logs loaded ready before).books last loaded now) where
-      keeps-journal : (shard : ℕ) (was is : Book) (store : SeenStore) → slice_get (begins issuer prefix seen.desk.logs loaded ready before).books shard ≡ Some was
+      keeps-journal : (shard : ℕ) (was is : Book) (store : SeenStore)
+          → slice_get (begins issuer prefix seen.desk.logs loaded ready before).books shard ≡ Some was
           → slice_get last shard ≡ Some is → slice_get seen.stores shard ≡ Some store
           → KeepsJournal issuer shard (seen.desk.logs (journal_name prefix shard)) was is store
       keeps-journal shard was is store was_at is_at store_at =

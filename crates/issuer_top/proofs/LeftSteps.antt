@@ -1,5 +1,6 @@
 -- What is left of journals that were opened, and maybe loaded.
-use Rattle.std.proofs.Common.{◌≡◌, ℕ, ◌<◌, ◌≤◌, zero, suc, List, [], ◌∷◌, ◌++◌, length, take, Option, None, Some, refl, sym, ap, ◌∙◌, subst, arith, inl, inr, ⊎_elim, append-nil}
+use Rattle.std.proofs.Common.{◌≡◌, ℕ, ◌<◌, ◌≤◌, zero, suc, List, [], ◌∷◌, ◌++◌, length, take, Option, None, Some}
+use Rattle.std.proofs.Common.{refl, sym, ap, ◌∙◌, subst, arith, inl, inr, ⊎_elim, append-nil}
 use Rattle.std.specs.Prelude.{slice_get, map, IfSome, ◌⊎◌}
 use Rattle.std.proofs.Math.Seq.{take-append_seam}
 use Rattle.std.proofs.lemmas.List.Elements.{All-nil}
@@ -155,7 +156,8 @@ module _ {S : Type 0} {G : Ghosts S} (told : (store : S) → IfSome (G.disk stor
         bytes_are = given.cut;
         lines = record { rest = given.rest; was_is = refl; unbroken = given.unbroken };
         crash = crash-of IsSomeCutImage back
-            (BothTold-weaker (λ (old new : Disk). LeavesOnly (IsCutImage (length lines) old.now) old new) (λ old new. LeavesOnly (IsSomeCutImage old.now) old new)
+            (BothTold-weaker (λ (old new : Disk). LeavesOnly (IsCutImage (length lines) old.now) old new)
+            (λ old new. LeavesOnly (IsSomeCutImage old.now) old new)
             (G.disk store) (G.disk back)
             (λ old new cuts. LeavesOnly-weaker (IsCutImage (length lines) old.now) (IsSomeCutImage old.now) old new (λ image cut. (length lines, cut)) cuts)
             leaves);
@@ -207,7 +209,8 @@ module _ {S : Type 0} (G : Ghosts S) (told : (store : S) → IfSome (G.disk stor
   pub opened-left : LeaveJournals prefix logs (map (store_seen G) stores)
   opened-left number seen is =
       let here = seen-store G stores number seen is in
-      subst (LeavesJournal (logs (journal_name prefix number))) here.2 (untouched-left told (logs (journal_name prefix number)) here.0 (opened number here.0 here.1))
+      subst (LeavesJournal (logs (journal_name prefix number))) here.2
+      (untouched-left told (logs (journal_name prefix number)) here.0 (opened number here.0 here.1))
 
   -- one couldn't be loaded
   pub back-left : (issuer : Setup) (failed : ℕ) (fault : LoadFault) (back : List S) → ComeBack G.bytes G.disk G.faults issuer stores failed fault back

@@ -1,5 +1,6 @@
 -- The pairs that the words behind a command make, and what the words ask for.
-use Rattle.std.specs.Prelude.{◌≡◌, ℕ, ◌*◌, ◌%◌, nat_le, Bool, true, false, not, ◌==◌, ◌&&◌, if◌then◌else◌, List, [], ◌∷◌, length, drop, slice_get, Option, Some, None, codes}
+use Rattle.std.specs.Prelude.{◌≡◌, ℕ, ◌*◌, ◌%◌, nat_le, Bool, true, false, not, ◌==◌, ◌&&◌, if◌then◌else◌}
+use Rattle.std.specs.Prelude.{List, [], ◌∷◌, length, drop, slice_get, Option, Some, None, codes}
 use Rattle.std.specs.Option.{option_map}
 use Rattle.issuer_top.specs.declared.words.Command.{Command}
 use Rattle.issuer_top.specs.declared.words.Command.TheVariants.{Serve, Show, World}

@@ -7,7 +7,8 @@ use Rattle.issuer_top.proofs.journals.load_host.Goals as goal
 pub returns-in-Err-clause-none : goal.returns-in-Err-clause-none
 returns-in-Err-clause-none g c =
     rw c.stop_of_load.ensures
-    (gives-no_host g.D.Journal.Store _ _ _ _ _ _ _ c.in_ok-stores.ensures.opened c.in_ok-stores.ensures.count (c.in_ok-stores.ensures.stood refl) _ c.in-Err.ensures.stopped)
+    (gives-no_host g.D.Journal.Store _ _ _ _ _ _ _ c.in_ok-stores.ensures.opened c.in_ok-stores.ensures.count (c.in_ok-stores.ensures.stood refl) _
+    c.in-Err.ensures.stopped)
 
 pub returns-in-Err-clause-left : goal.returns-in-Err-clause-left
 returns-in-Err-clause-left g c =

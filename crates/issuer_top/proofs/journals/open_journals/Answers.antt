@@ -10,11 +10,13 @@ loop-shard-preserved g c =
     let before = c.loop-shard.invariant in
     let named = before.ahead c.loop-shard.shard (omega arith) in
     record {
-      count = ap length c.push_reserved.ensures.items ∙ length-more g.D.Journal.Store c.loop-shard.stores.items c.in-Ok-open_journal.store ∙ ap (λ n. n + 1) before.count;
+      count = ap length c.push_reserved.ensures.items ∙ length-more g.D.Journal.Store c.loop-shard.stores.items c.in-Ok-open_journal.store
+          ∙ ap (λ n. n + 1) before.count;
       room = c.push_reserved.ensures.capacity ∙ before.room;
       opened = subst (AreOpened g.D.Journal.Store c.args.prefix.now (g.D.Desk.logs c.args.desk.now)) (sym c.push_reserved.ensures.items)
           (opened-more g.D.Journal.Store c.args.prefix.now (g.D.Desk.logs c.args.desk.now) c.loop-shard.stores.items c.in-Ok-open_journal.store
-          c.loop-shard.shard (g.D.Desk.logs c.loop-shard.desk (journal_name c.args.prefix.now c.loop-shard.shard)) before.opened (sym before.count) named c.in-Ok-open_journal.ensures.opened);
+          c.loop-shard.shard (g.D.Desk.logs c.loop-shard.desk (journal_name c.args.prefix.now c.loop-shard.shard)) before.opened (sym before.count) named
+          c.in-Ok-open_journal.ensures.opened);
       stood = c.in-Ok-open_journal.ensures.count.counted ∙ before.stood;
       kept = c.open_journal.ensures.kept ∙ before.kept;
       ahead = λ shard later.

@@ -25,7 +25,8 @@ returns-in-Err-read g c = λ words given config journal set_up ready sound same_
     let shards = c.args.host.are_shards in
     let first = begins c.args.host.issuer journal (g.D.Desk.logs given) c.args.host.shards.items ready shards in
     let kept = keep-journals _ journal _ c.args.host.shards.items c.args.host.shards.items ready shards shards
-    (g.met.D.Journal.Store g.world.𝓛 g.world.𝓜 g.world.𝓡 (λ s h. h, λ h. h, λ h. h, λ h. h)).told_bytes (ap (map (store_seen g.D.Journal.Store)) c.close-in-Err-read.ensures) first.books first.has_run.stand first.has_run.leave in
+    (g.met.D.Journal.Store g.world.𝓛 g.world.𝓜 g.world.𝓡 (λ s h. h, λ h. h, λ h. h, λ h. h)).told_bytes
+    (ap (map (store_seen g.D.Journal.Store)) c.close-in-Err-read.ensures) first.books first.has_run.stand first.has_run.leave in
     ends_no_requests _ c.args.name.now journal _ set_up (Unit {0}) _ _ c.in-Err-read.fault _ _ refl refl kept same_faults c.in-Err-read.ensures.count
     c.in-Err-read.ensures.last
     (subst (λ stores. LeaveJournals journal (g.D.Desk.logs given) (map (store_seen g.D.Journal.Store) stores)) (sym c.close-in-Err-read.ensures)
@@ -47,6 +48,7 @@ returns g c = λ words given config journal set_up ready sound same_holds same_f
     c.args.host.shards.items _ first.books
     (λ last stand leave.
     keep-journals _ journal _ c.args.host.shards.items c.serve-served.new.host.shards.items ready shards after
-    (g.met.D.Journal.Store g.world.𝓛 g.world.𝓜 g.world.𝓡 (λ s h. h, λ h. h, λ h. h, λ h. h)).told_bytes (ap (map (store_seen g.D.Journal.Store)) c.close-2.ensures) last stand leave)
+    (g.met.D.Journal.Store g.world.𝓛 g.world.𝓜 g.world.𝓡 (λ s h. h, λ h. h, λ h. h, λ h. h)).told_bytes
+    (ap (map (store_seen g.D.Journal.Store)) c.close-2.ensures) last stand leave)
     _ _ _ _ _ (c.serve-served.ensures.served first.books begun) c.serve-served.ensures.sink_count c.in-Ok-read.ensures.new
     c.serve-served.ensures.source_count c.end_serving.ensures

@@ -54,8 +54,10 @@ pub returns-else-is_within-clause-none : goal.returns-else-is_within-clause-none
 returns-else-is_within-clause-none c = λ asks.
     let given = world-gives c.args.words.now asks.0 asks.1 asks.2 asks.3 in
     let cards : c.in_ok-cards.cards ≡ asks.0 =
-    one-number _ c.in_ok-value_of.field-0.now c.in_ok-cards.cards asks.0 (search rules) c.in_ok-cards.ensures (search rules) given.cards_are given.cards_below in
+    one-number _ c.in_ok-value_of.field-0.now c.in_ok-cards.cards asks.0 (search rules) c.in_ok-cards.ensures (search rules) given.cards_are
+    given.cards_below in
     let steps : c.in_ok-steps.steps ≡ asks.1 =
-    one-number _ c.in_ok-value_of-2.field-0.now c.in_ok-steps.steps asks.1 (search rules) c.in_ok-steps.ensures (search rules) given.steps_are given.steps_below in
+    one-number _ c.in_ok-value_of-2.field-0.now c.in_ok-steps.steps asks.1 (search rules) c.in_ok-steps.ensures (search rules) given.steps_are
+    given.steps_below in
     let within = ap (λ n. is_within n c.in_ok-steps.steps) cards ∙ ap (is_within asks.0) steps ∙ given.within in
     search (rules, within)
