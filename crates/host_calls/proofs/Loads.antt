@@ -53,7 +53,7 @@ behind-alike (a ∷ xs) (b ∷ ys) x y more (suc place) same past = behind-alike
 
 module _ {S : Type 0} {G : Ghosts S} (issuer : Setup) where
   -- the store of a shard that was loaded
-  given-back : (number : ℕ) (store : S) (shard : Shard S G) → IsLoadedFrom issuer number store shard
+  pub given-back : (number : ℕ) (store : S) (shard : Shard S G) → IsLoadedFrom issuer number store shard
       → IsGivenBack G.bytes G.disk G.faults issuer number store (store_in shard)
   given-back number store shard from = record {
     history = from.loaded.history;
@@ -176,6 +176,8 @@ none-loaded {S} G issuer stores some = record {
   at = λ store after is after_is.
       subst (λ (after : S). IsNotLoaded G.bytes G.disk G.faults issuer 0 store NoMemory after) (same_Some store after (sym is ∙ after_is)) (record {
         stops = tt;
+        kept = refl;
+        still = reads-none (G.disk store);
         leaves = crash-read (G.disk store) (G.disk store) (reads-none (G.disk store));
         counts = record { below = λ below. below; never_falls = omega arith; counted = refl };
       });

@@ -13,7 +13,7 @@ use Rattle.shard_book.specs.declared.replay.LoadFault.{LoadFault}
 use Rattle.shard_book.specs.declared.shard.Shard.{Shard}
 use Rattle.shard_book.specs.Loading.{StopsText, is_store_failure}
 use Rattle.shard_book.specs.Grounds.{grounds_of}
-use Rattle.shard_book.specs.Shards.{IsUnder, sure_in, disk_in, faults_in, told_in, IsUndoubted, IsLoaded, IsSomeCutImage}
+use Rattle.shard_book.specs.Shards.{IsUnder, sure_in, disk_in, faults_in, told_in, IsUndoubted, IsLoaded, IsSomeCutImage, LeavesBytes, LeavesDisk}
 
 module _ {S : Type 0} {G : Ghosts S} where
   -- the shard with this number was loaded from the store: it stands for the history that the store held, and meanwhile a crash leaves what
@@ -46,9 +46,12 @@ module _ {S : Type 0} (bytes : S → Option (List ℕ)) (disk : S → Option Dis
     pub leaves : BothTold (λ old new. LeavesOnly (IsCutImage (length (texts_of history)) old.now) old new) (disk store) (disk back)
     pub counts : CountsFaults (faults store) (faults back) false
 
-  -- the shard with this number can't be loaded from the store for this reason, and this is the store afterwards
+  -- the shard with this number can't be loaded from the store for this reason, and this is the store afterwards: it has the bytes that it had,
+  -- or where it failed maybe those of the records alone
   pub record IsNotLoaded (issuer : Setup) (number : ℕ) (store : S) (fault : LoadFault) (back : S) : Type 0 where
     pub stops : StopsText issuer number (bytes store) fault
+    pub kept : LeavesBytes fault (bytes store) (bytes back)
+    pub still : LeavesDisk fault (disk store) (disk back)
     pub leaves : BothTold (λ old new. LeavesOnly (IsSomeCutImage old.now) old new) (disk store) (disk back)
     pub counts : CountsFaults (faults store) (faults back) (is_store_failure fault)
 

@@ -1,17 +1,21 @@
 -- The words of a command: their pairs, and what each option is given.
-use Rattle.std.proofs.Common.{◌≡◌, ℕ, ◌+◌, ◌-◌, ◌*◌, ◌<◌, ◌≤◌, zero, suc, Bool, true, false, List, [], ◌∷◌, length, drop, Option, refl, sym, ap, ◌∙◌, subst, arith, add-one}
+use Rattle.std.proofs.Common.{◌≡◌, ℕ, ◌+◌, ◌-◌, ◌*◌, ◌<◌, ◌≤◌, zero, suc, Bool, true, false, List, [], ◌∷◌, length, drop, get_or, Option}
+use Rattle.std.proofs.Common.{refl, sym, ap, ◌∙◌, subst, arith, add-one}
 use Rattle.std.proofs.Common.{drop-cons}
 use Rattle.std.specs.Prelude.{◌&&◌, ◌==◌, ◌%◌, ◌/◌, not, if◌then◌else◌, map, slice_get, Some, None, IsTrue, codes}
+use Rattle.std.specs.Prelude.{◌^◌}
+use Rattle.std.specs.Fmt.{decimal}
 use Rattle.std.specs.Str.{bytes_eq}
 use Rattle.std.specs.List.{AllByRecursion}
 use Rattle.std.proofs.lemmas.Bool.{eq-eqb, eqb-true, false_from_ne_true}
+use Rattle.std.proofs.lemmas.Fmt.{decimal_injective}
 use Rattle.std.proofs.lemmas.Option.{slice_get_within, get_or_from_slice_get}
 use Rattle.std.proofs.lemmas.List.{drop_all}
 use Rattle.std.proofs.lemmas.List.Elements.{All-from_recursion, recursion_from_All}
 use Rattle.issuer_top.specs.declared.words.Command.{Command}
-use Rattle.issuer_top.specs.declared.words.Command.TheVariants.{Serve, Show}
-use Rattle.issuer_top.specs.Command.{IsValue, Pair, words_of, values_of, is_one_of, IsCall, IsServe, IsShow, IsCommand}
-use Rattle.issuer_top.specs.Pairs.{is_value, first_word, options_of, pairs_of, is_pair, are_pairs, only, value_in}
+use Rattle.issuer_top.specs.declared.words.Command.TheVariants.{Serve, Show, World}
+use Rattle.issuer_top.specs.Command.{IsValue, Pair, words_of, values_of, is_one_of, IsCall, IsSize, IsServe, IsShow, IsWorld, IsCommand, IsNoCommand}
+use Rattle.issuer_top.specs.Pairs.{is_value, first_word, options_of, pairs_of, is_pair, are_pairs, only, value_in, AreWordsOf, Asks, is_within}
 
 -- ---- the pairs of words
 
@@ -152,12 +156,6 @@ known-pairs options (pair ∷ pairs) known named =
 
 -- ---- a call
 
--- the words begin with the command, and behind it are pairs of its options
-pub record AreWordsOf (command : Command) (words : List (List ℕ)) : Type 0 where
-  pub odd : length words % 2 ≡ 1
-  pub first : slice_get words 0 ≡ Some (first_word command)
-  pub pairs : are_pairs (options_of command) (pairs_of (drop 1 words)) ≡ true
-
 -- words that are so are a call, with the values that its options are given
 call-from : (command : Command) (words values : List (List ℕ)) → AreWordsOf command words
     → map (λ option. values_of option (pairs_of (drop 1 words))) (options_of command) ≡ map (λ (value : List ℕ). value ∷ []) values
@@ -199,46 +197,68 @@ parted command words values call =
       once = ap (λ ps. map (λ option. values_of option ps) (options_of command)) (pairs-words call.pairs) ∙ call.once;
     })
 
--- ---- the two commands
+-- ---- the three commands
 
--- the command to serve has the name of a request file, and the other has none
-abbrev pub HasRequests : Command → List (List ℕ) → Option (List ℕ) → Type 0
-HasRequests Serve words requests = (name : List ℕ) × (requests ≡ Some name) × (value_in words (codes "--requests") ≡ Some name)
-HasRequests Show words requests = requests ≡ None
+-- what each of two options or of three is given
+two-values : (words : List (List ℕ)) (one two first second : List ℕ) → value_in words one ≡ Some first → value_in words two ≡ Some second
+    → map (λ option. values_of option (pairs_of (drop 1 words))) (one ∷ two ∷ []) ≡ map (λ (value : List ℕ). value ∷ []) (first ∷ second ∷ [])
+two-values words one two first second a b =
+    let pairs = pairs_of (drop 1 words) in
+    let x = only-one (values_of one pairs) first a in
+    let y = only-one (values_of two pairs) second b in
+    ap (λ (vs : List (List ℕ)). vs ∷ values_of two pairs ∷ []) x ∙ ap (λ (vs : List (List ℕ)). (first ∷ []) ∷ vs ∷ []) y
 
--- the words of a command, and what its options are given
-pub record AreNames (command : Command) (words : List (List ℕ)) (config : List ℕ) (requests : Option (List ℕ)) (journal : List ℕ) : Type 0 where
-  pub are : AreWordsOf command words
-  pub config_is : value_in words (codes "--config") ≡ Some config
-  pub journal_is : value_in words (codes "--journal") ≡ Some journal
-  pub requests_are : HasRequests command words requests
+three-values : (words : List (List ℕ)) (one two three first second third : List ℕ) → value_in words one ≡ Some first → value_in words two ≡ Some second
+    → value_in words three ≡ Some third
+    → map (λ option. values_of option (pairs_of (drop 1 words))) (one ∷ two ∷ three ∷ [])
+    ≡ map (λ (value : List ℕ). value ∷ []) (first ∷ second ∷ third ∷ [])
+three-values words one two three first second third a b c =
+    let x = only-one (values_of one (pairs_of (drop 1 words))) first a in
+    ap (λ (vs : List (List ℕ)). vs ∷ map (λ option. values_of option (pairs_of (drop 1 words))) (two ∷ three ∷ [])) x
+    ∙ ap (λ (rest : List (List (List ℕ))). (first ∷ []) ∷ rest) (two-values words two three second third b c)
 
 pub serve-from : (words : List (List ℕ)) (config requests journal : List ℕ) → AreWordsOf Serve words
     → value_in words (codes "--config") ≡ Some config → value_in words (codes "--requests") ≡ Some requests
     → value_in words (codes "--journal") ≡ Some journal → IsServe words config requests journal
-serve-from words config requests journal are config_is requests_is journal_is =
-    let pairs = pairs_of (drop 1 words) in
-    let c = only-one (values_of (codes "--config") pairs) config config_is in
-    let r = only-one (values_of (codes "--requests") pairs) requests requests_is in
-    let j = only-one (values_of (codes "--journal") pairs) journal journal_is in
+serve-from words config requests journal are a b c =
     call-from Serve words (config ∷ requests ∷ journal ∷ []) are
-    (ap (λ (vs : List (List ℕ)). vs ∷ values_of (codes "--requests") pairs ∷ values_of (codes "--journal") pairs ∷ []) c
-    ∙ ap (λ (vs : List (List ℕ)). (config ∷ []) ∷ vs ∷ values_of (codes "--journal") pairs ∷ []) r
-    ∙ ap (λ (vs : List (List ℕ)). (config ∷ []) ∷ (requests ∷ []) ∷ vs ∷ []) j)
+    (three-values words (codes "--config") (codes "--requests") (codes "--journal") config requests journal a b c)
 
 pub show-from : (words : List (List ℕ)) (config journal : List ℕ) → AreWordsOf Show words
     → value_in words (codes "--config") ≡ Some config → value_in words (codes "--journal") ≡ Some journal → IsShow words config journal
-show-from words config journal are config_is journal_is =
-    let pairs = pairs_of (drop 1 words) in
-    let c = only-one (values_of (codes "--config") pairs) config config_is in
-    let j = only-one (values_of (codes "--journal") pairs) journal journal_is in
-    call-from Show words (config ∷ journal ∷ []) are
-    (ap (λ (vs : List (List ℕ)). vs ∷ values_of (codes "--journal") pairs ∷ []) c
-    ∙ ap (λ (vs : List (List ℕ)). (config ∷ []) ∷ vs ∷ []) j)
+show-from words config journal are a b =
+    call-from Show words (config ∷ journal ∷ []) are (two-values words (codes "--config") (codes "--journal") config journal a b)
 
-serve-names : (words : List (List ℕ)) (config requests journal : List ℕ) → IsServe words config requests journal
-    → AreNames Serve words config (Some requests) journal
-serve-names words config requests journal call =
+-- the numbers are within the limits where the test says so
+size-true : (cards steps : ℕ) → is_within cards steps ≡ true → IsSize cards steps
+size-true cards steps is = grind (arith, is)
+
+true-size : (cards steps : ℕ) → IsSize cards steps → is_within cards steps ≡ true
+true-size cards steps size =
+    let a = size.some_cards in let b = size.few_cards in let c = size.few_steps in let d = size.few_each in grind (arith, a, b, c, d)
+
+module _ (words : List (List ℕ)) (cards steps seed : List ℕ) (a : value_in words (codes "--cards") ≡ Some cards)
+    (b : value_in words (codes "--steps") ≡ Some steps) (c : value_in words (codes "--seed") ≡ Some seed) where
+  pub world-from : (many long begins : ℕ) → AreWordsOf World words → cards ≡ decimal many → steps ≡ decimal long → seed ≡ decimal begins
+      → begins < 2 ^ 32 → is_within many long ≡ true → IsWorld words many long begins
+  world-from many long begins are x y z below within = record {
+    call = call-from World words (decimal many ∷ decimal long ∷ decimal begins ∷ []) are
+        (three-values words (codes "--cards") (codes "--steps") (codes "--seed") (decimal many) (decimal long) (decimal begins)
+        (a ∙ ap Some x) (b ∙ ap Some y) (c ∙ ap Some z));
+    size = size-true many long within;
+    seed_within = below;
+  }
+
+-- ---- what the options of a call are given
+
+pub record ServeGives (words : List (List ℕ)) (config requests journal : List ℕ) : Type 0 where
+  pub config_is : value_in words (codes "--config") ≡ Some config
+  pub requests_is : value_in words (codes "--requests") ≡ Some requests
+  pub journal_is : value_in words (codes "--journal") ≡ Some journal
+
+pub serve-gives : (words : List (List ℕ)) (config requests journal : List ℕ) → IsServe words config requests journal
+    → ServeGives words config requests journal
+serve-gives words config requests journal call =
     let parts = parted Serve words (config ∷ requests ∷ journal ∷ []) call in
     let pairs = pairs_of (drop 1 words) in
     let lists : values_of (codes "--config") pairs ∷ values_of (codes "--requests") pairs ∷ values_of (codes "--journal") pairs ∷ []
@@ -246,36 +266,118 @@ serve-names words config requests journal call =
     let c : values_of (codes "--config") pairs ≡ config ∷ [] = cc in
     let r : values_of (codes "--requests") pairs ≡ requests ∷ [] = cc in
     let j : values_of (codes "--journal") pairs ≡ journal ∷ [] = cc in
-    record { are = parts.are; config_is = ap only c; journal_is = ap only j; requests_are = (requests, refl, ap only r) }
+    record { config_is = ap only c; requests_is = ap only r; journal_is = ap only j }
 
-show-names : (words : List (List ℕ)) (config journal : List ℕ) → IsShow words config journal → AreNames Show words config None journal
-show-names words config journal call =
+pub record ShowGives (words : List (List ℕ)) (config journal : List ℕ) : Type 0 where
+  pub config_is : value_in words (codes "--config") ≡ Some config
+  pub journal_is : value_in words (codes "--journal") ≡ Some journal
+
+pub show-gives : (words : List (List ℕ)) (config journal : List ℕ) → IsShow words config journal → ShowGives words config journal
+show-gives words config journal call =
     let parts = parted Show words (config ∷ journal ∷ []) call in
     let pairs = pairs_of (drop 1 words) in
     let lists : values_of (codes "--config") pairs ∷ values_of (codes "--journal") pairs ∷ [] ≡ (config ∷ []) ∷ (journal ∷ []) ∷ [] = parts.once in
     let c : values_of (codes "--config") pairs ≡ config ∷ [] = cc in
     let j : values_of (codes "--journal") pairs ≡ journal ∷ [] = cc in
-    record { are = parts.are; config_is = ap only c; journal_is = ap only j; requests_are = refl }
+    record { config_is = ap only c; journal_is = ap only j }
 
--- the words of a command are those of one of the two
-pub command-names : (words : List (List ℕ)) (config : List ℕ) (requests : Option (List ℕ)) (journal : List ℕ) → IsCommand words config requests journal
-    → (command : Command) × AreNames command words config requests journal
-command-names words config (Some requests) journal call = (Serve, serve-names words config requests journal call)
-command-names words config None journal call = (Show, show-names words config journal call)
+pub record WorldGives (words : List (List ℕ)) (cards steps seed : ℕ) : Type 0 where
+  pub cards_are : value_in words (codes "--cards") ≡ Some (decimal cards)
+  pub steps_are : value_in words (codes "--steps") ≡ Some (decimal steps)
+  pub seed_is : value_in words (codes "--seed") ≡ Some (decimal seed)
+  pub cards_below : cards < 2 ^ 32
+  pub steps_below : steps < 2 ^ 32
+  pub seed_below : seed < 2 ^ 32
+  pub within : is_within cards steps ≡ true
+
+pub world-gives : (words : List (List ℕ)) (cards steps seed : ℕ) → IsWorld words cards steps seed → WorldGives words cards steps seed
+world-gives words cards steps seed world =
+    let parts = parted World words (decimal cards ∷ decimal steps ∷ decimal seed ∷ []) world.call in
+    let pairs = pairs_of (drop 1 words) in
+    let lists : values_of (codes "--cards") pairs ∷ values_of (codes "--steps") pairs ∷ values_of (codes "--seed") pairs ∷ []
+    ≡ (decimal cards ∷ []) ∷ (decimal steps ∷ []) ∷ (decimal seed ∷ []) ∷ [] = parts.once in
+    let c : values_of (codes "--cards") pairs ≡ decimal cards ∷ [] = cc in
+    let t : values_of (codes "--steps") pairs ≡ decimal steps ∷ [] = cc in
+    let b : values_of (codes "--seed") pairs ≡ decimal seed ∷ [] = cc in
+    let few = world.size.few_cards in
+    let many = world.size.few_steps in
+    record {
+      cards_are = ap only c;
+      steps_are = ap only t;
+      seed_is = ap only b;
+      cards_below = omega (arith, few);
+      steps_below = omega (arith, many);
+      seed_below = world.seed_within;
+      within = true-size cards steps world.size;
+    }
+
+-- what is said in one way and in another is one number
+pub one-number : (value : Option (List ℕ)) (word : List ℕ) (number said : ℕ) → Some word ≡ value → word ≡ decimal number → number < 2 ^ 32
+    → value ≡ Some (decimal said) → said < 2 ^ 32 → number ≡ said
+one-number value word number said given is below other other_below =
+    let both : Some word ≡ Some (decimal said) = given ∙ other in
+    let same : word ≡ decimal said = cc in
+    decimal_injective number said (omega (arith, below)) (omega (arith, other_below)) (sym is ∙ same)
+
+-- ---- one command
+
+-- the words of a command begin with it, and behind it are pairs of its options
+asks-words : (words : List (List ℕ)) (command : Command) → Asks command words → AreWordsOf command words
+asks-words words Serve asks = (parted Serve words (asks.0 ∷ asks.1 ∷ asks.2 ∷ []) asks.3).are
+asks-words words Show asks = (parted Show words (asks.0 ∷ asks.1 ∷ []) asks.2).are
+asks-words words World asks = (parted World words (decimal asks.0 ∷ decimal asks.1 ∷ decimal asks.2 ∷ []) asks.3.call).are
 
 -- no two commands begin alike
-pub same-command : (command other : Command) → first_word command ≡ first_word other → command ≡ other
+same-command : (command other : Command) → first_word command ≡ first_word other → command ≡ other
 same-command Serve Serve same = refl
 same-command Serve Show same = let long : 5 ≡ 4 = ap length same in absurd (omega (arith, long))
+same-command Serve World same = let first : ◌≡◌ {A = ℕ} 115 119 = ap (λ (word : List ℕ). get_or word 0 0) same in absurd (omega (arith, first))
 same-command Show Serve same = let long : 4 ≡ 5 = ap length same in absurd (omega (arith, long))
 same-command Show Show same = refl
+same-command Show World same = let long : 4 ≡ 5 = ap length same in absurd (omega (arith, long))
+same-command World Serve same = let first : ◌≡◌ {A = ℕ} 119 115 = ap (λ (word : List ℕ). get_or word 0 0) same in absurd (omega (arith, first))
+same-command World Show same = let long : 5 ≡ 4 = ap length same in absurd (omega (arith, long))
+same-command World World same = refl
 
--- words that begin with this command are its words
-pub names-of : (words : List (List ℕ)) (word : List ℕ) (command : Command) (config : List ℕ) (requests : Option (List ℕ)) (journal : List ℕ)
-    → slice_get words 0 ≡ Some word → word ≡ first_word command → IsCommand words config requests journal
-    → AreNames command words config requests journal
-names-of words word command config requests journal first is call =
-    let names = command-names words config requests journal call in
-    let begins : Some word ≡ Some (first_word names.0) = sym first ∙ names.1.are.first in
-    let same : first_word names.0 ≡ first_word command = (let e : word ≡ first_word names.0 = cc in sym e ∙ is) in
-    subst (λ (c : Command). AreNames c words config requests journal) (same-command names.0 command same) names.1
+-- words are those of one command
+one-command : (words : List (List ℕ)) (command other : Command) → AreWordsOf command words → AreWordsOf other words → command ≡ other
+one-command words command other are others =
+    let begins : Some (first_word command) ≡ Some (first_word other) = sym are.first ∙ others.first in
+    same-command command other (cc)
+
+-- words that are none of the commands are no command
+none-asked : (words : List (List ℕ)) → ((command : Command) → Asks command words → ⊥) → IsNoCommand words
+none-asked words none = record {
+  no_host = λ config requests journal. elim requests as (λ requests. IsCommand words config requests journal → ⊥) [
+    | None ↦ λ show. none Show (config, journal, show)
+    | Some name ↦ λ serve. none Serve (config, name, journal, serve)
+  ];
+  no_world = λ cards steps seed world. none World (cards, steps, seed, world);
+}
+
+pub no-words : (words : List (List ℕ)) → ((command : Command) → AreWordsOf command words → ⊥) → IsNoCommand words
+no-words words none = none-asked words (λ command asks. none command (asks-words words command asks))
+
+pub no-values : (words : List (List ℕ)) (command : Command) → AreWordsOf command words → (Asks command words → ⊥) → IsNoCommand words
+no-values words command are none =
+    none-asked words (λ other asks.
+    none (subst (λ (c : Command). Asks c words) (sym (one-command words command other are (asks-words words other asks))) asks))
+
+-- a command is none of the others
+pub serve-no_show : (words : List (List ℕ)) (config requests journal other_config other_journal : List ℕ) → IsServe words config requests journal
+    → IsShow words other_config other_journal → ⊥
+serve-no_show words config requests journal other_config other_journal serve show =
+    let same : Serve ≡ Show = one-command words Serve Show (asks-words words Serve (config, requests, journal, serve))
+    (asks-words words Show (other_config, other_journal, show)) in
+    absurd (cc)
+
+pub command-no_world : (words : List (List ℕ)) (config : List ℕ) (requests : Option (List ℕ)) (journal : List ℕ) (cards steps seed : ℕ)
+    → IsCommand words config requests journal → IsWorld words cards steps seed → ⊥
+command-no_world words config None journal cards steps seed show world =
+    let same : Show ≡ World = one-command words Show World (asks-words words Show (config, journal, show))
+    (asks-words words World (cards, steps, seed, world)) in
+    absurd (cc)
+command-no_world words config (Some requests) journal cards steps seed serve world =
+    let same : Serve ≡ World = one-command words Serve World (asks-words words Serve (config, requests, journal, serve))
+    (asks-words words World (cards, steps, seed, world)) in
+    absurd (cc)

@@ -12,7 +12,7 @@ use Rattle.host_calls.specs.Runs.{IsImageBetween}
 use Rattle.issuer_top.specs.Kept.{CrashLeaves}
 
 -- bytes that are told are those that the desk told
-held-opened : (held bytes : Option (List ℕ)) (content : List ℕ) → IfSome held (λ told. bytes ≡ Some told) → bytes ≡ Some content → Tells held content
+pub held-opened : (held bytes : Option (List ℕ)) (content : List ℕ) → IfSome held (λ told. bytes ≡ Some told) → bytes ≡ Some content → Tells held content
 held-opened None bytes content same is = tt
 held-opened (Some told) bytes content same is = let e : Some told ≡ Some content = sym same ∙ is in cc
 

@@ -1,7 +1,7 @@
 -- How a run ends, from what its parts did.
 use Rattle.std.proofs.Common.{◌≡◌, ℕ, ◌<◌, ◌≤◌, Bool, true, false, List, [], ◌++◌, Option, None, Some, Err, Ok, inl, inr, ⊎_elim}
 use Rattle.std.proofs.Common.{refl, sym, subst, ap, ◌∙◌, arith}
-use Rattle.std.specs.Prelude.{is_some, IsSomeAnd, Result, is_err}
+use Rattle.std.specs.Prelude.{is_some, IsSomeAnd, Result, is_err, slice_get}
 use Rattle.std.specs.Io.KnownBytes.{Appends}
 use Rattle.std.proofs.KnownBytes.{Appends-nil, Appends-trans}
 use Rattle.issuer_base.specs.OutsideFaults.{Rose, CountsFaults}
@@ -21,23 +21,24 @@ use Rattle.issuer_setup.specs.IssuerSetup.{Setup}
 use Rattle.shard_book.specs.declared.shard.Shard.{Shard}
 use Rattle.host_calls.specs.Books.{Book}
 use Rattle.host_calls.specs.Hosts.{Stand}
-use Rattle.host_calls.specs.OneHistory.{LoadsAgain}
 use Rattle.host_calls.specs.Runs.{LeaveBetween}
 use Rattle.issuer_top.specs.declared.ending.Ending.{Ending}
 use Rattle.issuer_top.specs.declared.serve.Served.{Served}
 use Rattle.issuer_top.specs.declared.serve.Served.TheVariants.{All, ReadFault as ReadStopped, WriteFault as SinkFault, TooLong as LongStopped}
 use Rattle.issuer_top.specs.Seen.{Seen, SeenInput, SeenStore, Logged}
 use Rattle.issuer_top.specs.Answered.{AllAnswered, WholeAnswered, FrontAnswered, PassedAnswered}
-use Rattle.issuer_top.specs.Configuration.{Says, GivesNoIssuer, is_read_stop}
+use Rattle.issuer_top.specs.Configuration.{HasSoundParts, Says, GivesNoIssuer, is_read_stop}
 use Rattle.issuer_top.specs.Opening.{GivesInput, stop_of}
-use Rattle.issuer_top.specs.Command.{IsCommand, IsNoCommand}
+use Rattle.issuer_top.specs.Command.{IsWorld, IsCommand, IsNoCommand}
 use Rattle.issuer_top.specs.Journals.{IsReady}
 use Rattle.issuer_top.specs.Loading.{GivesNoHost}
 use Rattle.issuer_top.specs.Kept.{KeepJournals}
+use Rattle.issuer_top.specs.Left.{LeaveJournals}
 use Rattle.issuer_top.specs.Shown.{shown_text}
 use Rattle.issuer_top.specs.Serving.{ServesLines, Serves, read_failed, write_failed}
-use Rattle.issuer_top.specs.Stopping.{is_broken, GivesStop, EndsServing, shown_ending}
-use Rattle.issuer_top.specs.Endings.{HasOpened, IsSetUp, AnswersLines, Stops, EndsBy}
+use Rattle.issuer_top.specs.Stopping.{is_broken, GivesStop, EndsServing, written_ending}
+use Rattle.issuer_top.specs.Played.{IsWorldText, GivesText, PlaysBy}
+use Rattle.issuer_top.specs.Endings.{HasOpened, IsSetUp, AnswersLines, IsPlayed, Stops, EndsBy}
 
 -- an input that a desk gave is one that stands there
 pub gives_input : (told : Option (Option (List ℕ))) (left : Option (List ℕ)) → Tells told left → (told ≡ Some None → false ≡ true) → GivesInput told left
@@ -84,6 +85,11 @@ StopsAtOnce seen stop ending = GivesStop seen.sink.held_before seen.sink.held_af
 
 -- ---- the ways that a run stops before it has a host
 
+-- where no journal was opened, none is changed
+none-left : (prefix : List ℕ) (logs : Logged) (stores : List SeenStore) → stores ≡ [] → LeaveJournals prefix logs stores
+none-left prefix logs stores none shard store is =
+    absurd (let e : None ≡ Some store = sym (ap (λ (l : List SeenStore). slice_get l shard) none) ∙ is in cc)
+
 -- the words are no command
 pub ends_usage : (seen : Seen) (ending : Ending) → IsNoCommand seen.words → HasOpened seen false false → seen.stores ≡ []
     → StopsAtOnce seen Usage ending → EndsBy seen ending
@@ -93,18 +99,20 @@ ends_usage seen ending none opened no_stores stopping =
 module _ (seen : Seen) (config : List ℕ) (requests : Option (List ℕ)) (journal : List ℕ) (ending : Ending)
     (command : IsCommand seen.words config requests journal) where
   -- no memory was left
-  ends_no_memory : (config_opened : Bool) → HasOpened seen config_opened false → StopsAtOnce seen NoMemory ending → EndsBy seen ending
-  ends_no_memory config_opened opened stopping =
+  ends_no_memory : (config_opened : Bool) → HasOpened seen config_opened false → LeaveJournals journal seen.desk.logs seen.stores
+      → StopsAtOnce seen NoMemory ending → EndsBy seen ending
+  ends_no_memory config_opened opened left stopping =
       ends_at_once seen NoMemory ending
-      (record {
+      (inl (record {
         config = config;
         requests = requests;
         journal = journal;
         config_opened = config_opened;
         command = command;
         opened = opened;
+        left = left;
         last = refl;
-      })
+      }))
       stopping
 
   -- the desk gave no configuration
@@ -126,7 +134,8 @@ module _ (seen : Seen) (config : List ℕ) (requests : Option (List ℕ)) (journ
       }))
       stopping
   ends_no_config T other NoRoom no_config no_requests no_stores desk_count last stopping =
-      ends_no_memory false (record { config_is = no_config; requests_is = no_requests; desk_stood = desk_count.counted }) stopping
+      ends_no_memory false (record { config_is = no_config; requests_is = no_requests; desk_stood = desk_count.counted })
+      (none-left journal seen.desk.logs seen.stores no_stores) stopping
 
   -- the configuration gave no issuer
   pub ends_no_issuer : (T : Type 0) (first : ℕ) (input : SeenInput) (left : Option (List ℕ)) (cause : Stop) → HasOpened seen true false
@@ -163,7 +172,8 @@ module _ (seen : Seen) (config : List ℕ) (requests : Option (List ℕ)) (journ
         last = refl;
       })))
       stopping
-  ends_no_issuer T first input left NoMemory opened input_is no_stores given none fresh count stopping = ends_no_memory true opened stopping
+  ends_no_issuer T first input left NoMemory opened input_is no_stores given none fresh count stopping =
+      ends_no_memory true opened (none-left journal seen.desk.logs seen.stores no_stores) stopping
   ends_no_issuer T first input left Usage opened input_is no_stores given none fresh count stopping = absurd none
   ends_no_issuer T first input left (StoreFault shard) opened input_is no_stores given none fresh count stopping = absurd none
   ends_no_issuer T first input left (BadJournal shard line) opened input_is no_stores given none fresh count stopping = absurd none
@@ -200,20 +210,21 @@ pub ready-since : {S : Type 0} {G : Ghosts S} (issuer under : Setup) (journal : 
 ready-since issuer under journal logs other shards told same ready =
     subst (λ (i : Setup). IsReady i journal logs shards) (sym same) (subst (λ (l : Logged). IsReady issuer journal l shards) told ready)
 
-pub again-under : (issuer other : Setup) → other ≡ issuer → LoadsAgain issuer → LoadsAgain other
-again-under issuer other same again = subst LoadsAgain (sym same) again
+pub sound-under : (issuer other : Setup) → other ≡ issuer → HasSoundParts issuer → HasSoundParts other
+sound-under issuer other same sound = subst HasSoundParts (sym same) sound
 
 module _ (seen : Seen) (requests : Option (List ℕ)) (journal : List ℕ) (issuer : Setup) (ending : Ending) (set_up : IsSetUp seen requests journal issuer) where
   -- no memory was left once the issuer was known
-  pub ends_without_memory : HasOpened seen true false → StopsAtOnce seen NoMemory ending → EndsBy seen ending
-  ends_without_memory opened stopping = ends_no_memory seen set_up.config requests journal ending set_up.command true opened stopping
+  pub ends_without_memory : HasOpened seen true false → LeaveJournals journal seen.desk.logs seen.stores → StopsAtOnce seen NoMemory ending
+      → EndsBy seen ending
+  ends_without_memory opened left stopping = ends_no_memory seen set_up.config requests journal ending set_up.command true opened left stopping
 
   -- the journals gave no host
   pub ends_no_host : (stop : Stop) → is_some seen.config ≡ true → is_some seen.requests ≡ false
       → GivesNoHost issuer journal seen.desk.logs
       (record { before = seen.desk.faults_before; after = seen.desk.faults_after; last = seen.desk.last_fault }) seen.stores stop
-      → StopsAtOnce seen stop ending → EndsBy seen ending
-  ends_no_host (StoreFault shard) with_config no_requests cause stopping =
+      → LeaveJournals journal seen.desk.logs seen.stores → StopsAtOnce seen stop ending → EndsBy seen ending
+  ends_no_host (StoreFault shard) with_config no_requests cause left stopping =
       ends_at_once seen (StoreFault shard) ending (
         shard,
         record {
@@ -224,11 +235,12 @@ module _ (seen : Seen) (requests : Option (List ℕ)) (journal : List ℕ) (issu
           config_is = with_config;
           requests_is = no_requests;
           cause = cause;
+          left = left;
           last = refl;
         },
       )
       stopping
-  ends_no_host (BadJournal shard line) with_config no_requests cause stopping =
+  ends_no_host (BadJournal shard line) with_config no_requests cause left stopping =
       ends_at_once seen (BadJournal shard line) ending (
         shard,
         line,
@@ -240,16 +252,17 @@ module _ (seen : Seen) (requests : Option (List ℕ)) (journal : List ℕ) (issu
           config_is = with_config;
           requests_is = no_requests;
           cause = cause;
+          left = left;
           last = refl;
         },
       )
       stopping
-  ends_no_host NoMemory with_config no_requests cause stopping =
-      ends_without_memory (record { config_is = with_config; requests_is = no_requests; desk_stood = cause }) stopping
-  ends_no_host Usage with_config no_requests cause stopping = absurd cause
-  ends_no_host (Config part index) with_config no_requests cause stopping = absurd cause
-  ends_no_host ReadFault with_config no_requests cause stopping = absurd cause
-  ends_no_host (TooLong line) with_config no_requests cause stopping = absurd cause
+  ends_no_host NoMemory with_config no_requests cause left stopping =
+      ends_without_memory (record { config_is = with_config; requests_is = no_requests; desk_stood = cause }) left stopping
+  ends_no_host Usage with_config no_requests cause left stopping = absurd cause
+  ends_no_host (Config part index) with_config no_requests cause left stopping = absurd cause
+  ends_no_host ReadFault with_config no_requests cause left stopping = absurd cause
+  ends_no_host (TooLong line) with_config no_requests cause left stopping = absurd cause
 
 -- ---- the ways that serving ends
 
@@ -258,9 +271,9 @@ module _ (seen : Seen) (name journal : List ℕ) (issuer : Setup) (set_up : IsSe
   pub ends_no_requests : (T : Type 0) (other : Option FailedCall) (between : ℕ) (fault : DeskFault) (ending : Ending) (books : List Book)
       → is_some seen.config ≡ true → is_some seen.requests ≡ false → KeepJournals issuer journal seen books books
       → between ≡ seen.desk.faults_before → CountsFaults between seen.desk.faults_after (is_fault {T = T} (Err fault))
-      → seen.desk.last_fault ≡ last_after Read name (is_fault {T = T} (Err fault)) other
+      → seen.desk.last_fault ≡ last_after Read name (is_fault {T = T} (Err fault)) other → LeaveJournals journal seen.desk.logs seen.stores
       → StopsAtOnce seen (stop_of fault) ending → EndsBy seen ending
-  ends_no_requests T other between Fault ending books with_config no_requests kept stood desk_count last stopping =
+  ends_no_requests T other between Fault ending books with_config no_requests kept stood desk_count last left stopping =
       ends_at_once seen ReadFault ending
       (inr (inr (inl (record {
         requests = name;
@@ -278,9 +291,9 @@ module _ (seen : Seen) (name journal : List ℕ) (issuer : Setup) (set_up : IsSe
         last = refl;
       }))))
       stopping
-  ends_no_requests T other between NoRoom ending books with_config no_requests kept stood desk_count last stopping =
+  ends_no_requests T other between NoRoom ending books with_config no_requests kept stood desk_count last left stopping =
       ends_without_memory seen (Some name) journal issuer ending set_up
-      (record { config_is = with_config; requests_is = no_requests; desk_stood = desk_count.counted ∙ stood }) stopping
+      (record { config_is = with_config; requests_is = no_requests; desk_stood = desk_count.counted ∙ stood }) left stopping
 
   module _ {S : Type 0} {G : Ghosts S} (input : SeenInput) (left : Option (List ℕ)) (opened : HasOpened seen true true)
       (input_is : seen.requests ≡ Some input) (given : GivesInput (seen.desk.tells name) left)
@@ -352,15 +365,60 @@ module _ (seen : Seen) (name journal : List ℕ) (issuer : Setup) (set_up : IsSe
 pub ends_showing : (seen : Seen) (journal : List ℕ) (issuer : Setup) (books : List Book) (result : Result (Unit {0}) SinkFails)
     → HasOpened seen true false → IsSetUp seen None journal issuer → KeepJournals issuer journal seen books books
     → WritesAll seen.sink.held_before seen.sink.held_after result (shown_text issuer books issuer.cards)
-    → CountsFaults seen.sink.faults_before seen.sink.faults_after (is_err result) → EndsBy seen (shown_ending result)
+    → CountsFaults seen.sink.faults_before seen.sink.faults_after (is_err result) → EndsBy seen (written_ending result)
 ends_showing seen journal issuer books (Ok done) opened set_up kept written counts = (
   shown_text issuer books issuer.cards,
-  inr (record { journal = journal; issuer = issuer; books = books; opened = opened; set_up = set_up; kept = kept; shown = refl }),
+  inr (inl (record { journal = journal; issuer = issuer; books = books; opened = opened; set_up = set_up; kept = kept; shown = refl })),
   written,
 )
 ends_showing seen journal issuer books (Err fault) opened set_up kept written counts = record {
   rose = counts.counted;
   text = shown_text issuer books issuer.cards;
-  due = inr (inr (record { journal = journal; issuer = issuer; books = books; opened = opened; set_up = set_up; kept = kept; shown = refl }));
+  due = inr (inr (inl (record { journal = journal; issuer = issuer; books = books; opened = opened; set_up = set_up; kept = kept; shown = refl })));
   front = written;
 }
+
+-- ---- the ways that playing ends
+
+module _ (seen : Seen) (cards steps seed : ℕ) (world : IsWorld seen.words cards steps seed) (opened : HasOpened seen false false)
+    (no_stores : seen.stores ≡ []) where
+  -- the text of what the world came to was written, or a front of it
+  ends_played : (ending : Ending) (text : List ℕ) → IsWorldText cards steps seed text
+      → GivesText seen.sink.held_before seen.sink.held_after seen.sink.faults_before seen.sink.faults_after text ending → EndsBy seen ending
+  ends_played ending text is gives =
+      let played : IsPlayed seen text = record {
+        cards = cards;
+        steps = steps;
+        seed = seed;
+        world = world;
+        opened = opened;
+        no_stores = no_stores;
+        played = is;
+      } in
+      ⊎_elim
+      (λ whole. subst (EndsBy seen) (sym whole.0) (text, inr (inr played), whole.1))
+      (λ front.
+      let failed : CountsFaults seen.sink.faults_before seen.sink.faults_after true =
+      subst (λ e. CountsFaults seen.sink.faults_before seen.sink.faults_after (is_broken e)) front.0 gives.count in
+      subst (EndsBy seen) (sym front.0)
+      (record { rose = failed.counted; text = text; due = inr (inr (inr played)); front = front.1 }))
+      gives.written
+
+  pub ends_playing : (ending : Ending)
+      → PlaysBy cards steps seed seen.sink.held_before seen.sink.held_after seen.sink.faults_before seen.sink.faults_after ending → EndsBy seen ending
+  ends_playing ending plays =
+      ⊎_elim
+      (λ told. ends_played ending told.0 told.1 told.2)
+      (λ stopping.
+      ends_at_once seen NoMemory ending
+      (inr (record {
+        cards = cards;
+        steps = steps;
+        seed = seed;
+        world = world;
+        opened = opened;
+        no_stores = no_stores;
+        last = refl;
+      }))
+      stopping)
+      plays

@@ -1,5 +1,6 @@
 -- All goes well where all is in order.
-use Rattle.std.proofs.Common.{◌≡◌, ℕ, ◌-◌, ◌<◌, ◌≤◌, ◌⊎◌, List, [], ◌∷◌, ◌++◌, length, Option, None, Some, Ok, Err, inl, inr, ⊎_elim, refl, sym, subst, ap, ◌∙◌, arith}
+use Rattle.std.proofs.Common.{◌≡◌, ℕ, ◌-◌, ◌<◌, ◌≤◌, ◌⊎◌, List, [], ◌∷◌, ◌++◌, length, Option, None, Some, Ok, Err, inl, inr, ⊎_elim}
+use Rattle.std.proofs.Common.{refl, sym, subst, ap, ◌∙◌, arith}
 use Rattle.std.proofs.lemmas.List.{length-append, take-append-le}
 use Rattle.std.specs.List.{flat_map}
 use Rattle.std.specs.Prelude.{IsSomeAnd, IfSome, codes}
@@ -12,14 +13,13 @@ use Rattle.line_reader.proofs.WholeLines.{PassesLimit-over}
 use Rattle.issuer_setup.specs.IssuerSetup.{Setup}
 use Rattle.config_read.specs.declared.fault.ConfigFault.{ConfigFault}
 use Rattle.config_read.specs.Configuration.{configured}
+use Rattle.answer_text.specs.declared.stop_line.Stop.{Stop}
 use Rattle.answer_text.specs.declared.stop_line.Stop.TheVariants.{Usage, Config, ReadFault, StoreFault, BadJournal, NoMemory, TooLong}
 use Rattle.shard_book.specs.declared.replay.LoadFault.{LoadFault}
 use Rattle.shard_book.specs.declared.replay.LoadFault.TheVariants.{BadLine, BadRecord}
 use Rattle.shard_book.specs.Loading.{StopsAt, StopsText, IsOutside}
 use Rattle.shard_book.proofs.Exactly.{stops-outside}
 use Rattle.host_calls.specs.Books.{Book}
-use Rattle.issuer_top.specs.declared.words.Command.{Command}
-use Rattle.issuer_top.specs.declared.words.Command.TheVariants.{Serve, Show}
 use Rattle.issuer_top.specs.declared.ending.Ending.{Ending}
 use Rattle.issuer_top.specs.declared.ending.Ending.TheVariants.{Done, Stopped, WriteFault}
 use Rattle.issuer_top.specs.Command.{IsCommand}
@@ -29,8 +29,8 @@ use Rattle.issuer_top.specs.Answered.{PassedAnswered, WasRead}
 use Rattle.issuer_top.specs.Journals.{journal_name}
 use Rattle.issuer_top.specs.Loading.{DeskFaults, IsBadAt}
 use Rattle.issuer_top.specs.Status.{status_of}
-use Rattle.issuer_top.specs.Endings.{EndsBy, IsReadFault, HasNoHost, IsInOrder, ServesInOrder, ShowsInOrder}
-use Rattle.issuer_top.proofs.CommandWords.{AreNames, HasRequests, command-names, same-command}
+use Rattle.issuer_top.specs.Endings.{EndsBy, IsReadFault, HasNoHost, IsInOrder, ServesInOrder, ShowsInOrder, PlaysInOrder}
+use Rattle.issuer_top.proofs.CommandWords.{serve-gives, show-gives, serve-no_show, command-no_world}
 
 -- ---- what is said once
 
@@ -40,29 +40,31 @@ record AreSame (config other_config : List ℕ) (requests other_requests : Optio
   requests_are : requests ≡ other_requests
   journal_is : journal ≡ other_journal
 
-one-value : (value first second : Option (List ℕ)) (x y : List ℕ) → value ≡ Some x → value ≡ Some y → x ≡ y
-one-value value first second x y one two = let e : Some x ≡ Some y = sym one ∙ two in cc
-
-same-requests : (command : Command) (words : List (List ℕ)) (requests other : Option (List ℕ)) → HasRequests command words requests → HasRequests command words other
-    → requests ≡ other
-same-requests Serve words requests other first second =
-    let names : first.0 ≡ second.0 = (let e : Some first.0 ≡ Some second.0 = sym first.2 ∙ second.2 in cc) in
-    first.1 ∙ ap Some names ∙ sym second.1
-same-requests Show words requests other first second = first ∙ sym second
+one-value : (value : Option (List ℕ)) (x y : List ℕ) → value ≡ Some x → value ≡ Some y → x ≡ y
+one-value value x y one two = let e : Some x ≡ Some y = sym one ∙ two in cc
 
 same-names : (words : List (List ℕ)) (config other_config : List ℕ) (requests other_requests : Option (List ℕ)) (journal other_journal : List ℕ)
     → IsCommand words config requests journal → IsCommand words other_config other_requests other_journal
     → AreSame config other_config requests other_requests journal other_journal
-same-names words config other_config requests other_requests journal other_journal first second =
-    let one = command-names words config requests journal first in
-    let two = command-names words other_config other_requests other_journal second in
-    let begins = sym one.1.are.first ∙ two.1.are.first in
-    let command : one.0 ≡ two.0 = same-command one.0 two.0 (cc) in
-    let other = subst (λ (c : Command). AreNames c words other_config other_requests other_journal) (sym command) two.1 in
+same-names words config other_config None None journal other_journal first second =
+    let one = show-gives words config journal first in
+    let two = show-gives words other_config other_journal second in
     record {
-      config_is = one-value (value_in words (codes "--config")) None None config other_config one.1.config_is other.config_is;
-      requests_are = same-requests one.0 words requests other_requests one.1.requests_are other.requests_are;
-      journal_is = one-value (value_in words (codes "--journal")) None None journal other_journal one.1.journal_is other.journal_is;
+      config_is = one-value (value_in words (codes "--config")) config other_config one.config_is two.config_is;
+      requests_are = refl;
+      journal_is = one-value (value_in words (codes "--journal")) journal other_journal one.journal_is two.journal_is;
+    }
+same-names words config other_config None (Some name) journal other_journal first second =
+    absurd (serve-no_show words other_config name other_journal config journal second first)
+same-names words config other_config (Some name) None journal other_journal first second =
+    absurd (serve-no_show words config name journal other_config other_journal first second)
+same-names words config other_config (Some name) (Some other) journal other_journal first second =
+    let one = serve-gives words config name journal first in
+    let two = serve-gives words other_config other other_journal second in
+    record {
+      config_is = one-value (value_in words (codes "--config")) config other_config one.config_is two.config_is;
+      requests_are = ap Some (one-value (value_in words (codes "--requests")) name other one.requests_is two.requests_is);
+      journal_is = one-value (value_in words (codes "--journal")) journal other_journal one.journal_is two.journal_is;
     }
 
 -- what stands under a name that the desk tells of is what it tells
@@ -149,7 +151,8 @@ module _ (seen : Seen) (config journal : List ℕ) (requests : Option (List ℕ)
   not-bad_journal : (shard line : ℕ) (text : List ℕ) → HasNoHost (BadJournal shard line) seen text → ⊥
   not-bad_journal shard line text none =
       let same = same-names seen.words config none.set_up.config requests none.requests journal none.journal command none.set_up.command in
-      let content = same-content seen.desk.tells config none.set_up.config none.set_up.content order.content (sym same.config_is) order.config_held none.set_up.held in
+      let content =
+      same-content seen.desk.tells config none.set_up.config none.set_up.content order.content (sym same.config_is) order.config_held none.set_up.held in
       let issuer = one-issuer none.set_up.content order.content order.issuer none.issuer content order.says none.set_up.says in
       let logs = seen.desk.logs in
       let bad = subst (λ (i : Setup). IsBadAt i none.journal logs (desk_faults seen) seen.stores shard line) issuer none.cause in
@@ -167,7 +170,7 @@ module _ (seen : Seen) (config journal : List ℕ) (requests : Option (List ℕ)
   in-order : (status : ℕ) (ending : Ending) → status ≡ status_of ending → EndsBy seen ending
       → ((line : ℕ) → ending ≡ Stopped (TooLong line) → ⊥) → (status ≡ 0) ⊎ (status ≡ 7)
   in-order status Done is ends short = inl is
-  in-order status (Stopped Usage) is ends short = absurd (ends.1.no_command config requests journal command)
+  in-order status (Stopped Usage) is ends short = absurd (ends.1.no_command.no_host config requests journal command)
   in-order status (Stopped (Config part index)) is ends short =
       let same = same-names seen.words config ends.1.config requests ends.1.requests journal ends.1.journal command ends.1.command in
       let content = same-content seen.desk.tells config ends.1.config ends.1.content order.content (sym same.config_is) order.config_held ends.1.held in
@@ -179,7 +182,7 @@ module _ (seen : Seen) (config journal : List ℕ) (requests : Option (List ℕ)
   in-order status (Stopped (TooLong line)) is ends short = absurd (short line refl)
   in-order status WriteFault is ends short = absurd (order.sink_stood ends.rose)
 
--- ---- the two commands
+-- ---- the three commands
 
 pub serves-in_order : (seen : Seen) (status : ℕ) (ending : Ending) → status ≡ status_of ending → EndsBy seen ending → ServesInOrder seen
     → (status ≡ 0) ⊎ (status ≡ 7)
@@ -188,7 +191,8 @@ serves-in_order seen status ending is ends order =
     (λ line long.
     let passed = subst (EndsBy seen) long ends in
     let l = passed.1.lines in
-    let same = same-names seen.words order.config l.set_up.config (Some order.requests) (Some l.requests) order.journal l.journal order.serve l.set_up.command in
+    let same =
+    same-names seen.words order.config l.set_up.config (Some order.requests) (Some l.requests) order.journal l.journal order.serve l.set_up.command in
     let name : l.requests ≡ order.requests = (let e : Some order.requests ≡ Some l.requests = same.requests_are in cc) in
     let content = same-content seen.desk.tells order.requests l.requests l.file order.file name order.requests_held l.held in
     not-past l.issuer l.first l.last l.file order.file l.read passed.1.answers passed.1.number l.input.left content order.within l.was_read l.answered)
@@ -202,3 +206,33 @@ shows-in_order seen status ending is ends order =
     let l = passed.1.lines in
     let same = same-names seen.words order.config l.set_up.config None (Some l.requests) order.journal l.journal order.show l.set_up.command in
     (let e : None ≡ Some l.requests = same.requests_are in cc))
+
+module _ (seen : Seen) (order : PlaysInOrder seen) where
+  -- the words are no command over journals
+  no_host : (config : List ℕ) (requests : Option (List ℕ)) (journal : List ℕ) → IsCommand seen.words config requests journal → ⊥
+  no_host config requests journal command = command-no_world seen.words config requests journal order.cards order.steps order.seed command order.world
+
+  none-unread : (text : List ℕ) → IsReadFault seen text → ⊥
+  none-unread text cannot =
+      ⊎_elim (λ a. no_host a.config a.requests a.journal a.command)
+      (λ more. ⊎_elim (λ b. no_host b.config b.requests b.journal b.command)
+      (λ more. ⊎_elim (λ c. no_host c.set_up.config (Some c.requests) c.journal c.set_up.command)
+      (λ d. let l = d.lines in no_host l.set_up.config (Some l.requests) l.journal l.set_up.command) more) more)
+      cannot
+
+  none-unloaded : (stop : Stop) (text : List ℕ) → HasNoHost stop seen text → ⊥
+  none-unloaded stop text none = no_host none.set_up.config none.requests none.journal none.set_up.command
+
+  pub plays-in_order : (status : ℕ) (ending : Ending) → status ≡ status_of ending → EndsBy seen ending → (status ≡ 0) ⊎ (status ≡ 7)
+  plays-in_order status Done is ends = inl is
+  plays-in_order status (Stopped Usage) is ends = absurd (ends.1.no_command.no_world order.cards order.steps order.seed order.world)
+  plays-in_order status (Stopped (Config part index)) is ends =
+      let c = ends.1 in absurd (no_host c.config c.requests c.journal c.command)
+  plays-in_order status (Stopped ReadFault) is ends = absurd (none-unread ends.0 ends.1)
+  plays-in_order status (Stopped (StoreFault shard)) is ends = absurd (none-unloaded (StoreFault ends.1.0) ends.0 ends.1.1)
+  plays-in_order status (Stopped (BadJournal shard line)) is ends =
+      absurd (none-unloaded (BadJournal ends.1.0 ends.1.1) ends.0 ends.1.2)
+  plays-in_order status (Stopped NoMemory) is ends = inr is
+  plays-in_order status (Stopped (TooLong line)) is ends =
+      let l = ends.1.lines in absurd (no_host l.set_up.config (Some l.requests) l.journal l.set_up.command)
+  plays-in_order status WriteFault is ends = absurd (order.sink_stood ends.rose)

@@ -9,10 +9,10 @@ use Rattle.shard_book.specs.declared.shard.Shard.{Shard}
 use Rattle.shard_book.specs.Shards.{store_in, sure_in}
 use Rattle.host_calls.specs.Books.{Book}
 use Rattle.host_calls.specs.Hosts.{AreShards, Stand}
-use Rattle.host_calls.specs.OneHistory.{LoadsAgain}
 use Rattle.host_calls.specs.Runs.{LeaveBetween}
 use Rattle.host_calls.proofs.Running.{Begins, run-none, begins-legal, holds-journal}
 use Rattle.issuer_top.specs.Seen.{Seen, SeenStore, store_seen, Logged}
+use Rattle.issuer_top.specs.Configuration.{HasSoundParts}
 use Rattle.issuer_top.specs.Journals.{journal_name, IsReady}
 use Rattle.issuer_top.specs.Kept.{KeepsJournal, KeepJournals}
 use Rattle.issuer_top.specs.Serving.{StartsFrom}
@@ -31,13 +31,13 @@ mapped f [] = refl
 mapped f (x ∷ xs) = ap suc (mapped f xs)
 
 -- what the desk tells of a store that tells its bytes, they are
-held-told : (held bytes : Option (List ℕ)) (text : List ℕ) → IfSome held (λ told. bytes ≡ Some told) → Tells bytes text → Tells held text
+pub held-told : (held bytes : Option (List ℕ)) (text : List ℕ) → IfSome held (λ told. bytes ≡ Some told) → Tells bytes text → Tells held text
 held-told None bytes text same tells = tt
 held-told (Some told) bytes text same tells = subst (λ (b : Option (List ℕ)). Tells b text) same tells
 
 module _ {S : Type 0} {G : Ghosts S} where
   -- a store that was seen is that of a shard
-  seen-at : (shards : List (Shard S G)) (k : ℕ) (store : SeenStore) → slice_get (map (store_seen G) (map store_in shards)) k ≡ Some store
+  pub seen-at : (shards : List (Shard S G)) (k : ℕ) (store : SeenStore) → slice_get (map (store_seen G) (map store_in shards)) k ≡ Some store
       → (shard : Shard S G) × (slice_get shards k ≡ Some shard) × (store_seen G (store_in shard) ≡ store)
   seen-at [] k store is = absurd (let e : None ≡ Some store = is in cc)
   seen-at (shard ∷ shards) zero store is = (shard, refl, (let e : Some (store_seen G (store_in shard)) ≡ Some store = is in cc))
@@ -55,20 +55,26 @@ module _ {S : Type 0} {G : Ghosts S} where
       run-none issuer ready.stores loaded (stores-opened issuer prefix logs loaded ready shards) ready.loaded
 
   pub starts : (issuer : Setup) (prefix : List ℕ) (logs : Logged) (loaded : List (Shard S G)) (ready : IsReady issuer prefix logs loaded)
-      (shards : AreShards issuer loaded) → LoadsAgain issuer → StartsFrom issuer loaded (begins issuer prefix logs loaded ready shards).books
-  starts issuer prefix logs loaded ready shards again =
+      (shards : AreShards issuer loaded) → HasSoundParts issuer → StartsFrom issuer loaded (begins issuer prefix logs loaded ready shards).books
+  starts issuer prefix logs loaded ready shards sound =
       let first = begins issuer prefix logs loaded ready shards in
       record {
         run = first.has_run;
-        lawful = record { legal = begins-legal issuer ready.stores loaded ready.loaded first; again = again };
+        lawful = record {
+          count_is = first.has_run.stand.count_is ∙ shards.count_is;
+          legal = begins-legal issuer ready.stores loaded ready.loaded first;
+          sound = sound;
+        };
       }
 
   module _ (issuer : Setup) (prefix : List ℕ) (seen : Seen) (loaded now : List (Shard S G)) (ready : IsReady issuer prefix seen.desk.logs loaded)
       (before : AreShards issuer loaded) (after : AreShards issuer now)
-      (told : (store : S) → IfSome (G.disk store) (λ disk. G.bytes store ≡ Some disk.now.bytes)) (stores_are : seen.stores ≡ map (store_seen G) (map store_in now)) where
+      (told : (store : S) → IfSome (G.disk store) (λ disk. G.bytes store ≡ Some disk.now.bytes))
+      (stores_are : seen.stores ≡ map (store_seen G) (map store_in now)) where
     module _ (last : List Book) (stand : Stand issuer now last)
         (leave : LeaveBetween issuer (begins issuer prefix seen.desk.logs loaded ready before).books last loaded now) where
-      keeps-journal : (shard : ℕ) (was is : Book) (store : SeenStore) → slice_get (begins issuer prefix seen.desk.logs loaded ready before).books shard ≡ Some was
+      keeps-journal : (shard : ℕ) (was is : Book) (store : SeenStore)
+          → slice_get (begins issuer prefix seen.desk.logs loaded ready before).books shard ≡ Some was
           → slice_get last shard ≡ Some is → slice_get seen.stores shard ≡ Some store
           → KeepsJournal issuer shard (seen.desk.logs (journal_name prefix shard)) was is store
       keeps-journal shard was is store was_at is_at store_at =

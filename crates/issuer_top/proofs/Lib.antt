@@ -1,11 +1,13 @@
 -- The lemmas of this crate.
 pub mod ConfigurationReads
 pub mod HostRuns
+pub mod WorldLaws
 pub mod ServingSteps
 pub mod CommandWords
 pub mod JournalSteps
 pub mod CrashSteps
 pub mod KeptSteps
+pub mod LeftSteps
 pub mod LoadingSteps
 pub mod ShowSteps
 pub mod EndingSteps

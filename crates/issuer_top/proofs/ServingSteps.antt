@@ -1,5 +1,6 @@
 -- Serving, one line more and to each of its ends.
-use Rattle.std.proofs.Common.{◌≡◌, ℕ, ◌+◌, List, [], ◌∷◌, ◌++◌, length, Option, None, Some, refl, sym, ap, subst, ◌∙◌, arith, append-nil, append_assoc, ⊎_elim, Ok}
+use Rattle.std.proofs.Common.{◌≡◌, ℕ, ◌+◌, List, [], ◌∷◌, ◌++◌, length, Option, None, Some, Ok}
+use Rattle.std.proofs.Common.{refl, sym, ap, subst, ◌∙◌, arith, append-nil, append_assoc, ⊎_elim}
 use Rattle.std.proofs.lemmas.List.{length-append, flat_map_more}
 use Rattle.std.specs.List.{flat_map}
 use Rattle.std.specs.Io.KnownBytes.{Appends, Consumes, IsAtEnd}
@@ -29,7 +30,10 @@ use Rattle.issuer_top.specs.declared.serve.Served.{Served}
 use Rattle.issuer_top.specs.declared.serve.Served.TheVariants.{All, ReadFault, TooLong}
 use Rattle.issuer_top.specs.Answered.{AreAnswered, WasRead, AllAnswered, WholeAnswered, FrontAnswered, PassedAnswered}
 use Rattle.issuer_top.specs.Serving.{AreLawful, StartsFrom, AnswersLine, ServesLines, Serves, WritesDue, EndsBy}
+use Rattle.shard_book.proofs.OwnDecisions.{legal-then}
 use Rattle.host_calls.proofs.OneRun.{run-one_history}
+use Rattle.host_calls.proofs.Running.{run-on}
+use Rattle.issuer_top.proofs.WorldLaws.{safe-worlds}
 use Rattle.issuer_top.proofs.HostRuns.{run-line, recorded}
 
 -- ---- what an input had
@@ -66,11 +70,13 @@ are_answered : (issuer : Setup) (first last : List Book) (asked other : List (Li
     → other ≡ asked → Run issuer first asked answers last → AreAnswered issuer first last other (flat_map printed answers)
 are_answered issuer first last asked other answers lawful recorded same run =
     let turned : Run issuer first other answers last = subst (λ (ls : List (List ℕ)). Run issuer first ls answers last) (sym same) run in
+    let one = run-one_history issuer (legal-then issuer lawful.sound.table) first last other answers lawful.legal recorded turned in
     record {
       answers = answers;
       run = turned;
       printed_is = refl;
-      one = run-one_history issuer lawful.again first last other answers lawful.legal recorded turned;
+      one = one;
+      worlds = safe-worlds issuer first last lawful.sound lawful.count_is (run-on issuer first other answers last turned).count_is one.goes_on recorded;
     }
 
 -- the whole lines of what was read were answered: they are a front of the file
@@ -213,8 +219,8 @@ module _ {S : Type 0} {G : Ghosts S} where
           text = flat_map printed (so_far.answers ++ answered.answer ∷ []);
           content = parts.content;
           was_read = record { unread = parts.rest; split = refl; tells = parts.left };
-          answered = front_answered issuer first more.0 read parts.rest whole old.reader.ahead (so_far.answers ++ answered.answer ∷ []) lawful (recorded more.1.stand)
-              more.1.run
+          answered = front_answered issuer first more.0 read parts.rest whole old.reader.ahead (so_far.answers ++ answered.answer ∷ []) lawful
+              (recorded more.1.stand) more.1.run
               given.begins within;
           written = front-written next due;
           stand = more.1.stand;
@@ -345,7 +351,8 @@ module _ {S : Type 0} {G : Ghosts S} where
           text = text_so_far;
           content = parts.content;
           was_read = record { unread = parts.rest; split = refl; tells = parts.left };
-          answered = front_answered issuer first so_far.last read parts.rest so_far.whole (reader.ahead ++ given) so_far.answers lawful (recorded so_far.run.stand) so_far.run.run
+          answered = front_answered issuer first so_far.last read parts.rest so_far.whole (reader.ahead ++ given) so_far.answers lawful
+              (recorded so_far.run.stand) so_far.run.run
               (BeginsWithLines-given so_far.read so_far.whole reader.ahead given so_far.given.begins) within_so_far;
           written = subst (AppendsFront held_before next) (sym so_far.texts)
               (AppendsFront-after held_before held next so_far.early due so_far.written rest);
@@ -378,7 +385,8 @@ module _ {S : Type 0} {G : Ghosts S} where
                 so_far.given.within.bytes_within,
               );
             };
-            answered = are_answered issuer first so_far.last so_far.whole (lines file) so_far.answers lawful (recorded so_far.run.stand) lines_are so_far.run.run;
+            answered = are_answered issuer first so_far.last so_far.whole (lines file) so_far.answers lawful (recorded so_far.run.stand) lines_are
+                so_far.run.run;
           };
           written = all-written rest;
           stand = so_far.run.stand;

@@ -1,5 +1,6 @@
 -- The lines of cards, one more at a time.
-use Rattle.std.proofs.Common.{◌≡◌, ℕ, ◌+◌, ◌<◌, zero, suc, List, [], ◌∷◌, ◌++◌, length, take, drop, Option, None, Some, refl, sym, ap, ◌∙◌, subst, arith, append-nil, append_assoc, add-one, true, false}
+use Rattle.std.proofs.Common.{◌≡◌, ℕ, ◌+◌, ◌<◌, zero, suc, List, [], ◌∷◌, ◌++◌, length, take, drop, Option, None, Some, true, false}
+use Rattle.std.proofs.Common.{refl, sym, ap, ◌∙◌, subst, arith, append-nil, append_assoc, add-one}
 use Rattle.std.specs.Prelude.{slice_get, ◌%◌, Result, Ok, Err, IsErr}
 use Rattle.std.specs.Option.{option_map, option_map_or}
 use Rattle.std.specs.Io.KnownBytes.{Appends}
@@ -83,7 +84,8 @@ shown-line issuer shards books card view are stand some shows =
     let below = shard-within issuer (name_of card) some in
     let count = stand.count_is in
     let many = are.count_is in
-    let book = at-place books (shard_of issuer (name_of card)) (let w : shard_of issuer (name_of card) < length books = omega (arith, below, count, many) in w) in
+    let within : shard_of issuer (name_of card) < length books = omega (arith, below, count, many) in
+    let book = at-place books (shard_of issuer (name_of card)) within in
     let histories : slice_get (histories_of books) (shard_of issuer (name_of card)) ≡ Some book.0.history =
     slice_get-map (λ (b : Book). b.history) books (shard_of issuer (name_of card)) ∙ ap (λ (o : Option Book). option_map (λ (b : Book). b.history) o) book.1 in
     let history = get_or_from_slice_get (histories_of books) (shard_of issuer (name_of card)) book.0.history [] histories in

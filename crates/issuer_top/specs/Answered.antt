@@ -7,17 +7,20 @@ use Rattle.line_reader.specs.Lines.{lines, ended, BeginsWithLines, IsLinesAndRes
 use Rattle.line_reader.specs.Reading.{IsWithinLimits, StaysWithinLimits, PassesLimit}
 use Rattle.issuer_setup.specs.IssuerSetup.{Setup}
 use Rattle.answer_text.specs.AnswerText.{printed}
-use Rattle.host_calls.specs.Books.{Book}
+use Rattle.host_calls.specs.Books.{Book, histories_of}
 use Rattle.host_calls.specs.Turns.{Run}
 use Rattle.host_calls.specs.OneHistory.{IsOneHistory}
+use Rattle.issuer_top.specs.Worlds.{HaveSafeWorlds}
 
 -- the text of the answers to these lines, one turn after another from the first books to the last: so each shard's history is one legal
--- history, no counter of a card was decided twice, and each request has one reply
+-- history, no counter of a card was decided twice, and each request has one reply; and the worlds of the issuer with the last histories are
+-- safe
 pub record AreAnswered (issuer : Setup) (first last : List Book) (asked : List (List ℕ)) (text : List ℕ) : Type 0 where
   pub answers : List Answer
   pub run : Run issuer first asked answers last
   pub printed_is : text ≡ flat_map printed answers
   pub one : IsOneHistory issuer asked answers first last
+  pub worlds : HaveSafeWorlds issuer (histories_of last)
 
 -- so much of a file was read: the rest is what the input has left, where it tells
 pub record WasRead (file read : List ℕ) (left : Option (List ℕ)) : Type 0 where

@@ -1,5 +1,6 @@
--- The words of the two commands that the program knows.
-use Rattle.std.specs.Prelude.{◌≡◌, ◌≢◌, ℕ, Bool, false, ◌||◌, if◌then◌else◌, List, [], ◌∷◌, map, Option, None, Some, codes, IsTrue, All}
+-- The words of the three commands that the program knows.
+use Rattle.std.specs.Prelude.{◌≡◌, ◌≢◌, ℕ, ◌*◌, ◌^◌, ◌<◌, ◌≤◌, Bool, false, ◌||◌, if◌then◌else◌, List, [], ◌∷◌, map, Option, None, Some, codes, IsTrue, All}
+use Rattle.std.specs.Fmt.{decimal}
 use Rattle.std.specs.Str.{bytes_eq}
 
 -- a value is a word that isn't empty and doesn't begin with a hyphen
@@ -36,12 +37,15 @@ pub record IsCall (command : List ℕ) (options words values : List (List ℕ)) 
   pub known : All (λ pair. IsTrue (is_one_of options pair.option)) pairs
   pub named : All (λ pair. IsValue pair.value) pairs
 
--- the options of the command to serve, and of the one to show
+-- the options of the command to serve, of the one to show, and of the one to play a world
 abbrev pub serve_options : List (List ℕ)
 serve_options = codes "--config" ∷ codes "--requests" ∷ codes "--journal" ∷ []
 
 abbrev pub show_options : List (List ℕ)
 show_options = codes "--config" ∷ codes "--journal" ∷ []
+
+abbrev pub world_options : List (List ℕ)
+world_options = codes "--cards" ∷ codes "--steps" ∷ codes "--seed" ∷ []
 
 -- the words are the command to serve, with the names of the configuration, of the request file and of the journals
 abbrev pub IsServe : List (List ℕ) → List ℕ → List ℕ → List ℕ → Type 0
@@ -51,11 +55,26 @@ IsServe words config requests journal = IsCall (codes "serve") serve_options wor
 abbrev pub IsShow : List (List ℕ) → List ℕ → List ℕ → Type 0
 IsShow words config journal = IsCall (codes "show") show_options words (config ∷ journal ∷ [])
 
--- the words are a command with these names, and it is to serve where there is a name of a request file
+-- a world may have so many cards and so many steps: no card is in more steps than a card gives requests
+pub record IsSize (cards steps : ℕ) : Type 0 where
+  pub some_cards : 1 ≤ cards
+  pub few_cards : cards ≤ 4096
+  pub few_steps : steps ≤ 200000
+  pub few_each : steps ≤ 65535 * cards
+
+-- the words are the command to play a world, with its numbers of cards and steps and its seed, in decimal digits without a sign or a zero in
+-- front
+pub record IsWorld (words : List (List ℕ)) (cards steps seed : ℕ) : Type 0 where
+  pub call : IsCall (codes "world") world_options words (decimal cards ∷ decimal steps ∷ decimal seed ∷ [])
+  pub size : IsSize cards steps
+  pub seed_within : seed < 2 ^ 32
+
+-- the words are a command over journals, with these names, and it is to serve where there is a name of a request file
 abbrev pub IsCommand : List (List ℕ) → List ℕ → Option (List ℕ) → List ℕ → Type 0
 IsCommand words config (Some requests) journal = IsServe words config requests journal
 IsCommand words config None journal = IsShow words config journal
 
--- the words are no command
-abbrev pub IsNoCommand : List (List ℕ) → Type 0
-IsNoCommand words = (config : List ℕ) (requests : Option (List ℕ)) (journal : List ℕ) → IsCommand words config requests journal → ⊥
+-- the words are none of the three
+pub record IsNoCommand (words : List (List ℕ)) : Type 0 where
+  pub no_host : (config : List ℕ) (requests : Option (List ℕ)) (journal : List ℕ) → IsCommand words config requests journal → ⊥
+  pub no_world : (cards steps seed : ℕ) → IsWorld words cards steps seed → ⊥

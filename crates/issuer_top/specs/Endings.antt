@@ -17,14 +17,16 @@ use Rattle.answer_text.specs.declared.stop_line.Stop.TheVariants.{Usage, Config,
 use Rattle.shard_book.specs.Grounds.{grounds_of}
 use Rattle.shard_book.specs.Shards.{IsTextOf}
 use Rattle.host_calls.specs.Books.{Book}
-use Rattle.issuer_top.specs.Command.{IsServe, IsShow, IsCommand, IsNoCommand}
+use Rattle.issuer_top.specs.Command.{IsServe, IsShow, IsWorld, IsCommand, IsNoCommand}
 use Rattle.issuer_top.specs.Seen.{Seen, SeenInput, SeenStore}
 use Rattle.issuer_top.specs.Configuration.{config_stop}
 use Rattle.issuer_top.specs.Journals.{journal_name}
 use Rattle.issuer_top.specs.Loading.{GivesNoHost}
 use Rattle.issuer_top.specs.Answered.{WasRead, AllAnswered, WholeAnswered, PassedAnswered, FrontAnswered}
 use Rattle.issuer_top.specs.Kept.{KeepJournals}
+use Rattle.issuer_top.specs.Left.{LeaveJournals}
 use Rattle.issuer_top.specs.Shown.{shown_text}
+use Rattle.issuer_top.specs.Played.{IsWorldText}
 use Rattle.issuer_top.specs.declared.ending.Ending.{Ending}
 use Rattle.issuer_top.specs.declared.ending.Ending.TheVariants.{Done, Stopped, WriteFault}
 
@@ -81,11 +83,21 @@ pub record IsShown (seen : Seen) (text : List ℕ) : Type 0 where
   pub kept : KeepJournals issuer journal seen books books
   pub shown : text ≡ shown_text issuer books issuer.cards
 
+-- a world was played, and this is the text of what it came to; nothing was opened
+pub record IsPlayed (seen : Seen) (text : List ℕ) : Type 0 where
+  pub cards : ℕ
+  pub steps : ℕ
+  pub seed : ℕ
+  pub world : IsWorld seen.words cards steps seed
+  pub opened : HasOpened seen false false
+  pub no_stores : seen.stores ≡ []
+  pub played : IsWorldText cards steps seed text
+
 -- ---- the endings
 
--- status 0: all lines of the request file were answered, or all cards were shown
+-- status 0: all lines of the request file were answered, all cards were shown, or a world was played
 abbrev pub IsDone : Seen → List ℕ → Type 0
-IsDone seen text = AnswersLines AllAnswered seen text ⊎ IsShown seen text
+IsDone seen text = AnswersLines AllAnswered seen text ⊎ (IsShown seen text ⊎ IsPlayed seen text)
 
 -- status 1: the words are no command, and nothing was opened
 pub record IsUsage (seen : Seen) (text : List ℕ) : Type 0 where
@@ -152,7 +164,7 @@ abbrev pub IsReadFault : Seen → List ℕ → Type 0
 IsReadFault seen text =
     CannotOpenConfig seen text ⊎ (CannotReadConfig seen text ⊎ (CannotOpenRequests seen text ⊎ CannotReadRequests seen text))
 
--- the journals gave no host, for this cause; the request file was not opened
+-- the journals gave no host, for this cause, and their whole lines stay; the request file was not opened
 pub record HasNoHost (stop : Stop) (seen : Seen) (text : List ℕ) : Type 0 where
   pub requests : Option (List ℕ)
   pub journal : List ℕ
@@ -162,6 +174,7 @@ pub record HasNoHost (stop : Stop) (seen : Seen) (text : List ℕ) : Type 0 wher
   pub requests_is : is_some seen.requests ≡ false
   pub cause : GivesNoHost issuer journal seen.desk.logs
       (record { before = seen.desk.faults_before; after = seen.desk.faults_after; last = seen.desk.last_fault }) seen.stores stop
+  pub left : LeaveJournals journal seen.desk.logs seen.stores
   pub last : text ≡ stop_text stop
 
 -- status 5: the desk failed at the name of a journal, or a store while it was loaded
@@ -172,15 +185,30 @@ IsStoreFault seen text = (shard : ℕ) × HasNoHost (StoreFault shard) seen text
 abbrev pub IsBadJournal : Seen → List ℕ → Type 0
 IsBadJournal seen text = (shard line : ℕ) × HasNoHost (BadJournal shard line) seen text
 
--- status 7: no memory was left, before the request file was opened
-pub record IsNoMemory (seen : Seen) (text : List ℕ) : Type 0 where
+-- status 7: no memory was left for the work of a host, before the request file was opened; the whole lines of journals that were opened stay
+pub record LacksMemory (seen : Seen) (text : List ℕ) : Type 0 where
   pub config : List ℕ
   pub requests : Option (List ℕ)
   pub journal : List ℕ
   pub config_opened : Bool
   pub command : IsCommand seen.words config requests journal
   pub opened : HasOpened seen config_opened false
+  pub left : LeaveJournals journal seen.desk.logs seen.stores
   pub last : text ≡ stop_text NoMemory
+
+-- status 7: no memory was left for a world; nothing was opened
+pub record CannotPlay (seen : Seen) (text : List ℕ) : Type 0 where
+  pub cards : ℕ
+  pub steps : ℕ
+  pub seed : ℕ
+  pub world : IsWorld seen.words cards steps seed
+  pub opened : HasOpened seen false false
+  pub no_stores : seen.stores ≡ []
+  pub last : text ≡ stop_text NoMemory
+
+-- status 7: no memory was left
+abbrev pub IsNoMemory : Seen → List ℕ → Type 0
+IsNoMemory seen text = LacksMemory seen text ⊎ CannotPlay seen text
 
 -- status 8: a byte of the request file past a limit was read, and the lines before were answered
 pub record IsTooLong (seen : Seen) (text : List ℕ) : Type 0 where
@@ -203,9 +231,10 @@ Stops (TooLong line) seen text = IsTooLong seen text
 abbrev pub Writes : (Seen → List ℕ → Type 0) → Seen → Type 0
 Writes IsText seen = (text : List ℕ) × IsText seen text × Appends seen.sink.held_before seen.sink.held_after text
 
--- status 4: the texts of which the sink may have taken a front alone: that of a run that stops, the answers so far, or the cards
+-- status 4: the texts of which the sink may have taken a front alone: that of a run that stops, the answers so far, the cards, or what a
+-- world came to
 abbrev pub IsDue : Seen → List ℕ → Type 0
-IsDue seen text = ((stop : Stop) × Stops stop seen text) ⊎ (AnswersLines FrontAnswered seen text ⊎ IsShown seen text)
+IsDue seen text = ((stop : Stop) × Stops stop seen text) ⊎ (AnswersLines FrontAnswered seen text ⊎ (IsShown seen text ⊎ IsPlayed seen text))
 
 -- status 4: the sink failed, and took a front of a text that was due, but not all of it
 pub record IsWriteFault (seen : Seen) : Type 0 where
@@ -253,3 +282,11 @@ pub record ShowsInOrder (seen : Seen) : Type 0 where
   pub journal : List ℕ
   pub show : IsShow seen.words config journal
   pub in_order : IsInOrder seen config journal
+
+-- the words are the command to play a world, and the sink counted no fault
+pub record PlaysInOrder (seen : Seen) : Type 0 where
+  pub cards : ℕ
+  pub steps : ℕ
+  pub seed : ℕ
+  pub world : IsWorld seen.words cards steps seed
+  pub sink_stood : Rose seen.sink.faults_before seen.sink.faults_after → ⊥

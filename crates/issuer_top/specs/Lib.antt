@@ -6,10 +6,13 @@ pub mod Configuration
 pub mod Opening
 pub mod Journals
 pub mod Loading
+pub mod Worlds
 pub mod Answered
 pub mod Kept
+pub mod Left
 pub mod Shown
 pub mod Serving
 pub mod Status
 pub mod Endings
 pub mod Stopping
+pub mod Played

@@ -1,5 +1,5 @@
 -- What serving a file of request lines does, from its first line on.
-use Rattle.std.specs.Prelude.{◌≡◌, ◌⊎◌, ℕ, ◌+◌, Bool, true, false, List, [], ◌++◌, Option, Result, Ok, Err}
+use Rattle.std.specs.Prelude.{◌≡◌, ◌⊎◌, ℕ, ◌+◌, Bool, true, false, List, [], ◌++◌, length, Option, Result, Ok, Err}
 use Rattle.std.specs.Io.KnownBytes.{Appends}
 use Rattle.issuer_base.specs.declared.answer.Answer.{Answer}
 use Rattle.issuer_base.specs.declared.outside.store.Store.{Ghosts}
@@ -13,12 +13,13 @@ use Rattle.answer_text.specs.AnswerText.{printed}
 use Rattle.shard_book.specs.declared.shard.Shard.{Shard}
 use Rattle.host_calls.specs.Books.{Book}
 use Rattle.host_calls.specs.Hosts.{Stand}
-use Rattle.host_calls.specs.OneHistory.{AreLegalBooks, LoadsAgain}
+use Rattle.host_calls.specs.OneHistory.{AreLegalBooks}
 use Rattle.host_calls.specs.Runs.{LeaveBetween, HasRun}
 use Rattle.host_calls.specs.Turns.{Turn}
 use Rattle.issuer_top.specs.declared.serve.Server.{Server}
 use Rattle.issuer_top.specs.declared.serve.Served.{Served}
 use Rattle.issuer_top.specs.declared.serve.Served.TheVariants.{All, ReadFault, WriteFault as SinkFault, TooLong}
+use Rattle.issuer_top.specs.Configuration.{HasSoundParts}
 use Rattle.issuer_top.specs.Answered.{WasRead, AllAnswered, WholeAnswered, PassedAnswered, FrontAnswered}
 
 -- a server that has read nothing and owes no answer
@@ -27,10 +28,11 @@ pub record IsNew (server : Server) : Type 0 where
   pub none_due : server.block.text.items ≡ []
   pub no_lines : server.block.lines ≡ 0
 
--- the histories of the books are legal, and so are the issuer's own decisions when they are loaded again
+-- there is a book for each shard of the issuer, whose parts are sound, and the histories of the books are legal
 pub record AreLawful (issuer : Setup) (first : List Book) : Type 0 where
+  pub count_is : length first ≡ issuer.shards
   pub legal : AreLegalBooks issuer first
-  pub again : LoadsAgain issuer
+  pub sound : HasSoundParts issuer
 
 module _ {S : Type 0} {G : Ghosts S} where
   -- the shards were just loaded and stand for these books

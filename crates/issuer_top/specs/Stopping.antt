@@ -24,10 +24,10 @@ is_broken Done = false
 is_broken (Stopped stop) = false
 is_broken WriteFault = true
 
--- how a run ends that shows all cards
-abbrev pub shown_ending : Result (Unit {0}) SinkFails → Ending
-shown_ending (Ok done) = Done
-shown_ending (Err fault) = WriteFault
+-- how a run ends whose text was written, or not
+abbrev pub written_ending : Result (Unit {0}) SinkFails → Ending
+written_ending (Ok done) = Done
+written_ending (Err fault) = WriteFault
 
 -- the sink was given a last line: what it held and counted before and after
 pub record GivesStop (held_before held_after : Option (List ℕ)) (faults_before faults_after : ℕ) (stop : Stop) (ending : Ending) : Type 0 where

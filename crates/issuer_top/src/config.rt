@@ -1,8 +1,7 @@
 //! The configuration: read to its end, and taken as an issuer's keys and cards.
 ghost use Rattle.std.specs.Prelude.{◌≡◌, false, length, All, IfOk, IfErr};
 ghost use Rattle.issuer_base.specs.OutsideFaults.{CountsFaults};
-ghost use Rattle.shard_book.specs.Grounds.{HasTable};
-ghost use Rattle.issuer_top.specs.Configuration.{IsRead, is_read_fault, Says, GivesNoIssuer, is_read_cause, is_read_stop, config_stop};
+ghost use Rattle.issuer_top.specs.Configuration.{HasSoundParts, IsRead, is_read_fault, Says, GivesNoIssuer, is_read_cause, is_read_stop, config_stop};
 
 use answer_text::Stop;
 use config_read::{ConfigFault, MAX_CONFIG_BYTES, read_config};
@@ -45,7 +44,7 @@ pub(crate) fn read_text<S: Source>(alloc: Global, source: &mut S) -> Result<Vec<
 /// The issuer that a configuration says, or why it says none.
 pub(crate) fn read_issuer<S: Source>(alloc: Global, source: &mut S) -> Result<Issuer, Stop>
     ensures says { IfOk result (λ issuer. Says (S.left source.old) issuer) }
-    ensures table { IfOk result HasTable }
+    ensures sound { IfOk result HasSoundParts }
     ensures none { IfErr result (GivesNoIssuer (S.left source.old)) }
     ensures count { CountsFaults (S.faults source.old) (S.faults source.new) (is_read_stop result) }
 {
@@ -56,11 +55,21 @@ pub(crate) fn read_issuer<S: Source>(alloc: Global, source: &mut S) -> Result<Is
     };
     match read_config(alloc, &text) {
         Ok(issuer) => {
-            whole_updates(issuer.table().rows());
+            sound_parts(&issuer);
             Ok(issuer)
         }
         Err(fault) => Err(config_stop(fault)),
     }
+}
+
+/// Each part of an issuer is sound, as its type says.
+fn sound_parts(issuer: &Issuer)
+    ensures { HasSoundParts issuer.now }
+{
+    let _shards = issuer.shards();
+    let _cards = issuer.cards();
+    let _key = issuer.key(0);
+    whole_updates(issuer.table().rows());
 }
 
 /// Each row of a table has a card status update of four bytes: of one row its type says so, of all a proof sees it row by row.

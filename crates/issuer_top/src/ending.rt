@@ -1,13 +1,15 @@
 //! How a run ends.
 ghost use Rattle.std.specs.Prelude.{◌≡◌};
 ghost use Rattle.issuer_top.specs.Status.{status_of};
+ghost use Rattle.issuer_top.specs.Stopping.{written_ending};
 
 use answer_text::Stop;
+use issuer_base::WriteFault;
 
 /// How a run ends.
 #[derive(Clone, Copy)]
 pub(crate) enum Ending {
-    /// All lines were answered, or all cards were shown.
+    /// All lines were answered, all cards were shown, or a world was played.
     Done,
     /// The run stopped early, and wrote its last line.
     Stopped(Stop),
@@ -23,5 +25,15 @@ pub(crate) fn status_of(ending: Ending) -> u8
         Ending::Done => 0,
         Ending::Stopped(stop) => stop.status(),
         Ending::WriteFault => 4,
+    }
+}
+
+/// How a run ends whose text was written, or not.
+pub(crate) fn end_writing(written: Result<(), WriteFault>) -> Ending
+    ensures { result ≡ written_ending written }
+{
+    match written {
+        Ok(()) => Ending::Done,
+        Err(WriteFault) => Ending::WriteFault,
     }
 }

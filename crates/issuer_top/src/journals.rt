@@ -5,6 +5,7 @@ ghost use Rattle.issuer_base.specs.OutsideFaults.{CountsFaults};
 ghost use Rattle.issuer_base.specs.declared.outside.DeskCall.TheVariants.{Log};
 ghost use Rattle.issuer_top.specs.Seen.{store_seen};
 ghost use Rattle.issuer_top.specs.Journals.{journal_name, IsOpened, AreOpened, IsReady};
+ghost use Rattle.issuer_top.specs.Left.{LeaveJournals};
 ghost use Rattle.issuer_top.specs.Loading.{GivesNoHost, IsUnopened, is_log_fault, stop_of_load};
 
 use answer_text::Stop;
@@ -33,6 +34,7 @@ pub(crate) fn load_host<D: Desk>(
     ensures none { IfErr result (λ back. GivesNoHost issuer prefix.now (D.logs desk.old)
         (record { before = D.faults desk.old; after = D.faults desk.new; last = D.last_fault desk.new })
         (map (store_seen D.Journal.Store) back.stores.items) back.cause) }
+    ensures left { IfErr result (λ back. LeaveJournals prefix.now (D.logs desk.old) (map (store_seen D.Journal.Store) back.stores.items)) }
     ensures kept { D.holds desk.new ≡ D.holds desk.old }
 {
     let stores = open_journals(alloc, desk, prefix, &issuer)?;
@@ -76,6 +78,7 @@ fn open_journals<D: Desk>(
     ensures none { IfErr result (λ back. GivesNoHost issuer.now prefix.now (D.logs desk.old)
         (record { before = D.faults desk.old; after = D.faults desk.new; last = D.last_fault desk.new })
         (map (store_seen D.Journal.Store) back.stores.items) back.cause) }
+    ensures left { IfErr result (λ back. LeaveJournals prefix.now (D.logs desk.old) (map (store_seen D.Journal.Store) back.stores.items)) }
     ensures kept { D.holds desk.new ≡ D.holds desk.old }
 {
     let shards = issuer.shards();

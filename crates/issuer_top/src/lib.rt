@@ -5,6 +5,7 @@ mod block;
 mod config;
 mod ending;
 mod journals;
+mod play;
 mod serve;
 mod show;
 mod stopping;

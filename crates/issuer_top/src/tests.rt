@@ -3,6 +3,7 @@ ghost use Rattle.std.specs.Prelude.{◌≡◌, [], None, IfOk};
 
 mod journals;
 mod scripts;
+mod worlds;
 
 use super::*;
 use issuer_base::{
@@ -265,6 +266,7 @@ fn takes_words_in_any_order_each_once(rt: HostRuntime) -> Result<(), Fail> {
         ("Show --config config --journal j", 1, "stop 1\n"),
         ("show --config config --journal", 1, "stop 1\n"),
         ("serve", 1, "stop 1\n"),
+        ("world --cards 1 --steps 8", 1, "stop 1\n"),
         ("", 1, "stop 1\n"),
         (
             "serve --config none --requests requests --journal j",

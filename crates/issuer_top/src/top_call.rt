@@ -1,29 +1,31 @@
 //! The top call.
-ghost use Rattle.std.specs.Prelude.{◌≡◌, ◌<◌, ◌⊎◌, ℕ, List, map, None, Some};
+ghost use Rattle.std.specs.Prelude.{◌≡◌, ◌<◌, ◌⊎◌, ℕ, List, [], map, None, Some};
 ghost use Rattle.std.specs.Option.{option_map};
-ghost use Rattle.host_calls.specs.OneHistory.{LoadsAgain};
+ghost use Rattle.issuer_top.specs.Configuration.{HasSoundParts};
 ghost use Rattle.issuer_top.specs.Opening.{stop_of};
 ghost use Rattle.issuer_top.specs.Journals.{IsReady};
 ghost use Rattle.issuer_top.specs.Status.{IsStatus};
-ghost use Rattle.issuer_top.specs.Stopping.{EndsServing, shown_ending};
+ghost use Rattle.issuer_top.specs.Stopping.{EndsServing};
 ghost use Rattle.issuer_top.specs.Seen.{SeenDesk, SeenInput, seen_of, seen_by, desk_seen, input_seen, store_seen, sink_seen};
-ghost use Rattle.issuer_top.specs.Endings.{IsSetUp, EndsBy, Writes, IsDone, IsUsage, IsConfig, IsReadFault, IsStoreFault, IsBadJournal, IsWriteFault, IsNoMemory, IsTooLong, ServesInOrder, ShowsInOrder};
+ghost use Rattle.issuer_top.specs.Command.{IsCommand};
+ghost use Rattle.issuer_top.specs.Endings.{IsSetUp, EndsBy, Writes, IsDone, IsUsage, IsConfig, IsReadFault, IsStoreFault, IsBadJournal, IsWriteFault, IsNoMemory, IsTooLong, ServesInOrder, ShowsInOrder, PlaysInOrder};
 
 use crate::config::read_issuer;
-use crate::ending::{Ending, status_of};
+use crate::ending::{Ending, end_writing, status_of};
 use crate::journals::{NoHost, load_host};
 use crate::serve::{Served, Server};
+use crate::play::play_world;
 use crate::show::show;
 use crate::stopping::stop_with;
-use crate::words::read_words;
+use crate::words::{Names, Task, read_words};
 use answer_text::Stop;
 use host_calls::Solo;
-use issuer_base::{Desk, DeskFault, NoMemory, Sink, Store, Words, WriteFault};
+use issuer_base::{Desk, DeskFault, NoMemory, Sink, Store, Words};
 use std::alloc::Global;
 
 /// What a run gives back: its status, the desk, and all that was opened.
 pub struct Ended<D: Desk> {
-    /// 0: all lines were answered, or all cards shown; 1: the words are no command; 2: the configuration is none; 3: an
+    /// 0: all lines were answered, all cards shown, or a world played; 1: the words are no command; 2: the configuration is none; 3: an
     /// input failed; 4: the sink failed; 5: a journal can't be opened, or its store failed while it was loaded; 6: a line
     /// of a journal is bad; 7: no memory was left; 8: the request file goes past a limit.
     pub status: u8,
@@ -38,7 +40,7 @@ pub struct Ended<D: Desk> {
 }
 
 /// Does all that the program does: reads the words and the configuration, loads the journals, and answers each line of the
-/// request file, or shows all cards.
+/// request file, or shows all cards; or plays a world of its own.
 pub fn issue<R: AllocGlobal, D: Desk, W: Sink>(
     rt: &R,
     words: &Words,
@@ -72,6 +74,8 @@ pub fn issue<R: AllocGlobal, D: Desk, W: Sink>(
         → (result.status ≡ 0) ⊎ (result.status ≡ 7) }
     ensures shows { ShowsInOrder (seen_by D.Desk D.Input.Source D.Journal.Store W.Sink words.now desk result out.old out.new)
         → (result.status ≡ 0) ⊎ (result.status ≡ 7) }
+    ensures plays { PlaysInOrder (seen_by D.Desk D.Input.Source D.Journal.Store W.Sink words.now desk result out.old out.new)
+        → (result.status ≡ 0) ⊎ (result.status ≡ 7) }
 {
     let Outcome {
         ending,
@@ -96,7 +100,7 @@ struct Outcome<I, J> {
     stores: Vec<J>,
 }
 
-/// Reads words and configuration, loads the journals, does what the command asks, and says how the run ended.
+/// Reads the words, does what they ask for, and says how the run ended.
 fn run<D: Desk, W: Sink>(
     alloc: Global,
     words: &Words,
@@ -107,23 +111,45 @@ fn run<D: Desk, W: Sink>(
         (option_map (input_seen D.Input.Source) result.config) (option_map (input_seen D.Input.Source) result.requests)
         (map (store_seen D.Journal.Store) result.stores.items) (sink_seen W.Sink out.old out.new)) result.ending }
 {
-    let Some(names) = read_words(words) else {
-        return Outcome {
-            ending: stop_with(Stop::Usage, out),
-            config: None,
-            requests: None,
-            stores: Vec::new(alloc),
-        };
-    };
+    match read_words(words) {
+        Some(Task::Host(names)) => run_host(alloc, names, desk, out),
+        Some(Task::Play(size)) => nothing_opened(alloc, play_world(alloc, size, out)),
+        None => nothing_opened(alloc, stop_with(Stop::Usage, out)),
+    }
+}
+
+/// How a run ended that opened nothing.
+fn nothing_opened<I, J>(alloc: Global, ending: Ending) -> Outcome<I, J>
+    ensures ending { result.ending ≡ ending }
+    ensures no_config { result.config ≡ None }
+    ensures no_requests { result.requests ≡ None }
+    ensures no_stores { result.stores.items ≡ [] }
+{
+    Outcome {
+        ending,
+        config: None,
+        requests: None,
+        stores: Vec::new(alloc),
+    }
+}
+
+/// Reads the configuration, loads the journals, and does what the command asks.
+fn run_host<D: Desk, W: Sink>(
+    alloc: Global,
+    names: Names<'_>,
+    desk: &mut D,
+    out: &mut W,
+) -> Outcome<D::Input, D::Journal>
+    ensures { (words : List (List ℕ)) → IsCommand words names.entry.config.now (option_map (λ name. name.now) names.entry.requests) names.entry.journal.now
+        → EndsBy (seen_of words (desk_seen D.Desk desk.old desk.new)
+        (option_map (input_seen D.Input.Source) result.config) (option_map (input_seen D.Input.Source) result.requests)
+        (map (store_seen D.Journal.Store) result.stores.items) (sink_seen W.Sink out.old out.new)) result.ending }
+{
     let mut config = match desk.read(names.config) {
         Ok(config) => config,
         Err(fault) => {
-            return Outcome {
-                ending: stop_with(stop_at(fault), out),
-                config: None,
-                requests: None,
-                stores: Vec::new(alloc),
-            };
+            let ending = stop_with(stop_at(fault), out);
+            return nothing_opened(alloc, ending);
         }
     };
     let issuer = match read_issuer(alloc, &mut config) {
@@ -191,7 +217,7 @@ fn do_command<D: Desk, W: Sink>(
         → let seen = seen_of words (desk_seen D.Desk given desk.new) (Some config) (option_map (input_seen D.Input.Source) result.requests)
         (map (store_seen D.Journal.Store) result.stores.items) (sink_seen W.Sink out.old out.new) in
         IsSetUp seen (option_map (λ name. name.now) requests.entry) journal host.issuer
-        → IsReady host.issuer journal (D.logs given) host.shards.items → LoadsAgain host.issuer
+        → IsReady host.issuer journal (D.logs given) host.shards.items → HasSoundParts host.issuer
         → D.holds desk.old ≡ D.holds given → D.faults desk.old ≡ D.faults given → EndsBy seen result.ending }
 {
     match requests {
@@ -211,7 +237,7 @@ fn serve_requests<D: Desk, W: Sink>(
     ensures { (words : List (List ℕ)) (given : D) (config : SeenInput) (journal : List ℕ)
         → let seen = seen_of words (desk_seen D.Desk given desk.new) (Some config) (option_map (input_seen D.Input.Source) result.requests)
         (map (store_seen D.Journal.Store) result.stores.items) (sink_seen W.Sink out.old out.new) in
-        IsSetUp seen (Some name.now) journal host.issuer → IsReady host.issuer journal (D.logs given) host.shards.items → LoadsAgain host.issuer
+        IsSetUp seen (Some name.now) journal host.issuer → IsReady host.issuer journal (D.logs given) host.shards.items → HasSoundParts host.issuer
         → D.holds desk.old ≡ D.holds given → D.faults desk.old ≡ D.faults given → EndsBy seen result.ending }
 {
     let mut host = host;
@@ -264,23 +290,13 @@ fn show_cards<D: Desk, W: Sink>(
     ensures { (words : List (List ℕ)) (desk : SeenDesk) (config : SeenInput) (journal : List ℕ)
         → let seen = seen_of words desk (Some config) (option_map (input_seen D.Input.Source) result.requests)
         (map (store_seen D.Journal.Store) result.stores.items) (sink_seen W.Sink out.old out.new) in
-        IsSetUp seen None journal host.issuer → IsReady host.issuer journal desk.logs host.shards.items → LoadsAgain host.issuer
+        IsSetUp seen None journal host.issuer → IsReady host.issuer journal desk.logs host.shards.items → HasSoundParts host.issuer
         → desk.faults_after ≡ desk.faults_before → EndsBy seen result.ending }
 {
-    let ending = end_showing(show(&host, out));
+    let ending = end_writing(show(&host, out));
     Finished {
         ending,
         requests: None,
         stores: host.close(),
-    }
-}
-
-/// How a run ends that shows all cards.
-fn end_showing(shown: Result<(), WriteFault>) -> Ending
-    ensures { result ≡ shown_ending shown }
-{
-    match shown {
-        Ok(()) => Ending::Done,
-        Err(WriteFault) => Ending::WriteFault,
     }
 }

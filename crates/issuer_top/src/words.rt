@@ -1,21 +1,46 @@
 //! The words of a run.
-ghost use Rattle.std.specs.Prelude.{◌≡◌, ◌≢◌, ◌+◌, ◌*◌, ◌%◌, ◌<◌, length, drop, IfNone, IfSome, MatchOption, codes};
+ghost use Rattle.std.specs.Prelude.{◌≡◌, ◌≢◌, ◌+◌, ◌*◌, ◌%◌, ◌<◌, ◌^◌, ℕ, length, drop, IfNone, IfSome, MatchOption, codes};
+ghost use Rattle.std.specs.Fmt.{decimal};
 ghost use Rattle.std.specs.Option.{option_map};
-ghost use Rattle.issuer_top.specs.Command.{is_one_of, IsCommand, IsNoCommand};
-ghost use Rattle.issuer_top.specs.Pairs.{is_value, first_word, options_of, is_pair, are_pairs, pairs_of, value_in};
+ghost use Rattle.issuer_top.specs.Command.{is_one_of, IsNoCommand};
+ghost use Rattle.issuer_top.specs.Pairs.{is_value, first_word, options_of, is_pair, are_pairs, pairs_of, value_in, is_within, AreWordsOf, Asks, IsTask};
+ghost use Rattle.issuer_top.specs.declared.words.Command.{Command};
+ghost use Rattle.issuer_top.specs.declared.words.Command.TheVariants.{Serve, Show, World};
+ghost use Rattle.issuer_top.specs.declared.words.Task.TheVariants.{Host, Play};
 
 use issuer_base::Words;
+use itoa::Buffer;
 
-/// What the program does.
+/// How many cards a world may have.
+const MOST_CARDS: u32 = 4_096;
+
+/// How many steps a world may have.
+const MOST_STEPS: u32 = 200_000;
+
+/// How many steps a world may have for each of its cards: no card gives more requests.
+const MOST_STEPS_EACH: u32 = 65_535;
+
+/// The words that a command begins with.
 #[derive(Clone, Copy)]
 pub(crate) enum Command {
     /// It answers the lines of a request file.
     Serve,
     /// It shows all cards.
     Show,
+    /// It plays a world.
+    World,
 }
 
-/// The names in the words of a command.
+/// What the program does.
+#[derive(Clone, Copy)]
+pub(crate) enum Task<'a> {
+    /// It answers request lines or shows cards, over the journals of a configuration.
+    Host(Names<'a>),
+    /// It plays a world of its own.
+    Play(WorldSize),
+}
+
+/// The names in the words of a command over journals.
 #[derive(Clone, Copy)]
 pub(crate) struct Names<'a> {
     /// The name of the configuration.
@@ -26,10 +51,32 @@ pub(crate) struct Names<'a> {
     pub(crate) journal: &'a str,
 }
 
-/// The names where the words are a command, and else `None`.
-pub(crate) fn read_words(words: &Words) -> Option<Names<'_>>
-    ensures command { IfSome result (λ names. IsCommand words.now names.config.now (option_map (λ name. name.now) names.requests) names.journal.now) }
+/// The numbers in the words of the command to play a world.
+#[derive(Clone, Copy)]
+pub(crate) struct WorldSize {
+    /// How many cards there are, 1 to 4,096.
+    pub(crate) cards: u32,
+    /// How many steps are played, at most 200,000, and at most 65,535 for each card.
+    pub(crate) steps: u32,
+    /// What the fates of the steps begin with.
+    pub(crate) seed: u32,
+}
+
+/// What the words ask for, and `None` where they are no command.
+pub(crate) fn read_words(words: &Words) -> Option<Task<'_>>
+    ensures task { IfSome result (IsTask words.now) }
     ensures other { IfNone result (IsNoCommand words.now) }
+{
+    match command_in(words)? {
+        Command::Serve => Some(Task::Host(serve_names(words)?)),
+        Command::Show => Some(Task::Host(show_names(words)?)),
+        Command::World => Some(Task::Play(world_size(words)?)),
+    }
+}
+
+/// The command that the words begin with, where pairs of its options and their values stand behind it.
+fn command_in(words: &Words) -> Option<Command>
+    ensures { MatchOption result ((command : Command) → AreWordsOf command words.now → ⊥) (λ command. AreWordsOf command words.now) }
 {
     if words.count() % 2 == 0 {
         return None;
@@ -38,22 +85,75 @@ pub(crate) fn read_words(words: &Words) -> Option<Names<'_>>
     if !are_pairs(words, command) {
         return None;
     }
+    Some(command)
+}
+
+/// The names in the words of the command to serve.
+fn serve_names(words: &Words) -> Option<Names<'_>>
+    requires { AreWordsOf Serve words.now }
+    ensures names { IfSome result (λ names. IsTask words.now (Host names)) }
+    ensures none { IfNone result (Asks Serve words.now → ⊥) }
+{
+    let config = value_of(words, "--config")?;
+    let requests = value_of(words, "--requests")?;
+    let journal = value_of(words, "--journal")?;
+    Some(Names {
+        config,
+        requests: Some(requests),
+        journal,
+    })
+}
+
+/// The names in the words of the command to show.
+fn show_names(words: &Words) -> Option<Names<'_>>
+    requires { AreWordsOf Show words.now }
+    ensures names { IfSome result (λ names. IsTask words.now (Host names)) }
+    ensures none { IfNone result (Asks Show words.now → ⊥) }
+{
     let config = value_of(words, "--config")?;
     let journal = value_of(words, "--journal")?;
-    match command {
-        Command::Serve => {
-            let requests = value_of(words, "--requests")?;
-            Some(Names {
-                config,
-                requests: Some(requests),
-                journal,
-            })
-        }
-        Command::Show => Some(Names {
-            config,
-            requests: None,
-            journal,
-        }),
+    Some(Names {
+        config,
+        requests: None,
+        journal,
+    })
+}
+
+/// The numbers in the words of the command to play a world.
+fn world_size(words: &Words) -> Option<WorldSize>
+    requires { AreWordsOf World words.now }
+    ensures size { IfSome result (λ size. IsTask words.now (Play size)) }
+    ensures none { IfNone result (Asks World words.now → ⊥) }
+{
+    let cards = number_of(value_of(words, "--cards")?)?;
+    let steps = number_of(value_of(words, "--steps")?)?;
+    let seed = number_of(value_of(words, "--seed")?)?;
+    if is_within(cards, steps) {
+        Some(WorldSize { cards, steps, seed })
+    } else {
+        None
+    }
+}
+
+/// Whether a world may have so many cards and steps.
+fn is_within(cards: u32, steps: u32) -> bool
+    ensures { result ≡ is_within cards steps }
+{
+    1 <= cards && cards <= MOST_CARDS && steps <= MOST_STEPS && steps <= MOST_STEPS_EACH * cards
+}
+
+/// The number that a word says in decimal digits, without a sign or a zero in front; `None` where it says none below 2^32.
+fn number_of(word: &str) -> Option<u32>
+    ensures { MatchOption result ((number : ℕ) → number < 2 ^ 32 → word.now ≢ decimal number) (λ number. word.now ≡ decimal number) }
+{
+    let Ok(number) = word.parse::<u32>() else {
+        return None;
+    };
+    let mut digits = Buffer::new();
+    if digits.format(number) == word {
+        Some(number)
+    } else {
+        None
     }
 }
 
@@ -65,6 +165,8 @@ fn command_of(word: &str) -> Option<Command>
         Some(Command::Serve)
     } else if word == "show" {
         Some(Command::Show)
+    } else if word == "world" {
+        Some(Command::World)
     } else {
         None
     }
@@ -98,6 +200,7 @@ fn is_option(word: &str, command: Command) -> bool
     match command {
         Command::Serve => word == "--config" || word == "--requests" || word == "--journal",
         Command::Show => word == "--config" || word == "--journal",
+        Command::World => word == "--cards" || word == "--steps" || word == "--seed",
     }
 }
 

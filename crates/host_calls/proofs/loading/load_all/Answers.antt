@@ -15,7 +15,13 @@ returns-in-Err-clause-stopped g c =
     let loading = subst (λ ahead. IsLoading {G = g.S.Store} issuer stores shards ahead) next c.loop-number.invariant.loading in
     let number_is : length shards ≡ c.loop-number.number = c.loop-number.invariant.count in
     let not_loaded : IsNotLoaded g.S.Store.bytes g.S.Store.disk g.S.Store.faults issuer c.loop-number.number c.unwrap-store.result c.in-Err.field-0.fault
-    c.in-Err.field-0.store = record { stops = c.in-Err.ensures.stopped; leaves = c.in-Err.ensures.crash; counts = c.in-Err.ensures.failed } in
+    c.in-Err.field-0.store = record {
+      stops = c.in-Err.ensures.stopped;
+      kept = c.in-Err.ensures.kept;
+      still = c.in-Err.ensures.still;
+      leaves = c.in-Err.ensures.crash;
+      counts = c.in-Err.ensures.failed;
+    } in
     let left : List _ = reverse c.pop.new.self.items in
     let after = c.in-Err.field-0.store in
     let fault = c.in-Err.field-0.fault in

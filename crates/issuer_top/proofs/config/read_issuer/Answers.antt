@@ -1,15 +1,10 @@
 -- What was read of a configuration says an issuer, or none.
-use Rattle.shard_book.proofs.Exactly.{has-table}
 use Rattle.issuer_top.proofs.ConfigurationReads.{Says-from_read, GivesNoIssuer-from_read}
 use Rattle.issuer_top.proofs.config.read_issuer.Goals as goal
 
 pub returns-in-Ok-read_config-clause-says : goal.returns-in-Ok-read_config-clause-says
 returns-in-Ok-read_config-clause-says g c =
     Says-from_read _ _ c.in-Ok.text.items _ c.in-Ok.ensures.text (rw c.deref.ensures.value at c.in-Ok-read_config.ensures.issuer)
-
-pub returns-in-Ok-read_config-clause-table : goal.returns-in-Ok-read_config-clause-table
-returns-in-Ok-read_config-clause-table g c =
-    has-table c.in-Ok-read_config.issuer _ _ c.table.ensures c.rows.ensures.same c.rows.ensures.valid c.whole_updates.ensures
 
 pub returns-clause-none : goal.returns-clause-none
 returns-clause-none g c =

@@ -1,6 +1,7 @@
 -- One journal more is opened, or not.
 use Rattle.std.proofs.Common.{◌+◌, sym, ap, subst, ◌∙◌, arith, length}
 use Rattle.issuer_top.specs.Journals.{journal_name, AreOpened}
+use Rattle.issuer_top.proofs.LeftSteps.{opened-left}
 use Rattle.issuer_top.proofs.JournalSteps.{names-apart, opened-more, length-more}
 use Rattle.issuer_top.proofs.journals.open_journals.Goals as goal
 
@@ -9,11 +10,13 @@ loop-shard-preserved g c =
     let before = c.loop-shard.invariant in
     let named = before.ahead c.loop-shard.shard (omega arith) in
     record {
-      count = ap length c.push_reserved.ensures.items ∙ length-more g.D.Journal.Store c.loop-shard.stores.items c.in-Ok-open_journal.store ∙ ap (λ n. n + 1) before.count;
+      count = ap length c.push_reserved.ensures.items ∙ length-more g.D.Journal.Store c.loop-shard.stores.items c.in-Ok-open_journal.store
+          ∙ ap (λ n. n + 1) before.count;
       room = c.push_reserved.ensures.capacity ∙ before.room;
       opened = subst (AreOpened g.D.Journal.Store c.args.prefix.now (g.D.Desk.logs c.args.desk.now)) (sym c.push_reserved.ensures.items)
           (opened-more g.D.Journal.Store c.args.prefix.now (g.D.Desk.logs c.args.desk.now) c.loop-shard.stores.items c.in-Ok-open_journal.store
-          c.loop-shard.shard (g.D.Desk.logs c.loop-shard.desk (journal_name c.args.prefix.now c.loop-shard.shard)) before.opened (sym before.count) named c.in-Ok-open_journal.ensures.opened);
+          c.loop-shard.shard (g.D.Desk.logs c.loop-shard.desk (journal_name c.args.prefix.now c.loop-shard.shard)) before.opened (sym before.count) named
+          c.in-Ok-open_journal.ensures.opened);
       stood = c.in-Ok-open_journal.ensures.count.counted ∙ before.stood;
       kept = c.open_journal.ensures.kept ∙ before.kept;
       ahead = λ shard later.
@@ -21,3 +24,8 @@ loop-shard-preserved g c =
           let twice = names-apart c.args.prefix.now shard c.loop-shard.shard same in
           omega (arith, twice, later)) ∙ before.ahead shard (omega (arith, later));
     }
+
+pub returns-in-Err-clause-left : goal.returns-in-Err-clause-left
+returns-in-Err-clause-left g c =
+    opened-left g.D.Journal.Store (g.met.D.Journal.Store g.world.𝓛 g.world.𝓜 g.world.𝓡 (λ s h. h, λ h. h, λ h. h, λ h. h)).told_bytes
+    c.args.prefix.now (g.D.Desk.logs c.args.desk.now) c.loop-shard.stores.items c.loop-shard.invariant.opened

@@ -1,6 +1,6 @@
 -- Each status says how the run ended.
 use Rattle.issuer_top.proofs.Statuses.{IsStatus-of, said}
-use Rattle.issuer_top.proofs.InOrder.{serves-in_order, shows-in_order}
+use Rattle.issuer_top.proofs.InOrder.{serves-in_order, shows-in_order, plays-in_order}
 use Rattle.issuer_top.proofs.top_call.issue.Goals as goal
 
 pub returns : goal.returns
@@ -17,4 +17,5 @@ returns g c = record {
   too_long = said _ _ 8 _ c.status_of.ensures c.run-ending.ensures;
   serves = serves-in_order _ _ _ c.status_of.ensures c.run-ending.ensures;
   shows = shows-in_order _ _ _ c.status_of.ensures c.run-ending.ensures;
+  plays = λ order. plays-in_order _ order _ _ c.status_of.ensures c.run-ending.ensures;
 }

@@ -1,47 +1,34 @@
--- How a run ends, stage by stage.
-use Rattle.std.proofs.Common.{refl, ap, ◌∙◌}
-use Rattle.std.specs.Prelude.{map}
-use Rattle.issuer_top.specs.Seen.{store_seen}
-use Rattle.issuer_top.proofs.EndingSteps.{gives_input, ends_usage, ends_no_config, ends_no_issuer, ends_no_host, IsSetUp-from_said, set_up-under}
-use Rattle.shard_book.proofs.OwnDecisions.{legal-then}
-use Rattle.issuer_top.proofs.EndingSteps.{no_host-since, ready-since, again-under}
+-- How a run ends that plays a world, or whose words are no command.
+use Rattle.std.proofs.Common.{◌≡◌, refl, ap, sym, subst}
+use Rattle.std.specs.Prelude.{map, is_some}
+use Rattle.std.specs.Option.{option_map}
+use Rattle.issuer_top.specs.Seen.{input_seen, store_seen}
+use Rattle.issuer_top.specs.Endings.{EndsBy}
+use Rattle.issuer_top.specs.Pairs.{IsTask}
+use Rattle.issuer_top.proofs.EndingSteps.{ends_usage, ends_playing}
 use Rattle.issuer_top.proofs.top_call.run.Goals as goal
 
-pub returns-in_default : goal.returns-in_default
-returns-in_default g c =
-    ends_usage _ _ c.in_default.ensures.other (record { config_is = refl; requests_is = refl; desk_stood = refl })
-    (ap (map (store_seen g.D.Journal.Store)) c.new.ensures.items)
-    (record { stops = c.stop_with.ensures.ended; count = c.stop_with.ensures.count })
+pub returns-in-Some-Play : goal.returns-in-Some-Play
+returns-in-Some-Play g c =
+    let none = c.nothing_opened.ensures in
+    let size = c.in-Some-Play.size in
+    subst (EndsBy _) (sym none.ending)
+    (ends_playing _ size.cards size.steps size.seed (subst (IsTask c.args.words.now) c.in-Some-Play.field-0-is c.in-Some-Play.ensures.task)
+    (record {
+      config_is = ap (λ input. is_some (option_map (input_seen g.D.Input.Source) input)) none.no_config;
+      requests_is = ap (λ input. is_some (option_map (input_seen g.D.Input.Source) input)) none.no_requests;
+      desk_stood = refl;
+    })
+    (ap (map (store_seen g.D.Journal.Store)) none.no_stores) _ c.play_world.ensures)
 
-pub returns-in-Err : goal.returns-in-Err
-returns-in-Err g c =
-    ends_no_config _ _ _ _ _ c.in-Some.ensures.command (Unit {0}) _ c.in-Err.fault refl refl
-    (ap (map (store_seen g.D.Journal.Store)) c.new-in-Err.ensures.items) c.in-Err.ensures.count c.in-Err.ensures.last
-    (record { stops = rw c.stop_at.ensures at c.stop_with-in-Err.ensures.ended; count = c.stop_with-in-Err.ensures.count })
-
-pub returns-in-Err-read_issuer : goal.returns-in-Err-read_issuer
-returns-in-Err-read_issuer g c =
-    ends_no_issuer _ _ _ _ _ c.in-Some.ensures.command (Unit {0}) _ _ _ c.in-Err-read_issuer.cause
-    (record { config_is = refl; requests_is = refl; desk_stood = c.in-Ok.ensures.count.counted }) refl
-    (ap (map (store_seen g.D.Journal.Store)) c.new-in-Err-read_issuer.ensures.items)
-    (gives_input _ _ c.in-Ok.ensures.input c.in-Ok.ensures.absent) c.in-Err-read_issuer.ensures.none c.in-Ok.ensures.new
-    c.in-Err-read_issuer.ensures.count
-    (record { stops = c.stop_with-in-Err-read_issuer.ensures.ended; count = c.stop_with-in-Err-read_issuer.ensures.count })
-
-pub returns-in-Err-load_host : goal.returns-in-Err-load_host
-returns-in-Err-load_host g c =
-    let set_up = IsSetUp-from_said _ _ _ _ _ _ c.in-Some.ensures.command (gives_input _ _ c.in-Ok.ensures.input c.in-Ok.ensures.absent)
-    c.in-Ok-read_issuer.ensures.says in
-    ends_no_host _ _ _ _ _ set_up _ refl refl
-    (no_host-since _ _ _ _ _ _ _ _ _ _ c.in-Ok.ensures.kept_logs c.in-Ok.ensures.count.counted c.in-Err-load_host.ensures.none)
-    (record { stops = c.stop_with-in-Err-load_host.ensures.ended; count = c.stop_with-in-Err-load_host.ensures.count })
-
-pub returns : goal.returns
-returns g c =
-    let said = c.in-Ok-read_issuer.ensures.says in
-    let same = c.in-Ok-load_host.ensures.issuer in
-    let set_up = IsSetUp-from_said _ _ _ _ _ _ c.in-Some.ensures.command (gives_input _ _ c.in-Ok.ensures.input c.in-Ok.ensures.absent) said in
-    c.do_command-ending.ensures _ _ _ _ (set_up-under _ _ _ _ _ same set_up)
-    (ready-since _ _ _ _ _ _ c.in-Ok.ensures.kept_logs same c.in-Ok-load_host.ensures.ready)
-    (again-under _ _ same (legal-then c.in-Ok-read_issuer.issuer c.in-Ok-read_issuer.ensures.table))
-    (c.in-Ok-load_host.ensures.kept ∙ c.in-Ok.ensures.kept) (c.in-Ok-load_host.ensures.stood refl ∙ c.in-Ok.ensures.count.counted)
+pub returns-in-None : goal.returns-in-None
+returns-in-None g c =
+    let none = c.nothing_opened-in-None.ensures in
+    subst (EndsBy _) (sym none.ending)
+    (ends_usage _ _ c.in-None.ensures.other
+    (record {
+      config_is = ap (λ input. is_some (option_map (input_seen g.D.Input.Source) input)) none.no_config;
+      requests_is = ap (λ input. is_some (option_map (input_seen g.D.Input.Source) input)) none.no_requests;
+      desk_stood = refl;
+    })
+    (ap (map (store_seen g.D.Journal.Store)) none.no_stores) (record { stops = c.stop_with.ensures.ended; count = c.stop_with.ensures.count }))

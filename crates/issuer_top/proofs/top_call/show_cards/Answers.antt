@@ -8,11 +8,12 @@ use Rattle.issuer_top.proofs.EndingSteps.{ends_showing}
 use Rattle.issuer_top.proofs.top_call.show_cards.Goals as goal
 
 pub returns : goal.returns
-returns g c = λ words desk config journal set_up ready again stood.
+returns g c = λ words desk config journal set_up ready sound stood.
     let shards = c.args.host.are_shards in
     let first = begins c.args.host.issuer journal desk.logs c.args.host.shards.items ready shards in
     let kept = keep-journals _ journal _ c.args.host.shards.items c.args.host.shards.items ready shards shards
-    (g.met.D.Journal.Store g.world.𝓛 g.world.𝓜 g.world.𝓡 (λ s h. h, λ h. h, λ h. h, λ h. h)).told_bytes (ap (map (store_seen g.D.Journal.Store)) c.close.ensures) first.books first.has_run.stand first.has_run.leave in
-    subst (EndsBy _) (sym c.end_showing-ending.ensures)
+    (g.met.D.Journal.Store g.world.𝓛 g.world.𝓜 g.world.𝓡 (λ s h. h, λ h. h, λ h. h, λ h. h)).told_bytes
+    (ap (map (store_seen g.D.Journal.Store)) c.close.ensures) first.books first.has_run.stand first.has_run.leave in
+    subst (EndsBy _) (sym c.end_writing-ending.ensures)
     (ends_showing _ journal _ first.books _ (record { config_is = refl; requests_is = refl; desk_stood = stood }) set_up kept
     (c.show.ensures.shown first.books first.has_run.stand) c.show.ensures.count)

@@ -21,7 +21,8 @@ pub loop-left-preserved : goal.loop-left-preserved
 loop-left-preserved c =
     let some : 0 < c.loop-left.left = omega arith in
     let other : bytes_eq c.word-name.result.now c.args.option.now ≡ false = search rules in
-    let same = values-same c.args.words.now c.loop-left.left some c.word-name.result.now c.word-given.result.now c.word-name.ensures c.word-given.ensures c.args.option.now other in
+    let same = values-same c.args.words.now c.loop-left.left some c.word-name.result.now c.word-given.result.now c.word-name.ensures c.word-given.ensures
+    c.args.option.now other in
     record {
       first = c.loop-left.invariant.first ∙ sym (ap (λ values. slice_get values 0) same);
       count = c.loop-left.invariant.count ∙ sym (ap length same);
