@@ -8,3 +8,4 @@ pub mod OneRun
 pub mod Loads
 pub mod Shown
 pub mod Running
+mod Ties

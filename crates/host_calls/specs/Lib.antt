@@ -6,3 +6,7 @@ pub mod Hosts
 pub mod Loading
 pub mod Runs
 pub mod Views
+pub mod Decisions
+pub mod OpeningLogs
+pub mod Passes
+pub mod PreChecks

@@ -4,12 +4,18 @@
 //! [`every_run_is_one_history`]. `specs/Runs.antt` says what a crash may leave meanwhile.
 #![tactic(auto)]
 
+mod host;
 mod law;
 mod loading;
+mod pass;
+mod pre_check;
+mod share;
 mod solo;
 
+pub use host::Host;
 pub use law::every_run_is_one_history;
 pub use loading::HostBack;
+pub use pass::{Checked, Pass};
 pub use shard_book::LoadFault;
 pub use show_text::CardView;
 pub use solo::Solo;
