@@ -9,3 +9,6 @@ pub mod Loads
 pub mod Shown
 pub mod Running
 mod Ties
+mod Added
+mod Settling
+mod TiedTurns

@@ -55,7 +55,7 @@ module _ (card counter : ℕ) where
         decisions-later seen later mine heads fronts (All-tail Within pair mine within),
       )
 
-within-later : (seen later : ShardLogs) (mine : List (ℕ × ℕ)) → ((shard : ℕ) → IsFront (items_at seen shard) (items_at later shard))
+pub within-later : (seen later : ShardLogs) (mine : List (ℕ × ℕ)) → ((shard : ℕ) → IsFront (items_at seen shard) (items_at later shard))
     → AreWithin seen mine → AreWithin later mine
 within-later seen later mine fronts within = λ i d below.
     let here = within i d below in

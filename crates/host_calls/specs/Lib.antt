@@ -10,3 +10,4 @@ pub mod Decisions
 pub mod OpeningLogs
 pub mod Passes
 pub mod PreChecks
+pub mod Finishes

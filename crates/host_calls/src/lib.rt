@@ -4,6 +4,7 @@
 //! [`every_run_is_one_history`]. `specs/Runs.antt` says what a crash may leave meanwhile.
 #![tactic(auto)]
 
+mod finish;
 mod host;
 mod law;
 mod loading;
