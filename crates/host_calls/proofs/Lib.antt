@@ -12,3 +12,6 @@ mod Ties
 mod Added
 mod Settling
 mod TiedTurns
+mod RecordedLists
+mod OpeningCounters
+mod Sharing

@@ -53,7 +53,7 @@ behind-alike (a ∷ xs) (b ∷ ys) x y more (suc place) same past = behind-alike
 
 module _ {S : Type 0} {G : Ghosts S} (issuer : Setup) where
   -- the store of a shard that was loaded
-  given-back : (number : ℕ) (store : S) (shard : Shard S G) → IsLoadedFrom issuer number store shard
+  pub given-back : (number : ℕ) (store : S) (shard : Shard S G) → IsLoadedFrom issuer number store shard
       → IsGivenBack G.bytes G.disk G.faults issuer number store (store_in shard)
   given-back number store shard from = record {
     history = from.loaded.history;

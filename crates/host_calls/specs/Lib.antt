@@ -10,4 +10,5 @@ pub mod Decisions
 pub mod OpeningLogs
 pub mod Passes
 pub mod PreChecks
+pub mod RecordedCounters
 pub mod Finishes

@@ -7,9 +7,11 @@
 mod finish;
 mod host;
 mod law;
+mod load;
 mod loading;
 mod pass;
 mod pre_check;
+mod recorded;
 mod share;
 mod solo;
 
