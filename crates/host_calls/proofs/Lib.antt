@@ -15,3 +15,4 @@ mod TiedTurns
 mod RecordedLists
 mod OpeningCounters
 mod Sharing
+mod Closed

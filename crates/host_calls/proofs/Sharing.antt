@@ -1,5 +1,5 @@
 -- Shards that were loaded, as callers share them: their logs, and the counters that are recorded.
-use Rattle.std.proofs.Common.{◌≡◌, ◌⊎◌, ◌↔◌, ℕ, zero, suc, ◌+◌, ◌%◌, ◌<◌, ◌≤◌, List, [], ◌∷◌, ◌++◌, length, map, Bool, true, false, ◌&&◌, eqb, Some, get_or}
+use Rattle.std.proofs.Common.{◌≡◌, ◌⊎◌, ◌↔◌, ℕ, zero, suc, ◌+◌, ◌%◌, ◌<◌, ◌≤◌, List, [], ◌∷◌, ◌++◌, length, map, Option, Bool, true, false, ◌&&◌, eqb, Some, get_or}
 use Rattle.std.proofs.Common.{refl, sym, ap, ◌∙◌, subst, inl, inr, arith}
 use Rattle.std.proofs.Math.Nat.{mod-lt}
 use Rattle.std.proofs.lemmas.List.{length-map}
@@ -9,6 +9,8 @@ use Rattle.std.specs.List.{slice_get}
 use Rattle.counter_bits.specs.CounterSets.{times}
 use Rattle.counter_bits.proofs.Listing.{times-append}
 use Rattle.issuer_base.specs.OutsideFaults.{CountsFaults}
+use Rattle.issuer_base.specs.Tells.{Tells}
+use Rattle.journal_rec.specs.RecordText.{texts_of}
 use Rattle.issuer_base.specs.declared.entry.Entry.{Entry}
 use Rattle.issuer_base.specs.declared.outside.store.Store.{Ghosts}
 use Rattle.issuer_setup.specs.CardList.{AreCards}
@@ -18,15 +20,16 @@ use Rattle.claim_words.specs.ClaimViews.{times as times_claimed}
 use Rattle.turn_book.specs.declared.logs.Log.{Log}
 use Rattle.turn_book.specs.Logs.{items_at}
 use Rattle.shard_book.specs.declared.shard.Shard.{Shard}
-use Rattle.shard_book.specs.Shards.{faults_in, store_in}
+use Rattle.shard_book.specs.Shards.{faults_in, store_in, IsLoaded}
 use Rattle.shard_turns.specs.declared.logs.LogItem.{LogItem}
 use Rattle.shard_turns.specs.declared.logs.LogItem.TheVariants.{Record}
 use Rattle.shard_turns.specs.declared.logs.LogHead.{LogHead}
-use Rattle.shard_turns.specs.Opening.{head_with, log_with, AreJustLoaded, IsOpeningLog, AreOpeningLogs}
+use Rattle.shard_turns.specs.ShardLogs.{records_of}
+use Rattle.shard_turns.specs.Opening.{bytes_at, head_with, log_with, AreJustLoaded, IsOpeningLog, AreOpeningLogs}
 use Rattle.shard_book.specs.declared.replay.LoadFault.TheVariants.{NoMemory}
 use Rattle.host_calls.specs.Loading.{IsLoadedFrom, AreLoaded, IsGivenBack}
 use Rattle.host_calls.proofs.Loads.{given-back}
-use Rattle.host_calls.specs.OpeningLogs.{IsOpenedFrom, AreOpenedFrom, AllComeBack, is_decided}
+use Rattle.host_calls.specs.OpeningLogs.{IsOpenedFrom, AreOpenedFrom, AreCounted, AllComeBack, is_decided}
 use Rattle.host_calls.specs.RecordedCounters.{AreStanding, AreRecordedOf}
 use Rattle.host_calls.proofs.OpeningCounters.{as-decided}
 use Rattle.host_calls.proofs.Places.{read-within, read-map}
@@ -49,27 +52,38 @@ times-some (pair ∷ list) (suc place) d below =
     let rest = times-some list place d (omega arith) in
     omega arith
 
-items-there : (logs : List (Log LogItem LogHead)) (shard : ℕ) (log : Log LogItem LogHead) → slice_get logs shard ≡ Some log → items_at logs shard ≡ log.items
+pub items-there : (logs : List (Log LogItem LogHead)) (shard : ℕ) (log : Log LogItem LogHead) → slice_get logs shard ≡ Some log → items_at logs shard ≡ log.items
 items-there [] shard log is = absurd (cc)
 items-there (first ∷ logs) zero log is = ap (λ (log : Log LogItem LogHead). log.items) (same_Some first log is)
 items-there (first ∷ logs) (suc shard) log is = items-there logs shard log is
 
+-- the bytes of the store at a place
+bytes-there : {S : Type 0} (bytes : S → Option (List ℕ)) (stores : List S) (number : ℕ) (store : S) → slice_get stores number ≡ Some store
+    → bytes_at bytes stores number ≡ bytes store
+bytes-there bytes [] number store is = absurd (cc)
+bytes-there bytes (first ∷ stores) zero store is = ap bytes (same_Some first store is)
+bytes-there bytes (first ∷ stores) (suc number) store is = bytes-there bytes stores number store is
+
 -- the log of one shard
-log-opened : {S : Type 0} {G : Ghosts S} (issuer : Setup) (number : ℕ) (store : S) (shard : Shard S G) (log : Log LogItem LogHead)
-    → IsLoadedFrom issuer number store shard → IsOpeningLog issuer number (G.bytes store) shard log → IsOpenedFrom G.bytes G.faults issuer number store log
-log-opened {G = G} issuer number store shard log from its =
+log-opened : {S : Type 0} {G : Ghosts S} (issuer : Setup) (stores : List S) (number : ℕ) (store : S) (shard : Shard S G) (log : Log LogItem LogHead)
+    → slice_get stores number ≡ Some store → IsLoadedFrom issuer number store shard → IsOpeningLog issuer stores number shard log → IsOpenedFrom G.bytes G.faults issuer number store log
+log-opened {G = G} issuer stores number store shard log is from its =
     let faults : log.head.faults ≡ faults_in shard = ap (λ (log : Log LogItem LogHead). log.head.faults) its.log_is in
     let history : List Entry = its.loaded.history in
     record {
       history = history;
       rest = its.loaded.rest;
-      text_is = its.loaded.text_is;
+      text_is = subst (λ bytes. Tells bytes (texts_of history ++ its.loaded.rest)) (bytes-there G.bytes stores number store is) its.loaded.text_is;
       unbroken = its.loaded.unbroken;
       records = its.loaded.records;
       legal = its.loaded.legal;
       log_is = its.log_is ∙ ap (λ (faults : ℕ). log_with (head_with issuer number faults (length history)) history) (sym faults);
       counts = subst (λ (now : ℕ). CountsFaults (G.faults store) now false) (sym faults) from.counts;
     }
+
+records-map : (history : List Entry) → records_of (map Record history) ≡ history
+records-map [] = refl
+records-map (entry ∷ history) = λ i. entry ∷ records-map history i
 
 module _ {S : Type 0} {G : Ghosts S} (issuer : Setup) (stores : List S) (shards : List (Shard S G)) (count : length stores ≡ issuer.shards) (some : 0 < issuer.shards)
     (loaded : AreLoaded issuer stores shards) where
@@ -97,10 +111,11 @@ module _ {S : Type 0} {G : Ghosts S} (issuer : Setup) (stores : List S) (shards 
   pub loaded-just : AreJustLoaded issuer stores shards
   loaded-just = record {
     count_is = loaded.count_is ∙ count;
-    stores_are = sym loaded.count_is;
-    each = λ number store shard is shard_is.
-        let its = loaded.each number store shard is shard_is in
-        record { loaded = its.loaded; under = its.under; untold = its.untold; undoubted = its.undoubted };
+    each = λ number shard shard_is.
+        let store = store-there number shard shard_is in
+        let its = loaded.each number store.0 shard store.1 shard_is in
+        let from = subst (λ bytes. IsLoaded issuer number bytes shard) (sym (bytes-there G.bytes stores number store.0 store.1)) its.loaded in
+        record { loaded = from; under = its.under; untold = its.untold; undoubted = its.undoubted };
   }
 
   module _ (list : List (ℕ × ℕ)) (recorded : AreRecordedOf issuer shards (length shards) list) where
@@ -124,7 +139,7 @@ module _ {S : Type 0} {G : Ghosts S} (issuer : Setup) (stores : List S) (shards 
       count_is = opening.count_is ∙ loaded.count_is;
       each = λ number store log is log_is.
           let shard = shard-there number store is in
-          log-opened issuer number store shard.0 log (loaded.each number store shard.0 is shard.1) (opening.each number store shard.0 log is shard.1 log_is);
+          log-opened issuer stores number store shard.0 log is (loaded.each number store shard.0 is shard.1) (opening.each number shard.0 log shard.1 log_is);
     }
 
     module _ (valid : AreCards issuer.cards) (list : List (ℕ × ℕ)) (recorded : AreRecordedOf issuer shards (length shards) list) where
@@ -133,10 +148,9 @@ module _ {S : Type 0} {G : Ghosts S} (issuer : Setup) (stores : List S) (shards 
       list-decided card counter =
           let home : ℕ = card % issuer.shards in
           let below : home < issuer.shards = mod-lt card some in
-          let store = read-within stores home (omega (arith, below, count)) in
           let shard = read-within shards home (omega (arith, below, count, loaded.count_is)) in
           let log = read-within logs home (omega (arith, below, count, loaded.count_is, opening.count_is)) in
-          let its = opening.each home store.0 shard.0 log.0 store.1 shard.1 log.1 in
+          let its = opening.each home shard.0 log.0 shard.1 log.1 in
           let items : items_at logs home ≡ map Record its.loaded.history = items-there logs home log.0 log.1 ∙ ap (λ (log : Log LogItem LogHead). log.items) its.log_is in
           let exact = recorded.exact card counter shard.0 its.loaded.history (omega (arith, below, count, loaded.count_is)) shard.1 its.loaded.stands in
           times-alike card counter list
@@ -159,3 +173,13 @@ all-come-back {S} {G} issuer stores shards loaded =
           subst (λ (after : S). IsGivenBack G.bytes G.disk G.faults issuer number store after) its
           (given-back issuer number store shard.0 (loaded.each number store shard.0 is shard.1));
     }
+
+-- the heads of logs that were opened so tell how many records they have
+pub opened-counted : {S : Type 0} (bytes : S → Option (List ℕ)) (faults : S → ℕ) (issuer : Setup) (stores : List S) (logs : List (Log LogItem LogHead))
+    → AreOpenedFrom bytes faults issuer stores logs → AreCounted logs
+opened-counted bytes faults issuer stores logs opened number log is =
+    let below = slice_get_within logs number log is in
+    let store = read-within stores number (omega (arith, opened.count_is)) in
+    let its = opened.each number store.0 log store.1 is in
+    ap (λ (log : Log LogItem LogHead). log.head.records) its.log_is
+    ∙ sym (ap (λ (log : Log LogItem LogHead). length (records_of log.items)) its.log_is ∙ ap (λ (entries : List Entry). length entries) (records-map its.history))

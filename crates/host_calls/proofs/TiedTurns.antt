@@ -15,6 +15,7 @@ use Rattle.row_core.specs.Replying.{reply_to}
 use Rattle.seat_names.specs.Totals.{one_if}
 use Rattle.claim_words.specs.declared.view.ClaimView.{ClaimView}
 use Rattle.claim_words.specs.ClaimViews.{HasOpen, settled, is_pair}
+use Rattle.show_text.specs.declared.card_view.CardView.{CardView}
 use Rattle.turn_book.specs.declared.logs.Log.{Log}
 use Rattle.turn_book.specs.declared.seat.TurnSeat.{TurnSeat}
 use Rattle.turn_book.specs.declared.view.TurnView.{TurnView}
@@ -24,7 +25,7 @@ use Rattle.shard_turns.specs.declared.logs.LogItem.{LogItem}
 use Rattle.shard_turns.specs.declared.logs.LogHead.{LogHead}
 use Rattle.shard_turns.specs.declared.turns.ShardTurns.{ShardTurns}
 use Rattle.shard_turns.specs.ShardSeats.{opening_in, AreTurnsOf, IsSeatOf}
-use Rattle.shard_turns.specs.Turned.{DecidesInTurn, QueuesInTurn, SetsInTurn}
+use Rattle.shard_turns.specs.Turned.{DecidesInTurn, QueuesInTurn, SetsInTurn, ShowsInTurn}
 use Rattle.host_calls.specs.Decisions.{AreTied}
 use Rattle.host_calls.specs.Finishes.{is_fresh, standing_by}
 use Rattle.host_calls.specs.Passes.{open_in}
@@ -36,19 +37,28 @@ found-below : (shards : ℕ) (found : Option ℕ) → 0 < shards → option_map_
 found-below shards None some = some
 found-below shards (Some number) some = mod-lt number some
 
--- the log that a seat has seen of a card's shard is under the issuer
-pub headed-there : {S : Type 0} {G : Ghosts S} (issuer : Setup) (turns : ShardTurns S G) (seat : TurnSeat LogItem LogHead) (name : CardName)
-    → AreTurnsOf issuer turns → IsSeatOf turns seat → IsHeaded issuer (shard_of issuer name) (view_of seat).seen
-headed-there issuer turns seat name of seated =
-    let head : Log LogItem LogHead → LogHead = λ log. log.head in
-    let heads : heads_of (view_of seat).seen ≡ heads_of (opening_in turns) = seated.of.heads in
-    let some : 0 < issuer.shards = omega (arith, of.count_is, turns.turns.some_shard) in
-    let long : length (view_of seat).seen ≡ issuer.shards =
-    sym (length-map (view_of seat).seen head) ∙ ap (λ (heads : List LogHead). length heads) heads ∙ length-map (opening_in turns) head ∙ of.count_is in
-    let below = found-below issuer.shards (number_of name issuer.cards) some in (
-      omega (arith, long, below),
-      λ its is. (of.heads_are (shard_of issuer name) its (ap (λ (heads : List LogHead). slice_get heads (shard_of issuer name)) (sym heads) ∙ is)).0,
-    )
+module _ {S : Type 0} {G : Ghosts S} (issuer : Setup) (turns : ShardTurns S G) (seat : TurnSeat LogItem LogHead) (of : AreTurnsOf issuer turns)
+    (seated : IsSeatOf turns seat) where
+  -- the log that a seat has seen of a shard is under the issuer
+  headed-at : (shard : ℕ) → (0 < issuer.shards → shard < issuer.shards) → IsHeaded issuer shard (view_of seat).seen
+  headed-at shard within =
+      let head : Log LogItem LogHead → LogHead = λ log. log.head in
+      let heads : heads_of (view_of seat).seen ≡ heads_of (opening_in turns) = seated.of.heads in
+      let some : 0 < issuer.shards = omega (arith, of.count_is, turns.turns.some_shard) in
+      let long : length (view_of seat).seen ≡ issuer.shards =
+      sym (length-map (view_of seat).seen head) ∙ ap (λ (heads : List LogHead). length heads) heads ∙ length-map (opening_in turns) head ∙ of.count_is in
+      let below = within some in (
+        omega (arith, long, below),
+        λ its is.
+            ap (λ (head : LogHead). head.issuer) (of.heads_are shard its (ap (λ (heads : List LogHead). slice_get heads shard) (sym heads) ∙ is)),
+      )
+
+  -- so is that of a card's shard
+  pub headed-there : (name : CardName) → IsHeaded issuer (shard_of issuer name) (view_of seat).seen
+  headed-there name = headed-at (shard_of issuer name) (found-below issuer.shards (number_of name issuer.cards))
+
+  pub headed-home : (card : ℕ) → IsHeaded issuer (card % issuer.shards) (view_of seat).seen
+  headed-home card = headed-at (card % issuer.shards) (mod-lt card)
 
 module _ (issuer : Setup) (claims : ClaimView) (before : TurnView LogItem LogHead) (answer : Answer) (after : TurnView LogItem LogHead)
     (tied : AreTied claims before) where
@@ -99,3 +109,10 @@ module _ (issuer : Setup) (claims : ClaimView) (before : TurnView LogItem LogHea
         kept-settled number request.atc claims (open-once number request.atc claims own alone) card counter answer,
         ap one_if (claimed-decides issuer shard card counter turn.between turn.added (reply_to issuer) true request answer number is turn.changes turn.adds),
       )))
+
+-- what is shown adds nothing
+pub tied-shown : (issuer : Setup) (claims : ClaimView) (before after : TurnView LogItem LogHead) (card : ℕ) (shown : CardView) → AreTied claims before
+    → IsHeaded issuer (card % issuer.shards) before.seen → ShowsInTurn issuer card before shown after → AreTied claims after
+tied-shown issuer claims before after card shown tied headed turn =
+    subst (AreTied claims) (sym turn.after_is)
+    (tied-turned issuer (card % issuer.shards) turn.between claims claims before headed turn.front refl tied None (λ card counter. omega arith))

@@ -10,5 +10,7 @@ pub mod Decisions
 pub mod OpeningLogs
 pub mod Passes
 pub mod PreChecks
+pub mod Authorising
+pub mod Closing
 pub mod RecordedCounters
 pub mod Finishes

@@ -12,6 +12,7 @@ use Rattle.journal_rec.specs.RecordText.{texts_of, IsUnbroken}
 use Rattle.shard_book.specs.declared.replay.LoadFault.{LoadFault}
 use Rattle.shard_book.specs.declared.replay.LoadFault.TheVariants.{NoMemory}
 use Rattle.shard_book.specs.Grounds.{grounds_of}
+use Rattle.shard_turns.specs.ShardLogs.{records_of}
 use Rattle.shard_turns.specs.Opening.{head_with, log_with}
 use Rattle.host_calls.specs.Loading.{IsGivenBack, ComeBack}
 use Rattle.claim_words.specs.declared.layout.TheConstants.{COUNTERS}
@@ -28,11 +29,19 @@ use Rattle.host_calls.specs.Decisions.{decides}
 abbrev pub is_decided : Setup → List LogItem → ℕ → ℕ → Bool
 is_decided issuer items card counter = list_any (λ item. decides issuer card counter (Some item)) items
 
+-- 1 where the log of the card's shard has a decision on this counter of the card, and else 0
+abbrev pub opened_on : Setup → List (Log LogItem LogHead) → ℕ → ℕ → ℕ
+opened_on issuer logs card counter = one_if (is_decided issuer (items_at logs (card % issuer.shards)) card counter)
+
 -- the claim words have a counter of a card as recorded, and once, just where the log of the card's shard has a decision on it
 abbrev pub AreRecordedIn : Setup → List (Log LogItem LogHead) → ClaimWords → Type 0
 AreRecordedIn issuer logs words =
     (card counter : ℕ) → counter < COUNTERS
-    → recorded_in words card counter ≡ one_if (is_decided issuer (items_at logs (card % issuer.shards)) card counter)
+    → recorded_in words card counter ≡ opened_on issuer logs card counter
+
+-- the head of each log tells how many records it has
+abbrev pub AreCounted : List (Log LogItem LogHead) → Type 0
+AreCounted logs = (shard : ℕ) (log : Log LogItem LogHead) → slice_get logs shard ≡ Some log → log.head.records ≡ length (records_of log.items)
 
 -- by what stores tell of their bytes, and by their counts of faults
 module _ {S : Type 0} (bytes : S → Option (List ℕ)) (faults : S → ℕ) where

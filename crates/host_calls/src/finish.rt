@@ -29,6 +29,7 @@ impl<S: Store> Host<S> {
         ensures free { IsFree self.now pass.new }
         ensures turn { FinishesInTurn self.now.issuer checked (logs_of pass.old) result (logs_of pass.new) }
         ensures claims { claims_of pass.new ≡ claims_after checked result (claims_of pass.old) }
+        ensures names { (claims_of pass.new).names ≡ (claims_of pass.old).names }
         ensures answered { pass.new.answered ≡ min (pass.old.answered + 1) (2 ^ 64 - 1) }
     {
         let answer = match checked {

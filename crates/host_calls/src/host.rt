@@ -3,7 +3,7 @@ ghost use Rattle.std.specs.Prelude.{◌≡◌, ◌≤◌, [], length, vec_capaci
 ghost use Rattle.issuer_base.specs.declared.limits.TheConstants.{MAX_SHARDS};
 ghost use Rattle.claim_words.specs.Seats.{cards_of};
 ghost use Rattle.shard_turns.specs.ShardSeats.{opening_in, AreTurnsOf};
-ghost use Rattle.host_calls.specs.OpeningLogs.{AreRecordedIn};
+ghost use Rattle.host_calls.specs.OpeningLogs.{AreCounted, AreRecordedIn};
 
 use claim_words::ClaimWords;
 use issuer_base::Store;
@@ -26,6 +26,7 @@ pub struct Host<S: Store> {
     pub(crate) room: Mutex<StoreRoom<S>>,
     ghost cards: { cards_of claims ≡ length issuer.cards },
     ghost shards: { AreTurnsOf issuer turns },
+    ghost counted: { AreCounted (opening_in turns) },
     ghost recorded: { AreRecordedIn issuer (opening_in turns) claims },
 }
 
@@ -34,6 +35,15 @@ pub(crate) struct StoreRoom<S> {
     pub(crate) list: Vec<S>,
     ghost empty: { list.items ≡ [] },
     ghost room: { MAX_SHARDS ≤ vec_capacity list },
+}
+
+impl<S> StoreRoom<S> {
+    pub(crate) fn into_list(self) -> Vec<S>
+        ensures { (result.items ≡ []) × (MAX_SHARDS ≤ vec_capacity result) }
+    {
+        let StoreRoom { list } = self;
+        list
+    }
 }
 
 impl<S: Store> Host<S> {

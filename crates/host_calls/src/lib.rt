@@ -4,6 +4,8 @@
 //! [`every_run_is_one_history`]. `specs/Runs.antt` says what a crash may leave meanwhile.
 #![tactic(auto)]
 
+mod answering;
+mod close;
 mod finish;
 mod host;
 mod law;
@@ -25,3 +27,6 @@ pub use solo::Solo;
 
 #[cfg(test)]
 mod tests;
+
+#[cfg(test)]
+mod host_tests;

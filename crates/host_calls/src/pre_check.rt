@@ -21,7 +21,8 @@ impl<S: Store> Host<S> {
     pub fn pre_check(&self, pass: &mut Pass, line: &[u8]) -> Result<Checked, Refusal>
         requires free { IsFree self.now pass.old }
         ensures checks { PreChecks self.now.issuer (reading self.now.issuer line.now) (claims_of pass.old) result (claims_of pass.new) }
-        ensures logs { logs_of pass.new ≡ logs_of pass.old }
+        ensures names { (claims_of pass.new).names ≡ (claims_of pass.old).names }
+        ensures logs { (logs_of pass.new ≡ logs_of pass.old) × (pass.new.answered ≡ pass.old.answered) }
         ensures asked { IfOk result (λ checked. Ok (asked_of checked) ≡ reading self.now.issuer line.now) }
         ensures passed { IfOk result (HasPassed self.now.issuer) }
 
@@ -40,7 +41,8 @@ impl<S: Store> Host<S> {
         requires free { IsFree self.now pass.old }
         requires passed { HasPassed self.now.issuer (Decide found Won) }
         ensures checks { ChecksRequest found.card found.request.atc (claims_of pass.old) result (claims_of pass.new) }
-        ensures logs { logs_of pass.new ≡ logs_of pass.old }
+        ensures names { (claims_of pass.new).names ≡ (claims_of pass.old).names }
+        ensures logs { (logs_of pass.new ≡ logs_of pass.old) × (pass.new.answered ≡ pass.old.answered) }
         ensures found { IfOk result (λ checked. (claim : Claim) × (checked ≡ Decide found claim)) }
         ensures held { MatchResult result (Holds self.now pass.new) (λ _. IsFree self.now pass.new) }
     {

@@ -1,5 +1,5 @@
 //! A text of records that grows at its end: a record is safe in the store before it counts.
-ghost use Rattle.std.specs.Prelude.{◌≡◌, ◌⊎◌, ◌+◌, ◌<◌, ◌≤◌, ℕ, List, [], ◌++◌, length, false, IfOk, IfErr, IsErr, OnOk, is_err, true};
+ghost use Rattle.std.specs.Prelude.{◌≡◌, ◌⊎◌, ◌+◌, ◌^◌, ◌<◌, ◌≤◌, ℕ, List, [], ◌++◌, length, false, IfOk, IfErr, IsErr, OnOk, is_err, true};
 ghost use Rattle.issuer_base.specs.OutsideFaults.{CountsFaults};
 ghost use Rattle.issuer_base.specs.Stores.{BothTold, CutsBytes, Disk, LeavesOnly, Passes};
 ghost use Rattle.issuer_base.specs.Tells.{Tells};
@@ -26,6 +26,7 @@ pub struct Journal<S: Store> {
     ghost within: { sure ≤ S.size store },
     ghost exact: { in_doubt ≡ false → S.size store ≡ sure },
     ghost few: { records ≤ sure },
+    ghost fits: { sure < 2 ^ 64 },
 }
 
 impl<S: Store> Journal<S> {

@@ -9,5 +9,5 @@ invariant_of-pass g c =
     let host = c.args.self.now in
     let pass = c.args.pass.now in
     let found = c.args.found.now in
-    let headed = headed-there host.issuer host.turns pass.turns (card_of found.request) host.shards c.requires.free.of.turns_are in
+    let headed = headed-there host.issuer host.turns pass.turns host.shards c.requires.free.of.turns_are (card_of found.request) in
     record { tied = tied-lost host.issuer (claims_of pass) (logs_of pass) c.decide.result _ pass.tied found.request headed c.decide.ensures.turn }

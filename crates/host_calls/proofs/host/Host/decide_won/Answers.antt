@@ -11,7 +11,7 @@ invariant_of-pass g c =
     let host = c.args.self.now in
     let pass = c.args.pass.now in
     let found = c.args.found.now in
-    let headed = headed-there host.issuer host.turns pass.turns (card_of found.request) host.shards c.requires.held.of.turns_are in
+    let headed = headed-there host.issuer host.turns pass.turns host.shards c.requires.held.of.turns_are (card_of found.request) in
     record {
       tied = rw c.settle.ensures.view (tied-won host.issuer (claims_of pass) (logs_of pass) c.decide-answer.result _ pass.tied found.request found.card
           c.requires.passed.0.card_is.number_is c.requires.held.own c.requires.held.alone headed c.decide-answer.ensures.turn);

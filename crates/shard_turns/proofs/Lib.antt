@@ -1,0 +1,9 @@
+-- The lemmas of this crate, lowest first.
+pub mod OpeningLemmas
+pub mod LogSteps
+pub mod Standing
+pub mod Answered
+pub mod Ending
+pub mod Shown
+pub mod Turning
+pub mod ListLemmas

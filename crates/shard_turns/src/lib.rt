@@ -1,0 +1,15 @@
+//! The shards of a host, at which callers take turns: each record that a call adds stands in the shard's log, and so does each
+//! answer that told that the store failed.
+#![tactic(auto)]
+
+mod held;
+mod lists;
+mod logs;
+mod opening;
+mod turns;
+mod views;
+
+pub use held::HeldShard;
+pub use logs::{LogHead, LogItem};
+pub use turns::{ShardSeat, ShardTurns};
+pub use views::row_shown;
