@@ -1,5 +1,5 @@
 -- What is added to a shard's log as a turn ends.
-use Rattle.std.proofs.Common.{◌≡◌, ℕ, zero, suc, ◌^◌, ◌<◌, ◌≤◌, length-append, ◌∷◌, [], ◌++◌, List, Bool, true, false, Option, None, Some, length, ◌∙◌, sym, ap, subst, refl, arith}
+use Rattle.std.proofs.Common.{◌≡◌, ◌≢◌, ℕ, zero, suc, ◌^◌, ◌<◌, ◌≤◌, length-append, ◌∷◌, [], ◌++◌, List, Bool, true, false, Option, None, Some, length, ◌∙◌, sym, ap, subst, refl, arith}
 use Rattle.std.specs.Option.{is_some}
 use Rattle.issuer_base.specs.declared.outside.store.Store.{Ghosts}
 use Rattle.issuer_base.specs.declared.entry.Entry.{Entry}
@@ -9,7 +9,7 @@ use Rattle.turn_book.specs.declared.view.Turn.TheVariants.{Free}
 use Rattle.turn_book.specs.declared.view.TurnView.{TurnView}
 use Rattle.turn_book.specs.Logs.{heads_of, items_at, with_items, StandsAt}
 use Rattle.turn_book.specs.TurnViews.{entered, free, counted}
-use Rattle.turn_book.proofs.LogLemmas.{items-with_same, stands_below, heads-with, heads-length}
+use Rattle.turn_book.proofs.LogLemmas.{items-with_same, items-with_other, stands_below, heads-with, heads-length}
 use Rattle.shard_turns.specs.declared.held.HeldShard.{HeldShard}
 use Rattle.shard_turns.specs.declared.logs.LogHead.{LogHead}
 use Rattle.shard_turns.specs.declared.logs.LogItem.{LogItem}
@@ -95,3 +95,13 @@ turned-is before shard between (Some item) below =
     ap (λ (items : List LogItem). free (counted_as shard item items (entered shard between before))) its
     ∙ ap (λ (seen : List (Log LogItem LogHead)). view-with seen ((shard, length between) ∷ before.mine) before)
     (with-with before.seen shard between (between ++ item ∷ []))
+
+-- after a turn the seat has seen the shard's log with what was added
+pub turned-there : (before : TurnView LogItem LogHead) (shard : ℕ) (between : List LogItem) (added : Option LogItem) → shard < length before.seen
+    → items_at (turned shard between added before).seen shard ≡ log_after between added
+turned-there before shard between added below = items-with_same before.seen shard (log_after between added) below
+
+-- and of the others what it had seen
+pub turned-elsewhere : (before : TurnView LogItem LogHead) (shard other : ℕ) (between : List LogItem) (added : Option LogItem) → other ≢ shard
+    → items_at (turned shard between added before).seen other ≡ items_at before.seen other
+turned-elsewhere before shard other between added apart = items-with_other before.seen shard other (log_after between added) apart

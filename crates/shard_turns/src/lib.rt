@@ -13,3 +13,6 @@ pub use held::HeldShard;
 pub use logs::{LogHead, LogItem};
 pub use turns::{ShardSeat, ShardTurns};
 pub use views::row_shown;
+
+#[cfg(test)]
+mod tests;
