@@ -50,7 +50,7 @@ pub(crate) fn issuer(alloc: Global, shards: u8) -> Result<Issuer, Fail>
 }
 
 /// A store with this text and room for more, that fails at the listed calls.
-pub(crate) fn store(alloc: Global, text: &str, fails: Vec<u64>) -> Result<MemoryStore, Fail> {
+fn store(alloc: Global, text: &str, fails: Vec<u64>) -> Result<MemoryStore, Fail> {
     let text = text.as_bytes().to_vec(alloc)?;
     Ok(MemoryStore::new(alloc, text, 4_096, fails).map_err(|_| "a store")?)
 }

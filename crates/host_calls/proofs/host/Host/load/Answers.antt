@@ -1,15 +1,12 @@
 -- What is shared is a host, or the stores of the shards come back.
-use Rattle.std.proofs.Common.{◌≡◌, inr, subst}
-use Rattle.host_calls.specs.Loading.{AreLoaded}
+use Rattle.std.proofs.Common.{inr}
 use Rattle.host_calls.proofs.Sharing.{all-come-back, opened-counted}
 use Rattle.host_calls.proofs.host.Host.load.Goals as goal
 
 pub returns-in-Err-clause-stopped : goal.returns-in-Err-clause-stopped
 returns-in-Err-clause-stopped g c =
-    let lists : c.in_ok-shards.field-0.shards ≡ c.in_ok-shards.shards = c.in_ok-shards.shards-is in
-    let loaded = subst (λ shards. AreLoaded {G = g.S.Store} c.args.issuer c.args.stores.items shards.items) lists c.in_ok-shards.ensures.loaded in
     inr (rw (c.take_stores.ensures.stores, c.in-Err.ensures.refused)
-    (all-come-back c.args.issuer c.args.stores.items c.in_ok-shards.shards.items loaded))
+    (all-come-back c.args.issuer c.args.stores.items c.in_ok-shards.field-0.shards.items c.in_ok-shards.ensures.loaded))
 
 pub invariant_of-host : goal.invariant_of-host
 invariant_of-host g c = record {
