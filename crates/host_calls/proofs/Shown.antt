@@ -1,21 +1,19 @@
 -- What a host shows of a card is what the history of its shard says.
-use Rattle.std.proofs.Common.{◌≡◌, ℕ, ◌/◌, ◌%◌, Bool, List, length, get_or, Option, Some, sym, ap, subst, ◌∙◌, arith}
+use Rattle.std.proofs.Common.{◌≡◌, ℕ, ◌/◌, ◌%◌, List, length, get_or, Some, sym, ap, subst, ◌∙◌, arith}
 use Rattle.std.proofs.lemmas.Option.{same_Some, slice_get_within, get_or_from_slice_get}
 use Rattle.std.specs.List.{slice_get}
 use Rattle.issuer_base.specs.declared.outside.store.Store.{Ghosts}
-use Rattle.issuer_base.specs.declared.entry.Entry.{Entry}
-use Rattle.card_history.specs.Records.{CardName, decided, greatest, status_of}
-use Rattle.card_history.specs.Scripts.{scripts_of}
-use Rattle.cvr_settle.specs.declared.settlement.Flight.{Flight}
 use Rattle.issuer_setup.specs.declared.card.CardInfo.{CardInfo}
 use Rattle.issuer_setup.specs.CardList.{AreCards, name_of, number_of}
 use Rattle.issuer_setup.specs.IssuerSetup.{Setup, shard_of}
 use Rattle.issuer_setup.proofs.CardListLemmas.{number_of-first}
 use Rattle.issuer_setup.proofs.Names.{name_at-get_or, name_at-slice_get}
 use Rattle.issuer_setup.proofs.Shards.{shard_of-known}
-use Rattle.row_core.specs.CardRow.{CardRow, KeptScripts, StandsFor as RowStandsFor}
+use Rattle.row_core.specs.CardRow.{CardRow, StandsFor as RowStandsFor}
 use Rattle.shard_book.specs.declared.shard.Shard.{Shard}
 use Rattle.show_text.specs.declared.card_view.CardView.{CardView}
+use Rattle.shard_turns.specs.CardViews.{IsShownBy}
+use Rattle.shard_turns.proofs.Shown.{row-view}
 use Rattle.host_calls.specs.Books.{Book}
 use Rattle.host_calls.specs.Hosts.{AreShards, Stand}
 use Rattle.host_calls.specs.Views.{view_of}
@@ -31,25 +29,6 @@ number-known cards number card valid is =
     (λ before lower same.
     valid.distinct before number card lower within (sym (name_at-get_or cards before card (omega arith)) ∙ same ∙ sym own))
 
--- the parts of a view
-view-by : Option ℕ → ℕ → ℕ → ℕ → Option Flight → Bool → CardView
-view-by hi status queued done flight halted =
-    record { hi = hi; status = status; queued = queued; done = done; flight = flight; halted = halted }
-
-view-alike : (card : CardName) (history : List Entry) (hi : Option ℕ) (status queued done : ℕ) (flight : Option Flight) (halted : Bool)
-    → hi ≡ greatest (decided card history) → status ≡ status_of card history → queued ≡ length (scripts_of card history).queue
-    → done ≡ (scripts_of card history).done → flight ≡ (scripts_of card history).flight → halted ≡ (scripts_of card history).halted
-    → view-by hi status queued done flight halted ≡ view_of card history
-unfolding view-by
-view-alike card history hi status queued done flight halted hi_is status_is queued_is done_is flight_is halted_is =
-    let scripts = scripts_of card history in
-    ap (λ hi. view-by hi status queued done flight halted) hi_is
-    ∙ ap (λ status. view-by (greatest (decided card history)) status queued done flight halted) status_is
-    ∙ ap (λ queued. view-by (greatest (decided card history)) (status_of card history) queued done flight halted) queued_is
-    ∙ ap (λ done. view-by (greatest (decided card history)) (status_of card history) (length scripts.queue) done flight halted) done_is
-    ∙ ap (λ flight. view-by (greatest (decided card history)) (status_of card history) (length scripts.queue) scripts.done flight halted) flight_is
-    ∙ ap (λ halted. view-by (greatest (decided card history)) (status_of card history) (length scripts.queue) scripts.done scripts.flight halted) halted_is
-
 -- a row of a card of the host's shards shows what the card's history says
 module _ {S : Type 0} {G : Ghosts S} (issuer : Setup) (shards : List (Shard S G)) (are : AreShards issuer shards) (valid : AreCards issuer.cards)
     (card home : ℕ) (home_is : home ≡ card % issuer.shards) (shard : Shard S G) (shard_is : slice_get shards home ≡ Some shard) (row : CardRow)
@@ -64,20 +43,7 @@ module _ {S : Type 0} {G : Ghosts S} (issuer : Setup) (shards : List (Shard S G)
       let found = stands.stands.rows_stand.each card info here info_is in
       subst (λ (row : CardRow). RowStandsFor info row book.history) (same_Some found.row row (sym found.row_is ∙ row_is)) found.stands
 
-  pub shown : (books : List Book) (info : CardInfo) (book : Book) → Stand issuer shards books → slice_get issuer.cards card ≡ Some info
-      → slice_get books (shard_of issuer (name_of info)) ≡ Some book
-      → let view : CardView = record {
-        hi = row.hi;
-        status = row.status;
-        queued = row.scripts.commands.queued;
-        done = row.scripts.done;
-        flight = row.scripts.flight;
-        halted = row.scripts.halted;
-      } in view ≡ view_of (name_of info) book.history
-  unfolding view-by
-  shown books info book stand info_is book_is =
-      let stands = row-of books info book stand info_is book_is in
-      let scripts = stands.scripts_are in
-      view-alike (name_of info) book.history row.hi row.status row.scripts.commands.queued row.scripts.done row.scripts.flight row.scripts.halted
-      stands.hi_is stands.status_is (ap (λ (kept : KeptScripts). kept.commands.queued) scripts) (ap (λ (kept : KeptScripts). kept.done) scripts)
-      (ap (λ (kept : KeptScripts). kept.flight) scripts) (ap (λ (kept : KeptScripts). kept.halted) scripts)
+  pub shown : (view : CardView) → IsShownBy row view → (books : List Book) (info : CardInfo) (book : Book) → Stand issuer shards books
+      → slice_get issuer.cards card ≡ Some info → slice_get books (shard_of issuer (name_of info)) ≡ Some book → view ≡ view_of (name_of info) book.history
+  shown view shows books info book stand info_is book_is =
+      row-view info row book.history view (row-of books info book stand info_is book_is) shows

@@ -1,18 +1,10 @@
 -- What a host shows of a card.
-use Rattle.std.specs.Prelude.{List, length}
+use Rattle.std.specs.Prelude.{List}
 use Rattle.issuer_base.specs.declared.entry.Entry.{Entry}
-use Rattle.card_history.specs.Records.{CardName, decided, greatest, status_of}
-use Rattle.card_history.specs.Scripts.{scripts_of}
+use Rattle.card_history.specs.Records.{CardName}
 use Rattle.show_text.specs.declared.card_view.CardView.{CardView}
+use Rattle.shard_turns.specs.CardViews.{card_shown}
 
--- a card after the history of its shard: its greatest counter, its status, how many commands were ever queued for it and are done, what is in flight,
--- and whether its scripts are halted
+-- a card after the history of its shard
 abbrev pub view_of : CardName → List Entry → CardView
-view_of card history = record {
-  hi = greatest (decided card history);
-  status = status_of card history;
-  queued = length (scripts_of card history).queue;
-  done = (scripts_of card history).done;
-  flight = (scripts_of card history).flight;
-  halted = (scripts_of card history).halted;
-}
+view_of card history = card_shown card history

@@ -19,6 +19,7 @@ use issuer_base::{Answer, Store};
 use issuer_setup::Issuer;
 use line_checks::{Checked, CheckedCommand, CheckedRequest, CheckedStatus, check_line};
 use shard_book::{LoadFault, Shard};
+use shard_turns::row_shown;
 use show_text::CardView;
 use std::alloc::Global;
 
@@ -99,15 +100,7 @@ impl<S: Store> Solo<S> {
     {
         let cards = self.issuer.cards();
         prove!(card < cards);
-        let row = self.shards[usize::from(self.issuer.shard_of(card))].row(card);
-        CardView {
-            hi: row.hi(),
-            status: row.status(),
-            queued: row.queue().queued(),
-            done: row.done(),
-            flight: row.flight(),
-            halted: row.halted(),
-        }
+        row_shown(self.shards[usize::from(self.issuer.shard_of(card))].row(card))
     }
 
     /// The stores, in the order of their shards' numbers.

@@ -1,5 +1,6 @@
 -- What an answer of a shard adds to its log, and the log that the shard stands for then.
-use Rattle.std.proofs.Common.{◌≡◌, ℕ, zero, suc, ◌+◌, ◌<◌, ◌≤◌, ◌&&◌, ltb, Bool, true, false, if◌then◌else◌, List, [], ◌∷◌, ◌++◌, length, take, All, Option, None, Some, Ok, IsTrue}
+use Rattle.std.proofs.Common.{◌≡◌, ℕ, zero, suc, ◌+◌, ◌<◌, ◌≤◌, ◌&&◌, ltb, Bool, true, false}
+use Rattle.std.proofs.Common.{if◌then◌else◌, List, [], ◌∷◌, ◌++◌, length, take, All, Option, None, Some, Ok, IsTrue}
 use Rattle.std.proofs.Common.{refl, sym, ap, subst, ◌∙◌, inl, inr, arith}
 use Rattle.std.specs.List.{slice_get}
 use Rattle.std.proofs.lemmas.Bool.{cases_lt, ltb-true, ltb-false}
@@ -26,7 +27,7 @@ use Rattle.line_checks.specs.Reading.{checked}
 use Rattle.row_core.specs.Replying.{reply_to}
 use Rattle.shard_book.specs.declared.shard.Shard.{Shard}
 use Rattle.shard_book.specs.Answering.{is_store_fault, told_after, AnswersClaimed, AnswersQueueing, AnswersSetting}
-use Rattle.shard_book.specs.Grounds.{IsCardOfShard, HasTable, grounds_of, grounds_now}
+use Rattle.shard_book.specs.Grounds.{IsCardOfShard, grounds_of, grounds_now}
 use Rattle.shard_book.specs.Shards.{number_in, IsUnder, faults_in, told_in, IsUndoubted, StandsFor}
 use Rattle.shard_book.proofs.Lines.{legal-more}
 use Rattle.shard_book.proofs.OwnDecisions.{legal-then}
@@ -64,7 +65,8 @@ fault-adds items told count told_is =
 
 module _ (issuer : Setup) (shard : ℕ) (before after : List Entry) where
   nothing-added : (answer : Answer) → is_store_fault answer ≡ false → after ≡ before
-      → ((items : List LogItem) (told count : ℕ) → told ≡ length (faults_of items) → IsAdded issuer shard items answer (added_by None (is_store_fault answer && ltb told MAX_FAULTS_TOLD) count))
+      → ((items : List LogItem) (told count : ℕ) → told ≡ length (faults_of items)
+      → IsAdded issuer shard items answer (added_by None (is_store_fault answer && ltb told MAX_FAULTS_TOLD) count))
       → IsAnsweredBy issuer shard before after answer None
   nothing-added answer good same adds = record {
     records = same;

@@ -1,5 +1,6 @@
 -- What is added to a shard's log as a turn ends.
-use Rattle.std.proofs.Common.{◌≡◌, ◌≢◌, ℕ, zero, suc, ◌^◌, ◌<◌, ◌≤◌, length-append, ◌∷◌, [], ◌++◌, List, Bool, true, false, Option, None, Some, length, ◌∙◌, sym, ap, subst, refl, arith}
+use Rattle.std.proofs.Common.{◌≡◌, ◌≢◌, ℕ, zero, suc, ◌^◌, ◌<◌, ◌≤◌, length-append, ◌∷◌, [], ◌++◌, List}
+use Rattle.std.proofs.Common.{Bool, true, false, Option, None, Some, length, ◌∙◌, sym, ap, subst, refl, arith}
 use Rattle.std.specs.Option.{is_some}
 use Rattle.issuer_base.specs.declared.outside.store.Store.{Ghosts}
 use Rattle.issuer_base.specs.declared.entry.Entry.{Entry}
@@ -7,13 +8,12 @@ use Rattle.shard_book.specs.declared.shard.Shard.{Shard}
 use Rattle.turn_book.specs.declared.logs.Log.{Log}
 use Rattle.turn_book.specs.declared.view.Turn.TheVariants.{Free}
 use Rattle.turn_book.specs.declared.view.TurnView.{TurnView}
-use Rattle.turn_book.specs.Logs.{heads_of, items_at, with_items, StandsAt}
+use Rattle.turn_book.specs.Logs.{items_at, with_items}
 use Rattle.turn_book.specs.TurnViews.{entered, free, counted}
 use Rattle.turn_book.proofs.LogLemmas.{items-with_same, items-with_other, stands_below, heads-with, heads-length}
-use Rattle.shard_turns.specs.declared.held.HeldShard.{HeldShard}
 use Rattle.shard_turns.specs.declared.logs.LogHead.{LogHead}
 use Rattle.shard_turns.specs.declared.logs.LogItem.{LogItem}
-use Rattle.shard_turns.specs.ShardLogs.{records_of, faults_of, StandsForLog}
+use Rattle.shard_turns.specs.ShardLogs.{records_of, StandsForLog}
 use Rattle.shard_turns.specs.ShardSeats.{StandsIn}
 use Rattle.shard_turns.specs.Turned.{log_after, turned, counted_if, item_by, added_by}
 use Rattle.shard_turns.proofs.LogSteps.{items-length, texts-length}
@@ -31,7 +31,8 @@ abbrev view-with : List (Log LogItem LogHead) → List (ℕ × ℕ) → TurnView
 view-with seen mine view = record view { seen = seen; mine = mine; turn = Free }
 
 -- what is added, where something is
-pub added-is : (entry : Option Entry) (fault : Bool) (count : ℕ) → is_some (added_by entry fault count) ≡ true → added_by entry fault count ≡ Some (item_by entry count)
+pub added-is : (entry : Option Entry) (fault : Bool) (count : ℕ) → is_some (added_by entry fault count) ≡ true
+    → added_by entry fault count ≡ Some (item_by entry count)
 added-is None true count adds = refl
 added-is None false count adds = absurd (cc)
 added-is (Some entry) fault count adds = refl
@@ -49,7 +50,8 @@ with-own (log ∷ logs) (suc number) = λ i. log ∷ with-own logs number i
 -- the shard stands for the log with the item, and for the log as it was where there is none
 module _ {S : Type 0} {G : Ghosts S} (shard : Shard S G) (view : TurnView LogItem LogHead) (number : ℕ) (added : Option LogItem)
     (stands : StandsIn shard (with_items view.seen number (log_after (items_at view.seen number) added)) number) where
-  pub stands-with : (item : LogItem) (after : TurnView LogItem LogHead) → added ≡ Some item → after ≡ counted number item view → StandsIn shard after.seen number
+  pub stands-with : (item : LogItem) (after : TurnView LogItem LogHead) → added ≡ Some item → after ≡ counted number item view
+      → StandsIn shard after.seen number
   stands-with item after is after_is =
       subst (λ (after : TurnView LogItem LogHead). StandsIn shard after.seen number) (sym after_is)
       (subst (λ (added : Option LogItem). StandsIn shard (with_items view.seen number (log_after (items_at view.seen number) added)) number) is stands)

@@ -1,5 +1,6 @@
 -- The shards of a host in lists: as they come in they stand for their opening logs, and as they go out each stands for its own.
-use Rattle.std.proofs.Common.{◌≡◌, ℕ, zero, suc, ◌+◌, ◌<◌, ◌≤◌, ◌&&◌, leb, true, Bool, List, [], ◌∷◌, ◌++◌, length, map, take, reverse, Option, Some, append_assoc, refl, sym, ap, subst, ◌∙◌, arith}
+use Rattle.std.proofs.Common.{◌≡◌, ℕ, zero, suc, ◌<◌, ◌≤◌, List, [], ◌∷◌, ◌++◌, length}
+use Rattle.std.proofs.Common.{map, take, reverse, Some, append_assoc, refl, sym, ap, subst, ◌∙◌, arith}
 use Rattle.std.specs.List.{slice_get}
 use Rattle.std.proofs.lemmas.List.{length-map, length_push, reverse-append}
 use Rattle.std.proofs.lemmas.Option.{same_Some, none-some, slice_get_within}
@@ -10,7 +11,7 @@ use Rattle.card_history.specs.LegalRecords.{IsLegalHistory}
 use Rattle.issuer_setup.specs.IssuerSetup.{Setup}
 use Rattle.shard_book.specs.declared.shard.Shard.{Shard}
 use Rattle.shard_book.specs.Grounds.{HasTable, grounds_of}
-use Rattle.shard_book.specs.Shards.{number_in, faults_in, told_in, StandsFor}
+use Rattle.shard_book.specs.Shards.{number_in, faults_in, StandsFor}
 use Rattle.turn_book.specs.declared.logs.Log.{Log}
 use Rattle.turn_book.specs.Logs.{heads_of, StandFor}
 use Rattle.shard_turns.specs.declared.held.HeldShard.{HeldShard}
@@ -18,8 +19,8 @@ use Rattle.shard_turns.specs.declared.logs.LogHead.{LogHead}
 use Rattle.shard_turns.specs.declared.logs.LogItem.{LogItem}
 use Rattle.shard_turns.specs.declared.logs.LogItem.TheVariants.{Record}
 use Rattle.shard_turns.specs.declared.turns.ShardTurns.{ShardTurns}
-use Rattle.shard_turns.specs.Opening.{head_with, log_with, IsJustLoaded, AreJustLoaded, IsOpeningLog, AreOpeningLogs}
-use Rattle.shard_turns.specs.ShardLogs.{records_of, faults_of, RiseTo, StandsForLog}
+use Rattle.shard_turns.specs.Opening.{head_with, IsJustLoaded, AreJustLoaded, IsOpeningLog, AreOpeningLogs}
+use Rattle.shard_turns.specs.ShardLogs.{RiseTo, StandsForLog}
 use Rattle.shard_turns.specs.ShardSeats.{opening_in, AreTurnsOf, StandForLogs}
 use Rattle.shard_turns.proofs.LogSteps.{records-alone, faults-alone}
 
@@ -82,7 +83,8 @@ module _ {S : Type 0} {G : Ghosts S} where
         told_is = untold ∙ sym (ap (λ (counts : List ℕ). length counts) none);
         few = subst (λ (counts : List ℕ). length counts ≤ MAX_FAULTS_TOLD) (sym none) (omega arith);
         undoubted = just.undoubted;
-        counts = subst (λ (counts : List ℕ). RiseTo (faults_in shard) counts (faults_in shard)) (sym none) (let least : faults_in shard ≤ faults_in shard = omega arith in least);
+        counts = subst (λ (counts : List ℕ). RiseTo (faults_in shard) counts (faults_in shard)) (sym none)
+            (let least : faults_in shard ≤ faults_in shard = omega arith in least);
       }
 
   pub opening-stands : (issuer : Setup) (stores : List S) (number : ℕ) (shard : Shard S G) (log : Log LogItem LogHead) → HasTable issuer → IsJustLoaded issuer stores number shard
@@ -177,7 +179,8 @@ module _ {S : Type 0} {G : Ghosts S} where
       let within = slice_get_within shards (length held) next.shard there in
       let many = opening.count_is in
       let log = read-within logs (length held) (omega arith) in
-      let count : places ≡ size log.0 = opening-length issuer stores (length held) next.shard log.0 places (opening.each (length held) next.shard log.0 there log.1) counted in
+      let opens = opening.each (length held) next.shard log.0 there log.1 in
+      let count : places ≡ size log.0 = opening-length issuer stores (length held) next.shard log.0 places opens counted in
       let more : length (held ++ next ∷ []) ≡ suc (length held) = omega (arith, length_push held next) in
       ap (λ (counts : List ℕ). counts ++ places ∷ []) counts_are
       ∙ ap (λ count. map size (take (length held) logs) ++ count ∷ []) count

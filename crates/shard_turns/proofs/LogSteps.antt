@@ -1,6 +1,6 @@
 -- How a log's records and faults grow, and how long a log can be.
-use Rattle.std.proofs.Common.{◌≡◌, ℕ, zero, suc, ◌+◌, ◌*◌, ◌^◌, ◌-◌, ◌<◌, ◌≤◌, ◌⊎◌, List, [], ◌∷◌, ◌++◌, length, length-append, map, All, refl, sym, ap, ◌∙◌, inl, inr, ⊎_elim, arith}
-use Rattle.std.proofs.lemmas.Bool.{cases_eq}
+use Rattle.std.proofs.Common.{◌≡◌, ℕ, zero, suc, ◌+◌, ◌*◌, ◌^◌, ◌-◌, ◌<◌, ◌≤◌, List}
+use Rattle.std.proofs.Common.{[], ◌∷◌, ◌++◌, length, length-append, map, All, refl, inl, inr, ⊎_elim, arith}
 use Rattle.issuer_base.specs.OutsideFaults.{Rose}
 use Rattle.issuer_base.specs.declared.entry.Entry.{Entry}
 use Rattle.journal_rec.specs.Record.{IsRecord}

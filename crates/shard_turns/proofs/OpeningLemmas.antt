@@ -1,5 +1,5 @@
 -- Shards that were loaded have logs that they open with.
-use Rattle.std.proofs.Common.{◌≡◌, ℕ, ◌+◌, zero, suc, List, [], ◌∷◌, length, Some, refl, sym, ap, subst, ◌∙◌, arith}
+use Rattle.std.proofs.Common.{◌≡◌, ℕ, ◌+◌, zero, suc, List, [], ◌∷◌, length, Some, refl, subst, arith}
 use Rattle.std.specs.List.{slice_get}
 use Rattle.std.proofs.lemmas.Option.{same_Some, none-some}
 use Rattle.issuer_base.specs.declared.outside.store.Store.{Ghosts}
@@ -28,7 +28,8 @@ module _ {S : Type 0} {G : Ghosts S} (issuer : Setup) (stores : List S) where
       → IsOpeningLog issuer stores (place + first) shard log)
   logs-from first [] each = ([], refl, λ place shard log there. absurd (none-some shard there))
   logs-from first (shard ∷ shards) each =
-      let rest = logs-from (suc first) shards (λ place other there. subst (λ number. IsJustLoaded issuer stores number other) (omega arith) (each (suc place) other there)) in
+      let rest = logs-from (suc first) shards (λ place other there.
+      subst (λ number. IsJustLoaded issuer stores number other) (omega arith) (each (suc place) other there)) in
       let just = subst (λ number. IsJustLoaded issuer stores number shard) (omega arith) (each 0 shard refl) in (
         log-of first shard just ∷ rest.0,
         omega (arith, rest.1),

@@ -12,7 +12,8 @@ use Rattle.shard_turns.specs.ShardLogs.{StandsForLog}
 use Rattle.shard_turns.specs.ShardSeats.{StandsIn}
 
 module _ {V I B : Type 0} where
-  pub stands-open : (stands : V → B → List I → Type 0) (value : V) (logs : List (Log I B)) (shard : ℕ) (head : B) → slice_get (heads_of logs) shard ≡ Some head
+  pub stands-open : (stands : V → B → List I → Type 0) (value : V) (logs : List (Log I B)) (shard : ℕ) (head : B)
+      → slice_get (heads_of logs) shard ≡ Some head
       → StandsAt stands value logs shard → stands value head (items_at logs shard)
   stands-open stands value [] shard head is here = absurd here
   stands-open stands value (log ∷ logs) zero head is here = subst (λ (head : B). stands value head log.items) (same_Some log.head head is) here

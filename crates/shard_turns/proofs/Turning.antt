@@ -7,7 +7,6 @@ use Rattle.issuer_base.specs.declared.entry.Entry.{Entry}
 use Rattle.issuer_base.specs.declared.limits.TheConstants.{MAX_FAULTS_TOLD}
 use Rattle.issuer_base.specs.declared.outside.store.Store.{Ghosts}
 use Rattle.card_history.specs.Records.{CardName}
-use Rattle.issuer_setup.specs.CardList.{number_of}
 use Rattle.issuer_setup.specs.IssuerSetup.{Setup}
 use Rattle.issuer_setup.proofs.CardListLemmas.{number_of-found}
 use Rattle.line_checks.specs.AtHand.{IsCardAtHand}
@@ -58,7 +57,8 @@ module _ {S : Type 0} {G : Ghosts S} where
     pub below : number < length logs
 
   -- so it is when a turn comes
-  pub has-found : (issuer : Setup) (turns : ShardTurns S G) → AreTurnsOf issuer turns → (logs : List (Log LogItem LogHead)) (number : ℕ) (held : HeldShard S G)
+  pub has-found : (issuer : Setup) (turns : ShardTurns S G) → AreTurnsOf issuer turns
+      → (logs : List (Log LogItem LogHead)) (number : ℕ) (held : HeldShard S G)
       → heads_of logs ≡ heads_of (opening_in turns)
       → StandsAt (λ (held : HeldShard S G) head items. StandsForLog held.shard head items) held logs number → HasFound issuer logs number held.shard
   has-found issuer turns are logs number held heads here =
@@ -67,7 +67,8 @@ module _ {S : Type 0} {G : Ghosts S} where
       let below : number < length logs = stands_below Stands held.shard logs number inside in
       let head = head-at logs number below in
       let same = are.heads_are number head.0 (ap (λ (heads : List LogHead). slice_get heads number) (sym heads) ∙ head.1) in
-      let is : slice_get (heads_of logs) number ≡ Some (head_with issuer number head.0.faults head.0.records) = head.1 ∙ ap (λ (head : LogHead). Some head) same in
+      let is : slice_get (heads_of logs) number ≡ Some (head_with issuer number head.0.faults head.0.records) = head.1
+      ∙ ap (λ (head : LogHead). Some head) same in
       record {
         faults = head.0.faults;
         first = head.0.records;
@@ -77,7 +78,8 @@ module _ {S : Type 0} {G : Ghosts S} where
       }
 
   -- a seat has seen a log of each of the issuer's shards
-  pub seen-below : (issuer : Setup) (turns : ShardTurns S G) → AreTurnsOf issuer turns → (seat : TurnSeat LogItem LogHead) → IsSeatOf turns seat → (number : ℕ)
+  pub seen-below : (issuer : Setup) (turns : ShardTurns S G) → AreTurnsOf issuer turns → (seat : TurnSeat LogItem LogHead) → IsSeatOf turns seat
+      → (number : ℕ)
       → number < issuer.shards → number < length (view_of seat).seen
   seen-below issuer turns are seat is number below =
       let count = are.count_is in
@@ -97,7 +99,8 @@ module _ {S : Type 0} {G : Ghosts S} where
 
   -- its row of a card shows what its records say, and the turn adds nothing
   pub turn-shows : (issuer : Setup) (logs : List (Log LogItem LogHead)) (number : ℕ) (shard : Shard S G) → HasFound issuer logs number shard
-      → (card : ℕ) → number ≡ card % issuer.shards → card < length issuer.cards → (row : CardRow) → slice_get shard.rows.rows (card / shard.rows.shards) ≡ Some row
+      → (card : ℕ) → number ≡ card % issuer.shards → card < length issuer.cards → (row : CardRow)
+      → slice_get shard.rows.rows (card / shard.rows.shards) ≡ Some row
       → (view : CardView) → IsShownBy row view → (before after : TurnView LogItem LogHead) → IsFront (items_at before.seen number) (items_at logs number)
       → after ≡ free (entered number (items_at logs number) before) → ShowsInTurn issuer card before view after
   turn-shows issuer logs number shard found card number_is within row row_is view shown before after front after_is =
@@ -108,14 +111,16 @@ module _ {S : Type 0} {G : Ghosts S} where
         shown = λ info info_is.
             let stands = found.stands.stands.rows_stand.each card info home info_is in
             row-view info row (records_of (items_at logs number)) view
-            (subst (λ (row : CardRow). RowStandsFor info row (records_of (items_at logs number))) (same_Some stands.row row (sym stands.row_is ∙ row_is)) stands.stands)
+            (subst (λ (row : CardRow). RowStandsFor info row (records_of (items_at logs number))) (same_Some stands.row row (sym stands.row_is
+            ∙ row_is)) stands.stands)
             shown;
         after_is = after_is ∙ ap (λ n. turned n (items_at logs number) None before) number_is;
       }
 
   module _ (issuer : Setup) (Changes : ℕ → List Entry → List Entry → Type 0) (answer : Answer) (entry : Option Entry) (number : ℕ)
       (logs : List (Log LogItem LogHead)) (old new : Shard S G) (found : HasFound issuer logs number old) (called : IsCalled issuer old new answer)
-      (answers : (history : List Entry) → StandsFor issuer old history → (after : List Entry) × StandsFor issuer new after × Changes (number_in old) history after)
+      (answers : (history : List Entry) → StandsFor issuer old history → (after : List Entry) × StandsFor issuer new after × Changes
+      (number_in old) history after)
       (recording : (history after : List Entry) → Changes number history after → IsAnsweredBy issuer number history after answer entry)
       (given : Option Entry) (given_is : given ≡ entry) (fault : Bool) (told : ℕ) (told_is : told ≡ told_in old)
       (fault_is : fault ≡ (is_store_fault answer && ltb told MAX_FAULTS_TOLD)) where

@@ -98,7 +98,13 @@ pub(crate) fn start<S: Store>(
     held: Vec<HeldShard<S>>,
     counts: &[u64],
     logs: &Mark<Logs>,
-) -> Result<(Turns<HeldShard<S>, LogItem, LogHead>, TurnSeat<LogItem, LogHead>), Vec<HeldShard<S>>>
+) -> Result<
+    (
+        Turns<HeldShard<S>, LogItem, LogHead>,
+        TurnSeat<LogItem, LogHead>,
+    ),
+    Vec<HeldShard<S>>,
+>
     requires shards { (0 < vec_len held) × (vec_len held ≤ MAX_SHARDS) }
     requires counts { counts.now ≡ map (λ log. length log.items) logs.now.view }
     requires stand { StandFor (λ held head items. StandsForLog held.shard head items) held.items logs.now.view }
@@ -115,7 +121,13 @@ fn start_with<J: OpeningLogs<LogItem, LogHead>, S: Store>(
     held: Vec<HeldShard<S>>,
     counts: &[u64],
     logs: &Mark<Logs>,
-) -> Result<(Turns<HeldShard<S>, LogItem, LogHead>, TurnSeat<LogItem, LogHead>), Vec<HeldShard<S>>>
+) -> Result<
+    (
+        Turns<HeldShard<S>, LogItem, LogHead>,
+        TurnSeat<LogItem, LogHead>,
+    ),
+    Vec<HeldShard<S>>,
+>
     requires shards { (0 < vec_len held) × (vec_len held ≤ MAX_SHARDS) }
     requires counts { counts.now ≡ map (λ log. length log.items) J.opening }
     requires stand { StandFor (λ held head items. StandsForLog held.shard head items) held.items J.opening }

@@ -1,5 +1,5 @@
 -- One shard more is held, and counted.
-use Rattle.std.proofs.Common.{rules, ◌≡◌, ◌++◌, ◌∷◌, [], List, map, reverse, sym, ap, subst, ◌∙◌}
+use Rattle.std.proofs.Common.{rules, ◌≡◌, ◌++◌, ◌∷◌, List, map, reverse, subst}
 use Rattle.shard_book.specs.declared.shard.Shard.{Shard}
 use Rattle.shard_turns.specs.declared.held.HeldShard.{HeldShard}
 use Rattle.shard_turns.proofs.ListLemmas.{next-ahead, held-next, counts-next}
@@ -14,7 +14,8 @@ loop-shard-preserved g c =
     let ahead : reverse c.loop-shard.ahead.items ≡ next.shard ∷ left =
     next-ahead c.loop-shard.ahead.items c.pop.new.self.items next.shard (rw c.in-Some.is at c.pop.ensures.items) in
     let all : map (λ (held : HeldShard _ g.S.Store). held.shard) held ++ next.shard ∷ left ≡ shards =
-    subst (λ (ahead : List (Shard _ g.S.Store)). map (λ (held : HeldShard _ g.S.Store). held.shard) held ++ ahead ≡ shards) ahead c.loop-shard.invariant.all in
+    subst (λ (ahead : List (Shard _ g.S.Store)). map (λ (held : HeldShard _ g.S.Store). held.shard) held ++ ahead ≡ shards) ahead
+    c.loop-shard.invariant.all in
     record {
       all = rw c.push_reserved-in-Some.ensures.items (held-next shards held next left all);
       counts = rw (c.push_reserved.ensures.items, c.push_reserved-in-Some.ensures.items)

@@ -14,6 +14,5 @@ returns g c books info book stand info_is book_is =
     let shard_is : slice_get host.shards.items home ≡ Some c.index.result.now =
     slice_get_read host.shards.items _ home c.index.result.now refl within c.index.ensures in
     let home_is = c.from.ensures ∙ c.shard_of.ensures.number in
-    rw (c.hi.ensures, c.status.ensures, c.queued.ensures.count, c.queue.ensures, c.done.ensures, c.flight.ensures, c.halted.ensures)
-    (shown host.issuer host.shards.items host.are_shards c.cards-cards.ensures.valid c.args.card home home_is c.index.result.now shard_is c.row-row.result.now
-    c.row-row.ensures books info book stand info_is book_is)
+    shown host.issuer host.shards.items host.are_shards c.cards-cards.ensures.valid c.args.card home home_is c.index.result.now shard_is c.row.result.now
+    c.row.ensures c.row_shown.result c.row_shown.ensures books info book stand info_is book_is

@@ -1,13 +1,11 @@
 -- The request is answered in its card's shard, whose log tells what was added.
-use Rattle.std.proofs.Common.{◌≡◌, ◌<◌, ◌%◌, ℕ, List, length, Option, sym, ap, subst, ◌∙◌, arith}
-use Rattle.issuer_base.specs.declared.entry.Entry.{Entry}
-use Rattle.card_history.specs.Records.{CardName, card_of}
-use Rattle.issuer_setup.specs.IssuerSetup.{Setup, shard_of}
+use Rattle.std.proofs.Common.{ℕ, List, ap, subst, ◌∙◌}
+use Rattle.card_history.specs.Records.{card_of}
+use Rattle.issuer_setup.specs.IssuerSetup.{Setup}
 use Rattle.row_core.specs.Replying.{reply_to}
 use Rattle.shard_book.specs.Answering.{AnswersClaimed}
 use Rattle.shard_book.specs.Shards.{faults_in}
 use Rattle.turn_book.specs.declared.logs.Log.{Log}
-use Rattle.turn_book.specs.Logs.{items_at}
 use Rattle.turn_book.specs.TurnViews.{free}
 use Rattle.turn_book.specs.Seats.{view_of}
 use Rattle.shard_turns.specs.declared.logs.LogHead.{LogHead}
@@ -20,14 +18,16 @@ use Rattle.shard_turns.proofs.turns.ShardTurns.decide.Goals as goal
 pub answer-answer-requires-clause-under : goal.answer-answer-requires-clause-under
 answer-answer-requires-clause-under g c =
     let logs : List (Log LogItem LogHead) = (view_of c.enter-shard.new.seat).seen in
-    let found = has-found c.args.issuer.now c.args.self.now c.requires.turns logs c.shard_of-number.result c.enter-shard.result c.enter-shard.ensures.seat.heads
+    let found = has-found c.args.issuer.now c.args.self.now c.requires.turns logs c.shard_of-number.result c.enter-shard.result
+    c.enter-shard.ensures.seat.heads
     c.enter-shard.ensures.value in
     found.stands.under
 
 pub answer-answer-requires-clause-home : goal.answer-answer-requires-clause-home
 answer-answer-requires-clause-home g c =
     let logs : List (Log LogItem LogHead) = (view_of c.enter-shard.new.seat).seen in
-    let found = has-found c.args.issuer.now c.args.self.now c.requires.turns logs c.shard_of-number.result c.enter-shard.result c.enter-shard.ensures.seat.heads
+    let found = has-found c.args.issuer.now c.args.self.now c.requires.turns logs c.shard_of-number.result c.enter-shard.result
+    c.enter-shard.ensures.seat.heads
     c.enter-shard.ensures.value in
     has-card c.args.issuer.now logs c.shard_of-number.result c.enter-shard.result.shard found c.args.found.now.card c.shard_of-number.ensures.number
     (card-within c.args.issuer.now (card_of c.args.found.now.request) c.args.found.now.card c.requires.at_hand.card_is)
@@ -38,7 +38,8 @@ end_turn-requires-clause-stands g c =
     let request = c.args.found.now.request in
     let number : ℕ = c.shard_of-number.result in
     let logs : List (Log LogItem LogHead) = (view_of c.enter-shard.new.seat).seen in
-    let found = has-found issuer c.args.self.now c.requires.turns logs number c.enter-shard.result c.enter-shard.ensures.seat.heads c.enter-shard.ensures.value in
+    let found = has-found issuer c.args.self.now c.requires.turns logs number c.enter-shard.result c.enter-shard.ensures.seat.heads
+    c.enter-shard.ensures.value in
     let answer = c.answer-answer.result in
     let called : IsCalled issuer c.enter-shard.result.shard c.answer-answer.new.self answer = record {
       counts = c.answer-answer.ensures.count;
@@ -60,7 +61,8 @@ returns-clause-turn g c =
     let number : ℕ = c.shard_of-number.result in
     let before = view_of c.args.seat.now in
     let logs : List (Log LogItem LogHead) = (view_of c.enter-shard.new.seat).seen in
-    let found = has-found issuer c.args.self.now c.requires.turns logs number c.enter-shard.result c.enter-shard.ensures.seat.heads c.enter-shard.ensures.value in
+    let found = has-found issuer c.args.self.now c.requires.turns logs number c.enter-shard.result c.enter-shard.ensures.seat.heads
+    c.enter-shard.ensures.value in
     let answer = c.answer-answer.result in
     let called : IsCalled issuer c.enter-shard.result.shard c.answer-answer.new.self answer = record {
       counts = c.answer-answer.ensures.count;
@@ -79,5 +81,6 @@ returns-clause-turn g c =
     c.decided_by.result c.decided_by.ensures c.has_to_tell.result c.faults-told.result c.faults-told.ensures c.has_to_tell.ensures before
     (view_of c.end_turn.new.seat) c.enter-shard.ensures.front
     (seen-below issuer c.args.self.now c.requires.turns c.args.seat.now c.requires.seat number c.shard_of-number.ensures.below)
-    (c.end_turn.ensures.view ∙ ap (λ view. free (counted_if number (added_by c.decided_by.result c.has_to_tell.result (faults_in c.answer-answer.new.self)) view))
+    (c.end_turn.ensures.view ∙ ap (λ view. free (counted_if number (added_by c.decided_by.result c.has_to_tell.result
+    (faults_in c.answer-answer.new.self)) view))
     c.enter-shard.ensures.view))

@@ -15,4 +15,5 @@ start-requires-clause-stand g c =
 pub returns-in-Ok-start-clause-turns : goal.returns-in-Ok-start-clause-turns
 returns-in-Ok-start-clause-turns g c =
     are-turns_of c.args.issuer.now c.args.stores.now.value.items c.args.shards.items _ c.requires
-    (subst (λ (logs : List (Log LogItem LogHead)). AreOpeningLogs c.args.issuer.now c.args.stores.now.value.items c.args.shards.items logs) (sym c.in-Ok-start.ensures.opening) c.in-Ok.ensures)
+    (subst (λ (logs : List (Log LogItem LogHead)). AreOpeningLogs c.args.issuer.now c.args.stores.now.value.items c.args.shards.items logs)
+    (sym c.in-Ok-start.ensures.opening) c.in-Ok.ensures)

@@ -1,13 +1,12 @@
 -- The status is answered in its card's shard, whose log tells what was added.
-use Rattle.std.proofs.Common.{◌≡◌, ◌<◌, ◌%◌, ℕ, List, length, Option, sym, ap, subst, ◌∙◌, arith}
+use Rattle.std.proofs.Common.{ℕ, List, ap, subst, ◌∙◌}
 use Rattle.issuer_base.specs.declared.entry.Entry.{Entry}
 use Rattle.issuer_base.specs.declared.entry.Entry.TheVariants.{Status}
 use Rattle.card_history.specs.Records.{CardName, named}
-use Rattle.issuer_setup.specs.IssuerSetup.{Setup, shard_of}
+use Rattle.issuer_setup.specs.IssuerSetup.{Setup}
 use Rattle.shard_book.specs.Answering.{AnswersSetting}
 use Rattle.shard_book.specs.Shards.{faults_in}
 use Rattle.turn_book.specs.declared.logs.Log.{Log}
-use Rattle.turn_book.specs.Logs.{items_at}
 use Rattle.turn_book.specs.TurnViews.{free}
 use Rattle.turn_book.specs.Seats.{view_of}
 use Rattle.shard_turns.specs.declared.logs.LogHead.{LogHead}
@@ -20,14 +19,16 @@ use Rattle.shard_turns.proofs.turns.ShardTurns.set_status.Goals as goal
 pub set_status-answer-requires-clause-under : goal.set_status-answer-requires-clause-under
 set_status-answer-requires-clause-under g c =
     let logs : List (Log LogItem LogHead) = (view_of c.enter-shard.new.seat).seen in
-    let found = has-found c.args.issuer.now c.args.self.now c.requires.turns logs c.shard_of-number.result c.enter-shard.result c.enter-shard.ensures.seat.heads
+    let found = has-found c.args.issuer.now c.args.self.now c.requires.turns logs c.shard_of-number.result c.enter-shard.result
+    c.enter-shard.ensures.seat.heads
     c.enter-shard.ensures.value in
     found.stands.under
 
 pub set_status-answer-requires-clause-home : goal.set_status-answer-requires-clause-home
 set_status-answer-requires-clause-home g c =
     let logs : List (Log LogItem LogHead) = (view_of c.enter-shard.new.seat).seen in
-    let found = has-found c.args.issuer.now c.args.self.now c.requires.turns logs c.shard_of-number.result c.enter-shard.result c.enter-shard.ensures.seat.heads
+    let found = has-found c.args.issuer.now c.args.self.now c.requires.turns logs c.shard_of-number.result c.enter-shard.result
+    c.enter-shard.ensures.seat.heads
     c.enter-shard.ensures.value in
     has-card c.args.issuer.now logs c.shard_of-number.result c.enter-shard.result.shard found c.args.found.card c.shard_of-number.ensures.number
     (card-within c.args.issuer.now (named c.args.found.pan c.args.found.psn) c.args.found.card c.requires.at_hand.card_is)
@@ -40,7 +41,8 @@ end_turn-requires-clause-stands g c =
     let entry : Entry = Status found_line.pan found_line.psn found_line.status in
     let number : ℕ = c.shard_of-number.result in
     let logs : List (Log LogItem LogHead) = (view_of c.enter-shard.new.seat).seen in
-    let found = has-found issuer c.args.self.now c.requires.turns logs number c.enter-shard.result c.enter-shard.ensures.seat.heads c.enter-shard.ensures.value in
+    let found = has-found issuer c.args.self.now c.requires.turns logs number c.enter-shard.result c.enter-shard.ensures.seat.heads
+    c.enter-shard.ensures.value in
     let answer = c.set_status-answer.result in
     let called : IsCalled issuer c.enter-shard.result.shard c.set_status-answer.new.self answer = record {
       counts = c.set_status-answer.ensures.count;
@@ -54,7 +56,8 @@ end_turn-requires-clause-stands g c =
     c.enter-shard.result.shard c.set_status-answer.new.self found called c.set_status-answer.ensures.answer
     (λ history after changes. setting-answered issuer number history after name found_line.status answer home c.requires.at_hand.within changes)
     c.recorded_by.result
-    (c.recorded_by.ensures ∙ ap (λ (pan : List ℕ). recorded_by (Status pan found_line.psn found_line.status) answer) c.copy.ensures) c.has_to_tell.result c.faults-told.result c.faults-told.ensures c.has_to_tell.ensures
+    (c.recorded_by.ensures ∙ ap (λ (pan : List ℕ). recorded_by (Status pan found_line.psn found_line.status) answer) c.copy.ensures)
+    c.has_to_tell.result c.faults-told.result c.faults-told.ensures c.has_to_tell.ensures
 
 pub returns-clause-turn : goal.returns-clause-turn
 returns-clause-turn g c =
@@ -65,7 +68,8 @@ returns-clause-turn g c =
     let number : ℕ = c.shard_of-number.result in
     let before = view_of c.args.seat.now in
     let logs : List (Log LogItem LogHead) = (view_of c.enter-shard.new.seat).seen in
-    let found = has-found issuer c.args.self.now c.requires.turns logs number c.enter-shard.result c.enter-shard.ensures.seat.heads c.enter-shard.ensures.value in
+    let found = has-found issuer c.args.self.now c.requires.turns logs number c.enter-shard.result c.enter-shard.ensures.seat.heads
+    c.enter-shard.ensures.value in
     let answer = c.set_status-answer.result in
     let called : IsCalled issuer c.enter-shard.result.shard c.set_status-answer.new.self answer = record {
       counts = c.set_status-answer.ensures.count;
@@ -82,8 +86,10 @@ returns-clause-turn g c =
     c.enter-shard.result.shard c.set_status-answer.new.self found called c.set_status-answer.ensures.answer
     (λ history after changes. setting-answered issuer number history after name found_line.status answer home c.requires.at_hand.within changes)
     c.recorded_by.result
-    (c.recorded_by.ensures ∙ ap (λ (pan : List ℕ). recorded_by (Status pan found_line.psn found_line.status) answer) c.copy.ensures) c.has_to_tell.result c.faults-told.result c.faults-told.ensures c.has_to_tell.ensures before
+    (c.recorded_by.ensures ∙ ap (λ (pan : List ℕ). recorded_by (Status pan found_line.psn found_line.status) answer) c.copy.ensures)
+    c.has_to_tell.result c.faults-told.result c.faults-told.ensures c.has_to_tell.ensures before
     (view_of c.end_turn.new.seat) c.enter-shard.ensures.front
     (seen-below issuer c.args.self.now c.requires.turns c.args.seat.now c.requires.seat number c.shard_of-number.ensures.below)
-    (c.end_turn.ensures.view ∙ ap (λ view. free (counted_if number (added_by c.recorded_by.result c.has_to_tell.result (faults_in c.set_status-answer.new.self)) view))
+    (c.end_turn.ensures.view ∙ ap (λ view. free (counted_if number (added_by c.recorded_by.result c.has_to_tell.result
+    (faults_in c.set_status-answer.new.self)) view))
     c.enter-shard.ensures.view))
