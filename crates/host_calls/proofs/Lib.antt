@@ -8,3 +8,11 @@ pub mod OneRun
 pub mod Loads
 pub mod Shown
 pub mod Running
+mod Ties
+mod Added
+mod Settling
+mod TiedTurns
+mod RecordedLists
+mod OpeningCounters
+mod Sharing
+mod Closed

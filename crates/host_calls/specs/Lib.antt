@@ -6,3 +6,11 @@ pub mod Hosts
 pub mod Loading
 pub mod Runs
 pub mod Views
+pub mod Decisions
+pub mod OpeningLogs
+pub mod Passes
+pub mod PreChecks
+pub mod Authorising
+pub mod Closing
+pub mod RecordedCounters
+pub mod Finishes

@@ -4,15 +4,29 @@
 //! [`every_run_is_one_history`]. `specs/Runs.antt` says what a crash may leave meanwhile.
 #![tactic(auto)]
 
+mod answering;
+mod close;
+mod finish;
+mod host;
 mod law;
+mod load;
 mod loading;
+mod pass;
+mod pre_check;
+mod recorded;
+mod share;
 mod solo;
 
+pub use host::Host;
 pub use law::every_run_is_one_history;
 pub use loading::HostBack;
+pub use pass::{Checked, Pass};
 pub use shard_book::LoadFault;
 pub use show_text::CardView;
 pub use solo::Solo;
 
 #[cfg(test)]
 mod tests;
+
+#[cfg(test)]
+mod host_tests;

@@ -45,7 +45,7 @@ pub(crate) fn load_all<S: Store>(
     requires shards { (lists.shards.items ≡ []) × (length stores.items ≤ vec_capacity lists.shards) }
     requires back { (lists.back.items ≡ []) × (length stores.items ≤ vec_capacity lists.back) }
     ensures loaded { IfOk result (λ loaded. AreLoaded issuer.now stores.items loaded.shards.items) }
-    ensures back { IfOk result (λ loaded. (loaded.back.items ≡ []) × (length stores.items ≤ vec_capacity loaded.back)) }
+    ensures back { IfOk result (λ loaded. (loaded.back.items ≡ []) × (vec_capacity loaded.back ≡ vec_capacity lists.back)) }
     ensures stopped { IfErr result (λ back. ComeBack S.bytes S.disk S.faults issuer.now stores.items back.shard back.fault back.stores.items) }
 {
     let Lists { mut shards, back } = lists;

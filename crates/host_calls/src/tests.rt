@@ -16,11 +16,11 @@ use store_edge::MemoryStore;
 const FIRST: &str = "s 4000000000000002ffff 00 3\n";
 
 /// A request of the first card, whose cryptogram is that of another program, which works with OpenSSL.
-const REQUEST: &str =
+pub(crate) const REQUEST: &str =
     "A 5A0840000000000000029F26086317DE17856BF19A9F2701809F10200FA501A00000000000000000000000000F0000000000000000000000000000009F37041A2B3C4D9F36020007950500000080009A032601159C01009F02060000000123455F2A020978820239009F1A020276";
 
 /// An issuer of so many shards and one card, whose table declines every request.
-fn issuer(alloc: Global, shards: u8) -> Result<Issuer, Fail>
+pub(crate) fn issuer(alloc: Global, shards: u8) -> Result<Issuer, Fail>
     ensures { IfOk result (λ issuer. issuer.shards ≡ shards) }
 {
     let mut rows = ArrayVec::new();
@@ -98,11 +98,11 @@ fn restart(alloc: Global, host: Solo<MemoryStore>) -> Result<Solo<MemoryStore>, 
 }
 
 /// Whether the answer is a new decision, or a kept one, whose record has this place of the first shard.
-fn is_fresh(answer: &Answer, at: u64) -> bool {
+pub(crate) fn is_fresh(answer: &Answer, at: u64) -> bool {
     matches!(answer, Answer::Fresh { shard: 0, place, .. } if *place == at)
 }
 
-fn is_kept(answer: &Answer, at: u64) -> bool {
+pub(crate) fn is_kept(answer: &Answer, at: u64) -> bool {
     matches!(answer, Answer::Kept { shard: 0, place, .. } if *place == at)
 }
 

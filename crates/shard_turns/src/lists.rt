@@ -11,6 +11,7 @@ use issuer_base::{MAX_SHARDS, NoMemory, Store};
 use issuer_setup::Issuer;
 use shard_book::Shard;
 use std::alloc::Global;
+use std::snapshot::Snapshot;
 
 /// An empty list with room for each shard.
 pub(crate) struct Spare<S: Store> {
@@ -65,11 +66,12 @@ pub(crate) fn take_lists<S: Store>(alloc: Global, count: usize) -> Result<Lists<
 /// Moves loaded shards into the lists, in order: they stand for their opening logs, whose lengths are the counts.
 pub(crate) fn hold_all<S: Store>(
     issuer: &Issuer,
+    stores: &Snapshot<Vec<S>>,
     logs: &Mark<Logs>,
     shards: Vec<Shard<S>>,
     lists: &mut Lists<S>,
 )
-    requires opening { AreOpeningLogs issuer.now shards.items logs.now.view }
+    requires opening { AreOpeningLogs issuer.now stores.now.value.items shards.items logs.now.view }
     requires empty { (lists.old.held.items ≡ []) × (lists.old.counts.items ≡ []) }
     requires room { (vec_len shards ≤ vec_capacity lists.old.held) × (vec_len shards ≤ vec_capacity lists.old.counts) }
     ensures shards { map (λ held. held.shard) lists.new.held.items ≡ shards.items }
@@ -77,6 +79,7 @@ pub(crate) fn hold_all<S: Store>(
     ensures spare { lists.new.spare ≡ lists.old.spare }
 {
     let _ = issuer;
+    let _ = stores;
     let _ = logs;
     let mut ahead = shards;
     ahead.reverse();

@@ -22,6 +22,7 @@ use shard_book::Shard;
 use std::alloc::{AllocError, Global};
 use std::collections::LinkedList;
 use std::marker::{Brand, PhantomData};
+use std::snapshot::Snapshot;
 use turn_book::{Log, OpeningLogs, TurnSeat, Turns};
 
 /// The log of each shard.
@@ -63,12 +64,14 @@ impl<J: MayOpen> PerchPlay<Logs> for Shows<J> {
 fn shown<J: MayOpen, S: Store>(
     alloc: Global,
     issuer: &Issuer,
+    stores: &Snapshot<Vec<S>>,
     shards: &Vec<Shard<S>>,
 ) -> Result<Mark<Logs>, AllocError>
     requires { (logs : List (Log LogItem LogHead)) × J.may_open logs }
     ensures { IfOk result (λ mark. J.may_open mark.view) }
 {
     let _ = issuer;
+    let _ = stores;
     let _ = shards;
     let (_table, seat) = Table::<(), (), (), Anything, Global>::of_words(alloc, &[], &())?;
     let (perch, mut mark) = RuledPerch::<(), (), Logs, Shows<J>>::new(&seat, 0);
@@ -80,12 +83,13 @@ fn shown<J: MayOpen, S: Store>(
 pub(crate) fn opening_logs<S: Store>(
     alloc: Global,
     issuer: &Issuer,
+    stores: &Snapshot<Vec<S>>,
     shards: &Vec<Shard<S>>,
 ) -> Result<Mark<Logs>, AllocError>
-    requires { AreJustLoaded issuer.now shards.now.items }
-    ensures { IfOk result (λ mark. AreOpeningLogs issuer.now shards.now.items mark.view) }
+    requires { AreJustLoaded issuer.now stores.now.value.items shards.now.items }
+    ensures { IfOk result (λ mark. AreOpeningLogs issuer.now stores.now.value.items shards.now.items mark.view) }
 {
-    shown::<Brand, S>(alloc, issuer, shards)
+    shown::<Brand, S>(alloc, issuer, stores, shards)
 }
 
 /// The turns at these shards, which stand for the logs that the mark shows.

@@ -13,6 +13,7 @@ use key_derive::KeySet;
 use line_checks::{Checked, CheckedStatus, check_line};
 use shard_book::{LoadBack, Shard};
 use std::alloc::Global;
+use std::snapshot::Snapshot;
 use std::test::Fail;
 use store_edge::MemoryStore;
 
@@ -57,18 +58,27 @@ fn status(issuer: &Issuer, line: &str) -> Result<CheckedStatus, Fail>
     }
 }
 
+/// The shard of an issuer, and the store that it was loaded from.
+struct OneShard {
+    stores: Snapshot<Vec<MemoryStore>>,
+    shards: Vec<Shard<MemoryStore>>,
+}
+
 /// The shard of the issuer over an empty store in memory.
-fn one_shard(alloc: Global, issuer: &Issuer) -> Result<Vec<Shard<MemoryStore>>, Fail>
+fn one_shard(alloc: Global, issuer: &Issuer) -> Result<OneShard, Fail>
     requires { issuer.now.shards ≡ 1 }
-    ensures { IfOk result (λ shards. AreJustLoaded issuer.now shards.items) }
+    ensures { IfOk result (λ one. AreJustLoaded issuer.now one.stores.value.items one.shards.items) }
 {
     let text = Vec::new(alloc);
     let store = MemoryStore::new(alloc, text, 4_096, Vec::new(alloc)).map_err(|_| "a store")?;
     let mut shards = Vec::with_capacity(alloc, 1)?;
-    match Shard::load(alloc, store, 0, issuer) {
+    let mut ahead = Vec::with_capacity(alloc, 1)?;
+    ahead.push_reserved(store);
+    let stores = Snapshot::of(&ahead);
+    match Shard::load(alloc, ahead.pop().unwrap(), 0, issuer) {
         Ok(shard) => {
             shards.push_reserved(shard);
-            Ok(shards)
+            Ok(OneShard { stores, shards })
         }
         Err(LoadBack { fault: _, store: _ }) => {
             shards.destroy_empty();
@@ -97,8 +107,8 @@ fn two_callers_take_turns(rt: HostRuntime) -> Result<(), Fail> {
     let issuer = issuer(alloc)?;
     let blocked = status(&issuer, "S 4000000000000002 00 3")?;
     let lifted = status(&issuer, "S 4000000000000002 00 0")?;
-    let shards = one_shard(alloc, &issuer)?;
-    match ShardTurns::load(alloc, &issuer, shards) {
+    let OneShard { stores, shards } = one_shard(alloc, &issuer)?;
+    match ShardTurns::load(alloc, &issuer, &stores, shards) {
         Ok((turns, mut seat)) => {
             is_shared(&turns);
             let mut other = turns.split(&mut seat);

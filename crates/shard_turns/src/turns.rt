@@ -28,6 +28,7 @@ use line_checks::{CheckedCommand, CheckedRequest, CheckedStatus};
 use shard_book::Shard;
 use show_text::CardView;
 use std::alloc::Global;
+use std::snapshot::Snapshot;
 use std::sync::{Mutex, Wait};
 use turn_book::{TurnSeat, Turns};
 
@@ -45,27 +46,28 @@ pub struct ShardTurns<S: Store> {
 impl<S: Store> ShardTurns<S> {
     ghost use Rattle.shard_turns.specs.ShardSeats.{opening_in, AreTurnsOf, IsSeatOf, IsInside, StandsIn, StandForLogs};
 
-    /// The turns at the shards of this issuer, in order, and the first seat. Each shard's log opens with the records of the history
+    /// The turns at the shards of this issuer, which were loaded from these stores, in order, and the first seat. Each shard's log opens with the records of the history
     /// that it was loaded with. Where memory is wanting, and then alone, the shards come back in order.
     pub fn load(
         alloc: Global,
         issuer: &Issuer,
+        stores: &Snapshot<Vec<S>>,
         shards: Vec<Shard<S>>,
     ) -> Result<(ShardTurns<S>, ShardSeat), Vec<Shard<S>>>
-        requires { AreJustLoaded issuer.now shards.items }
-        ensures opening { IfOk result (λ made. AreOpeningLogs issuer.now shards.items (opening_in made.0)) }
+        requires { AreJustLoaded issuer.now stores.now.value.items shards.items }
+        ensures opening { IfOk result (λ made. AreOpeningLogs issuer.now stores.now.value.items shards.items (opening_in made.0)) }
         ensures turns { IfOk result (λ made. AreTurnsOf issuer.now made.0) }
         ensures seat { IfOk result (λ made. IsSeatOf made.0 made.1 × (view_of made.1 ≡ first_view (opening_in made.0))) }
         ensures refused { IfErr result (λ back. back.items ≡ shards.items) }
     {
-        let Ok(logs) = opening_logs(alloc, issuer, &shards) else {
+        let Ok(logs) = opening_logs(alloc, issuer, stores, &shards) else {
             return Err(shards);
         };
         let Ok(mut lists) = take_lists(alloc, shards.len()) else {
             return Err(shards);
         };
         has_parts(issuer);
-        hold_all(issuer, &logs, shards, &mut lists);
+        hold_all(issuer, stores, &logs, shards, &mut lists);
         let Lists {
             held,
             counts,

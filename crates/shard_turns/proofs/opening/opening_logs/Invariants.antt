@@ -3,4 +3,4 @@ use Rattle.shard_turns.specs.Opening.{AreOpeningLogs}
 use Rattle.shard_turns.proofs.opening.opening_logs.Given as goal
 
 abbrev pub ghosts-shown : goal.ghosts-shown
-ghosts-shown g a = record { may_open = AreOpeningLogs a.issuer.now a.shards.now.items }
+ghosts-shown g a = record { may_open = AreOpeningLogs a.issuer.now a.stores.now.value.items a.shards.now.items }

@@ -1,0 +1,129 @@
+-- What the last pass knows when a host is closed, and what the stores hold.
+use Rattle.std.proofs.Common.{◌≡◌, ℕ, zero, suc, ◌+◌, ◌<◌, ◌≤◌, List, [], ◌∷◌, ◌++◌, length, take, drop, map, Option, None, Some, IfSome, All}
+use Rattle.std.proofs.Common.{refl, sym, ap, ◌∙◌, subst, arith, append_assoc, append-nil}
+use Rattle.std.proofs.lemmas.List.{take-append-drop, length-map}
+use Rattle.std.proofs.lemmas.List.Elements.{All-cons}
+use Rattle.std.proofs.lemmas.Option.{same_Some, slice_get_within}
+use Rattle.std.specs.List.{slice_get}
+use Rattle.issuer_base.specs.Stores.{Disk, MayLeave}
+use Rattle.issuer_base.specs.declared.entry.Entry.{Entry}
+use Rattle.issuer_base.specs.declared.outside.store.Store.{Ghosts}
+use Rattle.issuer_setup.specs.IssuerSetup.{Setup}
+use Rattle.journal_rec.specs.RecordText.{texts_of}
+use Rattle.record_store.specs.Images.{HasSafeText}
+use Rattle.record_store.proofs.Passing.{leaves-image}
+use Rattle.claim_words.specs.declared.layout.TheConstants.{COUNTERS}
+use Rattle.claim_words.specs.declared.view.ClaimView.{ClaimView}
+use Rattle.claim_words.specs.declared.claim_words.ClaimWords.{ClaimWords}
+use Rattle.claim_words.specs.ClaimViews.{claims_on, times, is_live, is_kept, is_any}
+use Rattle.claim_words.specs.Seats.{recorded_in}
+use Rattle.turn_book.specs.declared.logs.Log.{Log}
+use Rattle.turn_book.specs.Logs.{heads_of, items_at, IsFront}
+use Rattle.shard_book.specs.declared.shard.Shard.{Shard}
+use Rattle.shard_book.specs.Grounds.{grounds_now, IsImageOf}
+use Rattle.shard_book.specs.Shards.{store_in}
+use Rattle.shard_turns.specs.declared.logs.LogItem.{LogItem}
+use Rattle.shard_turns.specs.declared.logs.LogItem.TheVariants.{Record, Fault}
+use Rattle.shard_turns.specs.declared.logs.LogHead.{LogHead}
+use Rattle.shard_turns.specs.Opening.{head_with}
+use Rattle.shard_turns.specs.ShardLogs.{records_of, faults_of, RiseTo, StandsForLog}
+use Rattle.shard_turns.specs.ShardSeats.{StandForLogs}
+use Rattle.host_calls.specs.Closing.{IsClosed, AreClosed, AreSettled}
+use Rattle.host_calls.specs.OneHistory.{GoesOn, LegallyGoesOn}
+use Rattle.host_calls.specs.OpeningLogs.{AreCounted, AreRecordedIn}
+use Rattle.host_calls.proofs.Places.{read-within, read-map}
+use Rattle.host_calls.proofs.Sharing.{items-there}
+
+-- the records of a log that goes on go on
+records-append : (items more : List LogItem) → records_of (items ++ more) ≡ records_of items ++ records_of more
+records-append [] more = refl
+records-append (Record entry ∷ items) more = λ i. entry ∷ records-append items more i
+records-append (Fault count ∷ items) more = records-append items more
+
+records-go_on : (first last : List LogItem) → IsFront first last → GoesOn (records_of first) (records_of last)
+records-go_on first last front =
+    let rest : List LogItem = drop (length first) last in
+    let parts : first ++ rest ≡ last = ap (λ (front : List LogItem). front ++ rest) (sym front) ∙ take-append-drop (length first) last in
+    (records_of rest, ap records_of (sym parts) ∙ records-append first rest)
+
+-- counts that rise to one are none of them above it
+rise-below : (first : ℕ) (counts : List ℕ) (now : ℕ) → RiseTo first counts now → first ≤ now
+rise-below first [] now rises = rises
+rise-below first (count ∷ counts) now rises = let rest = rise-below count counts now rises.2 in let here = rises.0 in omega arith
+
+rise-all : (first : ℕ) (counts : List ℕ) (now : ℕ) → RiseTo first counts now → All (λ count. count ≤ now) counts
+rise-all first [] now rises = λ i d below. absurd (omega arith)
+rise-all first (count ∷ counts) now rises =
+    All-cons (λ (count : ℕ). count ≤ now) count counts (rise-below count counts now rises.2) (rise-all count counts now rises.2)
+
+if-some : {X : Type 0} (P Q : X → Type 0) (found : Option X) → ((x : X) → P x → Q x) → IfSome found P → IfSome found Q
+if-some P Q None then is = tt
+if-some P Q (Some x) then is = then x is
+
+module _ {S : Type 0} {G : Ghosts S} where
+  -- the store of one shard
+  closed-shard : (issuer : Setup) (number faults records : ℕ) (first last : Log LogItem LogHead) (shard : Shard S G)
+      → records ≡ length (records_of first.items) → IsFront first.items last.items → StandsForLog shard (head_with issuer number faults records) last.items
+      → IsClosed G.bytes G.disk G.faults issuer number first last (store_in shard)
+  closed-shard issuer number faults records first last shard counted front stands =
+      let journal = stands.stands.journal_holds in
+      let history : List Entry = records_of last.items in
+      let tail_is = subst (λ number. Rattle.shard_book.specs.Grounds.IsTail (grounds_now issuer) number history journal.tail) stands.number_is journal.tail_is in
+      record {
+        goes_on = record {
+          goes_on = records-go_on first.items last.items front;
+          legal = stands.legal;
+          by_table = λ place entry past is. stands.by_table place entry (omega (arith, counted, past)) is;
+        };
+        holds = record {
+          tail = journal.tail;
+          tail_is = tail_is;
+          none = λ untold. journal.holds.tail_is (stands.undoubted (stands.told_is ∙ untold));
+          bytes_are = journal.holds.bytes_are;
+        };
+        leaves = if-some (λ (disk : Disk). HasSafeText (texts_of history) journal.tail disk.now)
+            (λ (disk : Disk). (image : List ℕ) → MayLeave disk.now image → IsImageOf (grounds_now issuer) number history image) (G.disk (store_in shard))
+            (λ disk safe image left. (journal.tail, tail_is, leaves-image (texts_of history) journal.tail disk.now image safe left)) journal.holds.disk_is;
+        counts = rise-all faults (faults_of last.items) (G.faults (store_in shard)) stands.counts;
+      }
+
+  pub closed-all : (issuer : Setup) (opening seen : List (Log LogItem LogHead)) (shards : List (Shard S G)) → heads_of seen ≡ heads_of opening
+      → length opening ≡ issuer.shards
+      → ((number : ℕ) (head : LogHead) → slice_get (heads_of opening) number ≡ Some head → head ≡ head_with issuer number head.faults head.records)
+      → AreCounted opening → ((shard : ℕ) → IsFront (items_at opening shard) (items_at seen shard)) → StandForLogs shards seen
+      → AreClosed G.bytes G.disk G.faults issuer opening seen (map (λ (shard : Shard S G). store_in shard) shards)
+  closed-all issuer opening seen shards heads count headed counted fronts stand =
+      let kept : Shard S G → S = λ shard. store_in shard in
+      let head : Log LogItem LogHead → LogHead = λ log. log.head in
+      let long : length seen ≡ length opening = sym (length-map seen head) ∙ ap (λ (heads : List LogHead). length heads) heads ∙ length-map opening head in
+      record {
+        count_is = length-map shards kept ∙ stand.count_is ∙ long ∙ count;
+        each = λ number first last store first_is last_is store_is.
+            let below = slice_get_within seen number last last_is in
+            let shard = read-within shards number (omega (arith, stand.count_is)) in
+            let its : store_in shard.0 ≡ store = same_Some (store_in shard.0) store (sym (read-map kept shards number shard.0 shard.1) ∙ store_is) in
+            let there : slice_get (heads_of opening) number ≡ Some first.head = read-map head opening number first first_is in
+            let last_there : slice_get (heads_of seen) number ≡ Some last.head = read-map head seen number last last_is in
+            let same : last.head ≡ first.head =
+            same_Some last.head first.head (sym last_there ∙ ap (λ (heads : List LogHead). slice_get heads number) heads ∙ there) in
+            let stands : StandsForLog shard.0 (head_with issuer number first.head.faults first.head.records) last.items =
+            subst (λ (head : LogHead). StandsForLog shard.0 head last.items) (same ∙ headed number first.head there)
+            (stand.each number shard.0 last shard.1 last_is) in
+            let front : IsFront first.items last.items =
+            subst (λ (items : List LogItem). IsFront items last.items) (items-there opening number first first_is)
+            (subst (IsFront (items_at opening number)) (items-there seen number last last_is) (fronts number)) in
+            subst (λ (store : S). IsClosed G.bytes G.disk G.faults issuer number first last store) its
+            (closed-shard issuer number first.head.faults first.head.records first last shard.0 (counted number first first_is) front stands);
+      }
+
+-- what became of the claims, by the opening logs
+pub settled-all : (issuer : Setup) (opening : List (Log LogItem LogHead)) (words : ClaimWords) (view : ClaimView) → AreRecordedIn issuer opening words
+    → ((card counter : ℕ) → 0 < times card counter view.found → 0 < recorded_in words card counter + claims_on is_any card counter view.claims)
+    → ((card counter : ℕ) → 0 < times card counter view.tops → 0 < recorded_in words card counter + claims_on is_kept card counter view.claims)
+    → ((card counter : ℕ) → counter < COUNTERS → recorded_in words card counter + claims_on is_live card counter view.claims ≤ 1)
+    → AreSettled issuer opening view
+settled-all issuer opening words view recorded found tops once = record {
+  found = λ card counter below some. omega (arith, recorded card counter below, found card counter some);
+  tops = λ card counter below some. omega (arith, recorded card counter below, tops card counter some);
+  once = λ card counter below. omega (arith, recorded card counter below, once card counter below);
+}

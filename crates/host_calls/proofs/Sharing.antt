@@ -1,0 +1,185 @@
+-- Shards that were loaded, as callers share them: their logs, and the counters that are recorded.
+use Rattle.std.proofs.Common.{◌≡◌, ◌⊎◌, ◌↔◌, ℕ, zero, suc, ◌+◌, ◌%◌, ◌<◌, ◌≤◌, List, [], ◌∷◌, ◌++◌, length, map, Option, Bool, true, false, ◌&&◌, eqb, Some, get_or}
+use Rattle.std.proofs.Common.{refl, sym, ap, ◌∙◌, subst, inl, inr, arith}
+use Rattle.std.proofs.Math.Nat.{mod-lt}
+use Rattle.std.proofs.lemmas.List.{length-map}
+use Rattle.std.proofs.lemmas.Bool.{cases_lt, and_from, eq-eqb}
+use Rattle.std.proofs.lemmas.Option.{same_Some, slice_get_within}
+use Rattle.std.specs.List.{slice_get}
+use Rattle.counter_bits.specs.CounterSets.{times}
+use Rattle.counter_bits.proofs.Listing.{times-append}
+use Rattle.issuer_base.specs.OutsideFaults.{CountsFaults}
+use Rattle.issuer_base.specs.Tells.{Tells}
+use Rattle.journal_rec.specs.RecordText.{texts_of}
+use Rattle.issuer_base.specs.declared.entry.Entry.{Entry}
+use Rattle.issuer_base.specs.declared.outside.store.Store.{Ghosts}
+use Rattle.issuer_setup.specs.CardList.{AreCards}
+use Rattle.issuer_setup.specs.IssuerSetup.{Setup}
+use Rattle.seat_names.specs.Totals.{one_if}
+use Rattle.claim_words.specs.ClaimViews.{times as times_claimed}
+use Rattle.turn_book.specs.declared.logs.Log.{Log}
+use Rattle.turn_book.specs.Logs.{items_at}
+use Rattle.shard_book.specs.declared.shard.Shard.{Shard}
+use Rattle.shard_book.specs.Shards.{faults_in, store_in, IsLoaded}
+use Rattle.shard_turns.specs.declared.logs.LogItem.{LogItem}
+use Rattle.shard_turns.specs.declared.logs.LogItem.TheVariants.{Record}
+use Rattle.shard_turns.specs.declared.logs.LogHead.{LogHead}
+use Rattle.shard_turns.specs.ShardLogs.{records_of}
+use Rattle.shard_turns.specs.Opening.{bytes_at, head_with, log_with, AreJustLoaded, IsOpeningLog, AreOpeningLogs}
+use Rattle.shard_book.specs.declared.replay.LoadFault.TheVariants.{NoMemory}
+use Rattle.host_calls.specs.Loading.{IsLoadedFrom, AreLoaded, IsGivenBack}
+use Rattle.host_calls.proofs.Loads.{given-back}
+use Rattle.host_calls.specs.OpeningLogs.{IsOpenedFrom, AreOpenedFrom, AreCounted, AllComeBack, is_decided}
+use Rattle.host_calls.specs.RecordedCounters.{AreStanding, AreRecordedOf}
+use Rattle.host_calls.proofs.OpeningCounters.{as-decided}
+use Rattle.host_calls.proofs.Places.{read-within, read-map}
+
+-- the two counts of a pair in a list are one
+times-alike : (card counter : ℕ) (list : List (ℕ × ℕ)) → times_claimed card counter list ≡ times card counter list
+unfolding times
+times-alike card counter [] = refl
+times-alike card counter (pair ∷ list) =
+    let one : times card counter (pair ∷ []) ≡ 0 + one_if (eqb pair.0 card && eqb pair.1 counter) = refl in
+    omega (arith, one, times-append card counter (pair ∷ []) list, times-alike card counter list)
+
+-- a pair that stands in a list is counted there
+times-some : (list : List (ℕ × ℕ)) (place : ℕ) (d : ℕ × ℕ) → place < length list
+    → 0 < times_claimed (get_or list place d).0 (get_or list place d).1 list
+times-some [] place d below = absurd (omega arith)
+times-some (pair ∷ list) zero d below =
+    omega (arith, ap one_if (and_from (eqb pair.0 pair.0) (eqb pair.1 pair.1) (eq-eqb pair.0 pair.0 refl) (eq-eqb pair.1 pair.1 refl)))
+times-some (pair ∷ list) (suc place) d below =
+    let rest = times-some list place d (omega arith) in
+    omega arith
+
+pub items-there : (logs : List (Log LogItem LogHead)) (shard : ℕ) (log : Log LogItem LogHead) → slice_get logs shard ≡ Some log → items_at logs shard ≡ log.items
+items-there [] shard log is = absurd (cc)
+items-there (first ∷ logs) zero log is = ap (λ (log : Log LogItem LogHead). log.items) (same_Some first log is)
+items-there (first ∷ logs) (suc shard) log is = items-there logs shard log is
+
+-- the bytes of the store at a place
+bytes-there : {S : Type 0} (bytes : S → Option (List ℕ)) (stores : List S) (number : ℕ) (store : S) → slice_get stores number ≡ Some store
+    → bytes_at bytes stores number ≡ bytes store
+bytes-there bytes [] number store is = absurd (cc)
+bytes-there bytes (first ∷ stores) zero store is = ap bytes (same_Some first store is)
+bytes-there bytes (first ∷ stores) (suc number) store is = bytes-there bytes stores number store is
+
+-- the log of one shard
+log-opened : {S : Type 0} {G : Ghosts S} (issuer : Setup) (stores : List S) (number : ℕ) (store : S) (shard : Shard S G) (log : Log LogItem LogHead)
+    → slice_get stores number ≡ Some store → IsLoadedFrom issuer number store shard → IsOpeningLog issuer stores number shard log → IsOpenedFrom G.bytes G.faults issuer number store log
+log-opened {G = G} issuer stores number store shard log is from its =
+    let faults : log.head.faults ≡ faults_in shard = ap (λ (log : Log LogItem LogHead). log.head.faults) its.log_is in
+    let history : List Entry = its.loaded.history in
+    record {
+      history = history;
+      rest = its.loaded.rest;
+      text_is = subst (λ bytes. Tells bytes (texts_of history ++ its.loaded.rest)) (bytes-there G.bytes stores number store is) its.loaded.text_is;
+      unbroken = its.loaded.unbroken;
+      records = its.loaded.records;
+      legal = its.loaded.legal;
+      log_is = its.log_is ∙ ap (λ (faults : ℕ). log_with (head_with issuer number faults (length history)) history) (sym faults);
+      counts = subst (λ (now : ℕ). CountsFaults (G.faults store) now false) (sym faults) from.counts;
+    }
+
+records-map : (history : List Entry) → records_of (map Record history) ≡ history
+records-map [] = refl
+records-map (entry ∷ history) = λ i. entry ∷ records-map history i
+
+module _ {S : Type 0} {G : Ghosts S} (issuer : Setup) (stores : List S) (shards : List (Shard S G)) (count : length stores ≡ issuer.shards) (some : 0 < issuer.shards)
+    (loaded : AreLoaded issuer stores shards) where
+  -- the store of a shard
+  store-there : (number : ℕ) (shard : Shard S G) → slice_get shards number ≡ Some shard → (store : S) × (slice_get stores number ≡ Some store)
+  store-there number shard is =
+      let below = slice_get_within shards number shard is in
+      read-within stores number (omega (arith, loaded.count_is))
+
+  shard-there : (number : ℕ) (store : S) → slice_get stores number ≡ Some store → (shard : Shard S G) × (slice_get shards number ≡ Some shard)
+  shard-there number store is =
+      let below = slice_get_within stores number store is in
+      read-within shards number (omega (arith, loaded.count_is))
+
+  pub loaded-standing : AreStanding issuer shards
+  loaded-standing = record {
+    count_is = loaded.count_is ∙ count;
+    numbers_are = λ number shard is. let store = store-there number shard is in (loaded.each number store.0 shard store.1 is).loaded.number_is;
+    stand = λ number shard is.
+        let store = store-there number shard is in
+        let its = (loaded.each number store.0 shard store.1 is).loaded in
+        (its.history, its.stands);
+  }
+
+  pub loaded-just : AreJustLoaded issuer stores shards
+  loaded-just = record {
+    count_is = loaded.count_is ∙ count;
+    each = λ number shard shard_is.
+        let store = store-there number shard shard_is in
+        let its = loaded.each number store.0 shard store.1 shard_is in
+        let from = subst (λ bytes. IsLoaded issuer number bytes shard) (sym (bytes-there G.bytes stores number store.0 store.1)) its.loaded in
+        record { loaded = from; under = its.under; untold = its.untold; undoubted = its.undoubted };
+  }
+
+  module _ (list : List (ℕ × ℕ)) (recorded : AreRecordedOf issuer shards (length shards) list) where
+    pub list-once : (card counter : ℕ) → times_claimed card counter list ≤ 1
+    list-once card counter = omega (arith, times-alike card counter list, recorded.once card counter)
+
+    -- each pair is one of the issuer's cards
+    pub list-known : (place : ℕ) (d : ℕ × ℕ) → place < length list → (get_or list place d).0 < length issuer.cards
+    list-known place d below =
+        let pair : ℕ × ℕ = get_or list place d in
+        let there : 0 < times pair.0 pair.1 list = omega (arith, times-alike pair.0 pair.1 list, times-some list place d below) in
+        let home = recorded.home pair.0 pair.1 there in
+        let shard = read-within shards (pair.0 % issuer.shards) home in
+        let stands = loaded-standing.stand (pair.0 % issuer.shards) shard.0 shard.1 in
+        let its = (recorded.exact pair.0 pair.1 shard.0 stands.0 home shard.1 stands.1).0 there in
+        slice_get_within issuer.cards pair.0 its.card its.card_is
+
+  module _ (logs : List (Log LogItem LogHead)) (opening : AreOpeningLogs issuer stores shards logs) where
+    pub logs-opened : AreOpenedFrom G.bytes G.faults issuer stores logs
+    logs-opened = record {
+      count_is = opening.count_is ∙ loaded.count_is;
+      each = λ number store log is log_is.
+          let shard = shard-there number store is in
+          log-opened issuer stores number store shard.0 log is (loaded.each number store shard.0 is shard.1) (opening.each number shard.0 log shard.1 log_is);
+    }
+
+    module _ (valid : AreCards issuer.cards) (list : List (ℕ × ℕ)) (recorded : AreRecordedOf issuer shards (length shards) list) where
+      -- the list tells whether the opening log of a card's shard has a decision on the counter
+      pub list-decided : (card counter : ℕ) → times_claimed card counter list ≡ one_if (is_decided issuer (items_at logs (card % issuer.shards)) card counter)
+      list-decided card counter =
+          let home : ℕ = card % issuer.shards in
+          let below : home < issuer.shards = mod-lt card some in
+          let shard = read-within shards home (omega (arith, below, count, loaded.count_is)) in
+          let log = read-within logs home (omega (arith, below, count, loaded.count_is, opening.count_is)) in
+          let its = opening.each home shard.0 log.0 shard.1 log.1 in
+          let items : items_at logs home ≡ map Record its.loaded.history = items-there logs home log.0 log.1 ∙ ap (λ (log : Log LogItem LogHead). log.items) its.log_is in
+          let exact = recorded.exact card counter shard.0 its.loaded.history (omega (arith, below, count, loaded.count_is)) shard.1 its.loaded.stands in
+          times-alike card counter list
+          ∙ as-decided issuer card counter its.loaded.history (times card counter list) valid (recorded.once card counter) exact
+          ∙ ap (λ (items : List LogItem). one_if (is_decided issuer items card counter)) (sym items)
+
+-- the stores of shards that were loaded come back
+pub all-come-back : {S : Type 0} {G : Ghosts S} (issuer : Setup) (stores : List S) (shards : List (Shard S G)) → AreLoaded issuer stores shards
+    → AllComeBack G.bytes G.disk G.faults issuer stores 0 NoMemory (map (λ (shard : Shard S G). store_in shard) shards)
+all-come-back {S} {G} issuer stores shards loaded =
+    let kept : Shard S G → S = λ shard. store_in shard in
+    record {
+      count_is = length-map shards kept ∙ loaded.count_is;
+      first = refl;
+      fault_is = refl;
+      each = λ number store after is after_is.
+          let below = slice_get_within stores number store is in
+          let shard = read-within shards number (omega (arith, loaded.count_is)) in
+          let its : store_in shard.0 ≡ after = same_Some (store_in shard.0) after (sym (read-map kept shards number shard.0 shard.1) ∙ after_is) in
+          subst (λ (after : S). IsGivenBack G.bytes G.disk G.faults issuer number store after) its
+          (given-back issuer number store shard.0 (loaded.each number store shard.0 is shard.1));
+    }
+
+-- the heads of logs that were opened so tell how many records they have
+pub opened-counted : {S : Type 0} (bytes : S → Option (List ℕ)) (faults : S → ℕ) (issuer : Setup) (stores : List S) (logs : List (Log LogItem LogHead))
+    → AreOpenedFrom bytes faults issuer stores logs → AreCounted logs
+opened-counted bytes faults issuer stores logs opened number log is =
+    let below = slice_get_within logs number log is in
+    let store = read-within stores number (omega (arith, opened.count_is)) in
+    let its = opened.each number store.0 log store.1 is in
+    ap (λ (log : Log LogItem LogHead). log.head.records) its.log_is
+    ∙ sym (ap (λ (log : Log LogItem LogHead). length (records_of log.items)) its.log_is ∙ ap (λ (entries : List Entry). length entries) (records-map its.history))

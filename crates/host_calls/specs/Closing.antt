@@ -1,0 +1,61 @@
+-- What closing a host of several callers tells, and gives back.
+use Rattle.std.specs.Prelude.{◌≡◌, ℕ, ◌+◌, ◌<◌, ◌≤◌, List, length, slice_get, Option, Some, IfSome, All}
+use Rattle.issuer_base.specs.Stores.{Disk, MayLeave}
+use Rattle.issuer_setup.specs.IssuerSetup.{Setup}
+use Rattle.seat_names.specs.Totals.{one_if}
+use Rattle.claim_words.specs.declared.layout.TheConstants.{COUNTERS}
+use Rattle.claim_words.specs.declared.view.ClaimView.{ClaimView}
+use Rattle.claim_words.specs.ClaimViews.{claims_on, times, is_live, is_kept, is_any}
+use Rattle.turn_book.specs.declared.logs.Log.{Log}
+use Rattle.turn_book.specs.declared.view.TurnView.{TurnView}
+use Rattle.turn_book.specs.Logs.{items_at}
+use Rattle.turn_book.specs.TurnRule.{between}
+use Rattle.turn_book.specs.TurnViews.{times as times_placed}
+use Rattle.shard_book.specs.Grounds.{grounds_now, IsImageOf}
+use Rattle.shard_turns.specs.declared.logs.LogItem.{LogItem}
+use Rattle.shard_turns.specs.declared.logs.LogHead.{LogHead}
+use Rattle.shard_turns.specs.ShardLogs.{records_of, faults_of}
+use Rattle.host_calls.specs.Books.{Book}
+use Rattle.host_calls.specs.Decisions.{decisions_at}
+use Rattle.host_calls.specs.OneHistory.{LegallyGoesOn}
+use Rattle.host_calls.specs.OpeningLogs.{opened_on}
+use Rattle.host_calls.specs.Runs.{HoldsJournal}
+
+-- the book of a log: its history, the count of faults of its store, and how many answers told that the store failed
+abbrev pub book_of : Log LogItem LogHead → ℕ → Book
+book_of log faults = record { history = records_of log.items; faults = faults; told = length (faults_of log.items) }
+
+-- by what stores tell of their bytes and disks, and by their counts of faults
+module _ {S : Type 0} (bytes : S → Option (List ℕ)) (disk : S → Option Disk) (faults : S → ℕ) where
+  -- a shard's store, where the log was the first one when the host was loaded, and the last one when it is closed: the history went on legally,
+  -- each new decision is the table's; the store holds its journal, with nothing behind it where no answer told a fault, and a crash leaves
+  -- an image of it; no fault that was told is above the store's count
+  pub record IsClosed (issuer : Setup) (number : ℕ) (first last : Log LogItem LogHead) (store : S) : Type 0 where
+    pub goes_on : LegallyGoesOn issuer number (records_of first.items) (records_of last.items)
+    pub holds : HoldsJournal issuer number (book_of last (faults store)) (bytes store)
+    pub leaves : IfSome (disk store) (λ disk. (image : List ℕ) → MayLeave disk.now image → IsImageOf (grounds_now issuer) number (records_of last.items) image)
+    pub counts : All (λ count. count ≤ faults store) (faults_of last.items)
+
+  -- so it is with each shard, in order
+  pub record AreClosed (issuer : Setup) (opening seen : List (Log LogItem LogHead)) (stores : List S) : Type 0 where
+    pub count_is : length stores ≡ issuer.shards
+    pub each : (number : ℕ) (first last : Log LogItem LogHead) (store : S) → slice_get opening number ≡ Some first → slice_get seen number ≡ Some last
+        → slice_get stores number ≡ Some store → IsClosed issuer number first last store
+
+-- the items past the opening logs stand at just the places of the view's own, each once
+abbrev pub AreItsOwn : Setup → List (Log LogItem LogHead) → TurnView LogItem LogHead → Type 0
+AreItsOwn issuer opening view =
+    (shard place : ℕ) → shard < issuer.shards
+    → times_placed shard place view.mine ≡ between (length (items_at opening shard)) (length (items_at view.seen shard)) place
+
+-- what the view knows of claims is what became of them
+pub record AreSettled (issuer : Setup) (opening : List (Log LogItem LogHead)) (view : ClaimView) : Type 0 where
+  -- what was lost is recorded in the opening logs, or stands in the claims
+  pub found : (card counter : ℕ) → counter < COUNTERS → 0 < times card counter view.found
+      → 0 < opened_on issuer opening card counter + claims_on is_any card counter view.claims
+  -- what a top told is recorded in the opening logs, or stands in the claims as kept
+  pub tops : (card counter : ℕ) → counter < COUNTERS → 0 < times card counter view.tops
+      → 0 < opened_on issuer opening card counter + claims_on is_kept card counter view.claims
+  -- each counter of a card stands at most once: in the opening logs, or as a claim that isn't given back
+  pub once : (card counter : ℕ) → counter < COUNTERS
+      → opened_on issuer opening card counter + claims_on is_live card counter view.claims ≤ 1

@@ -1,0 +1,55 @@
+-- What checking a line before its turn makes of a pass's claims.
+use Rattle.std.specs.Prelude.{◌≡◌, ℕ, ◌+◌, ◌≤◌, Option, None, Some, Result, Ok, Err, IsOk}
+use Rattle.issuer_base.specs.declared.answer.Refusal.{Refusal}
+use Rattle.issuer_base.specs.declared.answer.Refusal.TheVariants.{Below}
+use Rattle.issuer_base.specs.declared.limits.TheConstants.{WINDOW}
+use Rattle.issuer_base.specs.declared.request.Request.{Request}
+use Rattle.card_history.specs.Records.{card_of, IsBelow}
+use Rattle.card_history.specs.declared.decision.Asked.{Asked}
+use Rattle.card_history.specs.declared.decision.Asked.TheVariants.{Decide as AsksDecision, Queue as AsksQueue, Status as AsksStatus}
+use Rattle.issuer_setup.specs.CardList.{number_of}
+use Rattle.issuer_setup.specs.IssuerSetup.{Setup}
+use Rattle.line_checks.specs.AtHand.{IsRequestAtHand, IsCommandAtHand, IsStatusAtHand}
+use Rattle.line_checks.specs.Reading.{checked}
+use Rattle.claim_words.specs.declared.view.ClaimView.{ClaimView}
+use Rattle.claim_words.specs.declared.claim_words.Claim.{Claim}
+use Rattle.claim_words.specs.declared.claim_words.Claim.TheVariants.{Won}
+use Rattle.claim_words.specs.ClaimViews.{IsNew, after_claim, after_top}
+use Rattle.claim_words.specs.Seats.{IsTopFor}
+use Rattle.host_calls.specs.declared.pass.Checked.{Checked}
+use Rattle.host_calls.specs.declared.pass.Checked.TheVariants.{Decide, Queue, Status}
+
+-- what the line asks
+abbrev pub asked_of : Checked → Asked
+asked_of (Decide found claim) = AsksDecision found.request
+asked_of (Queue found) = AsksQueue found.pan found.psn found.command
+asked_of (Status found) = AsksStatus found.pan found.psn found.status
+
+-- what was checked passed every check of this issuer, and is at hand with the number of its card, and a request with its keys
+abbrev pub HasPassed : Setup → Checked → Type 0
+HasPassed issuer (Decide found claim) = IsRequestAtHand issuer found × (checked issuer found.request ≡ Ok (AsksDecision found.request))
+HasPassed issuer (Queue found) = IsCommandAtHand issuer found
+HasPassed issuer (Status found) = IsStatusAtHand issuer found
+
+-- the card's top is read once, and told this
+-- where the counter is below the window of what it told, the request is refused; otherwise its counter is claimed once
+abbrev pub Claims : ℕ → ℕ → Option ℕ → ClaimView → Result Checked Refusal → ClaimView → Type 0
+Claims card counter top seen (Err refusal) after =
+    (told : ℕ) × (top ≡ Some told) × IsBelow top counter × (refusal ≡ Below told) × (after ≡ seen)
+Claims card counter top seen (Ok (Decide found claim)) after =
+    (IsBelow top counter → ⊥) × (found.card ≡ card) × (after ≡ after_claim claim card counter seen) × (claim ≡ Won → IsNew card counter seen)
+Claims card counter top seen (Ok _) after = ⊥
+
+-- a request of the card with this number
+pub record ChecksRequest (card counter : ℕ) (before : ClaimView) (result : Result Checked Refusal) (after : ClaimView) : Type 0 where
+  pub top : Option ℕ
+  pub top_is : IsTopFor before card top
+  pub claims : Claims card counter top (after_top card top before) result after
+
+-- what the check of a line makes of a pass's claims: a line that is refused as it is read leaves them, and so does one with a
+-- command or a status; a request looks at its card's top, and claims its counter
+abbrev pub PreChecks : Setup → Result Asked Refusal → ClaimView → Result Checked Refusal → ClaimView → Type 0
+PreChecks issuer (Err refusal) before result after = (result ≡ Err refusal) × (after ≡ before)
+PreChecks issuer (Ok (AsksDecision request)) before result after =
+    (card : ℕ) × (number_of (card_of request) issuer.cards ≡ Some card) × ChecksRequest card request.atc before result after
+PreChecks issuer (Ok asked) before result after = IsOk result × (after ≡ before)

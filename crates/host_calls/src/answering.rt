@@ -1,0 +1,45 @@
+//! The answer to a line, and what is shown of a card.
+ghost use Rattle.std.specs.Prelude.{◌≡◌, ◌+◌, ◌-◌, ◌^◌, ◌<◌, min, length};
+ghost use Rattle.line_checks.specs.Reading.{reading};
+ghost use Rattle.shard_turns.specs.Turned.{ShowsInTurn};
+ghost use Rattle.host_calls.specs.Authorising.{Authorises};
+ghost use Rattle.host_calls.specs.Passes.{claims_of, logs_of, IsFree};
+
+use crate::host::Host;
+use crate::pass::Pass;
+use issuer_base::{Answer, Store};
+use show_text::CardView;
+use std::sync::Wait;
+
+impl<S: Store> Host<S> {
+    /// The answer to a line, which is without its newline: `pre_check`, and then `finish`. It waits for the shard's turn.
+    pub fn authorise<R: Wait>(&self, rt: &R, pass: &mut Pass, line: &[u8]) -> Answer
+        requires free { IsFree self.now pass.old }
+        ensures free { IsFree self.now pass.new }
+        ensures answers { Authorises self.now.issuer (reading self.now.issuer line.now) (claims_of pass.old) (logs_of pass.old) result
+            (claims_of pass.new) (logs_of pass.new) }
+        ensures names { (claims_of pass.new).names ≡ (claims_of pass.old).names }
+        ensures answered { pass.new.answered ≡ min (pass.old.answered + 1) (2 ^ 64 - 1) }
+    {
+        match self.pre_check(pass, line) {
+            Ok(checked) => self.finish(rt, pass, checked),
+            Err(refusal) => {
+                pass.answered = pass.answered.saturating_add(1);
+                Answer::Refused(refusal)
+            }
+        }
+    }
+
+    /// What the host shows of the card with this number, by its shard's log as it is when the turn comes. It waits for that turn, and adds
+    /// nothing.
+    pub fn show<R: Wait>(&self, rt: &R, pass: &mut Pass, card: u32) -> CardView
+        requires free { IsFree self.now pass.old }
+        requires card { card < length self.now.issuer.cards }
+        ensures free { IsFree self.now pass.new }
+        ensures shown { ShowsInTurn self.now.issuer card (logs_of pass.old) result (logs_of pass.new) }
+        ensures names { (claims_of pass.new).names ≡ (claims_of pass.old).names }
+        ensures same { (claims_of pass.new ≡ claims_of pass.old) × (pass.new.answered ≡ pass.old.answered) }
+    {
+        self.turns.show(rt, &mut pass.turns, &self.issuer, card)
+    }
+}

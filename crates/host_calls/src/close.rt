@@ -1,0 +1,45 @@
+//! The end of a host of several callers.
+ghost use Rattle.std.specs.Prelude.{◌≡◌, ℕ};
+ghost use Rattle.claim_words.specs.ClaimViews.{claims_on, is_kept};
+ghost use Rattle.seat_names.specs.SeatNames.{IsWhole};
+ghost use Rattle.shard_turns.specs.ShardSeats.{opening_in};
+ghost use Rattle.host_calls.specs.Closing.{AreClosed, AreItsOwn, AreSettled};
+ghost use Rattle.host_calls.specs.Decisions.{decisions_at};
+ghost use Rattle.host_calls.specs.Passes.{claims_of, logs_of, IsFree};
+
+use crate::host::Host;
+use crate::loading::take_stores;
+use crate::pass::Pass;
+use issuer_base::Store;
+
+impl<S: Store> Host<S> {
+    /// Ends the host, with a pass into which all others were joined, and gives the stores in the order of their shards' numbers. It takes no
+    /// memory.
+    pub fn close(self, pass: Pass) -> Vec<S>
+        requires free { IsFree self pass }
+        requires whole { IsWhole (claims_of pass).names }
+
+        // Each history went on legally, and each store holds the journal of its history.
+        ensures stores { AreClosed S.bytes S.disk S.faults self.issuer (opening_in self.turns) (logs_of pass).seen result.items }
+
+        // What was added since loading is the pass's own, and its kept claims are the decided records among it.
+        ensures places { AreItsOwn self.issuer (opening_in self.turns) (logs_of pass) }
+        ensures kept { (card counter : ℕ) → claims_on is_kept card counter (claims_of pass).claims
+            ≡ decisions_at (logs_of pass).seen (logs_of pass).mine card counter }
+        ensures claims { AreSettled self.issuer (opening_in self.turns) (claims_of pass) }
+    {
+        let Pass {
+            claims: claiming,
+            turns: turning,
+            answered: _,
+        } = pass;
+        let Host {
+            issuer: _,
+            claims,
+            turns,
+            room,
+        } = self;
+        claims.close(claiming);
+        take_stores(turns.close(turning), room.into_inner().into_list())
+    }
+}

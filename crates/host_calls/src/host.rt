@@ -1,0 +1,56 @@
+//! The host of several callers.
+ghost use Rattle.std.specs.Prelude.{◌≡◌, ◌≤◌, [], length, vec_capacity};
+ghost use Rattle.issuer_base.specs.declared.limits.TheConstants.{MAX_SHARDS};
+ghost use Rattle.claim_words.specs.Seats.{cards_of};
+ghost use Rattle.shard_turns.specs.ShardSeats.{opening_in, AreTurnsOf};
+ghost use Rattle.host_calls.specs.OpeningLogs.{AreCounted, AreRecordedIn};
+
+use claim_words::ClaimWords;
+use issuer_base::Store;
+use issuer_setup::Issuer;
+use shard_turns::ShardTurns;
+use std::sync::Mutex;
+
+/// The host of several callers over stores: each of them answers its own lines with its own pass, and each record is safe in its
+/// shard's store before it is answered.
+pub struct Host<S: Store> {
+    pub(crate) issuer: Issuer,
+
+    /// The claims on the counters of the issuer's cards.
+    pub(crate) claims: ClaimWords,
+
+    /// The issuer's shards, at which callers take turns.
+    pub(crate) turns: ShardTurns<S>,
+
+    // The lock is never taken: with it, the stores need not be shared.
+    pub(crate) room: Mutex<StoreRoom<S>>,
+    ghost cards: { cards_of claims ≡ length issuer.cards },
+    ghost shards: { AreTurnsOf issuer turns },
+    ghost counted: { AreCounted (opening_in turns) },
+    ghost recorded: { AreRecordedIn issuer (opening_in turns) claims },
+}
+
+/// An empty list with room for the store of each shard, so that closing takes no memory.
+pub(crate) struct StoreRoom<S> {
+    pub(crate) list: Vec<S>,
+    ghost empty: { list.items ≡ [] },
+    ghost room: { MAX_SHARDS ≤ vec_capacity list },
+}
+
+impl<S> StoreRoom<S> {
+    pub(crate) fn into_list(self) -> Vec<S>
+        ensures { (result.items ≡ []) × (MAX_SHARDS ≤ vec_capacity result) }
+    {
+        let StoreRoom { list } = self;
+        list
+    }
+}
+
+impl<S: Store> Host<S> {
+    /// The issuer that was given to `load`.
+    pub fn issuer(&self) -> &Issuer
+        ensures { result.now ≡ self.now.issuer }
+    {
+        &self.issuer
+    }
+}

@@ -1,0 +1,215 @@
+//! Passes of one host over a store in memory: who wins a request's claim, and what is answered to whom.
+ghost use Rattle.std.specs.Prelude.{◌≡◌, ℕ, ◌<◌, ◌≤◌, [], ◌++◌, All, IfOk, MatchResult, length, vec_len, vec_capacity, slice_index_or};
+ghost use Rattle.std.specs.List.{flat_map};
+ghost use Rattle.seat_names.specs.SeatNames.{first_names, IsWhole};
+ghost use Rattle.host_calls.specs.Passes.{claims_of, IsFree, Holds};
+ghost use Rattle.host_calls.specs.PreChecks.{HasPassed};
+
+use super::*;
+use crate::tests::{REQUEST, is_fresh, is_kept, issuer};
+use issuer_base::{Answer, Refusal};
+use std::alloc::Global;
+use std::sync::Wait;
+use std::test::Fail;
+use std::thread;
+use std::thread::Threads;
+use store_edge::MemoryStore;
+
+/// A line that sets the card's status.
+const STATUS: &str = "S 4000000000000002 00 3";
+
+/// A host of one shard over an empty store, which fails at the listed calls, and its first pass.
+fn open(alloc: Global, fails: Vec<u64>) -> Result<(Host<MemoryStore>, Pass), Fail>
+    ensures { IfOk result (λ made. IsFree made.0 made.1 × ((claims_of made.1).names ≡ first_names)) }
+{
+    let issuer = issuer(alloc, 1)?;
+    let mut stores = Vec::new(alloc);
+    let text = Vec::new(alloc);
+    stores.push(MemoryStore::new(alloc, text, 65_536, fails).map_err(|_| "a store")?)?;
+    match Host::load(alloc, stores, issuer) {
+        Ok(made) => Ok(made),
+        Err(
+            HostBack {
+                fault: _,
+                shard: _,
+                stores: _,
+            },
+        ) => Err("a host".into()),
+    }
+}
+
+/// Whether the answer is this refusal.
+fn is_refused(answer: &Answer, expected: &Refusal) -> bool {
+    matches!(answer, Answer::Refused(refusal) if refusal == expected)
+}
+
+/// The answer to what was checked, or the refusal.
+fn end<R: Wait>(
+    rt: &R,
+    host: &Host<MemoryStore>,
+    pass: &mut Pass,
+    checked: Result<Checked, Refusal>,
+) -> Answer
+    requires held { MatchResult checked (λ checked. Holds host.now pass.old checked × HasPassed host.now.issuer checked) (λ _. IsFree host.now pass.old) }
+    ensures free { IsFree host.now pass.new }
+    ensures names { (claims_of pass.new).names ≡ (claims_of pass.old).names }
+{
+    match checked {
+        Ok(checked) => host.finish(rt, pass, checked),
+        Err(refusal) => Answer::Refused(refusal),
+    }
+}
+
+/// Two passes check one request, the first one wins its claim, and the second one ends first.
+#[test]
+fn a_lost_claim_is_pending_until_it_is_kept(rt: HostRuntime) -> Result<(), Fail> {
+    let (host, mut first) = open(rt.alloc(), Vec::new(rt.alloc()))?;
+    let mut second = host.split(&mut first);
+    let won = host.pre_check(&mut first, REQUEST.as_bytes());
+    let lost = host.pre_check(&mut second, REQUEST.as_bytes());
+    let pending = end(&rt, &host, &mut second, lost);
+    let fresh = end(&rt, &host, &mut first, won);
+    let kept = host.authorise(&rt, &mut second, REQUEST.as_bytes());
+    host.join(&mut first, second);
+    host.close(first);
+    assert!(rt; is_refused(&pending, &Refusal::Pending));
+    assert!(rt; is_fresh(&fresh, 0) && is_kept(&kept, 0));
+    Ok(())
+}
+
+/// A claim whose request met a store that failed is given back, and another pass wins it.
+#[test]
+fn a_claim_given_back_is_won_by_another(rt: HostRuntime) -> Result<(), Fail> {
+    let alloc = rt.alloc();
+    let mut refused = 0;
+    let mut fresh = 0;
+    for call in 1..8 {
+        let mut fails = Vec::new(alloc);
+        fails.push(call)?;
+        let Ok((host, mut first)) = open(alloc, fails) else {
+            continue;
+        };
+        let mut second = host.split(&mut first);
+        let failed = host.authorise(&rt, &mut first, REQUEST.as_bytes());
+        let again = host.authorise(&rt, &mut second, REQUEST.as_bytes());
+        host.join(&mut first, second);
+        host.close(first);
+        if is_refused(&failed, &Refusal::StoreFault) {
+            refused += 1;
+            if is_fresh(&again, 0) {
+                fresh += 1;
+            }
+        }
+    }
+    assert!(rt; refused == 2 && fresh == 2);
+    Ok(())
+}
+
+/// A caller with its pass, and what its lines were answered.
+struct Caller {
+    pass: Pass,
+    fresh: u64,
+    set: u64,
+}
+
+/// How many statuses each caller sets.
+const STATUSES: u64 = 250;
+
+/// Splits off a pass for each of so many callers.
+fn seat_all(host: &Host<MemoryStore>, pass: &mut Pass, count: usize, callers: &mut Vec<Caller>)
+    requires pass { IsFree host.now pass.old × IsWhole (claims_of pass.old).names }
+    requires room { (callers.old.items ≡ []) × (count ≤ vec_capacity callers.old) }
+    ensures pass { IsFree host.now pass.new }
+    ensures callers { All (λ caller. IsFree host.now caller.pass) callers.new.items }
+    ensures count { vec_len callers.new ≡ count }
+    ensures whole { IsWhole ((claims_of pass.new).names ++ flat_map (λ caller. (claims_of caller.pass).names) callers.new.items) }
+{
+    for _ in 0..count {
+        callers.push_reserved(Caller {
+            pass: host.split(pass),
+            fresh: 0,
+            set: 0,
+        });
+    }
+}
+
+/// Answers a request, and then so many statuses.
+fn answer_all<R: Wait>(rt: &R, host: &Host<MemoryStore>, caller: &mut Caller)
+    requires free { IsFree host.now caller.old.pass }
+    ensures free { IsFree host.now caller.new.pass }
+    ensures names { (claims_of caller.new.pass).names ≡ (claims_of caller.old.pass).names }
+{
+    let answer = host.authorise(rt, &mut caller.pass, REQUEST.as_bytes());
+    if matches!(answer, Answer::Fresh { .. }) {
+        caller.fresh = 1;
+    }
+    for _ in 0..STATUSES {
+        let answer = host.authorise(rt, &mut caller.pass, STATUS.as_bytes());
+        if matches!(answer, Answer::Set { .. }) {
+            caller.set = caller.set.saturating_add(1);
+        }
+    }
+}
+
+/// Lets all callers answer at once, each in a thread of its own.
+fn answer_at_once<R: Threads + Wait + Sync>(
+    rt: &R,
+    host: &Host<MemoryStore>,
+    callers: &mut [Caller],
+)
+    requires ready { All (λ caller. IsFree host.now caller.pass) callers.old }
+    requires some { 0 < length callers.old }
+    ensures names { (i : ℕ) (d : _) → i < length callers.old
+        → (claims_of (slice_index_or callers.new i d).pass).names ≡ (claims_of (slice_index_or callers.old i d).pass).names }
+    ensures done { All (λ caller. IsFree host.now caller.pass) callers.new }
+{
+    let count = callers.len();
+    thread::for_each_mut(rt, callers, count, &|_, caller| answer_all(rt, host, caller));
+}
+
+/// Joins the passes of all callers, and adds up what they were answered.
+fn join_all(host: &Host<MemoryStore>, pass: &mut Pass, mut callers: Vec<Caller>) -> (u64, u64)
+    requires pass { IsFree host.now pass.old }
+    requires callers { All (λ caller. IsFree host.now caller.pass) callers.items }
+    requires whole { IsWhole ((claims_of pass.old).names ++ flat_map (λ caller. (claims_of caller.pass).names) callers.items) }
+    ensures pass { IsFree host.now pass.new }
+    ensures whole { IsWhole (claims_of pass.new).names }
+{
+    let mut fresh = 0u64;
+    let mut set = 0u64;
+    while let Some(caller) = callers.pop() {
+        fresh = fresh.saturating_add(caller.fresh);
+        set = set.saturating_add(caller.set);
+        let Caller {
+            pass: other,
+            fresh: _,
+            set: _,
+        } = caller;
+        host.join(pass, other);
+    }
+    callers.destroy_empty();
+    (fresh, set)
+}
+
+/// Callers at once: one of them decides the request that all of them ask, and each status is set.
+fn contest<R: Threads + Wait + Sync>(rt: &R, alloc: Global, count: usize) -> Result<(u64, u64), Fail>
+    requires { 0 < count }
+{
+    let mut callers = Vec::with_capacity(alloc, count)?;
+    let Ok((host, mut pass)) = open(alloc, Vec::new(alloc)) else {
+        callers.destroy_empty();
+        return Err("a host".into());
+    };
+    seat_all(&host, &mut pass, count, &mut callers);
+    answer_at_once(rt, &host, callers.as_mut_slice());
+    let answered = join_all(&host, &mut pass, callers);
+    host.close(pass);
+    Ok(answered)
+}
+
+#[test]
+fn callers_at_once_decide_a_request_once(rt: HostRuntime) -> Result<(), Fail> {
+    let (fresh, set) = contest(&rt, rt.alloc(), 4)?;
+    assert!(rt; fresh == 1 && set == 4 * STATUSES);
+    Ok(())
+}

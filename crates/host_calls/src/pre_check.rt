@@ -1,0 +1,58 @@
+//! What can be checked of a line before its turn.
+ghost use Rattle.std.specs.Prelude.{◌≡◌, Ok, IfOk, MatchResult};
+ghost use Rattle.line_checks.specs.Reading.{reading};
+ghost use Rattle.host_calls.specs.Passes.{claims_of, logs_of, IsFree, Holds};
+ghost use Rattle.host_calls.specs.PreChecks.{asked_of, HasPassed, ChecksRequest, PreChecks};
+ghost use Rattle.claim_words.specs.declared.claim_words.Claim.{Claim};
+ghost use Rattle.claim_words.specs.declared.claim_words.Claim.TheVariants.{Won};
+ghost use Rattle.host_calls.specs.declared.pass.Checked.TheVariants.{Decide};
+
+use crate::host::Host;
+use crate::pass::{Checked, Pass};
+use issuer_base::{Refusal, Store, WINDOW};
+use line_checks::{self, CheckedRequest, check_line};
+
+impl<S: Store> Host<S> {
+    /// Checks a line, which is without its newline, as far as that needs no shard: what it asks of a card of the issuer, or the
+    /// first thing that is wrong with it. A request whose counter is below the window of its card's greatest one is refused;
+    /// otherwise its counter is claimed, won or lost. It never waits.
+    ///
+    /// What it gives has to be finished, with the same pass.
+    pub fn pre_check(&self, pass: &mut Pass, line: &[u8]) -> Result<Checked, Refusal>
+        requires free { IsFree self.now pass.old }
+        ensures checks { PreChecks self.now.issuer (reading self.now.issuer line.now) (claims_of pass.old) result (claims_of pass.new) }
+        ensures names { (claims_of pass.new).names ≡ (claims_of pass.old).names }
+        ensures logs { (logs_of pass.new ≡ logs_of pass.old) × (pass.new.answered ≡ pass.old.answered) }
+        ensures asked { IfOk result (λ checked. Ok (asked_of checked) ≡ reading self.now.issuer line.now) }
+        ensures passed { IfOk result (HasPassed self.now.issuer) }
+
+        // Where it refuses the line the pass is still free; otherwise it holds what was checked.
+        ensures held { MatchResult result (Holds self.now pass.new) (λ _. IsFree self.now pass.new) }
+    {
+        match check_line(&self.issuer, line)? {
+            line_checks::Checked::Decide(found) => self.claim(pass, found),
+            line_checks::Checked::Queue(found) => Ok(Checked::Queue(found)),
+            line_checks::Checked::Status(found) => Ok(Checked::Status(found)),
+        }
+    }
+
+    /// Claims the counter of a request that was checked, unless its card's top tells that it is below the window.
+    fn claim(&self, pass: &mut Pass, found: CheckedRequest) -> Result<Checked, Refusal>
+        requires free { IsFree self.now pass.old }
+        requires passed { HasPassed self.now.issuer (Decide found Won) }
+        ensures checks { ChecksRequest found.card found.request.atc (claims_of pass.old) result (claims_of pass.new) }
+        ensures names { (claims_of pass.new).names ≡ (claims_of pass.old).names }
+        ensures logs { (logs_of pass.new ≡ logs_of pass.old) × (pass.new.answered ≡ pass.old.answered) }
+        ensures found { IfOk result (λ checked. (claim : Claim) × (checked ≡ Decide found claim)) }
+        ensures held { MatchResult result (Holds self.now pass.new) (λ _. IsFree self.now pass.new) }
+    {
+        let counter = found.request.parts().atc;
+        if let Some(top) = self.claims.top(&mut pass.claims, found.card) {
+            if u32::from(counter) + u32::from(WINDOW) <= u32::from(top) {
+                return Err(Refusal::Below(top));
+            }
+        }
+        let claim = self.claims.claim(&mut pass.claims, found.card, counter);
+        Ok(Checked::Decide { found, claim })
+    }
+}
