@@ -1,13 +1,13 @@
 //! The configuration: read to its end, and taken as an issuer's keys and cards.
-ghost use Rattle.std.specs.Prelude.{◌≡◌, false, length, All, IfOk, IfErr};
+ghost use Rattle.std.specs.Prelude.{◌≡◌, false, IfOk, IfErr};
 ghost use Rattle.issuer_base.specs.OutsideFaults.{CountsFaults};
 ghost use Rattle.issuer_top.specs.Configuration.{HasSoundParts, IsRead, is_read_fault, Says, GivesNoIssuer, is_read_cause, is_read_stop, config_stop};
 
 use answer_text::Stop;
 use config_read::{ConfigFault, MAX_CONFIG_BYTES, read_config};
-use decision_table::TableRow;
 use issuer_base::{ReadFault, Source};
 use issuer_setup::Issuer;
+use shard_book::has_table;
 use std::alloc::Global;
 
 const CHUNK_BYTES: usize = 4_096;
@@ -69,23 +69,7 @@ fn sound_parts(issuer: &Issuer)
     let _shards = issuer.shards();
     let _cards = issuer.cards();
     let _key = issuer.key(0);
-    whole_updates(issuer.table().rows());
-}
-
-/// Each row of a table has a card status update of four bytes: of one row its type says so, of all a proof sees it row by row.
-fn whole_updates(rows: &[TableRow])
-    ensures { All (λ row. length row.csu ≡ 4) rows.now }
-{
-    for row in rows {
-        update_of(row);
-    }
-}
-
-/// The card status update of a row.
-fn update_of(row: &TableRow) -> [u8; 4]
-    ensures { length row.now.csu ≡ 4 }
-{
-    row.csu
+    has_table(issuer);
 }
 
 /// How a run stops where its configuration says no issuer.

@@ -1,5 +1,5 @@
 //! The logs that shards open with. They exist in proofs alone, so a mark of no bytes shows them.
-ghost use Rattle.std.specs.Prelude.{◌≡◌, ◌<◌, ◌≤◌, List, [], All, length, map, vec_len, true, IfOk, IfErr};
+ghost use Rattle.std.specs.Prelude.{◌≡◌, ◌<◌, ◌≤◌, List, [], length, map, vec_len, true, IfOk, IfErr};
 ghost use Rattle.issuer_setup.specs.Shards.{are_shards};
 ghost use Rattle.issuer_base.specs.declared.limits.TheConstants.{MAX_SHARDS};
 ghost use Rattle.shard_book.specs.Grounds.{HasTable};
@@ -15,10 +15,9 @@ ghost use Rattle.shard_turns.specs.Opening.{AreJustLoaded, AreOpeningLogs};
 use crate::held::HeldShard;
 use crate::logs::{LogHead, LogItem};
 use atomic_table::{Mark, PerchPlay, PerchRule, RuledPerch, Table, TableRule};
-use decision_table::TableRow;
 use issuer_base::{MAX_SHARDS, Store};
 use issuer_setup::Issuer;
-use shard_book::Shard;
+use shard_book::{Shard, has_table};
 use std::alloc::{AllocError, Global};
 use std::collections::LinkedList;
 use std::marker::{Brand, PhantomData};
@@ -139,27 +138,11 @@ fn start_with<J: OpeningLogs<LogItem, LogHead>, S: Store>(
     Turns::load::<J>(alloc, held, counts)
 }
 
-/// The issuer has 1 to 16 shards, and a table, of whose rows a proof sees one by one that their card status updates are whole.
+/// The issuer has 1 to 16 shards, and a decision table whose card status updates are whole.
 pub(crate) fn has_parts(issuer: &Issuer)
     ensures shards { are_shards issuer.now.shards ≡ true }
     ensures table { HasTable issuer.now }
 {
     issuer.shards();
-    whole_updates(issuer.table().rows());
-}
-
-/// Each row of a table has a card status update of four bytes.
-fn whole_updates(rows: &[TableRow])
-    ensures { All (λ row. length row.csu ≡ 4) rows.now }
-{
-    for row in rows {
-        update_of(row);
-    }
-}
-
-/// The card status update of a row.
-fn update_of(row: &TableRow) -> [u8; 4]
-    ensures { length row.now.csu ≡ 4 }
-{
-    row.csu
+    has_table(issuer);
 }
