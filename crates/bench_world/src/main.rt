@@ -46,19 +46,21 @@ fn main(rt: HostRuntime) -> io::Result<()> {
             continue;
         };
         match measure(rt.alloc(), &run) {
-            Some(Summary {
-                taps,
-                fresh,
-                approved,
-                kept,
-                refused,
-                authenticated,
-                unauthenticated,
-                queued,
-                done,
-                ran,
-                halted,
-            }) => println!(rt;
+            Some(
+                Summary {
+                    taps,
+                    fresh,
+                    approved,
+                    kept,
+                    refused,
+                    authenticated,
+                    unauthenticated,
+                    queued,
+                    done,
+                    ran,
+                    halted,
+                },
+            ) => println!(rt;
                 "{taps} {fresh} {approved} {kept} {refused} {authenticated} {unauthenticated} {queued} {done} {ran} {halted}"
             )?,
             None => println!(rt; "refused")?,

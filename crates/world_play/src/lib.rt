@@ -1,4 +1,5 @@
-//! The world of many cards in one large run: cards at terminals, a network that loses, repeats, holds back and spoils, and their issuer's host.
+//! The world of many cards in one large run: cards at terminals, a network that loses, repeats, holds back and
+//! spoils, and their issuer's host.
 #![tactic(auto)]
 
 mod handing;

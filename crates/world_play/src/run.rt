@@ -18,9 +18,11 @@ use world_net::fate;
 /// How many steps a run has at most.
 pub const MAX_STEPS: u32 = 200_000;
 
-/// Plays so many steps of so many cards: what it comes to. The seed turns the fates of the steps, and stands in their unpredictable numbers.
+/// Plays so many steps of so many cards: what it comes to. The seed turns the fates of the steps, and stands in
+/// their unpredictable numbers.
 ///
-/// Where no memory is left nothing is told. All of the stores' memory is taken at first; later only what the cards run takes any.
+/// Where no memory is left nothing is told. All of the stores' memory is taken at first; later only what the cards
+/// run takes any.
 pub fn play(alloc: Global, cards: u32, steps: u32, seed: u32) -> Result<Summary, NoMemory>
     requires cards { (1 ≤ cards) × (cards ≤ MAX_CARDS) }
     requires steps { steps ≤ MAX_STEPS }
