@@ -1,16 +1,14 @@
-//! Plays large runs of the world for `bench/world`: each line of the input is a number of cards, of steps, and a seed, as `4096 200000 1`.
+//! Plays large runs of the world for `bench/world`: each line of the input is a number of cards, of steps, and a seed, as `4096 200000 1`, and
+//! is answered by the eleven counts of that run, or by `refused`.
 #![tactic(auto)]
 
-use arrayvec::ArrayVec;
+use issuer_base::MAX_CARDS;
 use std::alloc::Global;
 use std::io;
-use world_play::{MAX_STEPS, SUMMARY_ROOM, Summary, play, write_summary};
+use world_play::{MAX_STEPS, Summary, play};
 
-/// The most cards of a run.
-const MAX_CARDS: u32 = 4_096;
-
-/// The most requests of a card.
-const MOST_REQUESTS: u32 = 65_535;
+/// How many requests a card makes at most.
+const MOST_REQUESTS: u64 = 65_535;
 
 /// What a line asks for.
 #[derive(Clone, Copy, PartialEq, Eq, Debug)]
@@ -32,27 +30,39 @@ fn read_run(line: &str) -> Option<Run> {
 
 /// What a run comes to; `None` where it is out of range, or no memory was left.
 fn measure(alloc: Global, run: &Run) -> Option<Summary> {
-    if run.cards < 1 || run.cards > MAX_CARDS || run.steps > MAX_STEPS {
+    if run.cards < 1 || run.cards as usize > MAX_CARDS || run.steps > MAX_STEPS {
         return None;
     }
-    if run.steps > MOST_REQUESTS * run.cards {
+    if u64::from(run.steps) > MOST_REQUESTS * u64::from(run.cards) {
         return None;
     }
     play(alloc, run.cards, run.steps, run.seed).ok()
 }
 
 fn main(rt: HostRuntime) -> io::Result<()> {
-    let mut text = ArrayVec::<u8, SUMMARY_ROOM>::new();
     for line in rt.lines(rt.alloc()) {
         let line = line?;
         let Some(run) = read_run(line.as_str()) else {
             continue;
         };
         match measure(rt.alloc(), &run) {
-            Some(summary) => {
-                write_summary(&summary, &mut text);
-                println!(rt; "{}", text.as_slice().escape_ascii())?;
-            }
+            Some(
+                Summary {
+                    taps,
+                    fresh,
+                    approved,
+                    kept,
+                    refused,
+                    authenticated,
+                    unauthenticated,
+                    queued,
+                    done,
+                    ran,
+                    halted,
+                },
+            ) => println!(rt;
+                "{taps} {fresh} {approved} {kept} {refused} {authenticated} {unauthenticated} {queued} {done} {ran} {halted}"
+            )?,
             None => println!(rt; "refused")?,
         }
     }

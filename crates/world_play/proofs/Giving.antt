@@ -1,5 +1,5 @@
 -- What is found in a reply.
-use Rattle.std.proofs.Common.{◌≡◌, ℕ, Bool, true, false, List, [], ◌∷◌, map, take, cond, refl, Option, None, Some}
+use Rattle.std.proofs.Common.{◌≡◌, Bool, true, false, List, [], ◌∷◌, map, take, cond, refl, Some}
 use Rattle.std.specs.Prelude.{option_map}
 use Rattle.std.specs.List.{find, filter}
 use Rattle.std.specs.Option.{option_to_list}

@@ -2,6 +2,6 @@
 pub mod Moving
 pub mod Numbers
 pub mod Giving
-pub mod Opening
+pub mod EmptyBooks
 pub mod Steps
 pub mod Text

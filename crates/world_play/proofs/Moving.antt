@@ -1,10 +1,10 @@
 -- One move of a step, as the program makes it.
-use Rattle.std.proofs.Common.{◌≡◌, ℕ, zero, suc, ◌+◌, List, [], ◌∷◌, length, drop, Option, None, Some, refl, ap, sym, subst, ◌∙◌, add-one, arith}
+use Rattle.std.proofs.Common.{◌≡◌, ℕ, zero, suc, ◌+◌, List, [], ◌∷◌, length, drop, Option, None, Some, refl, ap, sym, subst, ◌∙◌, arith}
 use Rattle.std.specs.Prelude.{slice_get}
 use Rattle.issuer_setup.specs.IssuerSetup.{Setup}
 use Rattle.issuer_base.specs.declared.request.Parts.{Parts}
 use Rattle.card_model.specs.Application.{CardState}
-use Rattle.card_model.specs.CardSteps.{CardStep, Tap as TapEvent, tapped}
+use Rattle.card_model.specs.CardSteps.{CardStep, Tap as TapEvent}
 use Rattle.host_calls.specs.Books.{Book}
 use Rattle.host_calls.specs.Hosts.{Stand}
 use Rattle.world_play.specs.declared.house.House.{House}
@@ -46,11 +46,11 @@ tapped_once house player step request card tally moved counted = record {
       books = books;
       tally = counts;
     }) counted
-    ∙ ap (λ (found : Option Parts × CardState). record {
-      player = record player { card = found.1; request = found.0; reply = None };
-      books = books;
-      tally = with_tap house.tally found.0;
-    }) moved,
+        ∙ ap (λ (found : Option Parts × CardState). record {
+          player = record player { card = found.1; request = found.0; reply = None };
+          books = books;
+          tally = with_tap house.tally found.0;
+        }) moved,
   );
 }
 
@@ -74,14 +74,12 @@ way_goes step moves made next old before now player new after is way moved = rec
   issuer_is = moved.issuer_is ∙ way.issuer_is;
   leads = λ books stand.
       let so_far = way.leads books stand in
-      let more = moved.leads so_far.0 so_far.1 in
-      (
+      let more = moved.leads so_far.0 so_far.1 in (
         more.0,
         more.1,
         λ end rest.
             so_far.2 end (subst (λ (left : List Move). MakesAll old.host.issuer step left (stage_at now player so_far.0) end)
-            (sym (drop-next moves made next is))
-            (
+            (sym (drop-next moves made next is)) (
               stage_at new after more.0,
               subst (λ (setup : Setup). Makes setup step next (stage_at now player so_far.0) (stage_at new after more.0)) way.issuer_is more.2,
               rest,
@@ -95,12 +93,11 @@ pub way_ends : (step : Step) (moves : List Move) (old : House) (before : Player)
 way_ends step moves old before new after way = record {
   issuer_is = way.issuer_is;
   leads = λ books stand.
-      let led = way.leads books stand in
-      (
+      let led = way.leads books stand in (
         led.0,
         led.1,
         led.2 (stage_at new after led.0)
-        (subst (λ (left : List Move). MakesAll old.host.issuer step left (stage_at new after led.0) (stage_at new after led.0))
-        (sym (drop-all moves)) refl),
+            (subst (λ (left : List Move). MakesAll old.host.issuer step left (stage_at new after led.0) (stage_at new after led.0))
+            (sym (drop-all moves)) refl),
       );
 }

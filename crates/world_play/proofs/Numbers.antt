@@ -1,6 +1,6 @@
 -- The account numbers of the cards.
-use Rattle.std.proofs.Common.{◌≡◌, ◌≤◌, ◌+◌, ◌/◌, ◌%◌, ℕ, Bool, true, false, List, ◌∷◌, [], ◌++◌, map, refl, sym, subst, ap, ap₂, ◌∙◌, arith, Some, get_or}
-use Rattle.std.specs.Prelude.{nat_le, replicate, ◌&&◌, ◌==◌, if◌then◌else◌}
+use Rattle.std.proofs.Common.{◌≡◌, ◌+◌, ◌/◌, ◌%◌, ℕ, true, List, ◌∷◌, [], ◌++◌, map, refl, sym, subst, ap₂, ◌∙◌, arith, Some, get_or}
+use Rattle.std.specs.Prelude.{nat_le, replicate, ◌==◌, if◌then◌else◌}
 use Rattle.std.specs.List.{range_with_len}
 use Rattle.std.proofs.lemmas.List.FromFn.{map-range_with_len_more}
 use Rattle.issuer_base.specs.declared.answer.Method.{Method}

@@ -1,5 +1,6 @@
 -- The steps of a run, and the counts at its end.
-use Rattle.std.proofs.Common.{◌≡◌, ℕ, zero, suc, ◌+◌, ◌<◌, ◌%◌, List, [], ◌∷◌, length, take, drop, map, replicate, Option, None, Some, refl, ap, ap₂, sym, subst, ◌∙◌, arith}
+use Rattle.std.proofs.Common.{◌≡◌, ℕ, zero, suc, ◌+◌, ◌<◌, ◌%◌, List, [], ◌∷◌, length, take, map, replicate, Option, None, Some}
+use Rattle.std.proofs.Common.{refl, ap, ap₂, sym, subst, ◌∙◌, arith}
 use Rattle.std.specs.Prelude.{slice_get, slice_set, sum_by}
 use Rattle.std.specs.Option.{option_map, option_map_or}
 use Rattle.std.specs.List.{range_with_len}
@@ -22,7 +23,7 @@ use Rattle.world_play.specs.declared.moves.Move.{Move}
 use Rattle.world_play.specs.declared.player.Player.{Player}
 use Rattle.world_play.specs.declared.setting.Step.{Step}
 use Rattle.world_play.specs.Moves.{moves_of}
-use Rattle.world_play.specs.Play.{State, Stage, MakesAll, IsAfter, first_state, new_player, no_counts, empty_book, shown}
+use Rattle.world_play.specs.Play.{State, Stage, MakesAll, IsAfter, new_player, no_counts, empty_book, shown}
 use Rattle.world_play.specs.Reaching.{Reaches, IsAt, stage_at}
 use Rattle.world_play.specs.Setting.{issuer, step_of}
 
@@ -56,7 +57,8 @@ start_at cards seed house players issuer_is stand none made = record {
   books = replicate 4 empty_book;
   issuer_is = issuer_is;
   stand = stand;
-  is_after = ap₂ (λ (players : List Player) tally. let state : State = record { players = players; books = replicate 4 empty_book; tally = tally } in state) made none;
+  is_after =
+      ap₂ (λ (players : List Player) tally. let state : State = record { players = players; books = replicate 4 empty_book; tally = tally } in state) made none;
 }
 
 -- ---- the counts at the end
@@ -87,7 +89,8 @@ shown_is setup shards books info view are stand some shows =
     let below = shard-within setup (name_of info) some in
     let count = stand.count_is in
     let many = are.count_is in
-    let book = read-within books (shard_of setup (name_of info)) (let w : shard_of setup (name_of info) < length books = omega (arith, below, count, many) in w) in
+    let within : shard_of setup (name_of info) < length books = omega (arith, below, count, many) in
+    let book = read-within books (shard_of setup (name_of info)) within in
     let histories : slice_get (histories_of books) (shard_of setup (name_of info)) ≡ Some book.0.history =
     slice_get-map (λ (b : Book). b.history) books (shard_of setup (name_of info)) ∙ ap (λ (o : Option Book). option_map (λ (b : Book). b.history) o) book.1 in
     let history = get_or_from_slice_get (histories_of books) (shard_of setup (name_of info)) book.0.history [] histories in

@@ -1,5 +1,5 @@
 -- What a terminal finds in a reply, and gives to the card.
-use Rattle.std.specs.Prelude.{ℕ, ◌==◌, Bool, true, false, List, [], ◌∷◌, map, Option, None, Some, option_map, if◌then◌else◌, bit_xor}
+use Rattle.std.specs.Prelude.{ℕ, ◌==◌, Bool, List, [], ◌∷◌, map, Option, option_map, if◌then◌else◌, bit_xor}
 use Rattle.std.specs.List.{find, filter}
 use Rattle.std.specs.Option.{option_map_or}
 use Rattle.tlv_objects.specs.Tlv.{TlvObject, objects_of}

@@ -26,7 +26,11 @@ pub(crate) fn hand(card: &mut Card, tally: &mut Summary, reply: &Reply) -> Resul
 }
 
 /// The card is given the issuer's answer and, where it found that right, the first command.
-pub(crate) fn hand_first(card: &mut Card, tally: &mut Summary, reply: &Reply) -> Result<(), NoMemory>
+pub(crate) fn hand_first(
+    card: &mut Card,
+    tally: &mut Summary,
+    reply: &Reply,
+) -> Result<(), NoMemory>
     ensures card { IfOk result (λ _. card.new ≡ given_card (λ answer. answer) (take 1) reply.now (answer_in reply.now.bytes.items) card.old) }
     ensures tally { IfOk result (λ _. tally.new ≡ given_tally (λ answer. answer) reply.now (answer_in reply.now.bytes.items) card.old tally.old) }
 {
@@ -41,7 +45,11 @@ pub(crate) fn hand_first(card: &mut Card, tally: &mut Summary, reply: &Reply) ->
 }
 
 /// The card is given a spoiled answer and, where it found that right, all commands.
-pub(crate) fn hand_spoiled(card: &mut Card, tally: &mut Summary, reply: &Reply) -> Result<(), NoMemory>
+pub(crate) fn hand_spoiled(
+    card: &mut Card,
+    tally: &mut Summary,
+    reply: &Reply,
+) -> Result<(), NoMemory>
     ensures card { IfOk result (λ _. card.new ≡ given_card spoil_first (λ commands. commands) reply.now (answer_in reply.now.bytes.items) card.old) }
     ensures tally { IfOk result (λ _. tally.new ≡ given_tally spoil_first reply.now (answer_in reply.now.bytes.items) card.old tally.old) }
 {
@@ -57,7 +65,12 @@ pub(crate) fn hand_spoiled(card: &mut Card, tally: &mut Summary, reply: &Reply) 
 
 /// Whether the card found the issuer's answer right, which is counted.
 #[tactic(auto, unfolding(card_model::specs::CardSteps::CardStep))]
-fn is_right(card: &mut Card, tally: &mut Summary, answer: &[u8], arc: [u8; 2]) -> Result<bool, NoMemory>
+fn is_right(
+    card: &mut Card,
+    tally: &mut Summary,
+    answer: &[u8],
+    arc: [u8; 2],
+) -> Result<bool, NoMemory>
     ensures card { IfOk result (λ right. (right, card.new) ≡ authenticated card.old answer.now arc) }
     ensures tally { IfOk result (λ right. tally.new ≡ with_finding tally.old right) }
 {

@@ -1,9 +1,11 @@
-//! The world of many cards in one large run: cards at terminals, a network that loses, repeats, holds back and spoils, and their issuer's host.
+//! The world of many cards in one large run: cards at terminals, a network that loses, repeats, holds back and
+//! spoils, and their issuer's host.
 #![tactic(auto)]
 
 mod handing;
 mod house;
 mod moves;
+mod opening;
 mod player;
 mod queue_line;
 mod reply;
@@ -12,6 +14,7 @@ mod setting;
 mod summary;
 #[cfg(test)]
 mod tests;
+mod totals;
 
 pub use run::{MAX_STEPS, play};
 pub use summary::{SUMMARY_ROOM, Summary, write_summary};

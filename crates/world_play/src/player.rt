@@ -26,7 +26,12 @@ pub(crate) struct Player {
 
 impl Player {
     /// Makes the moves of a step, in order.
-    pub(crate) fn play(&mut self, house: &mut House, step: &Step, moves: &[Move]) -> Result<(), NoMemory>
+    pub(crate) fn play(
+        &mut self,
+        house: &mut House,
+        step: &Step,
+        moves: &[Move],
+    ) -> Result<(), NoMemory>
         ensures { IfOk result (λ _. Reaches (MakesAll house.old.host.issuer step.now moves.now) house.old self.old house.new self.new) }
     {
         for next in moves {

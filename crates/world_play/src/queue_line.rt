@@ -6,11 +6,12 @@ ghost use Rattle.world_play.specs.Setting.{queue_line, six_digits};
 use crate::setting::Step;
 use arrayvec::ArrayVec;
 
-/// The bytes of the line: a letter, the sixteen digits of the account number, the two of the sequence number, and the sixteen of the command,
-/// parted by one space.
+/// The bytes of the line: a letter, the sixteen digits of the account number, the two of the sequence number, and
+/// the sixteen of the command, parted by one space.
 const LINE_BYTES: usize = 1 + 17 + 3 + 17;
 
-/// The line that queues a command for the card of a step: the command with this number, which puts data, the step's number in four bytes.
+/// The line that queues a command for the card of a step: the command with this number, which puts data, the
+/// step's number in four bytes.
 pub(crate) fn queue_line(step: &Step, number: u8) -> ArrayVec<u8, LINE_BYTES>
     ensures { result.items ≡ queue_line step.now number }
 {

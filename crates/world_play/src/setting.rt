@@ -84,7 +84,8 @@ pub(crate) fn step_of(index: u32, cards: u32, seed: u32) -> Step
     }
 }
 
-/// What the terminal of a step gives: an amount of 10.00 in even rounds and of 9,000.00 in odd ones, and an unpredictable number of its own.
+/// What the terminal of a step gives: an amount of 10.00 in even rounds and of 9,000.00 in odd ones, and an
+/// unpredictable number of its own.
 #[tactic(auto, unfolding(issuer_base::specs::ChipData::is_bcd))]
 pub(crate) fn terminal_of(step: &Step) -> Terminal
     ensures exact { result ≡ terminal_of step.now }
@@ -121,7 +122,8 @@ pub(crate) fn six_digits(number: u32) -> [u8; 6]
     ]
 }
 
-/// The card with this number: its account number ends with the number, and it takes the issuer's answer by method 1 where that is even.
+/// The card with this number: its account number ends with the number, and it takes the issuer's answer by
+/// method 1 where that is even.
 #[tactic(auto, using(crate::proofs::Numbers::number_pan))]
 pub(crate) fn card_info(number: u32) -> CardInfo
     ensures { result ≡ card_info number }

@@ -9,8 +9,9 @@ use super::World;
 use crate::event::Event;
 use crate::tests::{card, key_set, table};
 use arrayvec::ArrayVec;
+use card_model::Card;
 use draw::Deck;
-use issuer_base::{Entry, Method};
+use issuer_base::{Entry, Method, NoMemory};
 use issuer_setup::Issuer;
 use plain_world::{PlainRecord, PlainWorld, Spot};
 use std::alloc::Global;
@@ -65,6 +66,50 @@ fn is_history(issuer: &Issuer, history: &[Entry], model: &PlainWorld, shard: u8)
     model.size(shard) == history.len() as u64
 }
 
+/// Whether the two cards ran the same commands.
+fn ran_alike(card: &Card, other: &Card) -> bool {
+    card.ran() == other.ran()
+}
+
+/// The number of the first event that the world answers otherwise than the model, or none.
+fn first_difference(
+    issuer: &Issuer,
+    world: &mut World,
+    model: &mut PlainWorld,
+    deck: &mut Deck,
+) -> Result<Option<u32>, NoMemory> {
+    for index in 0..EVENTS {
+        let event = deck.draw(model, world.net.sent.as_slice());
+        let expected = model.step(issuer, &event)?;
+        if world.step(&event)? != expected {
+            return Ok(Some(index));
+        }
+        deck.follow(&event)?;
+    }
+    Ok(None)
+}
+
+/// Whether each shard's history is the model's.
+fn are_histories(issuer: &Issuer, world: &World, model: &PlainWorld) -> bool {
+    for shard in 0..issuer.shards() {
+        match world.net.shards.get(usize::from(shard)) {
+            Some(records) if is_history(issuer, records.history(), model, shard) => {}
+            _ => return false,
+        }
+    }
+    true
+}
+
+/// Whether each card ran what the deck's ran.
+fn are_runs(world: &World, deck: &Deck) -> bool {
+    world
+        .net
+        .cards
+        .iter()
+        .zip(deck.cards.iter())
+        .all(|(card, other)| ran_alike(card, other))
+}
+
 #[test]
 fn answers_random_events_as_a_plain_model_does(rt: HostRuntime) -> Result<(), Fail> {
     let alloc = rt.alloc();
@@ -72,21 +117,12 @@ fn answers_random_events_as_a_plain_model_does(rt: HostRuntime) -> Result<(), Fa
     let mut world = World::new(alloc, issuer(alloc)?).map_err(|_| "memory")?;
     let mut model = PlainWorld::new(alloc, shown.shards(), shown.cards());
     let mut deck = Deck::new(alloc, &shown).map_err(|_| "memory")?;
-    for index in 0..EVENTS {
-        let event = deck.draw(&model, world.net.sent.as_slice());
-        let expected = model.step(&shown, &event)?;
-        let answer = world.step(&event).map_err(|_| "memory")?;
-        assert_eq!(rt; answer, expected, "event {index}");
-        deck.follow(&event).map_err(|_| "memory")?;
-    }
-    for shard in 0..shown.shards() {
-        let records = world.net.shards.get(usize::from(shard)).ok_or("a shard")?;
-        assert!(rt; is_history(&shown, records.history(), &model, shard));
-    }
-    for (number, own) in deck.cards.iter().enumerate() {
-        let card = world.net.cards.get(number).ok_or("a card")?;
-        assert_eq!(rt; card.ran(), own.ran());
-    }
+    let difference = first_difference(&shown, &mut world, &mut model, &mut deck).map_err(
+        |_| "memory",
+    )?;
+    assert_eq!(rt; difference, None);
+    assert!(rt; are_histories(&shown, &world, &model));
+    assert!(rt; are_runs(&world, &deck));
     assert!(rt; model.decisions() > 200);
     Ok(())
 }

@@ -1,7 +1,4 @@
 //! Events that are drawn at random. Cards of the deck's own make the requests, as those of the world do.
-ghost use Rattle.std.specs.Prelude.{IsTrue, ◌≤◌};
-ghost use Rattle.std.specs.List.{list_all};
-ghost use Rattle.issuer_base.specs.ChipData.{is_bcd};
 
 use super::dice::Dice;
 use super::plain_world::PlainWorld;

@@ -1,12 +1,11 @@
 //! A world by plain lists, whose records tell only whose they are.
-ghost use Rattle.std.specs.Prelude.{◌≤◌};
 
 use crate::event::Event;
 use chip_request::read_request;
-use issuer_base::{Command, MAX_CHIP_BYTES, MAX_STATUS, MAX_UNDONE, WINDOW, are_decimal};
+use issuer_base::{Command, MAX_CHIP_BYTES, MAX_STATUS, MAX_UNDONE, NoMemory, WINDOW, are_decimal};
 use issuer_setup::Issuer;
 use line_checks::check_request;
-use std::alloc::{AllocError, Global};
+use std::alloc::Global;
 
 /// A transaction counter of the card with this number.
 #[derive(Clone, Copy, PartialEq, Eq, Debug)]
@@ -65,7 +64,7 @@ impl PlainWorld {
     }
 
     /// Takes the event where it may happen, and says whether it may.
-    pub(crate) fn step(&mut self, issuer: &Issuer, event: &Event) -> Result<bool, AllocError> {
+    pub(crate) fn step(&mut self, issuer: &Issuer, event: &Event) -> Result<bool, NoMemory> {
         match event {
             Event::Tap { card, terminal } => {
                 Ok(*card < self.cards && are_decimal(&terminal.amount))
@@ -82,7 +81,7 @@ impl PlainWorld {
         }
     }
 
-    fn claim(&mut self, caller: u8, asked: Option<Spot>) -> Result<bool, AllocError> {
+    fn claim(&mut self, caller: u8, asked: Option<Spot>) -> Result<bool, NoMemory> {
         let Some(spot) = asked else {
             return Ok(false);
         };
@@ -99,7 +98,7 @@ impl PlainWorld {
         is_open
     }
 
-    fn write(&mut self, caller: u8, stored: bool) -> Result<bool, AllocError> {
+    fn write(&mut self, caller: u8, stored: bool) -> Result<bool, NoMemory> {
         let Some(spot) = self.claimed(caller) else {
             return Ok(false);
         };
@@ -117,7 +116,7 @@ impl PlainWorld {
         Ok(true)
     }
 
-    fn queue(&mut self, card: u32, command: &Command) -> Result<bool, AllocError> {
+    fn queue(&mut self, card: u32, command: &Command) -> Result<bool, NoMemory> {
         let is_one = command.cla % 16 == 4
             && [0x16, 0x18, 0x1E, 0x24, 0xDA, 0xDC].contains(&command.ins);
         if card >= self.cards || !is_one || self.commands(card) >= u64::from(MAX_UNDONE) {
@@ -127,7 +126,7 @@ impl PlainWorld {
         Ok(true)
     }
 
-    fn set_status(&mut self, card: u32, status: u8) -> Result<bool, AllocError> {
+    fn set_status(&mut self, card: u32, status: u8) -> Result<bool, NoMemory> {
         if card >= self.cards || status > MAX_STATUS {
             return Ok(false);
         }
@@ -135,7 +134,7 @@ impl PlainWorld {
         Ok(true)
     }
 
-    fn restart(&mut self, kept: bool) -> Result<bool, AllocError> {
+    fn restart(&mut self, kept: bool) -> Result<bool, NoMemory> {
         self.claims.clear();
         for shard in 0..self.shards {
             if let Some(spot) = self.doubt(shard) {
@@ -150,7 +149,7 @@ impl PlainWorld {
     }
 
     /// Adds a record to the shard of this card, whose doubt ends.
-    fn add(&mut self, card: u32, record: PlainRecord) -> Result<(), AllocError> {
+    fn add(&mut self, card: u32, record: PlainRecord) -> Result<(), NoMemory> {
         let shard = self.home(card);
         self.doubts.retain(|doubt| doubt.shard != shard);
         self.records.push(ShardRecord { shard, record })?;

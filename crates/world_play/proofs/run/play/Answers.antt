@@ -1,5 +1,5 @@
 -- There is a player for each card.
-use Rattle.std.proofs.Common.{◌≡◌, ◌∙◌, length, ap}
+use Rattle.std.proofs.Common.{◌∙◌, length, ap}
 use Rattle.std.proofs.lemmas.List.FromFn.{length-map-range_with_len}
 use Rattle.world_play.specs.Play.{new_player}
 use Rattle.world_play.proofs.run.play.Goals as goal

@@ -1,5 +1,5 @@
 -- The digits of a card's number are an account number.
-use Rattle.std.proofs.Common.{◌≡◌, ◌∙◌, refl, sym, subst, rules}
+use Rattle.std.proofs.Common.{◌∙◌, refl, sym, subst, rules}
 use Rattle.std.specs.Option.{IsSome}
 use Rattle.std.proofs.lemmas.Option.{same_Some}
 use Rattle.world_play.proofs.Numbers.{digits_pan, info_is}

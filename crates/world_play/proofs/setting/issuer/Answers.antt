@@ -1,5 +1,5 @@
 -- One card more.
-use Rattle.std.proofs.Common.{◌≡◌, ◌∙◌, rules}
+use Rattle.std.proofs.Common.{◌∙◌, rules}
 use Rattle.world_play.specs.Setting.{card_info}
 use Rattle.world_play.proofs.Numbers.{made_more}
 use Rattle.world_play.proofs.setting.issuer.Goals as goal

@@ -1,7 +1,7 @@
 -- One move more is made, and all are made at the end.
-use Rattle.std.proofs.Common.{◌≡◌, ◌<◌, ℕ, length, refl, subst, sym, arith}
+use Rattle.std.proofs.Common.{◌≡◌, length, subst, arith}
 use Rattle.std.proofs.lemmas.Option.{slice_get-get_or}
-use Rattle.world_play.proofs.Moving.{IsOnTheWay, way_begins, way_goes, way_ends}
+use Rattle.world_play.proofs.Moving.{IsOnTheWay, way_goes, way_ends}
 use Rattle.world_play.proofs.player.Player.play.Goals as goal
 
 pub loop-next-preserved : goal.loop-next-preserved

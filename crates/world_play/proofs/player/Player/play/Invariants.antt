@@ -1,8 +1,4 @@
 -- The moves that are left lead on from the stage that the first moves led to.
-use Rattle.std.proofs.Common.{◌≡◌, List, drop}
-use Rattle.host_calls.specs.Books.{Book}
-use Rattle.host_calls.specs.Hosts.{Stand}
-use Rattle.world_play.specs.Play.{MakesAll}
 use Rattle.world_play.proofs.Moving.{IsOnTheWay}
 use Rattle.world_play.proofs.player.Player.play.Given as goal
 

@@ -1,6 +1,6 @@
 -- The stores so far are empty.
 use Rattle.std.proofs.Common.{◌≡◌, ◌≤◌, [], length, vec_capacity, All}
-use Rattle.world_play.proofs.run.stores.Given as goal
+use Rattle.world_play.proofs.opening.stores.Given as goal
 
 abbrev pub invariant-loop-shard : goal.invariant-loop-shard
 invariant-loop-shard l = record {

@@ -2,7 +2,7 @@
 use Rattle.std.proofs.Common.{◌≡◌, ◌≤◌, length, map, vec_capacity}
 use Rattle.std.specs.List.{range_with_len}
 use Rattle.world_play.specs.Play.{new_player}
-use Rattle.world_play.proofs.run.players.Given as goal
+use Rattle.world_play.proofs.opening.new_players.Given as goal
 
 abbrev pub invariant-loop-number : goal.invariant-loop-number
 invariant-loop-number l = record {

@@ -3,7 +3,7 @@ use Rattle.std.proofs.Common.{◌≡◌, ◌<◌, ◌∙◌, length, ap, arith, 
 use Rattle.issuer_setup.specs.IssuerSetup.{Setup}
 use Rattle.world_play.specs.Play.{one_if}
 use Rattle.world_play.proofs.Steps.{shown_more}
-use Rattle.world_play.proofs.run.count_shown.Goals as goal
+use Rattle.world_play.proofs.totals.count_shown.Goals as goal
 
 pub loop-number-preserved : goal.loop-number-preserved
 loop-number-preserved c =

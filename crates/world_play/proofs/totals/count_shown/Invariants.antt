@@ -4,7 +4,7 @@ use Rattle.std.specs.Prelude.{sum_by}
 use Rattle.host_calls.specs.Books.{Book}
 use Rattle.host_calls.specs.Hosts.{Stand}
 use Rattle.world_play.specs.Play.{one_if, shown}
-use Rattle.world_play.proofs.run.count_shown.Given as goal
+use Rattle.world_play.proofs.totals.count_shown.Given as goal
 
 abbrev pub invariant-loop-number : goal.invariant-loop-number
 invariant-loop-number l = record {

@@ -1,8 +1,8 @@
 -- One player more.
-use Rattle.std.proofs.Common.{◌≡◌, ◌∙◌, rules}
+use Rattle.std.proofs.Common.{◌∙◌, rules}
 use Rattle.world_play.specs.Play.{new_player}
 use Rattle.world_play.proofs.Numbers.{made_more}
-use Rattle.world_play.proofs.run.players.Goals as goal
+use Rattle.world_play.proofs.opening.new_players.Goals as goal
 
 pub loop-number-preserved : goal.loop-number-preserved
 loop-number-preserved c = record {

@@ -1,0 +1,119 @@
+//! What a run begins with: its cards, and its host over empty stores.
+ghost use Rattle.std.specs.Prelude.{◌≡◌, ◌<◌, ◌≤◌, [], length, map, replicate, All, IfOk};
+ghost use Rattle.std.specs.List.{range_with_len};
+ghost use Rattle.host_calls.specs.Hosts.{Stand};
+ghost use Rattle.host_calls.specs.Loading.{AreLoaded};
+ghost use Rattle.world_play.specs.Play.{empty_book, new_player, no_counts};
+ghost use Rattle.world_play.specs.Setting.{issuer, key_set};
+
+use crate::house::House;
+use crate::player::Player;
+use crate::setting::{KEY_SET, SHARDS, card_info, issuer};
+use crate::summary::Summary;
+use card_model::Card;
+use host_calls::{HostBack, Solo};
+use issuer_base::NoMemory;
+use issuer_setup::{CardInfo, Issuer};
+use key_derive::MasterCiphers;
+use std::alloc::Global;
+use store_edge::RoomStore;
+
+/// How many bytes of room a store has for no step.
+const LEAST_ROOM: u64 = 64;
+
+/// How many bytes of room a store has for each step of its shard's cards.
+const STEP_ROOM: u64 = 1_024;
+
+/// A player for each card.
+pub(crate) fn new_players(alloc: Global, cards: u32) -> Result<Vec<Player>, NoMemory>
+    ensures { IfOk result (λ made. made.items ≡ map new_player (range_with_len 0 cards)) }
+{
+    let ciphers = MasterCiphers::new(&KEY_SET);
+    let mut players = Vec::with_capacity(alloc, cards as usize)?;
+    for number in 0..cards {
+        players.push_reserved(new_player(alloc, &ciphers, number));
+    }
+    Ok(players)
+}
+
+/// The player of the card with this number, which did nothing yet.
+#[tactic(auto, unfolding(issuer_base::specs::ChipData::is_bcd))]
+fn new_player(alloc: Global, ciphers: &MasterCiphers, number: u32) -> Player
+    requires { ciphers.now ≡ key_set }
+    ensures { result ≡ new_player number }
+{
+    let info = card_info(number);
+    let keys = ciphers.card_keys(&info.pan, info.psn);
+    let CardInfo { pan, psn, method } = info;
+    Player {
+        card: Card::new(alloc, pan, psn, KEY_SET.dki, method, keys),
+        request: None,
+        reply: None,
+        held: None,
+    }
+}
+
+/// The host of an issuer of so many cards, over empty stores with room for so many steps.
+pub(crate) fn new_house(alloc: Global, cards: u32, steps: u32) -> Result<House, NoMemory>
+    requires { 1 ≤ cards }
+    ensures issuer { IfOk result (λ house. house.host.issuer ≡ issuer cards) }
+    ensures books { IfOk result (λ house. Stand house.host.issuer house.host.shards.items (replicate 4 empty_book)) }
+    ensures tally { IfOk result (λ house. house.tally ≡ no_counts) }
+{
+    let stores = stores(alloc, cards, steps)?;
+    let issuer = issuer(alloc, cards)?;
+    Ok(House {
+        host: load(alloc, stores, issuer)?,
+        tally: Summary::default(),
+    })
+}
+
+/// The host of an issuer over these stores.
+fn load(alloc: Global, stores: Vec<RoomStore>, issuer: Issuer) -> Result<Solo<RoomStore>, NoMemory>
+    requires { length stores.items ≡ issuer.shards }
+    ensures issuer { IfOk result (λ host. host.issuer ≡ issuer) }
+    ensures loaded { IfOk result (λ host. AreLoaded issuer stores.items host.shards.items) }
+{
+    match Solo::load(alloc, stores, issuer) {
+        Ok(host) => Ok(host),
+        Err(
+            HostBack {
+                fault: _,
+                shard: _,
+                stores: _,
+            },
+        ) => Err(NoMemory),
+    }
+}
+
+/// An empty store for each shard.
+fn stores(alloc: Global, cards: u32, steps: u32) -> Result<Vec<RoomStore>, NoMemory>
+    requires { 1 ≤ cards }
+    ensures count { IfOk result (λ made. length made.items ≡ 4) }
+    ensures empty { IfOk result (λ made. All (λ store. (store.held ≡ []) × (store.faults ≡ 0)) made.items) }
+{
+    let mut stores = Vec::with_capacity(alloc, usize::from(SHARDS))?;
+    for shard in 0..SHARDS {
+        let room = room_of(cards, steps, shard);
+        stores.push_reserved(RoomStore::new(alloc, room as usize)?);
+    }
+    Ok(stores)
+}
+
+/// The room of a shard's store.
+fn room_of(cards: u32, steps: u32, shard: u8) -> u64
+    requires some { 1 ≤ cards }
+    requires shard { shard < 4 }
+{
+    let rounds = u64::from(steps / cards);
+    let steps = rounds * cards_of(cards, shard) + cards_of(steps % cards, shard);
+    LEAST_ROOM + STEP_ROOM * steps
+}
+
+/// How many of the first cards are of this shard.
+fn cards_of(cards: u32, shard: u8) -> u64
+    requires { shard < 4 }
+    ensures { result ≤ cards }
+{
+    (u64::from(cards) + u64::from(SHARDS - 1 - shard)) / u64::from(SHARDS)
+}
