@@ -1,5 +1,5 @@
 -- What is left of journals that were opened, and maybe loaded.
-use Rattle.std.proofs.Common.{◌≡◌, ℕ, ◌<◌, ◌≤◌, zero, suc, List, [], ◌∷◌, ◌++◌, length, take, Option, None, Some}
+use Rattle.std.proofs.Common.{◌≡◌, ℕ, ◌<◌, zero, suc, List, [], ◌∷◌, ◌++◌, length, take, Option, None, Some}
 use Rattle.std.proofs.Common.{refl, sym, ap, ◌∙◌, subst, arith, inl, inr, ⊎_elim, append-nil}
 use Rattle.std.specs.Prelude.{slice_get, map, IfSome, ◌⊎◌}
 use Rattle.std.proofs.Math.Seq.{take-append_seam}
@@ -7,7 +7,7 @@ use Rattle.std.proofs.lemmas.List.Elements.{All-nil}
 use Rattle.std.proofs.lemmas.Bool.{cases_order}
 use Rattle.std.proofs.lemmas.Option.{slice_get_within}
 use Rattle.issuer_base.specs.OutsideFaults.{Rose}
-use Rattle.issuer_base.specs.Stores.{BothTold, Disk, Moment, MayLeave, LeavesOnly, LeavesSince, present, timeline}
+use Rattle.issuer_base.specs.Stores.{BothTold, Disk, Moment, LeavesOnly, LeavesSince, present}
 use Rattle.issuer_base.specs.Tells.{Tells}
 use Rattle.issuer_base.specs.declared.outside.store.Store.{Ghosts}
 use Rattle.issuer_base.proofs.ManyCalls.{Rose-from_none}
@@ -20,7 +20,7 @@ use Rattle.record_store.proofs.ReadSoFar.{reads-none}
 use Rattle.shard_book.specs.declared.replay.LoadFault.{LoadFault}
 use Rattle.shard_book.specs.declared.replay.LoadFault.TheVariants.{BadLine, BadRecord, StoreFault, NoMemory}
 use Rattle.shard_book.specs.declared.shard.Shard.{Shard}
-use Rattle.shard_book.specs.Shards.{store_in, IsCutToText, IsSomeCutImage, LeavesBytes}
+use Rattle.shard_book.specs.Shards.{store_in, IsCutToText, IsSomeCutImage}
 use Rattle.shard_book.proofs.LoadCrash.{crash-read}
 use Rattle.host_calls.specs.Loading.{ComeBack, IsGivenBack, IsNotLoaded}
 use Rattle.host_calls.proofs.Loads.{given-back}

@@ -13,8 +13,8 @@ ghost use Rattle.issuer_top.specs.Endings.{IsSetUp, EndsBy, Writes, IsDone, IsUs
 use crate::config::read_issuer;
 use crate::ending::{Ending, end_writing, status_of};
 use crate::journals::{NoHost, load_host};
-use crate::serve::{Served, Server};
 use crate::play::play_world;
+use crate::serve::{Served, Server};
 use crate::show::show;
 use crate::stopping::stop_with;
 use crate::words::{Names, Task, read_words};

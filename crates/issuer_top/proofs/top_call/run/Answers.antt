@@ -1,5 +1,5 @@
 -- How a run ends that plays a world, or whose words are no command.
-use Rattle.std.proofs.Common.{◌≡◌, refl, ap, sym, subst}
+use Rattle.std.proofs.Common.{refl, ap, sym, subst}
 use Rattle.std.specs.Prelude.{map, is_some}
 use Rattle.std.specs.Option.{option_map}
 use Rattle.issuer_top.specs.Seen.{input_seen, store_seen}

@@ -1,5 +1,5 @@
 -- How a run ends, stage by stage.
-use Rattle.std.proofs.Common.{◌≡◌, refl, ap, sym, subst, ◌∙◌}
+use Rattle.std.proofs.Common.{refl, ap, sym, subst, ◌∙◌}
 use Rattle.std.specs.Prelude.{map, is_some}
 use Rattle.std.specs.Option.{option_map}
 use Rattle.issuer_top.specs.Seen.{Logged, input_seen, store_seen}

@@ -1,6 +1,5 @@
 -- Words that aren't taken are no command.
-use Rattle.issuer_top.specs.declared.words.Command.TheVariants.{Serve, Show, World}
-use Rattle.issuer_top.proofs.CommandWords.{no-words, no-values}
+use Rattle.issuer_top.proofs.CommandWords.{no-words}
 use Rattle.issuer_top.proofs.words.read_words.Goals as goal
 
 pub returns-in_err-command_in-clause-other : goal.returns-in_err-command_in-clause-other

@@ -1,6 +1,5 @@
 -- Words whose options lack a value, or are given two or no number within its limits, are no command to play a world.
-use Rattle.std.proofs.Common.{◌≡◌, Some, ap, sym, ◌∙◌, rules}
-use Rattle.std.specs.Fmt.{decimal}
+use Rattle.std.proofs.Common.{◌≡◌, ap, ◌∙◌, rules}
 use Rattle.issuer_top.specs.Pairs.{is_within}
 use Rattle.issuer_top.proofs.CommandWords.{world-from, world-gives, one-number}
 use Rattle.issuer_top.proofs.words.world_size.Goals as goal
