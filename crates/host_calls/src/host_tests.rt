@@ -164,7 +164,12 @@ fn answer_at_once<R: Threads + Wait + Sync>(
     ensures done { All (λ caller. IsFree host.now caller.pass) callers.new }
 {
     let count = callers.len();
-    thread::for_each_mut(rt, callers, count, &|_, caller| answer_all(rt, host, caller));
+    thread::for_each_mut(
+        rt,
+        callers,
+        count,
+        &|_, caller| answer_all(rt, host, caller),
+    );
 }
 
 /// Joins the passes of all callers, and adds up what they were answered.
@@ -192,7 +197,11 @@ fn join_all(host: &Host<MemoryStore>, pass: &mut Pass, mut callers: Vec<Caller>)
 }
 
 /// Callers at once: one of them decides the request that all of them ask, and each status is set.
-fn contest<R: Threads + Wait + Sync>(rt: &R, alloc: Global, count: usize) -> Result<(u64, u64), Fail>
+fn contest<R: Threads + Wait + Sync>(
+    rt: &R,
+    alloc: Global,
+    count: usize,
+) -> Result<(u64, u64), Fail>
     requires { 0 < count }
 {
     let mut callers = Vec::with_capacity(alloc, count)?;
