@@ -56,7 +56,8 @@ length-alone (entry ∷ history) = omega (arith, length-alone history)
 
 module _ {S : Type 0} {G : Ghosts S} where
   -- a log has as many items as its shard has records
-  pub opening-length : (issuer : Setup) (stores : List S) (number : ℕ) (shard : Shard S G) (log : Log LogItem LogHead) (places : ℕ) → IsOpeningLog issuer stores number shard log
+  pub opening-length : (issuer : Setup) (stores : List S) (number : ℕ) (shard : Shard S G) (log : Log LogItem LogHead) (places : ℕ)
+      → IsOpeningLog issuer stores number shard log
       → ((issuer : Setup) (history : List Entry) → StandsFor issuer shard history → places ≡ length history) → places ≡ length log.items
   opening-length issuer stores number shard log places opening counted =
       counted issuer opening.loaded.history opening.loaded.stands
@@ -87,7 +88,8 @@ module _ {S : Type 0} {G : Ghosts S} where
             (let least : faults_in shard ≤ faults_in shard = omega arith in least);
       }
 
-  pub opening-stands : (issuer : Setup) (stores : List S) (number : ℕ) (shard : Shard S G) (log : Log LogItem LogHead) → HasTable issuer → IsJustLoaded issuer stores number shard
+  pub opening-stands : (issuer : Setup) (stores : List S) (number : ℕ) (shard : Shard S G) (log : Log LogItem LogHead)
+      → HasTable issuer → IsJustLoaded issuer stores number shard
       → IsOpeningLog issuer stores number shard log → StandsForLog shard log.head log.items
   opening-stands issuer stores number shard log table just opening =
       subst (λ (log : Log LogItem LogHead). StandsForLog shard log.head log.items) (sym opening.log_is)
@@ -105,7 +107,8 @@ module _ {S : Type 0} {G : Ghosts S} where
       (each 0 first.shard log refl refl, stand-for held logs (omega arith) (λ number. each (suc number)))
 
   -- so do those of shards that were just loaded
-  pub held-stand : (issuer : Setup) (stores : List S) (shards : List (Shard S G)) (logs : List (Log LogItem LogHead)) (held : List (HeldShard S G)) → HasTable issuer
+  pub held-stand : (issuer : Setup) (stores : List S) (shards : List (Shard S G)) (logs : List (Log LogItem LogHead)) (held : List (HeldShard S G))
+      → HasTable issuer
       → AreJustLoaded issuer stores shards → AreOpeningLogs issuer stores shards logs → map (λ (held : HeldShard S G). held.shard) held ≡ shards
       → StandFor (λ (held : HeldShard S G) head items. StandsForLog held.shard head items) held logs
   held-stand issuer stores shards logs held table just opening are =
@@ -163,7 +166,8 @@ module _ {S : Type 0} {G : Ghosts S} where
       ap (λ (front : List (Shard S G)). front ++ left) (map-push (λ (held : HeldShard S G). held.shard) held next)
       ∙ append_assoc (map (λ (held : HeldShard S G). held.shard) held) (next.shard ∷ []) left ∙ all
 
-  pub counts-next : (issuer : Setup) (stores : List S) (shards : List (Shard S G)) (logs : List (Log LogItem LogHead)) → AreOpeningLogs issuer stores shards logs
+  pub counts-next : (issuer : Setup) (stores : List S) (shards : List (Shard S G)) (logs : List (Log LogItem LogHead))
+      → AreOpeningLogs issuer stores shards logs
       → (held : List (HeldShard S G)) (next : HeldShard S G) (left : List (Shard S G)) (counts : List ℕ) (places : ℕ)
       → map (λ (held : HeldShard S G). held.shard) held ++ next.shard ∷ left ≡ shards
       → counts ≡ map (λ (log : Log LogItem LogHead). length log.items) (take (length held) logs)

@@ -16,7 +16,8 @@ module _ {S : Type 0} {G : Ghosts S} (issuer : Setup) (stores : List S) where
   log-of number shard just =
       log_with (head_with issuer number (faults_in shard) (length just.loaded.history)) just.loaded.history
 
-  pub log-of_opens : (number : ℕ) (shard : Shard S G) (just : IsJustLoaded issuer stores number shard) → IsOpeningLog issuer stores number shard (log-of number shard just)
+  pub log-of_opens : (number : ℕ) (shard : Shard S G) (just : IsJustLoaded issuer stores number shard)
+      → IsOpeningLog issuer stores number shard (log-of number shard just)
   unfolding log-of
   log-of_opens number shard just = record { loaded = just.loaded; log_is = refl }
 
@@ -46,9 +47,11 @@ module _ {S : Type 0} {G : Ghosts S} (issuer : Setup) (stores : List S) where
             ],
       )
 
-  pub logs-open : (shards : List (Shard S G)) → AreJustLoaded issuer stores shards → (logs : List (Log LogItem LogHead)) × AreOpeningLogs issuer stores shards logs
+  pub logs-open : (shards : List (Shard S G)) → AreJustLoaded issuer stores shards
+      → (logs : List (Log LogItem LogHead)) × AreOpeningLogs issuer stores shards logs
   logs-open shards just =
-      let logs = logs-from 0 shards (λ place shard there. subst (λ number. IsJustLoaded issuer stores number shard) (omega arith) (just.each place shard there)) in (
+      let logs =
+      logs-from 0 shards (λ place shard there. subst (λ number. IsJustLoaded issuer stores number shard) (omega arith) (just.each place shard there)) in (
         logs.0,
         record {
           count_is = logs.1;
