@@ -174,8 +174,8 @@ module _ (issuer : Setup) (shard : ℕ) (between : List LogItem) (claims after :
           kept card counter,
           tied.kept card counter,
           decisions-later card counter logs.seen (later (Some item)) logs.mine (heads-with logs.seen shard (between ++ item ∷ [])) (fronts-after (Some item))
-          tied.seen,
+              tied.seen,
           ap one_if (decides-there issuer card counter logs.seen shard (between ++ item ∷ []) (length between) headed
-          ∙ ap (decides issuer card counter) (push-item between item)),
+              ∙ ap (decides issuer card counter) (push-item between item)),
         );
       }

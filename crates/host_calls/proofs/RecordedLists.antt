@@ -71,8 +71,7 @@ module _ {S : Type 0} {G : Ghosts S} (issuer : Setup) (shards : List (Shard S G)
                     let fresh : AddsRecorded issuer count history list longer =
                     subst (λ number. AddsRecorded issuer number history list longer) number_is (adds history stands_its) in
                     let count_of : times card counter longer ≡ times card counter list + times card counter fresh.added =
-                    ap (λ pairs. times card counter pairs) fresh.behind ∙ times-append card counter list fresh.added in
-                    (
+                    ap (λ pairs. times card counter pairs) fresh.behind ∙ times-append card counter list fresh.added in (
                       λ there.
                           elim (cases_lt 0 (times card counter list)) [
                             | inl listed ↦ absurd (omega (arith, here, before.home card counter listed))
@@ -86,8 +85,7 @@ module _ {S : Type 0} {G : Ghosts S} (issuer : Setup) (shards : List (Shard S G)
                     )
                 | inr apart ↦
                     let early : card % issuer.shards < count = omega (arith, below, apart) in
-                    let old = before.exact card counter shard history early is stands in
-                    (
+                    let old = before.exact card counter shard history early is stands in (
                       λ there.
                           elim (cases_lt 0 (times card counter adding.added)) [
                             | inl here ↦ absurd (apart (at_home card counter here))

@@ -26,7 +26,6 @@ pub use show_text::CardView;
 pub use solo::Solo;
 
 #[cfg(test)]
-mod tests;
-
-#[cfg(test)]
 mod host_tests;
+#[cfg(test)]
+mod tests;

@@ -61,11 +61,13 @@ impl<S: Store> Host<S> {
         let before = Snapshot::of(&stores);
         let Lists { shards, back } = load_all(alloc, &issuer, stores, lists)?;
         match share(alloc, &issuer, &before, shards) {
-            Ok(Shared {
-                claims,
-                turns,
-                pass,
-            }) => {
+            Ok(
+                Shared {
+                    claims,
+                    turns,
+                    pass,
+                },
+            ) => {
                 let room = Mutex::new(StoreRoom { list: back });
                 let host = Host {
                     issuer,

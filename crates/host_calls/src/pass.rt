@@ -20,10 +20,7 @@ pub struct Pass {
 /// What a line asks of a card that the issuer has, once it passed every check: what is still to be finished. It can't be dropped.
 pub enum Checked {
     /// A request is to be decided, and whether its counter was claimed for it.
-    Decide {
-        found: CheckedRequest,
-        claim: Claim,
-    },
+    Decide { found: CheckedRequest, claim: Claim },
 
     /// A command is to wait for its card.
     Queue(CheckedCommand),
