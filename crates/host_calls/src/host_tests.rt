@@ -1,7 +1,7 @@
 //! Passes of one host over a store in memory: who wins a request's claim, and what is answered to whom.
-ghost use Rattle.std.specs.Prelude.{◌≡◌, ℕ, ◌<◌, ◌≤◌, [], ◌++◌, All, IfOk, MatchResult, length, vec_len, vec_capacity, slice_index_or};
+ghost use Rattle.std.specs.Prelude.{◌≡◌, ℕ, ◌<◌, ◌≤◌, [], ◌++◌, All, IfOk, IfSome, MatchResult, length, vec_len, vec_capacity, slice_index_or};
 ghost use Rattle.std.specs.List.{flat_map};
-ghost use Rattle.seat_names.specs.SeatNames.{first_names, IsWhole};
+ghost use Rattle.seat_names.specs.SeatNames.{first_names, after_split, split_off, IsWhole};
 ghost use Rattle.host_calls.specs.Passes.{claims_of, IsFree, Holds};
 ghost use Rattle.host_calls.specs.PreChecks.{HasPassed};
 
@@ -18,23 +18,23 @@ use store_edge::MemoryStore;
 /// A line that sets the card's status.
 const STATUS: &str = "S 4000000000000002 00 3";
 
-/// A host of one shard over an empty store, which fails at the listed calls, and its first pass.
-fn open(alloc: Global, fails: Vec<u64>) -> Result<(Host<MemoryStore>, Pass), Fail>
-    ensures { IfOk result (λ made. IsFree made.0 made.1 × ((claims_of made.1).names ≡ first_names)) }
+/// A host of one shard over an empty store, which fails at the listed calls, and its first pass, where it can be loaded.
+fn open(alloc: Global, fails: Vec<u64>) -> Result<Option<(Host<MemoryStore>, Pass)>, Fail>
+    ensures { IfOk result (λ made. IfSome made (λ pair. IsFree pair.0 pair.1 × ((claims_of pair.1).names ≡ first_names))) }
 {
     let issuer = issuer(alloc, 1)?;
     let mut stores = Vec::new(alloc);
     let text = Vec::new(alloc);
     stores.push(MemoryStore::new(alloc, text, 65_536, fails).map_err(|_| "a store")?)?;
     match Host::load(alloc, stores, issuer) {
-        Ok(made) => Ok(made),
+        Ok(made) => Ok(Some(made)),
         Err(
             HostBack {
                 fault: _,
                 shard: _,
                 stores: _,
             },
-        ) => Err("a host".into()),
+        ) => Ok(None),
     }
 }
 
@@ -60,48 +60,66 @@ fn end<R: Wait>(
     }
 }
 
+/// A second pass beside the first one.
+fn second(host: &Host<MemoryStore>, first: &mut Pass) -> Pass
+    requires { IsFree host.now first.old × ((claims_of first.old).names ≡ first_names) }
+    ensures free { IsFree host.now first.new × IsFree host.now result }
+    ensures first { (claims_of first.new).names ≡ after_split first_names }
+    ensures second { (claims_of result).names ≡ split_off first_names }
+{
+    host.split(first)
+}
+
+/// Joins two passes, and ends the host.
+fn close_both(host: Host<MemoryStore>, mut first: Pass, second: Pass)
+    requires free { IsFree host first × IsFree host second }
+    requires first { (claims_of first).names ≡ after_split first_names }
+    requires second { (claims_of second).names ≡ split_off first_names }
+{
+    host.join(&mut first, second);
+    host.close(first);
+}
+
 /// Two passes check one request, the first one wins its claim, and the second one ends first.
 #[test]
 fn a_lost_claim_is_pending_until_it_is_kept(rt: HostRuntime) -> Result<(), Fail> {
-    let (host, mut first) = open(rt.alloc(), Vec::new(rt.alloc()))?;
-    let mut second = host.split(&mut first);
+    let (host, mut first) = open(rt.alloc(), Vec::new(rt.alloc()))?.ok_or("a host")?;
+    let mut other = second(&host, &mut first);
     let won = host.pre_check(&mut first, REQUEST.as_bytes());
-    let lost = host.pre_check(&mut second, REQUEST.as_bytes());
-    let pending = end(&rt, &host, &mut second, lost);
+    let lost = host.pre_check(&mut other, REQUEST.as_bytes());
+    let pending = end(&rt, &host, &mut other, lost);
     let fresh = end(&rt, &host, &mut first, won);
-    let kept = host.authorise(&rt, &mut second, REQUEST.as_bytes());
-    host.join(&mut first, second);
-    host.close(first);
+    let kept = host.authorise(&rt, &mut other, REQUEST.as_bytes());
+    close_both(host, first, other);
     assert!(rt; is_refused(&pending, &Refusal::Pending));
     assert!(rt; is_fresh(&fresh, 0) && is_kept(&kept, 0));
     Ok(())
 }
 
-/// A claim whose request met a store that failed is given back, and another pass wins it.
+/// Whether a request meets a store that fails at this call, after which another pass wins its claim.
+fn falls_to_another<R: Wait>(rt: &R, alloc: Global, call: u64) -> Result<bool, Fail> {
+    let mut fails = Vec::new(alloc);
+    fails.push(call)?;
+    let Some((host, mut first)) = open(alloc, fails)? else {
+        return Ok(false);
+    };
+    let mut other = second(&host, &mut first);
+    let failed = host.authorise(rt, &mut first, REQUEST.as_bytes());
+    let again = host.authorise(rt, &mut other, REQUEST.as_bytes());
+    close_both(host, first, other);
+    Ok(is_refused(&failed, &Refusal::StoreFault) && is_fresh(&again, 0))
+}
+
 #[test]
 fn a_claim_given_back_is_won_by_another(rt: HostRuntime) -> Result<(), Fail> {
     let alloc = rt.alloc();
-    let mut refused = 0;
-    let mut fresh = 0;
+    let mut refused = Vec::new(alloc);
     for call in 1..8 {
-        let mut fails = Vec::new(alloc);
-        fails.push(call)?;
-        let Ok((host, mut first)) = open(alloc, fails) else {
-            continue;
-        };
-        let mut second = host.split(&mut first);
-        let failed = host.authorise(&rt, &mut first, REQUEST.as_bytes());
-        let again = host.authorise(&rt, &mut second, REQUEST.as_bytes());
-        host.join(&mut first, second);
-        host.close(first);
-        if is_refused(&failed, &Refusal::StoreFault) {
-            refused += 1;
-            if is_fresh(&again, 0) {
-                fresh += 1;
-            }
+        if falls_to_another(&rt, alloc, call)? {
+            refused.push(call)?;
         }
     }
-    assert!(rt; refused == 2 && fresh == 2);
+    assert_eq!(rt; refused.len(), 2);
     Ok(())
 }
 
@@ -205,9 +223,16 @@ fn contest<R: Threads + Wait + Sync>(
     requires { 0 < count }
 {
     let mut callers = Vec::with_capacity(alloc, count)?;
-    let Ok((host, mut pass)) = open(alloc, Vec::new(alloc)) else {
-        callers.destroy_empty();
-        return Err("a host".into());
+    let (host, mut pass) = match open(alloc, Vec::new(alloc)) {
+        Ok(Some(made)) => made,
+        Ok(None) => {
+            callers.destroy_empty();
+            return Err("a host".into());
+        }
+        Err(fail) => {
+            callers.destroy_empty();
+            return Err(fail);
+        }
     };
     seat_all(&host, &mut pass, count, &mut callers);
     answer_at_once(rt, &host, callers.as_mut_slice());

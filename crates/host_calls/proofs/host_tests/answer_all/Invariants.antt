@@ -6,5 +6,5 @@ use Rattle.host_calls.proofs.host_tests.answer_all.Given as goal
 abbrev pub invariant-loop : goal.invariant-loop
 invariant-loop g l = record {
   free : IsFree l.host l.caller.pass;
-  names : (claims_of l.caller.pass).names ≡ (claims_of l.fn.caller.now.pass).names;
+  names : (claims_of l.caller.pass).names ≡ (claims_of l.fn.caller.pass).names;
 }

@@ -5,8 +5,8 @@ use Rattle.host_calls.specs.declared.host_tests.Caller.{Caller}
 use Rattle.host_calls.specs.Passes.{claims_of}
 use Rattle.host_calls.proofs.host_tests.contest.Goals as goal
 
-pub join_all-requires-clause-whole : goal.join_all-requires-clause-whole
-join_all-requires-clause-whole g c =
+pub join_all-answered-requires-clause-whole : goal.join_all-answered-requires-clause-whole
+join_all-answered-requires-clause-whole g c =
     whole_lent (λ (caller : Caller). (claims_of caller.pass).names) (claims_of c.seat_all.new.pass).names c.seat_all.new.callers.len
     c.seat_all.new.callers.items c.as_mut_slice.result.now c.answer_at_once.new.callers c.as_mut_slice.ensures.value
     (omega (arith, ap length c.as_mut_slice.ensures.value)) (omega arith) c.answer_at_once.ensures.names c.seat_all.ensures.whole

@@ -14,6 +14,6 @@ loop-preserved c = record {
       (All-push (λ (caller : Caller). IsFree c.args.host.now caller.pass) c.loop.callers.items _ c.loop.invariant.callers c.split.ensures.new.0);
   count = search rules;
   room = search rules;
-  whole = rw (c.push_reserved.ensures.items, flat_map-snoc, c.split.ensures.pass.1.0, c.split.ensures.new.1.0)
+  whole = rw (c.push_reserved.ensures.items, flat_map-snoc, c.split.ensures.pass.1, c.split.ensures.new.1)
       (whole_seated (claims_of c.loop.pass).names _ c.loop.pass.claims.named c.loop.invariant.whole);
 }

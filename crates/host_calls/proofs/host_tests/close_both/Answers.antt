@@ -1,0 +1,10 @@
+-- Two passes that were split from the first one are whole once they are joined.
+use Rattle.std.proofs.Common.{[], sym, ap, ◌++◌, ◌∙◌, subst, arith}
+use Rattle.seat_names.specs.SeatNames.{first_names, IsWhole}
+use Rattle.seat_names.proofs.ManySeats.{whole_seated}
+use Rattle.seat_names.proofs.SeatNameLemmas.{whole_first}
+use Rattle.host_calls.proofs.host_tests.close_both.Goals as goal
+
+pub close-requires-clause-whole : goal.close-requires-clause-whole
+close-requires-clause-whole c =
+    rw (c.join.ensures.claims, c.requires.first, c.requires.second) (whole_seated first_names [] (omega arith) whole_first)
