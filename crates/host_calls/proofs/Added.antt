@@ -118,7 +118,8 @@ push-item (y ∷ xs) x = push-item xs x
 abbrev pub IsHeaded : Setup → ℕ → List (Log LogItem LogHead) → Type 0
 IsHeaded issuer shard logs = (shard < length logs) × ((head : LogHead) → slice_get (heads_of logs) shard ≡ Some head → head.issuer ≡ issuer)
 
-decides-there : (issuer : Setup) (card counter : ℕ) (logs : List (Log LogItem LogHead)) (shard : ℕ) (items : List LogItem) (place : ℕ) → IsHeaded issuer shard logs
+decides-there : (issuer : Setup) (card counter : ℕ) (logs : List (Log LogItem LogHead)) (shard : ℕ) (items : List LogItem) (place : ℕ)
+    → IsHeaded issuer shard logs
     → decides_at (with_items logs shard items) card counter shard place ≡ decides issuer card counter (slice_get items place)
 decides-there issuer card counter [] shard items place headed = absurd (omega (arith, headed.0))
 decides-there issuer card counter (log ∷ logs) zero items place headed =

@@ -68,7 +68,8 @@ module _ {S : Type 0} {G : Ghosts S} where
   closed-shard issuer number faults records first last shard counted front stands =
       let journal = stands.stands.journal_holds in
       let history : List Entry = records_of last.items in
-      let tail_is = subst (λ number. Rattle.shard_book.specs.Grounds.IsTail (grounds_now issuer) number history journal.tail) stands.number_is journal.tail_is in
+      let tail_is =
+      subst (λ number. Rattle.shard_book.specs.Grounds.IsTail (grounds_now issuer) number history journal.tail) stands.number_is journal.tail_is in
       record {
         goes_on = record {
           goes_on = records-go_on first.items last.items front;

@@ -33,7 +33,8 @@ one-open standing Kept card counter true closed = refl
 one-open standing GivenBack card counter true closed = refl
 one-open standing old card counter false closed = omega arith
 
-standing-cond : (standing : Standing) (claim : Claimed) (now : Bool) → (cond now (record claim { standing = standing }) claim).standing ≡ cond now standing claim.standing
+standing-cond : (standing : Standing) (claim : Claimed) (now : Bool)
+    → (cond now (record claim { standing = standing }) claim).standing ≡ cond now standing claim.standing
 standing-cond standing claim true = refl
 standing-cond standing claim false = refl
 
@@ -70,7 +71,8 @@ module _ (number counter : ℕ) (view : ClaimView) (once : claims_on is_open num
         | inl same ↦
             let P : ℕ → ℕ → Type 0 = λ card other. claims_on is_kept card other (settled GivenBack number counter view).claims
             ≡ claims_on is_kept card other view.claims + 0 in
-            subst (λ (card : ℕ). P card other) (sym same.0) (subst (λ (other : ℕ). P number other) (sym same.1) (omega (arith, kept-given_back number counter view.claims)))
+            subst (λ (card : ℕ). P card other) (sym same.0)
+            (subst (λ (other : ℕ). P number other) (sym same.1) (omega (arith, kept-given_back number counter view.claims)))
         | inr apart ↦ omega (arith, claims-settled_other number counter is_kept GivenBack card other apart view.claims)
       ]
 

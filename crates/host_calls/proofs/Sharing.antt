@@ -1,5 +1,6 @@
 -- Shards that were loaded, as callers share them: their logs, and the counters that are recorded.
-use Rattle.std.proofs.Common.{◌≡◌, ◌⊎◌, ◌↔◌, ℕ, zero, suc, ◌+◌, ◌%◌, ◌<◌, ◌≤◌, List, [], ◌∷◌, ◌++◌, length, map, Option, Bool, true, false, ◌&&◌, eqb, Some, get_or}
+use Rattle.std.proofs.Common.{◌≡◌, ◌⊎◌, ◌↔◌, ℕ, zero, suc, ◌+◌, ◌%◌, ◌<◌, ◌≤◌, List, []}
+use Rattle.std.proofs.Common.{◌∷◌, ◌++◌, length, map, Option, Bool, true, false, ◌&&◌, eqb, Some, get_or}
 use Rattle.std.proofs.Common.{refl, sym, ap, ◌∙◌, subst, inl, inr, arith}
 use Rattle.std.proofs.Math.Nat.{mod-lt}
 use Rattle.std.proofs.lemmas.List.{length-map}
@@ -52,7 +53,8 @@ times-some (pair ∷ list) (suc place) d below =
     let rest = times-some list place d (omega arith) in
     omega arith
 
-pub items-there : (logs : List (Log LogItem LogHead)) (shard : ℕ) (log : Log LogItem LogHead) → slice_get logs shard ≡ Some log → items_at logs shard ≡ log.items
+pub items-there : (logs : List (Log LogItem LogHead)) (shard : ℕ) (log : Log LogItem LogHead)
+    → slice_get logs shard ≡ Some log → items_at logs shard ≡ log.items
 items-there [] shard log is = absurd (cc)
 items-there (first ∷ logs) zero log is = ap (λ (log : Log LogItem LogHead). log.items) (same_Some first log is)
 items-there (first ∷ logs) (suc shard) log is = items-there logs shard log is
@@ -66,7 +68,8 @@ bytes-there bytes (first ∷ stores) (suc number) store is = bytes-there bytes s
 
 -- the log of one shard
 log-opened : {S : Type 0} {G : Ghosts S} (issuer : Setup) (stores : List S) (number : ℕ) (store : S) (shard : Shard S G) (log : Log LogItem LogHead)
-    → slice_get stores number ≡ Some store → IsLoadedFrom issuer number store shard → IsOpeningLog issuer stores number shard log → IsOpenedFrom G.bytes G.faults issuer number store log
+    → slice_get stores number ≡ Some store → IsLoadedFrom issuer number store shard
+    → IsOpeningLog issuer stores number shard log → IsOpenedFrom G.bytes G.faults issuer number store log
 log-opened {G = G} issuer stores number store shard log is from its =
     let faults : log.head.faults ≡ faults_in shard = ap (λ (log : Log LogItem LogHead). log.head.faults) its.log_is in
     let history : List Entry = its.loaded.history in
@@ -85,7 +88,8 @@ records-map : (history : List Entry) → records_of (map Record history) ≡ his
 records-map [] = refl
 records-map (entry ∷ history) = λ i. entry ∷ records-map history i
 
-module _ {S : Type 0} {G : Ghosts S} (issuer : Setup) (stores : List S) (shards : List (Shard S G)) (count : length stores ≡ issuer.shards) (some : 0 < issuer.shards)
+module _ {S : Type 0} {G : Ghosts S} (issuer : Setup) (stores : List S)
+    (shards : List (Shard S G)) (count : length stores ≡ issuer.shards) (some : 0 < issuer.shards)
     (loaded : AreLoaded issuer stores shards) where
   -- the store of a shard
   store-there : (number : ℕ) (shard : Shard S G) → slice_get shards number ≡ Some shard → (store : S) × (slice_get stores number ≡ Some store)
@@ -151,7 +155,8 @@ module _ {S : Type 0} {G : Ghosts S} (issuer : Setup) (stores : List S) (shards 
           let shard = read-within shards home (omega (arith, below, count, loaded.count_is)) in
           let log = read-within logs home (omega (arith, below, count, loaded.count_is, opening.count_is)) in
           let its = opening.each home shard.0 log.0 shard.1 log.1 in
-          let items : items_at logs home ≡ map Record its.loaded.history = items-there logs home log.0 log.1 ∙ ap (λ (log : Log LogItem LogHead). log.items) its.log_is in
+          let items : items_at logs home ≡ map Record its.loaded.history =
+          items-there logs home log.0 log.1 ∙ ap (λ (log : Log LogItem LogHead). log.items) its.log_is in
           let exact = recorded.exact card counter shard.0 its.loaded.history (omega (arith, below, count, loaded.count_is)) shard.1 its.loaded.stands in
           times-alike card counter list
           ∙ as-decided issuer card counter its.loaded.history (times card counter list) valid (recorded.once card counter) exact
@@ -182,4 +187,5 @@ opened-counted bytes faults issuer stores logs opened number log is =
     let store = read-within stores number (omega (arith, opened.count_is)) in
     let its = opened.each number store.0 log store.1 is in
     ap (λ (log : Log LogItem LogHead). log.head.records) its.log_is
-    ∙ sym (ap (λ (log : Log LogItem LogHead). length (records_of log.items)) its.log_is ∙ ap (λ (entries : List Entry). length entries) (records-map its.history))
+    ∙ sym (ap (λ (log : Log LogItem LogHead). length (records_of log.items)) its.log_is
+    ∙ ap (λ (entries : List Entry). length entries) (records-map its.history))

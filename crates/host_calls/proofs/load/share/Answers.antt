@@ -21,7 +21,8 @@ load-requires-clause-once g c =
     let shards : List _ = c.args.shards.items in
     let standing = loaded-standing c.args.issuer.now c.args.stores.now.value.items shards c.requires.count.0 c.requires.count.1 c.requires.loaded in
     let raw = c.in-Ok.ensures c.args.issuer.now (rw c.as_slice.ensures.value standing) in
-    let recorded = subst (λ shards. AreRecordedOf {G = g.S.Store} c.args.issuer.now shards (length shards) c.in-Ok.recorded.items) c.as_slice.ensures.value raw in
+    let recorded =
+    subst (λ shards. AreRecordedOf {G = g.S.Store} c.args.issuer.now shards (length shards) c.in-Ok.recorded.items) c.as_slice.ensures.value raw in
     rw c.as_slice-2.ensures.value
     (list-once c.args.issuer.now c.args.stores.now.value.items shards c.requires.count.0 c.requires.count.1 c.requires.loaded c.in-Ok.recorded.items recorded)
 
@@ -30,7 +31,8 @@ load-requires-clause-known g c =
     let shards : List _ = c.args.shards.items in
     let standing = loaded-standing c.args.issuer.now c.args.stores.now.value.items shards c.requires.count.0 c.requires.count.1 c.requires.loaded in
     let raw = c.in-Ok.ensures c.args.issuer.now (rw c.as_slice.ensures.value standing) in
-    let recorded = subst (λ shards. AreRecordedOf {G = g.S.Store} c.args.issuer.now shards (length shards) c.in-Ok.recorded.items) c.as_slice.ensures.value raw in
+    let recorded =
+    subst (λ shards. AreRecordedOf {G = g.S.Store} c.args.issuer.now shards (length shards) c.in-Ok.recorded.items) c.as_slice.ensures.value raw in
     rw (c.as_slice-2.ensures.value, c.cards.ensures.count)
     (list-known c.args.issuer.now c.args.stores.now.value.items shards c.requires.count.0 c.requires.count.1 c.requires.loaded c.in-Ok.recorded.items recorded)
 
@@ -39,10 +41,12 @@ returns-in-Ok-load-2-clause-recorded g c =
     let shards : List _ = c.args.shards.items in
     let standing = loaded-standing c.args.issuer.now c.args.stores.now.value.items shards c.requires.count.0 c.requires.count.1 c.requires.loaded in
     let raw = c.in-Ok.ensures c.args.issuer.now (rw c.as_slice.ensures.value standing) in
-    let recorded = subst (λ shards. AreRecordedOf {G = g.S.Store} c.args.issuer.now shards (length shards) c.in-Ok.recorded.items) c.as_slice.ensures.value raw in
+    let recorded =
+    subst (λ shards. AreRecordedOf {G = g.S.Store} c.args.issuer.now shards (length shards) c.in-Ok.recorded.items) c.as_slice.ensures.value raw in
     λ card counter below.
     c.in-Ok-load.ensures.recorded card counter below ∙ ap (λ list. times card counter list) c.as_slice-2.ensures.value
-    ∙ list-decided c.args.issuer.now c.args.stores.now.value.items shards c.requires.count.0 c.requires.count.1 c.requires.loaded _ c.in-Ok-load-2.ensures.opening
+    ∙ list-decided c.args.issuer.now c.args.stores.now.value.items shards c.requires.count.0
+    c.requires.count.1 c.requires.loaded _ c.in-Ok-load-2.ensures.opening
     c.cards.ensures.valid c.in-Ok.recorded.items recorded card counter
 
 pub close-requires-clause-whole : goal.close-requires-clause-whole

@@ -13,7 +13,8 @@ use Rattle.host_calls.proofs.host.Host.join.Goals as goal
 pub invariant_of-pass : goal.invariant_of-pass
 invariant_of-pass g c =
     let view = c.join-2.ensures.view in
-    let heads : heads_of (joined (logs_of c.args.pass.now) (logs_of c.args.other)).seen ≡ _ = ap (λ v. heads_of v.seen) (sym view) ∙ c.join-2.ensures.seat.of.heads in
+    let heads : heads_of (joined (logs_of c.args.pass.now) (logs_of c.args.other)).seen ≡ _ =
+    ap (λ v. heads_of v.seen) (sym view) ∙ c.join-2.ensures.seat.of.heads in
     record {
       tied = rw (c.join.ensures.1, view) (tied-joined _ _ _ _ (heads ∙ sym c.requires.0.of.turns_are.of.heads) (heads ∙ sym c.requires.1.of.turns_are.of.heads)
           (rw view at c.join-2.ensures.fronts) c.args.pass.now.tied c.args.other.tied);

@@ -10,4 +10,7 @@ invariant_of-pass g c =
     let pass = c.args.pass.now in
     let found = c.args.found in
     let headed = headed-there host.issuer host.turns pass.turns host.shards c.requires.free.of.turns_are (named found.pan found.psn) in
-    record { tied = tied-queued host.issuer (claims_of pass) (logs_of pass) c.queue.result _ pass.tied (named found.pan found.psn) found.command headed c.queue.ensures.turn }
+    record {
+      tied = tied-queued host.issuer (claims_of pass) (logs_of pass) c.queue.result
+          _ pass.tied (named found.pan found.psn) found.command headed c.queue.ensures.turn;
+    }
