@@ -1,5 +1,5 @@
 -- What a turn adds to a shard's log, and that the seats of the pass stay tied by it.
-use Rattle.std.proofs.Common.{◌≡◌, ◌⊎◌, ℕ, zero, suc, ◌+◌, ◌<◌, List, [], ◌∷◌, ◌++◌, length, Bool, true, false, ◌&&◌, eqb, Option, None, Some, All, Ok}
+use Rattle.std.proofs.Common.{◌≡◌, ℕ, zero, suc, ◌+◌, ◌<◌, List, [], ◌∷◌, ◌++◌, length, Bool, false, ◌&&◌, eqb, Option, None, Some}
 use Rattle.std.proofs.Common.{refl, sym, ap, ◌∙◌, subst, inl, inr, arith}
 use Rattle.std.proofs.lemmas.Bool.{cases_eq}
 use Rattle.std.proofs.lemmas.List.{length_push}
@@ -28,8 +28,8 @@ use Rattle.shard_turns.specs.declared.logs.LogItem.{LogItem}
 use Rattle.shard_turns.specs.declared.logs.LogItem.TheVariants.{Record, Fault}
 use Rattle.shard_turns.specs.declared.logs.LogHead.{LogHead}
 use Rattle.shard_turns.specs.ShardLogs.{records_of}
-use Rattle.shard_turns.specs.Turned.{log_after, mine_after, turned, AddsFault, IsAdded}
-use Rattle.host_calls.specs.Decisions.{is_number, decides, decides_at, decisions_at, AreWithin, AreTied}
+use Rattle.shard_turns.specs.Turned.{log_after, turned, AddsFault, IsAdded}
+use Rattle.host_calls.specs.Decisions.{is_number, decides, decides_at, AreTied}
 use Rattle.host_calls.specs.Finishes.{is_fresh}
 use Rattle.host_calls.proofs.Ties.{decisions-later, within-later}
 

@@ -1,6 +1,6 @@
 -- What the last pass knows when a host is closed, and what the stores hold.
-use Rattle.std.proofs.Common.{◌≡◌, ℕ, zero, suc, ◌+◌, ◌<◌, ◌≤◌, List, [], ◌∷◌, ◌++◌, length, take, drop, map, Option, None, Some, IfSome, All}
-use Rattle.std.proofs.Common.{refl, sym, ap, ◌∙◌, subst, arith, append_assoc, append-nil}
+use Rattle.std.proofs.Common.{◌≡◌, ℕ, ◌+◌, ◌<◌, ◌≤◌, List, [], ◌∷◌, ◌++◌, length, drop, map, Option, None, Some, IfSome, All}
+use Rattle.std.proofs.Common.{refl, sym, ap, ◌∙◌, subst, arith}
 use Rattle.std.proofs.lemmas.List.{take-append-drop, length-map}
 use Rattle.std.proofs.lemmas.List.Elements.{All-cons}
 use Rattle.std.proofs.lemmas.Option.{same_Some, slice_get_within}
@@ -29,7 +29,7 @@ use Rattle.shard_turns.specs.Opening.{head_with}
 use Rattle.shard_turns.specs.ShardLogs.{records_of, faults_of, RiseTo, StandsForLog}
 use Rattle.shard_turns.specs.ShardSeats.{StandForLogs}
 use Rattle.host_calls.specs.Closing.{IsClosed, AreClosed, AreSettled}
-use Rattle.host_calls.specs.OneHistory.{GoesOn, LegallyGoesOn}
+use Rattle.host_calls.specs.OneHistory.{GoesOn}
 use Rattle.host_calls.specs.OpeningLogs.{AreCounted, AreRecordedIn}
 use Rattle.host_calls.proofs.Places.{read-within, read-map}
 use Rattle.host_calls.proofs.Sharing.{items-there}

@@ -1,6 +1,5 @@
 -- The counters that are recorded of a shard are those of the decisions in its opening log.
-use Rattle.std.proofs.Common.{◌≡◌, ◌⊎◌, ◌↔◌, ℕ, zero, suc, ◌+◌, ◌%◌, ◌<◌, ◌≤◌, List, []}
-use Rattle.std.proofs.Common.{◌∷◌, length, map, Bool, true, false, ◌&&◌, ◌||◌, eqb, Option, None, Some, get_or}
+use Rattle.std.proofs.Common.{◌≡◌, ◌⊎◌, ◌↔◌, ℕ, zero, suc, ◌%◌, ◌<◌, ◌≤◌, List, [], ◌∷◌, map, Bool, true, false, ◌||◌, eqb, Option, None, Some}
 use Rattle.std.proofs.Common.{refl, sym, ap, ◌∙◌, subst, inl, inr, arith}
 use Rattle.std.proofs.lemmas.Bool.{cases_lt, cases_Bool, and_from, and_parts, eq-eqb, eqb-true, true≢false}
 use Rattle.std.proofs.lemmas.Option.{same_Some}
@@ -9,7 +8,7 @@ use Rattle.issuer_base.specs.declared.entry.Entry.{Entry}
 use Rattle.issuer_base.specs.declared.entry.Entry.TheVariants.{Decided, Queued, Status}
 use Rattle.issuer_base.specs.declared.answer.Reply.{Reply}
 use Rattle.issuer_base.specs.declared.request.Request.{Request}
-use Rattle.card_history.specs.Records.{CardName, card_of, is_of, decided}
+use Rattle.card_history.specs.Records.{card_of, is_of}
 use Rattle.card_history.proofs.CardNames.{is_of-names, is_of-card_of}
 use Rattle.card_history.proofs.RecordPlaces.{decided-recorded, recorded-decided}
 use Rattle.issuer_setup.specs.CardList.{AreCards, name_of, number_of}

@@ -1,5 +1,5 @@
 -- The seats of a pass stay tied through each kind of turn.
-use Rattle.std.proofs.Common.{◌≡◌, ℕ, ◌+◌, ◌<◌, ◌%◌, List, length, Bool, true, false, Option, None, Some, Ok, refl, sym, ap, ◌∙◌, subst, arith}
+use Rattle.std.proofs.Common.{◌≡◌, ℕ, ◌<◌, ◌%◌, List, length, true, false, Option, None, Some, refl, sym, ap, ◌∙◌, subst, arith}
 use Rattle.std.proofs.lemmas.List.{length-map}
 use Rattle.std.proofs.Math.Nat.{mod-lt}
 use Rattle.std.specs.List.{slice_get}
@@ -14,7 +14,7 @@ use Rattle.issuer_setup.specs.IssuerSetup.{Setup, shard_of}
 use Rattle.row_core.specs.Replying.{reply_to}
 use Rattle.seat_names.specs.Totals.{one_if}
 use Rattle.claim_words.specs.declared.view.ClaimView.{ClaimView}
-use Rattle.claim_words.specs.ClaimViews.{HasOpen, settled, is_pair}
+use Rattle.claim_words.specs.ClaimViews.{HasOpen, settled}
 use Rattle.show_text.specs.declared.card_view.CardView.{CardView}
 use Rattle.turn_book.specs.declared.logs.Log.{Log}
 use Rattle.turn_book.specs.declared.seat.TurnSeat.{TurnSeat}
@@ -27,7 +27,7 @@ use Rattle.shard_turns.specs.declared.turns.ShardTurns.{ShardTurns}
 use Rattle.shard_turns.specs.ShardSeats.{opening_in, AreTurnsOf, IsSeatOf}
 use Rattle.shard_turns.specs.Turned.{DecidesInTurn, QueuesInTurn, SetsInTurn, ShowsInTurn}
 use Rattle.host_calls.specs.Decisions.{AreTied}
-use Rattle.host_calls.specs.Finishes.{is_fresh, standing_by}
+use Rattle.host_calls.specs.Finishes.{standing_by}
 use Rattle.host_calls.specs.Passes.{open_in}
 use Rattle.host_calls.proofs.Added.{IsHeaded, claimed-decides, lost-decides, queueing-decides, setting-decides, tied-turned}
 use Rattle.host_calls.proofs.Settling.{open-once, kept-settled}

@@ -2,7 +2,6 @@
 use Rattle.std.specs.Prelude.{◌≡◌, ℕ, ◌+◌, ◌<◌, ◌≤◌, List, length, slice_get, Option, Some, IfSome, All}
 use Rattle.issuer_base.specs.Stores.{Disk, MayLeave}
 use Rattle.issuer_setup.specs.IssuerSetup.{Setup}
-use Rattle.seat_names.specs.Totals.{one_if}
 use Rattle.claim_words.specs.declared.layout.TheConstants.{COUNTERS}
 use Rattle.claim_words.specs.declared.view.ClaimView.{ClaimView}
 use Rattle.claim_words.specs.ClaimViews.{claims_on, times, is_live, is_kept, is_any}
@@ -16,7 +15,6 @@ use Rattle.shard_turns.specs.declared.logs.LogItem.{LogItem}
 use Rattle.shard_turns.specs.declared.logs.LogHead.{LogHead}
 use Rattle.shard_turns.specs.ShardLogs.{records_of, faults_of}
 use Rattle.host_calls.specs.Books.{Book}
-use Rattle.host_calls.specs.Decisions.{decisions_at}
 use Rattle.host_calls.specs.OneHistory.{LegallyGoesOn}
 use Rattle.host_calls.specs.OpeningLogs.{opened_on}
 use Rattle.host_calls.specs.Runs.{HoldsJournal}

@@ -1,6 +1,5 @@
 -- The decisions that stand in the logs of shards, by the number of the card and the transaction counter.
 use Rattle.std.specs.Prelude.{◌≡◌, ℕ, zero, suc, ◌<◌, List, [], ◌∷◌, length, Bool, false, ◌==◌, ◌&&◌, Option, None, Some, All, slice_get}
-use Rattle.issuer_base.specs.declared.entry.Entry.{Entry}
 use Rattle.issuer_base.specs.declared.entry.Entry.TheVariants.{Decided}
 use Rattle.card_history.specs.Records.{card_of}
 use Rattle.issuer_setup.specs.CardList.{number_of}

@@ -1,5 +1,5 @@
 -- What finishing what was checked may answer, and what it makes of a pass.
-use Rattle.std.specs.Prelude.{◌≡◌, ℕ, Bool, true, false}
+use Rattle.std.specs.Prelude.{Bool, true, false}
 use Rattle.issuer_base.specs.declared.answer.Answer.{Answer}
 use Rattle.issuer_base.specs.declared.answer.Answer.TheVariants.{Fresh}
 use Rattle.card_history.specs.Records.{named}

@@ -1,5 +1,5 @@
 -- What contracts see of a pass, and what it holds.
-use Rattle.std.specs.Prelude.{◌≡◌, ℕ, ◌+◌, ◌<◌, List}
+use Rattle.std.specs.Prelude.{◌≡◌, ℕ, ◌<◌, List}
 use Rattle.issuer_base.specs.declared.outside.store.Store.{Ghosts}
 use Rattle.seat_names.specs.Totals.{how_many}
 use Rattle.claim_words.specs.declared.view.Claimed.{Claimed}

@@ -1,9 +1,7 @@
 -- What checking a line before its turn makes of a pass's claims.
-use Rattle.std.specs.Prelude.{◌≡◌, ℕ, ◌+◌, ◌≤◌, Option, None, Some, Result, Ok, Err, IsOk}
+use Rattle.std.specs.Prelude.{◌≡◌, ℕ, Option, Some, Result, Ok, Err, IsOk}
 use Rattle.issuer_base.specs.declared.answer.Refusal.{Refusal}
 use Rattle.issuer_base.specs.declared.answer.Refusal.TheVariants.{Below}
-use Rattle.issuer_base.specs.declared.limits.TheConstants.{WINDOW}
-use Rattle.issuer_base.specs.declared.request.Request.{Request}
 use Rattle.card_history.specs.Records.{card_of, IsBelow}
 use Rattle.card_history.specs.declared.decision.Asked.{Asked}
 use Rattle.card_history.specs.declared.decision.Asked.TheVariants.{Decide as AsksDecision, Queue as AsksQueue, Status as AsksStatus}
@@ -12,7 +10,6 @@ use Rattle.issuer_setup.specs.IssuerSetup.{Setup}
 use Rattle.line_checks.specs.AtHand.{IsRequestAtHand, IsCommandAtHand, IsStatusAtHand}
 use Rattle.line_checks.specs.Reading.{checked}
 use Rattle.claim_words.specs.declared.view.ClaimView.{ClaimView}
-use Rattle.claim_words.specs.declared.claim_words.Claim.{Claim}
 use Rattle.claim_words.specs.declared.claim_words.Claim.TheVariants.{Won}
 use Rattle.claim_words.specs.ClaimViews.{IsNew, after_claim, after_top}
 use Rattle.claim_words.specs.Seats.{IsTopFor}

@@ -1,6 +1,6 @@
 -- Two passes that were split from the first one are whole once they are joined.
-use Rattle.std.proofs.Common.{[], sym, ap, ◌++◌, ◌∙◌, subst, arith}
-use Rattle.seat_names.specs.SeatNames.{first_names, IsWhole}
+use Rattle.std.proofs.Common.{[], arith}
+use Rattle.seat_names.specs.SeatNames.{first_names}
 use Rattle.seat_names.proofs.ManySeats.{whole_seated}
 use Rattle.seat_names.proofs.SeatNameLemmas.{whole_first}
 use Rattle.host_calls.proofs.host_tests.close_both.Goals as goal

@@ -1,7 +1,6 @@
 -- One caller more has a free pass, and all passes together stay whole.
-use Rattle.std.proofs.Common.{rules, ◌++◌, [], subst, sym, append-nil}
+use Rattle.std.proofs.Common.{rules}
 use Rattle.std.proofs.lemmas.List.Elements.{All-push}
-use Rattle.seat_names.specs.SeatNames.{IsWhole}
 use Rattle.seat_names.proofs.ManySeats.{flat_map-snoc, whole_seated}
 use Rattle.host_calls.specs.declared.host_tests.Caller.{Caller}
 use Rattle.host_calls.specs.Passes.{claims_of, IsFree}

@@ -1,5 +1,5 @@
 -- The claim words have the recorded counters, and the turns the logs, of the shards that were loaded.
-use Rattle.std.proofs.Common.{◌≡◌, ◌<◌, ℕ, List, length, subst, sym, ap, ◌∙◌}
+use Rattle.std.proofs.Common.{List, length, subst, sym, ap, ◌∙◌}
 use Rattle.seat_names.specs.SeatNames.{IsWhole}
 use Rattle.seat_names.proofs.SeatNameLemmas.{whole_first}
 use Rattle.claim_words.specs.ClaimViews.{times}

@@ -2,7 +2,7 @@
 use Rattle.std.proofs.Common.{sym, ap, ◌∙◌, arith, ◌≡◌}
 use Rattle.turn_book.specs.Logs.{heads_of}
 use Rattle.claim_words.specs.declared.view.Claimed.{Claimed}
-use Rattle.claim_words.specs.ClaimViews.{is_open, joined as joined_claims}
+use Rattle.claim_words.specs.ClaimViews.{is_open}
 use Rattle.seat_names.specs.Totals.{one_if}
 use Rattle.seat_names.proofs.Totals.{total-append}
 use Rattle.turn_book.specs.TurnViews.{joined}

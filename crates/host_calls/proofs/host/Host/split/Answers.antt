@@ -1,6 +1,4 @@
 -- A pass that is split, and the new one, stay tied.
-use Rattle.turn_book.specs.TurnViews.{parent_view}
-use Rattle.host_calls.specs.Passes.{claims_of, logs_of}
 use Rattle.host_calls.proofs.Ties.{tied-parent, tied-child}
 use Rattle.host_calls.proofs.host.Host.split.Goals as goal
 
