@@ -1,5 +1,6 @@
 -- What is shared is a host, or the stores of the shards come back.
-use Rattle.std.proofs.Common.{inr}
+use Rattle.std.proofs.Common.{inl, inr, rules}
+use Rattle.host_calls.proofs.Loads.{none-loaded}
 use Rattle.host_calls.proofs.Sharing.{all-come-back, opened-counted}
 use Rattle.host_calls.proofs.host.Host.load.Goals as goal
 
@@ -15,3 +16,6 @@ invariant_of-host g c = record {
   counted = opened-counted g.S.Store.bytes g.S.Store.faults c.args.issuer c.of-before.result.value.items _ c.in-Ok-share.ensures.opening;
   recorded = c.in-Ok-share.ensures.recorded;
 }
+
+pub returns-in_default-clause-stopped : goal.returns-in_default-clause-stopped
+returns-in_default-clause-stopped g c = inl (none-loaded g.S.Store c.args.issuer c.args.stores.items (search rules))
