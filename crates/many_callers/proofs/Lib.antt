@@ -1,2 +1,5 @@
 -- The laws of this crate.
 pub mod Seen
+pub mod Lists
+pub mod Decisions
+pub mod KeptClaims

@@ -126,7 +126,7 @@ module _ (issuer : Setup) (shard : ℕ) (Changes : List Entry → List Entry →
       ap (λ (view : TurnView LogItem LogHead). history_at view.seen other) turn.after_is
       ∙ ap records_of (items-with_other before.seen shard other (log_after turn.between turn.added) apart)
 
-  turn-sees : SeesTurn shard Changes (history_at before.seen) (history_at after.seen)
+  pub turn-sees : SeesTurn shard Changes (history_at before.seen) (history_at after.seen)
   turn-sees = record {
     between = records_of turn.between;
     goes_on = records-go_on (items_at before.seen shard) turn.between turn.front;
@@ -152,7 +152,7 @@ abbrev pub IsWhole : Setup → TurnView LogItem LogHead → Type 0
 IsWhole issuer logs = length logs.seen ≡ issuer.shards
 
 module _ (issuer : Setup) (some : 0 < issuer.shards) (answer : Answer) (logs logs_now : TurnView LogItem LogHead) (whole : IsWhole issuer logs) where
-  home-there : (name : CardName) → shard_of issuer name < length logs.seen
+  pub home-there : (name : CardName) → shard_of issuer name < length logs.seen
   home-there name = let below = home-below issuer.shards (number_of name issuer.cards) some in omega (arith, below, whole)
 
   pub finish-sees : (checked : Checked) → FinishesInTurn issuer checked logs answer logs_now
@@ -194,8 +194,8 @@ module _ (issuer : Setup) (some : 0 < issuer.shards) (answer : Answer) (logs log
         }),
         ap (λ (view : TurnView LogItem LogHead). length view.seen) ends.2 ∙ whole,
       )
-  ends-see (Ok (Queue pan psn command)) (Err other) claims between claims_now checks ends = absurd checks.0
-  ends-see (Ok (Status pan psn status)) (Err other) claims between claims_now checks ends = absurd checks.0
+  ends-see (Ok (Queue pan psn command)) (Err other) claims between claims_now checks ends = absurd (let never = checks.0 in cc)
+  ends-see (Ok (Status pan psn status)) (Err other) claims between claims_now checks ends = absurd (let never = checks.0 in cc)
 
   pub line-sees : (says : Result Asked Refusal) (claims claims_now : ClaimView) → Authorises issuer says claims logs answer claims_now logs_now
       → Sees issuer says (history_at logs.seen) answer (history_at logs_now.seen) × IsWhole issuer logs_now
@@ -212,6 +212,7 @@ module _ (issuer : Setup) (some : 0 < issuer.shards) where
   pub lines-in_order : (lines : List (List ℕ)) (answers : List Answer) (claims : ClaimView) (logs : TurnView LogItem LogHead) (claims_now : ClaimView)
       (logs_now : TurnView LogItem LogHead) → Calls issuer lines answers claims logs claims_now logs_now → IsWhole issuer logs
       → AreAnsweredInOrder issuer (history_at logs.seen) (history_at logs_now.seen) lines answers
+  unfolding then-seen
   lines-in_order [] [] claims logs claims_now logs_now (claims_same, logs_same) whole = record {
     seen = λ count. history_at logs.seen;
     begins = refl;
