@@ -3,3 +3,5 @@ pub mod Seen
 pub mod Lists
 pub mod Decisions
 pub mod KeptClaims
+pub mod Explaining
+pub mod OneRun
