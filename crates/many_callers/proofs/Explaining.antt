@@ -119,6 +119,14 @@ abbrev pub AreKnown : Setup → ClaimView → (ℕ → List Entry) → Type 0
 AreKnown issuer claims last = (request : Request) (card top : ℕ) → number_of (card_of request) issuer.cards ≡ Some card
     → 0 < times card top claims.tops → top < COUNTERS → IsDecidedOn (card_of request) top (last (shard_of issuer (card_of request)))
 
+-- a top that was told is among the pass's
+pub told-top : (card told : ℕ) (top : Option ℕ) (before after : ClaimView) → top ≡ Some told → after ≡ after_top card top before
+    → 0 < times card told after.tops
+told-top card told top before after top_is after_is =
+    let tops : after.tops ≡ (card, told) ∷ before.tops =
+    ap (λ (view : ClaimView). view.tops) (after_is ∙ ap (λ top. after_top card top before) top_is) in
+    omega (arith, ap (times card told) tops, times-cons card told before.tops)
+
 module _ (issuer : Setup) (some : 0 < issuer.shards) (first last : ℕ → List Entry) (answer : Answer) (logs logs_now : TurnView LogItem LogHead)
     (whole : IsWhole issuer logs) (from : (shard : ℕ) → GoesOn (first shard) (history_at logs.seen shard))
     (to : (shard : ℕ) → GoesOn (history_at logs_now.seen shard) (last shard)) where
@@ -144,14 +152,6 @@ module _ (issuer : Setup) (some : 0 < issuer.shards) (first last : ℕ → List 
       status-explained (first shard) seen.between (history_at logs_now.seen shard) (last shard)
       (goes-then (first shard) (history_at logs.seen shard) seen.between (from shard) seen.goes_on) (to shard) shard (named found.pan found.psn)
       found.status answer seen.changes
-
-  -- a top that was told is among the pass's
-  told-top : (card told : ℕ) (top : Option ℕ) (before after : ClaimView) → top ≡ Some told → after ≡ after_top card top before
-      → 0 < times card told after.tops
-  told-top card told top before after top_is after_is =
-      let tops : after.tops ≡ (card, told) ∷ before.tops =
-      ap (λ (view : ClaimView). view.tops) (after_is ∙ ap (λ top. after_top card top before) top_is) in
-      omega (arith, ap (times card told) tops, times-cons card told before.tops)
 
   ends-explained : (says : Result Asked Refusal) (checked : Result Checked Refusal) (claims between claims_now : ClaimView)
       → AreKnown issuer claims_now last → PreChecks issuer says claims checked between

@@ -46,7 +46,7 @@ top-claims : (card : ℕ) (top : Option ℕ) (view : ClaimView) → (after_top c
 top-claims card None view = refl
 top-claims card (Some told) view = refl
 
-top-times : (card : ℕ) (top : Option ℕ) (view : ClaimView) (other counter : ℕ) → times other counter view.tops ≤ times other counter (after_top card top view).tops
+pub top-times : (card : ℕ) (top : Option ℕ) (view : ClaimView) (other counter : ℕ) → times other counter view.tops ≤ times other counter (after_top card top view).tops
 top-times card None view other counter = omega arith
 top-times card (Some told) view other counter = omega arith
 

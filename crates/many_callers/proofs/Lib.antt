@@ -4,4 +4,5 @@ pub mod Lists
 pub mod Decisions
 pub mod KeptClaims
 pub mod Explaining
+pub mod TooOld
 pub mod OneRun

@@ -38,6 +38,7 @@ use Rattle.many_callers.proofs.Lists.{part-within, some-part}
 use Rattle.many_callers.proofs.Decisions.{IsNumbered, numbered-stays, numbered-decided, decided-numbered, one-true}
 use Rattle.many_callers.proofs.Seen.{records-go_on, IsWhole, lines-in_order}
 use Rattle.many_callers.proofs.KeptClaims.{calls-keep}
+use Rattle.many_callers.proofs.TooOld.{below-first}
 use Rattle.many_callers.proofs.Explaining.{AreKnown, line-explained, call-at}
 
 -- ---- the histories of all shards
@@ -167,6 +168,10 @@ module _ (issuer : Setup) (some : 0 < issuer.shards) (opening logs : List (Log L
   callers-explained = record {
     explained = λ index place caller line answer caller_is. explained index caller caller_is place line answer;
     in_order = in_order;
+    below_first = λ index place later caller request other top shard at reply caller_is before first second card counter.
+        let caller_has = its index caller caller_is in
+        below-first issuer some caller.lines caller.answers caller.claims caller.logs caller.claims_now caller.logs_now caller_has.calls
+        (whole index caller caller_is) place later request other top shard at reply before first second card counter;
     once = once;
     recorded = λ index place caller request answer caller_is. recorded index caller caller_is place request answer;
     one_reply = λ index other_index place other_place caller other_caller request answer other reply other_reply caller_is other_is answered other_answered

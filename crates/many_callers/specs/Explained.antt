@@ -162,6 +162,11 @@ pub record AreExplained (issuer : Setup) (opening logs : List (Log LogItem LogHe
   -- each caller's answers are in order
   pub in_order : (index : ℕ) (caller : Caller) → slice_get callers index ≡ Some caller
       → AreAnsweredInOrder issuer (history_at opening) (history_at logs) caller.lines caller.answers
+  -- the record that showed a caller that a counter is too old isn't one that the same caller decided later
+  pub below_first : (index place later : ℕ) (caller : Caller) (request other : Request) (top shard at : ℕ) (reply : Reply)
+      → slice_get callers index ≡ Some caller → place < later
+      → IsAnswered issuer caller.lines caller.answers place request (Refused (Below top))
+      → IsAnswered issuer caller.lines caller.answers later other (Fresh shard at reply) → card_of other ≡ card_of request → other.atc ≢ top
   -- no counter of a card was decided twice, whether in this run or before
   pub once : IsOncePerCounter (histories_in logs)
   -- each reply that was given is that of its record
