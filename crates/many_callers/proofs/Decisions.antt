@@ -1,36 +1,27 @@
 -- Decisions on a card's counter among the records of its shard, by what claims and tops tell of them.
-use Rattle.std.proofs.Common.{◌≡◌, ◌⊎◌, ◌≤◌, ◌<◌, ◌+◌, ◌-◌, ℕ, zero, suc, ◌%◌, max, List, [], ◌∷◌, ◌++◌, length, Bool, true, false, ◌&&◌, eqb, cond, ◌||◌}
-use Rattle.std.proofs.Common.{Contains, Option, None, Some, Result, Ok, Err, refl, sym, ap, subst, ◌∙◌, inl, inr, arith}
-use Rattle.std.proofs.lemmas.Bool.{cases_eq, cases_lt, cases_Bool, and_parts, eqb-true}
+use Rattle.std.proofs.Common.{◌≡◌, ◌⊎◌, ◌<◌, ℕ, zero, suc, max, List, [], ◌∷◌, Bool, true, false, ◌&&◌, eqb, ◌||◌}
+use Rattle.std.proofs.Common.{Contains, Option, None, Some, refl, sym, ap, ◌∙◌, inl, inr, arith}
+use Rattle.std.proofs.lemmas.Bool.{cases_lt, cases_Bool, and_parts, eqb-true}
 use Rattle.std.proofs.lemmas.Option.{same_Some}
-use Rattle.std.specs.List.{slice_get, list_any}
+use Rattle.std.specs.List.{slice_get}
 use Rattle.std.specs.Option.{option_map_or}
-use Rattle.issuer_base.specs.declared.answer.Answer.{Answer}
-use Rattle.issuer_base.specs.declared.answer.Answer.TheVariants.{Fresh, Kept as AnsweredKept, Queued, Set, Refused}
-use Rattle.issuer_base.specs.declared.answer.Refusal.{Refusal}
 use Rattle.issuer_base.specs.declared.answer.Reply.{Reply}
 use Rattle.issuer_base.specs.declared.entry.Entry.{Entry}
 use Rattle.issuer_base.specs.declared.entry.Entry.TheVariants.{Decided, Queued as IsQueued, Status as IsStatus}
 use Rattle.issuer_base.specs.declared.request.Request.{Request}
-use Rattle.card_history.specs.declared.decision.Asked.{Asked}
-use Rattle.card_history.specs.declared.decision.Asked.TheVariants.{Decide, Queue, Status}
 use Rattle.card_history.specs.declared.decision.Decision.{Decision}
-use Rattle.card_history.specs.Records.{CardName, card_of, is_of, decided, greatest}
+use Rattle.card_history.specs.Records.{CardName, card_of, decided, greatest}
 use Rattle.card_history.proofs.CardNames.{is_of-names}
-use Rattle.card_history.proofs.LongerHistories.{slice_get-push}
 use Rattle.card_history.proofs.RecordPlaces.{decided-recorded}
 use Rattle.issuer_setup.specs.declared.card.CardInfo.{CardInfo}
 use Rattle.issuer_setup.specs.CardList.{number_of, name_of}
-use Rattle.issuer_setup.specs.IssuerSetup.{Setup, shard_of}
+use Rattle.issuer_setup.specs.IssuerSetup.{Setup}
 use Rattle.issuer_setup.proofs.CardListLemmas.{number_of-found}
-use Rattle.issuer_setup.proofs.Shards.{shard_of-known}
-use Rattle.row_core.specs.Replying.{reply_to}
 use Rattle.seat_names.specs.Totals.{one_if}
-use Rattle.shard_book.specs.Answering.{AnswersClaimed}
 use Rattle.shard_turns.specs.declared.logs.LogItem.{LogItem}
 use Rattle.shard_turns.specs.declared.logs.LogItem.TheVariants.{Record, Fault}
 use Rattle.shard_turns.specs.ShardLogs.{records_of}
-use Rattle.host_calls.specs.Decisions.{is_number, decides}
+use Rattle.host_calls.specs.Decisions.{is_number}
 use Rattle.host_calls.specs.OneHistory.{GoesOn}
 use Rattle.host_calls.specs.OpeningLogs.{is_decided}
 use Rattle.host_calls.proofs.LegalBooks.{goes-stays}

@@ -1,6 +1,6 @@
 -- Each answer is explained by the histories before and after the run.
-use Rattle.std.proofs.Common.{◌≡◌, ◌≢◌, ◌⊎◌, ◌≤◌, ◌<◌, ◌+◌, ℕ, zero, suc, ◌%◌, List, [], ◌∷◌, ◌++◌, length, Bool, true, false}
-use Rattle.std.proofs.Common.{Option, None, Some, Result, Ok, Err, refl, sym, ap, subst, ◌∙◌, inl, inr, arith}
+use Rattle.std.proofs.Common.{◌≡◌, ◌≤◌, ◌<◌, ◌+◌, ℕ, zero, suc, List, [], ◌∷◌, ◌++◌, length, Bool}
+use Rattle.std.proofs.Common.{Option, Some, Result, Ok, Err, sym, ap, subst, ◌∙◌, arith}
 use Rattle.std.proofs.lemmas.List.{length-append}
 use Rattle.std.specs.List.{slice_get}
 use Rattle.issuer_base.specs.declared.answer.Answer.{Answer}
@@ -40,7 +40,7 @@ use Rattle.host_calls.specs.declared.pass.Checked.{Checked}
 use Rattle.host_calls.specs.declared.pass.Checked.TheVariants.{Decide as Decides, Queue as Queues, Status as Sets}
 use Rattle.host_calls.proofs.LegalBooks.{goes-none, goes-then, goes-stays}
 use Rattle.many_callers.specs.Callers.{Calls}
-use Rattle.many_callers.specs.Explained.{history_at, IsDecidedOn, ExplainsRequest, ExplainsCommand, ExplainsStatus, Explains, SeesTurn}
+use Rattle.many_callers.specs.Explained.{history_at, IsDecidedOn, ExplainsRequest, ExplainsCommand, ExplainsStatus, Explains}
 use Rattle.many_callers.proofs.Decisions.{greatest-decided, decided-stays}
 use Rattle.many_callers.proofs.Seen.{goes-same, IsWhole, turn-sees, home-there, line-sees, sees-goes_on}
 use Rattle.many_callers.proofs.KeptClaims.{calls-go_on, calls-keep}
@@ -57,7 +57,7 @@ module _ (first between after last : List Entry) (from : GoesOn first between) (
   added-there entry place place_is after_is = (
     omega (arith, place_is, goes-longer first between from),
     goes-stays after last to place entry
-    (ap (λ (history : List Entry). slice_get history place) after_is ∙ ap (slice_get (between ++ entry ∷ [])) place_is ∙ slice_get-push between entry),
+        (ap (λ (history : List Entry). slice_get history place) after_is ∙ ap (slice_get (between ++ entry ∷ [])) place_is ∙ slice_get-push between entry),
   )
 
   -- a record that was there already does, where nothing was added

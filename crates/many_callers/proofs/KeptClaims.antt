@@ -1,5 +1,5 @@
 -- The kept claims of a caller are decided records, and what tops told it stays.
-use Rattle.std.proofs.Common.{◌≡◌, ◌⊎◌, ◌≤◌, ◌<◌, ◌+◌, ℕ, zero, suc, ◌%◌, List, [], ◌∷◌, ◌++◌, length, Bool, true, false, ◌&&◌}
+use Rattle.std.proofs.Common.{◌≡◌, ◌⊎◌, ◌≤◌, ◌<◌, ℕ, ◌%◌, List, [], ◌∷◌, length, Bool, true}
 use Rattle.std.proofs.Common.{Option, None, Some, Result, Ok, Err, refl, sym, ap, subst, ◌∙◌, inl, inr, arith}
 use Rattle.std.specs.List.{slice_get}
 use Rattle.issuer_base.specs.declared.answer.Answer.{Answer}
@@ -21,22 +21,21 @@ use Rattle.line_checks.specs.Reading.{reading}
 use Rattle.claim_words.specs.declared.claim_words.Claim.{Claim}
 use Rattle.claim_words.specs.declared.claim_words.Claim.TheVariants.{Won, Lost}
 use Rattle.claim_words.specs.declared.view.ClaimView.{ClaimView}
-use Rattle.claim_words.specs.declared.view.Standing.TheVariants.{Open, Kept, GivenBack}
-use Rattle.claim_words.specs.ClaimViews.{is_kept, is_pair, claims_on, times, after_claim, after_top, with_claim, settled}
-use Rattle.claim_words.proofs.ClaimCounts.{pair_cases, claims-with_claim, claims-with_claim_other, claims-settled_other, kept-given_back, times-cons}
-use Rattle.seat_names.specs.Totals.{one_if}
+use Rattle.claim_words.specs.declared.view.Standing.TheVariants.{Kept, GivenBack}
+use Rattle.claim_words.specs.ClaimViews.{is_kept, claims_on, times, after_claim, after_top, with_claim, settled}
+use Rattle.claim_words.proofs.ClaimCounts.{pair_cases, claims-with_claim, claims-with_claim_other, claims-settled_other, kept-given_back}
 use Rattle.turn_book.specs.declared.view.TurnView.{TurnView}
 use Rattle.shard_book.specs.Answering.{AnswersClaimed}
 use Rattle.shard_turns.specs.declared.logs.LogItem.{LogItem}
 use Rattle.shard_turns.specs.declared.logs.LogHead.{LogHead}
 use Rattle.host_calls.specs.Authorising.{EndsIn, Authorises}
-use Rattle.host_calls.specs.Finishes.{FinishesInTurn, claims_after, standing_by, is_won}
+use Rattle.host_calls.specs.Finishes.{FinishesInTurn, claims_after, standing_by}
 use Rattle.host_calls.specs.OneHistory.{GoesOn}
 use Rattle.host_calls.specs.PreChecks.{asked_of, PreChecks, Claims}
 use Rattle.host_calls.specs.declared.pass.Checked.{Checked}
 use Rattle.host_calls.specs.declared.pass.Checked.TheVariants.{Decide as Decides, Queue as Queues, Status as Sets}
 use Rattle.many_callers.specs.Callers.{Calls}
-use Rattle.many_callers.specs.Explained.{history_at, SeesTurn, Sees}
+use Rattle.many_callers.specs.Explained.{history_at, SeesTurn}
 use Rattle.many_callers.proofs.Decisions.{IsNumbered, numbered-stays}
 use Rattle.many_callers.proofs.Seen.{IsWhole, turn-sees, home-there, line-sees, lines-in_order}
 

@@ -1,6 +1,6 @@
 -- Elements of lists, and sums over them.
-use Rattle.std.proofs.Common.{◌≡◌, ◌≤◌, ◌<◌, ◌+◌, ℕ, zero, suc, List, [], ◌∷◌, map, Some, refl, ap, arith}
-use Rattle.std.specs.List.{slice_get, slice_index_or}
+use Rattle.std.proofs.Common.{◌≡◌, ◌≤◌, ◌<◌, ℕ, zero, suc, List, [], ◌∷◌, Some, refl, ap, arith}
+use Rattle.std.specs.List.{slice_get}
 use Rattle.seat_names.specs.Totals.{total}
 
 module _ {A : Type 0} (f : A → ℕ) where

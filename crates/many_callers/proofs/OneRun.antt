@@ -1,22 +1,19 @@
 -- The run of several callers: what is sure of all their answers.
-use Rattle.std.proofs.Common.{◌≡◌, ◌≤◌, ◌<◌, ◌+◌, ℕ, zero, suc, ◌%◌, List, [], ◌∷◌, length, map, Some, Ok, refl, sym, ap, subst, ◌∙◌, inl, inr, arith}
+use Rattle.std.proofs.Common.{◌≡◌, ◌<◌, ℕ, zero, suc, ◌%◌, List, [], ◌∷◌, length, map, Some, Ok, refl, sym, ap, subst, ◌∙◌, inl, inr, arith}
 use Rattle.std.proofs.lemmas.Bool.{cases_lt}
 use Rattle.std.proofs.lemmas.Option.{same_Some, slice_get_within}
 use Rattle.std.specs.List.{slice_get, slice_index_or}
 use Rattle.issuer_base.specs.declared.answer.Answer.{Answer}
 use Rattle.issuer_base.specs.declared.answer.Answer.TheVariants.{Fresh, Kept, Queued, Set, Refused}
-use Rattle.issuer_base.specs.declared.answer.Reply.{Reply}
 use Rattle.issuer_base.specs.declared.entry.Entry.{Entry}
-use Rattle.issuer_base.specs.declared.entry.Entry.TheVariants.{Decided}
 use Rattle.issuer_base.specs.declared.request.Request.{Request}
 use Rattle.card_history.specs.declared.decision.Asked.TheVariants.{Decide}
 use Rattle.card_history.specs.LegalRecords.{IsLegalHistory}
-use Rattle.card_history.specs.OneReply.{record_at, IsOncePerCounter, IsOfItsRecord}
+use Rattle.card_history.specs.OneReply.{IsOncePerCounter, IsOfItsRecord}
 use Rattle.card_history.specs.Records.{card_of}
-use Rattle.issuer_setup.specs.IssuerSetup.{Setup, shard_of}
+use Rattle.issuer_setup.specs.IssuerSetup.{Setup}
 use Rattle.issuer_setup.proofs.Shards.{shard_of-known}
 use Rattle.line_checks.specs.Reading.{reading}
-use Rattle.seat_names.specs.Totals.{total, one_if}
 use Rattle.claim_words.specs.declared.layout.TheConstants.{COUNTERS}
 use Rattle.claim_words.specs.declared.view.Claimed.{Claimed}
 use Rattle.claim_words.specs.ClaimViews.{claims_on, times, is_kept}
@@ -29,11 +26,11 @@ use Rattle.shard_turns.specs.ShardLogs.{records_of}
 use Rattle.host_calls.specs.Books.{Book, histories_of}
 use Rattle.host_calls.specs.Closing.{book_of}
 use Rattle.host_calls.specs.OneHistory.{GoesOn, AreLegalBooks, IsAnswered}
-use Rattle.host_calls.specs.OpeningLogs.{is_decided, opened_on}
+use Rattle.host_calls.specs.OpeningLogs.{opened_on}
 use Rattle.host_calls.proofs.LegalBooks.{goes-then, legal-once, one-reply}
 use Rattle.host_calls.proofs.Places.{read-mapped}
 use Rattle.many_callers.specs.Callers.{Caller, IsCaller, AreCallers}
-use Rattle.many_callers.specs.Explained.{history_at, histories_in, IsDecidedOn, ExplainsRequest, Explains, AreAnsweredInOrder, AreExplained}
+use Rattle.many_callers.specs.Explained.{history_at, histories_in, IsDecidedOn, Explains, AreAnsweredInOrder, AreExplained}
 use Rattle.many_callers.proofs.Lists.{part-within, some-part}
 use Rattle.many_callers.proofs.Decisions.{IsNumbered, numbered-stays, numbered-decided, decided-numbered, one-true}
 use Rattle.many_callers.proofs.Seen.{records-go_on, IsWhole, lines-in_order}

@@ -1,5 +1,5 @@
 -- What a caller sees of the histories by each of its lines.
-use Rattle.std.proofs.Common.{◌≡◌, ◌≢◌, ◌⊎◌, ◌≤◌, ◌<◌, ℕ, zero, suc, ◌%◌, List, [], ◌∷◌, ◌++◌, length, drop, Bool, Option, None, Some, Result, Ok, Err}
+use Rattle.std.proofs.Common.{◌≡◌, ◌≢◌, ◌≤◌, ◌<◌, ℕ, zero, suc, ◌%◌, List, [], ◌∷◌, ◌++◌, length, drop, Bool, Option, None, Some, Result, Ok, Err}
 use Rattle.std.proofs.Common.{refl, sym, ap, subst, ◌∙◌, inl, inr, arith, append-nil}
 use Rattle.std.proofs.Math.Nat.{mod-lt}
 use Rattle.std.proofs.lemmas.Bool.{cases_eq}
@@ -23,7 +23,6 @@ use Rattle.issuer_setup.specs.IssuerSetup.{Setup, shard_of}
 use Rattle.row_core.specs.Replying.{reply_to}
 use Rattle.line_checks.specs.Reading.{reading}
 use Rattle.claim_words.specs.declared.view.ClaimView.{ClaimView}
-use Rattle.turn_book.specs.declared.logs.Log.{Log}
 use Rattle.turn_book.specs.declared.view.TurnView.{TurnView}
 use Rattle.turn_book.specs.Logs.{items_at, with_items, IsFront}
 use Rattle.turn_book.proofs.LogLemmas.{items-with_same, items-with_other, heads-with, heads-length}
@@ -39,9 +38,9 @@ use Rattle.host_calls.specs.OneHistory.{GoesOn}
 use Rattle.host_calls.specs.PreChecks.{asked_of, PreChecks}
 use Rattle.host_calls.specs.declared.pass.Checked.{Checked}
 use Rattle.host_calls.specs.declared.pass.Checked.TheVariants.{Decide as Decides, Queue as Queues, Status as Sets}
-use Rattle.host_calls.proofs.LegalBooks.{goes-none, goes-then}
+use Rattle.host_calls.proofs.LegalBooks.{goes-then}
 use Rattle.many_callers.specs.Callers.{Calls}
-use Rattle.many_callers.specs.Explained.{history_at, SeesTurn, IsToldBelow, Sees, AreAnsweredInOrder}
+use Rattle.many_callers.specs.Explained.{history_at, SeesTurn, Sees, AreAnsweredInOrder}
 
 -- ---- histories that go on
 

@@ -1,18 +1,16 @@
 -- A record that showed a caller that a counter is too old isn't one that the same caller decides later.
-use Rattle.std.proofs.Common.{◌≡◌, ◌⊎◌, ◌≤◌, ◌<◌, ◌+◌, ℕ, zero, suc, List, [], ◌∷◌, Bool, true, false}
-use Rattle.std.proofs.Common.{Option, None, Some, Result, Ok, Err, refl, sym, ap, subst, ◌∙◌, inl, inr, arith}
+use Rattle.std.proofs.Common.{◌≡◌, ◌⊎◌, ◌<◌, ℕ, zero, suc, List, [], ◌∷◌, Bool, true}
+use Rattle.std.proofs.Common.{None, Some, Result, Ok, Err, refl, sym, ap, subst, ◌∙◌, inl, inr, arith}
 use Rattle.std.proofs.lemmas.List.Elements.{All-contains}
 use Rattle.std.proofs.lemmas.Option.{same_Some}
-use Rattle.std.specs.List.{slice_get}
 use Rattle.issuer_base.specs.declared.answer.Answer.{Answer}
 use Rattle.issuer_base.specs.declared.answer.Answer.TheVariants.{Fresh, Refused}
 use Rattle.issuer_base.specs.declared.answer.Refusal.{Refusal}
 use Rattle.issuer_base.specs.declared.answer.Refusal.TheVariants.{Below}
 use Rattle.issuer_base.specs.declared.answer.Reply.{Reply}
-use Rattle.issuer_base.specs.declared.entry.Entry.{Entry}
 use Rattle.issuer_base.specs.declared.request.Request.{Request}
 use Rattle.card_history.specs.declared.decision.Asked.{Asked}
-use Rattle.card_history.specs.declared.decision.Asked.TheVariants.{Decide, Queue, Status}
+use Rattle.card_history.specs.declared.decision.Asked.TheVariants.{Decide}
 use Rattle.card_history.specs.declared.decision.Decision.{Decision}
 use Rattle.card_history.specs.Records.{CardName, card_of, is_of}
 use Rattle.card_history.proofs.CardNames.{is_of-card_of}
@@ -24,14 +22,14 @@ use Rattle.line_checks.specs.Reading.{reading}
 use Rattle.claim_words.specs.declared.claim_words.Claim.{Claim}
 use Rattle.claim_words.specs.declared.claim_words.Claim.TheVariants.{Won, Lost}
 use Rattle.claim_words.specs.declared.view.ClaimView.{ClaimView}
-use Rattle.claim_words.specs.ClaimViews.{times, after_top}
+use Rattle.claim_words.specs.ClaimViews.{times}
 use Rattle.turn_book.specs.declared.view.TurnView.{TurnView}
 use Rattle.shard_book.specs.Answering.{AnswersClaimed}
 use Rattle.shard_turns.specs.declared.logs.LogItem.{LogItem}
 use Rattle.shard_turns.specs.declared.logs.LogHead.{LogHead}
 use Rattle.host_calls.specs.Authorising.{EndsIn, Authorises}
 use Rattle.host_calls.specs.Finishes.{FinishesInTurn, is_won}
-use Rattle.host_calls.specs.OneHistory.{GoesOn, IsAnswered}
+use Rattle.host_calls.specs.OneHistory.{IsAnswered}
 use Rattle.host_calls.specs.PreChecks.{asked_of, PreChecks}
 use Rattle.host_calls.specs.declared.pass.Checked.{Checked}
 use Rattle.host_calls.specs.declared.pass.Checked.TheVariants.{Decide as Decides, Queue as Queues, Status as Sets}
