@@ -123,7 +123,8 @@ cases-top None = inl refl
 cases-top (Some top) = inr (top, refl)
 
 -- some decision is on the greatest counter
-greatest-one : (decisions : List Decision) (top : ℕ) → greatest decisions ≡ Some top → (decision : Decision) × Contains decisions decision × (decision.request.atc ≡ top)
+greatest-one : (decisions : List Decision) (top : ℕ) → greatest decisions ≡ Some top
+    → (decision : Decision) × Contains decisions decision × (decision.request.atc ≡ top)
 greatest-one [] top is = absurd (cc)
 greatest-one (first ∷ decisions) top is =
     elim (cases-top (greatest decisions)) [
@@ -156,7 +157,8 @@ greatest-decided name history top is =
       counter_is = it.2;
     }
 
-pub decided-stays : (name : CardName) (counter : ℕ) (first last : List Entry) → GoesOn first last → IsDecidedOn name counter first → IsDecidedOn name counter last
+pub decided-stays : (name : CardName) (counter : ℕ) (first last : List Entry) → GoesOn first last → IsDecidedOn name counter first
+    → IsDecidedOn name counter last
 decided-stays name counter first last on its = record {
   place = its.place;
   request = its.request;

@@ -71,7 +71,8 @@ module _ (first between after last : List Entry) (from : GoesOn first between) (
       (at_is, there.0, there.1)
   request-explained shard reply_to won request (Kept at place reply) (used, at_is, after_is) =
       let decision : Decision = record { request = request; reply = reply; place = place } in
-      (at_is, goes-stays between last (stood-there after_is) place (Decided request reply) (decided-recorded (card_of request) between decision used.recorded).0)
+      let stands = decided-recorded (card_of request) between decision used.recorded in
+      (at_is, goes-stays between last (stood-there after_is) place (Decided request reply) stands.0)
   request-explained shard reply_to won request (Refused (Below top)) (too_old, after_is) = (
     too_old.below,
     λ bounded. decided-stays (card_of request) top between last (stood-there after_is) (greatest-decided (card_of request) between top too_old.greatest_is),

@@ -45,7 +45,8 @@ top-claims : (card : ℕ) (top : Option ℕ) (view : ClaimView) → (after_top c
 top-claims card None view = refl
 top-claims card (Some told) view = refl
 
-pub top-times : (card : ℕ) (top : Option ℕ) (view : ClaimView) (other counter : ℕ) → times other counter view.tops ≤ times other counter (after_top card top view).tops
+pub top-times : (card : ℕ) (top : Option ℕ) (view : ClaimView) (other counter : ℕ)
+    → times other counter view.tops ≤ times other counter (after_top card top view).tops
 top-times card None view other counter = omega arith
 top-times card (Some told) view other counter = omega arith
 
@@ -56,7 +57,8 @@ open-unkept card counter view other_card other =
       | inl same ↦
           let P : ℕ → ℕ → Type 0 = λ other_card other.
           claims_on is_kept other_card other (with_claim card counter view).claims ≡ claims_on is_kept other_card other view.claims in
-          subst (λ (other_card : ℕ). P other_card other) (sym same.0) (subst (λ (other : ℕ). P card other) (sym same.1) (omega (arith, claims-with_claim is_kept card counter view)))
+          subst (λ (other_card : ℕ). P other_card other) (sym same.0)
+          (subst (λ (other : ℕ). P card other) (sym same.1) (omega (arith, claims-with_claim is_kept card counter view)))
       | inr apart ↦ claims-with_claim_other is_kept card counter view other_card other apart
     ]
 
@@ -199,7 +201,8 @@ module _ (issuer : Setup) (some : 0 < issuer.shards) (logs logs_now : TurnView L
       → KeepsMore issuer view (claims_after checked answer view) logs_now
   finish-keeps (Decides found Won) answer view turn number =
       won-keeps found.request found.card answer view (number found Won refl)
-      (turn-sees issuer (shard_of issuer (card_of found.request)) _ logs answer logs_now (home-there issuer some answer logs logs_now whole (card_of found.request)) turn)
+      (turn-sees issuer (shard_of issuer (card_of found.request)) _ logs answer logs_now
+      (home-there issuer some answer logs logs_now whole (card_of found.request)) turn)
   finish-keeps (Decides found Lost) answer view turn number = keeps-same issuer view view logs_now refl
   finish-keeps (Queues found) answer view turn number = keeps-same issuer view view logs_now refl
   finish-keeps (Sets found) answer view turn number = keeps-same issuer view view logs_now refl

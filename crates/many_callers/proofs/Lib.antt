@@ -1,4 +1,5 @@
 -- The laws of this crate.
+pub mod MoreLines
 pub mod Seen
 pub mod Lists
 pub mod Decisions

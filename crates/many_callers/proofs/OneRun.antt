@@ -16,8 +16,10 @@ use Rattle.issuer_setup.proofs.Shards.{shard_of-known}
 use Rattle.line_checks.specs.Reading.{reading}
 use Rattle.claim_words.specs.declared.layout.TheConstants.{COUNTERS}
 use Rattle.claim_words.specs.declared.view.Claimed.{Claimed}
+use Rattle.claim_words.specs.declared.view.ClaimView.{ClaimView}
 use Rattle.claim_words.specs.ClaimViews.{claims_on, times, is_kept}
 use Rattle.turn_book.specs.declared.logs.Log.{Log}
+use Rattle.turn_book.specs.declared.view.TurnView.{TurnView}
 use Rattle.turn_book.specs.Logs.{items_at}
 use Rattle.shard_book.specs.Grounds.{grounds_of}
 use Rattle.shard_turns.specs.declared.logs.LogItem.{LogItem}
@@ -29,7 +31,7 @@ use Rattle.host_calls.specs.OneHistory.{GoesOn, AreLegalBooks, IsAnswered}
 use Rattle.host_calls.specs.OpeningLogs.{opened_on}
 use Rattle.host_calls.proofs.LegalBooks.{goes-then, legal-once, one-reply}
 use Rattle.host_calls.proofs.Places.{read-mapped}
-use Rattle.many_callers.specs.Callers.{Caller, IsCaller, AreCallers}
+use Rattle.many_callers.specs.Callers.{Calls, Caller, IsCaller, AreCallers}
 use Rattle.many_callers.specs.Explained.{history_at, histories_in, IsDecidedOn, Explains, AreAnsweredInOrder, AreExplained}
 use Rattle.many_callers.proofs.Lists.{part-within, some-part}
 use Rattle.many_callers.proofs.Decisions.{IsNumbered, numbered-stays, numbered-decided, decided-numbered, one-true}
@@ -37,6 +39,16 @@ use Rattle.many_callers.proofs.Seen.{records-go_on, IsWhole, lines-in_order}
 use Rattle.many_callers.proofs.KeptClaims.{calls-keep}
 use Rattle.many_callers.proofs.TooOld.{below-first}
 use Rattle.many_callers.proofs.Explaining.{AreKnown, line-explained, call-at}
+
+-- each line of a caller was answered
+answered-all : (issuer : Setup) (lines : List (List ℕ)) (answers : List Answer) (claims : ClaimView) (logs : TurnView LogItem LogHead)
+    (claims_now : ClaimView) (logs_now : TurnView LogItem LogHead) → Calls issuer lines answers claims logs claims_now logs_now
+    → length answers ≡ length lines
+answered-all issuer [] [] claims logs claims_now logs_now calls = refl
+answered-all issuer [] (answer ∷ answers) claims logs claims_now logs_now calls = absurd calls
+answered-all issuer (line ∷ lines) [] claims logs claims_now logs_now calls = absurd calls
+answered-all issuer (line ∷ lines) (answer ∷ answers) claims logs claims_now logs_now (claims_then, logs_then, call, calls) =
+    omega (arith, answered-all issuer lines answers claims_then logs_then claims_now logs_now calls)
 
 -- ---- the histories of all shards
 
@@ -90,7 +102,8 @@ module _ (issuer : Setup) (some : 0 < issuer.shards) (opening logs : List (Log L
         ]
 
   -- what a top told is recorded in the end
-  top-stands : (index : ℕ) (caller : Caller) → slice_get callers index ≡ Some caller → (card top : ℕ) → top < COUNTERS → 0 < times card top caller.claims_now.tops
+  top-stands : (index : ℕ) (caller : Caller) → slice_get callers index ≡ Some caller → (card top : ℕ) → top < COUNTERS
+      → 0 < times card top caller.claims_now.tops
       → IsNumbered issuer card top (history_at logs (card % issuer.shards))
   top-stands index caller caller_is card top bounded told =
       let part = part-within (λ (caller : Caller). times card top caller.claims_now.tops) callers index caller caller_is in
@@ -121,7 +134,8 @@ module _ (issuer : Setup) (some : 0 < issuer.shards) (opening logs : List (Log L
         goes-then (history_at call.logs_after.seen shard) (history_at caller.logs_now.seen shard) (history_at logs shard) (call.to shard)
         (to-last index caller caller_is shard) in
         let from : (shard : ℕ) → GoesOn (history_at opening shard) (history_at call.logs_before.seen shard) = λ shard.
-        subst (λ (seen : List (Log LogItem LogHead)). GoesOn (history_at seen shard) (history_at call.logs_before.seen shard)) caller_has.opened (call.from shard) in
+        subst (λ (seen : List (Log LogItem LogHead)). GoesOn (history_at seen shard) (history_at call.logs_before.seen shard))
+        caller_has.opened (call.from shard) in
         line-explained issuer some (history_at opening) (history_at logs) answer call.logs_before call.logs_after call.whole from now
         (reading issuer line) call.claims_before call.claims_after
         (λ request card top number_is told bounded.
@@ -163,6 +177,7 @@ module _ (issuer : Setup) (some : 0 < issuer.shards) (opening logs : List (Log L
   -- the law
   pub callers-explained : AreExplained issuer opening logs callers
   callers-explained = record {
+    answered = λ index caller caller_is. answered-all issuer caller.lines caller.answers _ _ _ _ (are.each index caller caller_is).calls;
     explained = λ index place caller line answer caller_is. explained index caller caller_is place line answer;
     in_order = in_order;
     below_first = λ index place later caller request other top shard at reply caller_is before first second card counter.

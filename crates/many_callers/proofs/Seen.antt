@@ -60,8 +60,8 @@ records-go_on first last front =
 pub goes-same : (first last : List Entry) → last ≡ first → GoesOn first last
 goes-same first last same = ([], same ∙ sym (append-nil first))
 
-claimed-goes_on : (shard : ℕ) (reply_to : List Entry → Request → Reply) (won : Bool) (before : List Entry) (request : Request) (answer : Answer) (after : List Entry)
-    → AnswersClaimed shard reply_to won before request answer after → GoesOn before after
+claimed-goes_on : (shard : ℕ) (reply_to : List Entry → Request → Reply) (won : Bool) (before : List Entry) (request : Request) (answer : Answer)
+    (after : List Entry) → AnswersClaimed shard reply_to won before request answer after → GoesOn before after
 claimed-goes_on shard reply_to won before request (Fresh at place reply) after (claimed, (unused, at_is, place_is, reply_is, after_is)) =
     (Decided request reply ∷ [], after_is)
 claimed-goes_on shard reply_to won before request (Kept at place reply) after (used, at_is, after_is) = goes-same before after after_is
@@ -217,7 +217,8 @@ module _ (issuer : Setup) (some : 0 < issuer.shards) where
     begins = refl;
     goes_on = λ count shard below. absurd (omega arith);
     within = λ count shard below.
-        goes-same (history_at logs.seen shard) (history_at logs_now.seen shard) (ap (λ (view : TurnView LogItem LogHead). history_at view.seen shard) logs_same);
+        goes-same (history_at logs.seen shard) (history_at logs_now.seen shard)
+        (ap (λ (view : TurnView LogItem LogHead). history_at view.seen shard) logs_same);
     sees = λ index line answer is. absurd (cc);
   }
   lines-in_order [] (answer ∷ answers) claims logs claims_now logs_now calls whole = absurd calls

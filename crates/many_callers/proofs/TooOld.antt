@@ -123,17 +123,20 @@ module _ (issuer : Setup) (some : 0 < issuer.shards) (logs logs_now : TurnView L
             omega (arith, before, top-times card check.top claims card request.atc, new.1)
         | inr seen ↦
             finish-barred found.request (is_won claim) at place reply turn
-            (subst (λ (request : Request). IsDecidedOn (card_of request) request.atc (history_at logs.seen (shard_of issuer (card_of request)))) (sym same) seen)
+            (subst (λ (request : Request). IsDecidedOn (card_of request) request.atc (history_at logs.seen (shard_of issuer (card_of request))))
+            (sym same) seen)
       ]
 
   -- what was shown stays
   shown-stays : (says : Result Asked Refusal) (answer : Answer) (name : CardName) (counter : ℕ) (claims claims_now : ClaimView)
-      → Authorises issuer says claims logs answer claims_now logs_now → IsShown issuer name counter claims logs → IsShown issuer name counter claims_now logs_now
+      → Authorises issuer says claims logs answer claims_now logs_now → IsShown issuer name counter claims logs
+      → IsShown issuer name counter claims_now logs_now
   shown-stays says answer name counter claims claims_now line (inl (card, number_is, told)) =
       inl (card, number_is, omega (arith, told, (line-keeps issuer some answer logs logs_now whole says claims claims_now line).tops card counter))
   shown-stays says answer name counter claims claims_now line (inr seen) =
       let sees = line-sees issuer some answer logs logs_now whole says claims claims_now line in
-      inr (decided-stays name counter _ _ (sees-goes_on issuer says (history_at logs.seen) answer (history_at logs_now.seen) sees.0 (shard_of issuer name)) seen)
+      let on = sees-goes_on issuer says (history_at logs.seen) answer (history_at logs_now.seen) sees.0 (shard_of issuer name) in
+      inr (decided-stays name counter _ _ on seen)
 
 -- ---- all lines of a caller
 

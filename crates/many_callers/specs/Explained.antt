@@ -155,6 +155,8 @@ pub record AreAnsweredInOrder (issuer : Setup) (first last : ℕ → List Entry)
 
 -- what is sure of several callers' answers
 pub record AreExplained (issuer : Setup) (opening logs : List (Log LogItem LogHead)) (callers : List Caller) : Type 0 where
+  -- each line was answered
+  pub answered : (index : ℕ) (caller : Caller) → slice_get callers index ≡ Some caller → length caller.answers ≡ length caller.lines
   -- each answer is explained by the histories at opening and at close
   pub explained : (index place : ℕ) (caller : Caller) (line : List ℕ) (answer : Answer) → slice_get callers index ≡ Some caller
       → slice_get caller.lines place ≡ Some line → slice_get caller.answers place ≡ Some answer
