@@ -1,0 +1,9 @@
+//! What the calls of several callers at one host come to: the law of a whole run, from the opening of its logs to the closing of the host.
+//!
+//! This crate is definitions and their proofs alone. `specs/Callers.antt` says what a run of several callers is, and `specs/Explained.antt` what is
+//! sure of its answers: it is the contract of [`every_answer_is_explained`].
+#![tactic(auto)]
+
+mod law;
+
+pub use law::every_answer_is_explained;
