@@ -1,5 +1,5 @@
 -- What a request is answered whose claim was won, or whose counter was seen recorded.
-use Rattle.std.proofs.Common.{◌≡◌, ◌≢◌, ◌⊎◌, ℕ, ◌<◌, List, [], ◌∷◌, ◌++◌, length, take, drop, Bool, true, false, Option, None, Some, refl, sym, ap, ◌∙◌, subst, inl, inr, arith}
+use Rattle.std.proofs.Common.{◌≡◌, ◌≢◌, ℕ, List, [], ◌∷◌, ◌++◌, Bool, true, false, Option, refl, sym, ap, ◌∙◌, subst}
 use Rattle.std.proofs.lemmas.Bool.{true≢false}
 use Rattle.std.proofs.lemmas.List.Elements.{All-contains}
 use Rattle.std.specs.List.{slice_get, Contains}
@@ -59,11 +59,13 @@ module _ (shard : ℕ) (reply : List Entry → Request → Reply) (before : List
   -- a counter that is recorded isn't unused
   not-unused : (decision : Decision) → Contains (decided_for request before) decision → decision.request.atc ≡ request.atc
       → IsUnused (decided_for request before) request → ⊥
-  not-unused decision there same unused = All-contains (λ (decision : Decision). decision.request.atc ≢ request.atc) (decided_for request before) decision unused.unrecorded there same
+  not-unused decision there same unused =
+      All-contains (λ (decision : Decision). decision.request.atc ≢ request.atc) (decided_for request before) decision unused.unrecorded there same
 
   pub recorded-by : (won : Bool) (answer : Answer) (after : List Entry) (decision : Decision) → Contains (decided_for request before) decision
       → decision.request.atc ≡ request.atc → AnswersClaimed shard reply won before request answer after → is_by_record answer ≡ true
-  recorded-by won (Fresh at place made) after decision there same (claimed, (unused, at_is, place_is, made_is, after_is)) = absurd (not-unused decision there same unused)
+  recorded-by won (Fresh at place made) after decision there same (claimed, (unused, at_is, place_is, made_is, after_is)) =
+      absurd (not-unused decision there same unused)
   recorded-by won (Kept at place made) after decision there same turn = refl
   recorded-by won (Refused (Below top)) after decision there same turn = refl
   recorded-by won (Refused (Taken at place)) after decision there same turn = refl
