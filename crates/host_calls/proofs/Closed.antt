@@ -40,7 +40,7 @@ records-append [] more = refl
 records-append (Record entry ∷ items) more = λ i. entry ∷ records-append items more i
 records-append (Fault count ∷ items) more = records-append items more
 
-records-go_on : (first last : List LogItem) → IsFront first last → GoesOn (records_of first) (records_of last)
+pub records-go_on : (first last : List LogItem) → IsFront first last → GoesOn (records_of first) (records_of last)
 records-go_on first last front =
     let rest : List LogItem = drop (length first) last in
     let parts : first ++ rest ≡ last = ap (λ (front : List LogItem). front ++ rest) (sym front) ∙ take-append-drop (length first) last in

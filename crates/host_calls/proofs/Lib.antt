@@ -16,3 +16,4 @@ mod RecordedLists
 mod OpeningCounters
 mod Sharing
 mod Closed
+mod Answered

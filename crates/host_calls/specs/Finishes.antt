@@ -1,9 +1,14 @@
 -- What finishing what was checked may answer, and what it makes of a pass.
-use Rattle.std.specs.Prelude.{Bool, true, false}
+use Rattle.std.specs.Prelude.{◌≡◌, ℕ, ⊤, Bool, true, false, List, Contains}
 use Rattle.issuer_base.specs.declared.answer.Answer.{Answer}
-use Rattle.issuer_base.specs.declared.answer.Answer.TheVariants.{Fresh}
-use Rattle.card_history.specs.Records.{named}
-use Rattle.issuer_setup.specs.IssuerSetup.{Setup}
+use Rattle.issuer_base.specs.declared.answer.Answer.TheVariants.{Fresh, Kept, Refused}
+use Rattle.issuer_base.specs.declared.answer.Refusal.TheVariants.{Below, Taken, StoreFault}
+use Rattle.issuer_base.specs.declared.entry.Entry.{Entry}
+use Rattle.issuer_base.specs.declared.request.Request.{Request}
+use Rattle.card_history.specs.declared.decision.Decision.{Decision}
+use Rattle.card_history.specs.Records.{card_of, greatest, named, IsBelow}
+use Rattle.card_history.specs.Turns.{decided_for}
+use Rattle.issuer_setup.specs.IssuerSetup.{Setup, shard_of}
 use Rattle.claim_words.specs.declared.view.ClaimView.{ClaimView}
 use Rattle.claim_words.specs.declared.view.Standing.{Standing}
 use Rattle.claim_words.specs.declared.view.Standing.TheVariants.{Kept as IsKept, GivenBack}
@@ -11,8 +16,10 @@ use Rattle.claim_words.specs.declared.claim_words.Claim.{Claim}
 use Rattle.claim_words.specs.declared.claim_words.Claim.TheVariants.{Won, Lost}
 use Rattle.claim_words.specs.ClaimViews.{settled}
 use Rattle.turn_book.specs.declared.view.TurnView.{TurnView}
+use Rattle.turn_book.specs.Logs.{items_at}
 use Rattle.shard_turns.specs.declared.logs.LogItem.{LogItem}
 use Rattle.shard_turns.specs.declared.logs.LogHead.{LogHead}
+use Rattle.shard_turns.specs.ShardLogs.{records_of}
 use Rattle.shard_turns.specs.Turned.{DecidesInTurn, QueuesInTurn, SetsInTurn}
 use Rattle.host_calls.specs.declared.pass.Checked.{Checked}
 use Rattle.host_calls.specs.declared.pass.Checked.TheVariants.{Decide, Queue, Status}
@@ -43,3 +50,51 @@ abbrev pub FinishesInTurn : Setup → Checked → TurnView LogItem LogHead → A
 FinishesInTurn issuer (Decide found claim) before answer after = DecidesInTurn issuer (is_won claim) found.request before answer after
 FinishesInTurn issuer (Queue found) before answer after = QueuesInTurn issuer (named found.pan found.psn) found.command before answer after
 FinishesInTurn issuer (Status found) before answer after = SetsInTurn issuer (named found.pan found.psn) found.status before answer after
+
+-- ---- what a request may count on
+
+-- the records that a pass has seen in the shard of the request's card
+abbrev pub seen_for : Setup → Request → TurnView LogItem LogHead → List Entry
+seen_for issuer request view = records_of (items_at view.seen (shard_of issuer (card_of request)))
+
+-- whether the answer is a new decision, or that the store failed
+abbrev pub is_decided_or_fault : Answer → Bool
+is_decided_or_fault (Fresh shard place reply) = true
+is_decided_or_fault (Refused StoreFault) = true
+is_decided_or_fault _ = false
+
+-- whether it is an answer by a record: the reply that was kept, or that the counter is taken or too old
+abbrev pub is_by_record : Answer → Bool
+is_by_record (Kept shard place reply) = true
+is_by_record (Refused (Taken at place)) = true
+is_by_record (Refused (Below top)) = true
+is_by_record _ = false
+
+-- the decision stands at the place that the answer gives as new
+abbrev pub IsOwn : Answer → Decision → Type 0
+IsOwn (Fresh shard place reply) decision = decision.place ≡ place
+IsOwn _ decision = ⊥
+
+-- these records have none on the request's counter but the answer's own, and none that puts the counter below the window
+pub record IsOpenTo (history : List Entry) (request : Request) (answer : Answer) : Type 0 where
+  pub in_window : IsBelow (greatest (decided_for request history)) request.atc → ⊥
+  pub unrecorded : (decision : Decision) → Contains (decided_for request history) decision → decision.request.atc ≡ request.atc → IsOwn answer decision
+
+-- these records have one on the request's counter
+abbrev pub IsRecorded : List Entry → Request → Type 0
+IsRecorded history request = (decision : Decision) × Contains (decided_for request history) decision × (decision.request.atc ≡ request.atc)
+
+-- a request whose claim was won, and to which the shard's records are open once it is answered, is decided or meets a fault of the store
+abbrev pub WonIsDecided : Setup → Checked → Answer → TurnView LogItem LogHead → Type 0
+WonIsDecided issuer (Decide found Won) answer after =
+    IsOpenTo (seen_for issuer found.request after) found.request answer → is_decided_or_fault answer ≡ true
+WonIsDecided issuer (Decide found Lost) answer after = ⊤
+WonIsDecided issuer (Queue found) answer after = ⊤
+WonIsDecided issuer (Status found) answer after = ⊤
+
+-- a request whose counter the pass had seen recorded is answered by a record
+abbrev pub SeenIsAnswered : Setup → Checked → TurnView LogItem LogHead → Answer → Type 0
+SeenIsAnswered issuer (Decide found claim) before answer =
+    IsRecorded (seen_for issuer found.request before) found.request → is_by_record answer ≡ true
+SeenIsAnswered issuer (Queue found) before answer = ⊤
+SeenIsAnswered issuer (Status found) before answer = ⊤

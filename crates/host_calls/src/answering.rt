@@ -2,7 +2,7 @@
 ghost use Rattle.std.specs.Prelude.{◌≡◌, ◌+◌, ◌-◌, ◌^◌, ◌<◌, min, length};
 ghost use Rattle.line_checks.specs.Reading.{reading};
 ghost use Rattle.shard_turns.specs.Turned.{ShowsInTurn};
-ghost use Rattle.host_calls.specs.Authorising.{Authorises};
+ghost use Rattle.host_calls.specs.Authorising.{Authorises, LineSeenIsAnswered};
 ghost use Rattle.host_calls.specs.Passes.{claims_of, logs_of, IsFree};
 
 use crate::host::Host;
@@ -18,6 +18,7 @@ impl<S: Store> Host<S> {
         ensures free { IsFree self.now pass.new }
         ensures answers { Authorises self.now.issuer (reading self.now.issuer line.now) (claims_of pass.old) (logs_of pass.old) result
             (claims_of pass.new) (logs_of pass.new) }
+        ensures seen { LineSeenIsAnswered self.now.issuer (reading self.now.issuer line.now) (logs_of pass.old) result }
         ensures names { (claims_of pass.new).names ≡ (claims_of pass.old).names }
         ensures answered { pass.new.answered ≡ min (pass.old.answered + 1) (2 ^ 64 - 1) }
     {

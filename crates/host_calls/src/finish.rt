@@ -7,7 +7,7 @@ ghost use Rattle.card_history.specs.Records.{named};
 ghost use Rattle.line_checks.specs.AtHand.{IsCommandAtHand, IsStatusAtHand};
 ghost use Rattle.shard_turns.specs.Turned.{DecidesInTurn, QueuesInTurn, SetsInTurn};
 ghost use Rattle.host_calls.specs.declared.pass.Checked.TheVariants.{Decide};
-ghost use Rattle.host_calls.specs.Finishes.{claims_after, is_fresh, standing_by, FinishesInTurn};
+ghost use Rattle.host_calls.specs.Finishes.{claims_after, is_fresh, standing_by, FinishesInTurn, SeenIsAnswered, WonIsDecided};
 ghost use Rattle.host_calls.specs.Passes.{claims_of, logs_of, HasClaimed, Holds, IsFree};
 ghost use Rattle.host_calls.specs.PreChecks.{HasPassed};
 
@@ -28,6 +28,8 @@ impl<S: Store> Host<S> {
         requires passed { HasPassed self.now.issuer checked }
         ensures free { IsFree self.now pass.new }
         ensures turn { FinishesInTurn self.now.issuer checked (logs_of pass.old) result (logs_of pass.new) }
+        ensures won { WonIsDecided self.now.issuer checked result (logs_of pass.new) }
+        ensures seen { SeenIsAnswered self.now.issuer checked (logs_of pass.old) result }
         ensures claims { claims_of pass.new ≡ claims_after checked result (claims_of pass.old) }
         ensures names { (claims_of pass.new).names ≡ (claims_of pass.old).names }
         ensures answered { pass.new.answered ≡ min (pass.old.answered + 1) (2 ^ 64 - 1) }
@@ -54,6 +56,8 @@ impl<S: Store> Host<S> {
         requires passed { HasPassed self.now.issuer (Decide found.now Won) }
         ensures free { IsFree self.now pass.new }
         ensures turn { DecidesInTurn self.now.issuer true found.now.request (logs_of pass.old) result (logs_of pass.new) }
+        ensures won { WonIsDecided self.now.issuer (Decide found.now Won) result (logs_of pass.new) }
+        ensures seen { SeenIsAnswered self.now.issuer (Decide found.now Won) (logs_of pass.old) result }
         ensures claims { claims_of pass.new ≡ settled (standing_by result) found.now.card found.now.request.atc (claims_of pass.old) }
         ensures answered { pass.new.answered ≡ pass.old.answered }
     {
@@ -89,6 +93,7 @@ impl<S: Store> Host<S> {
         requires passed { HasPassed self.now.issuer (Decide found.now Lost) }
         ensures free { IsFree self.now pass.new }
         ensures turn { DecidesInTurn self.now.issuer false found.now.request (logs_of pass.old) result (logs_of pass.new) }
+        ensures seen { SeenIsAnswered self.now.issuer (Decide found.now Lost) (logs_of pass.old) result }
         ensures same { (claims_of pass.new ≡ claims_of pass.old) × (pass.new.answered ≡ pass.old.answered) }
     {
         self.turns

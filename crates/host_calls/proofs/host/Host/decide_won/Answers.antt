@@ -1,7 +1,8 @@
 -- A request whose claim was won is decided at its turn, and its claim is settled.
-use Rattle.std.proofs.Common.{ap, ◌∙◌}
+use Rattle.std.proofs.Common.{true, ap, ◌∙◌}
 use Rattle.card_history.specs.Records.{card_of}
 use Rattle.host_calls.specs.Passes.{claims_of, logs_of, open_in}
+use Rattle.host_calls.proofs.Answered.{won-decides, seen-answers}
 use Rattle.host_calls.proofs.TiedTurns.{headed-there, tied-won}
 use Rattle.host_calls.proofs.Settling.{none-open}
 use Rattle.host_calls.proofs.host.Host.decide_won.Goals as goal
@@ -25,3 +26,15 @@ returns-clause-free g c = record {
       ∙ none-open c.decide-answer.result c.args.found.now.card c.args.found.now.request.atc (claims_of c.args.pass.now) c.requires.held.own
       c.requires.held.alone;
 }
+
+pub returns-clause-won : goal.returns-clause-won
+returns-clause-won g c =
+    let host = c.args.self.now in
+    let pass = c.args.pass.now in
+    let request = c.args.found.now.request in
+    let headed = headed-there host.issuer host.turns pass.turns host.shards c.requires.held.of.turns_are (card_of request) in
+    won-decides host.issuer request (logs_of pass) c.decide-answer.result _ headed c.decide-answer.ensures.turn
+
+pub returns-clause-seen : goal.returns-clause-seen
+returns-clause-seen g c =
+    seen-answers c.args.self.now.issuer c.args.found.now.request (logs_of c.args.pass.now) c.decide-answer.result _ true c.decide-answer.ensures.turn
