@@ -1,0 +1,8 @@
+-- The lemmas of this crate.
+mod CallerTotals
+mod RecordSpots
+mod CallTurns
+mod OwnRecords
+mod FaultPlaces
+mod ToldFaults
+mod EachPlace
