@@ -6,3 +6,8 @@ mod OwnRecords
 mod FaultPlaces
 mod ToldFaults
 mod EachPlace
+mod ReadRefusals
+mod CounterRange
+mod ClaimSteps
+mod PendingLines
+mod RightlyPending

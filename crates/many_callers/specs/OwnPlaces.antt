@@ -77,8 +77,9 @@ pub record IsPending (issuer : Setup) (opening : List (Log LogItem LogHead)) (ca
   pub unopened : (place : ℕ) (other : Request) (reply : Reply)
       → slice_get (records_of (items_at opening (shard_of issuer (card_of request)))) place ≡ Some (Decided other reply)
       → card_of other ≡ card_of request → other.atc ≢ request.atc
-  pub unshown : (earlier : ℕ) (other : Request) (answer : Answer) → earlier < index → IsAnswered issuer caller.lines caller.answers earlier other answer
-      → card_of other ≡ card_of request → other.atc ≡ request.atc → shows_record answer ≡ false
+  pub unshown : (earlier : ℕ) (other : Request) (answer : Answer) → 0 < issuer.shards → earlier < index
+      → IsAnswered issuer caller.lines caller.answers earlier other answer → card_of other ≡ card_of request → other.atc ≡ request.atc
+      → shows_record answer ≡ false
 
 -- the line with this number of a caller passes
 pub record Passes (issuer : Setup) (caller : Caller) (index : ℕ) : Type 0 where
