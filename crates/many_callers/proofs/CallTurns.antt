@@ -1,12 +1,11 @@
 -- What one call does to what its caller has seen of the logs, and what calls one after another do.
-use Rattle.std.proofs.Common.{◌≡◌, ◌≢◌, ◌⊎◌, ℕ, zero, suc, ◌+◌, ◌<◌, ◌≤◌, List, [], ◌∷◌, ◌++◌, length, take, drop, Bool, true, false, ◌&&◌, eqb, Option, None, Some}
+use Rattle.std.proofs.Common.{◌≡◌, ◌⊎◌, ℕ, ◌<◌, List, [], ◌∷◌, length, Bool, eqb, Option, None, Some}
 use Rattle.std.proofs.Common.{Result, Ok, Err, refl, sym, ap, ◌∙◌, subst, inl, inr, arith}
 use Rattle.std.proofs.lemmas.Bool.{cases_eq}
-use Rattle.std.specs.List.{slice_get}
 use Rattle.issuer_base.specs.declared.answer.Answer.{Answer}
 use Rattle.issuer_base.specs.declared.answer.Answer.TheVariants.{Fresh, Kept, Queued, Set, Refused}
 use Rattle.issuer_base.specs.declared.answer.Refusal.{Refusal}
-use Rattle.issuer_base.specs.declared.answer.Refusal.TheVariants.{Below, Taken, QueueFull, Pending, StoreFault}
+use Rattle.issuer_base.specs.declared.answer.Refusal.TheVariants.{Below}
 use Rattle.issuer_base.specs.declared.answer.Reply.{Reply}
 use Rattle.issuer_base.specs.declared.command.Command.{Command}
 use Rattle.issuer_base.specs.declared.entry.Entry.{Entry}
@@ -19,19 +18,18 @@ use Rattle.line_checks.specs.Reading.{reading}
 use Rattle.row_core.specs.Replying.{reply_to}
 use Rattle.claim_words.specs.declared.view.ClaimView.{ClaimView}
 use Rattle.shard_book.specs.Answering.{AnswersClaimed, AnswersQueueing, AnswersSetting}
-use Rattle.turn_book.specs.declared.logs.Log.{Log}
 use Rattle.turn_book.specs.declared.view.TurnView.{TurnView}
-use Rattle.turn_book.specs.Logs.{items_at, with_items, heads_of, IsFront}
+use Rattle.turn_book.specs.Logs.{items_at, with_items, IsFront}
 use Rattle.turn_book.proofs.LogLemmas.{front_refl, front_append, front_trans, items-with_same, items-with_other, heads-with, heads-length}
 use Rattle.shard_turns.specs.declared.logs.LogItem.{LogItem}
 use Rattle.shard_turns.specs.declared.logs.LogHead.{LogHead}
 use Rattle.shard_turns.specs.ShardLogs.{records_of}
-use Rattle.shard_turns.specs.Turned.{log_after, turned, IsAdded, AnswersInTurn}
+use Rattle.shard_turns.specs.Turned.{log_after, turned, IsAdded}
 use Rattle.host_calls.specs.declared.pass.Checked.{Checked}
 use Rattle.host_calls.specs.declared.pass.Checked.TheVariants.{Decide, Queue, Status}
 use Rattle.host_calls.specs.Authorising.{EndsIn, Authorises}
 use Rattle.host_calls.specs.Finishes.{is_won}
-use Rattle.host_calls.specs.PreChecks.{asked_of, PreChecks}
+use Rattle.host_calls.specs.PreChecks.{PreChecks}
 use Rattle.many_callers.specs.Callers.{Calls}
 use Rattle.many_callers.specs.OwnPlaces.{is_for}
 
@@ -64,7 +62,8 @@ pub record IsTurnedAway (says : Result Asked Refusal) (before : ShardView) (answ
   pub after_is : after ≡ before
   pub why : (says ≡ Err refusal) ⊎ ((told : ℕ) × (refusal ≡ Below told))
 
-claimed-tells : (shard : ℕ) (reply_to : List Entry → Request → Reply) (won : Bool) (between : List LogItem) (request : Request) (answer : Answer) (after : List Entry)
+claimed-tells : (shard : ℕ) (reply_to : List Entry → Request → Reply) (won : Bool)
+    (between : List LogItem) (request : Request) (answer : Answer) (after : List Entry)
     → AnswersClaimed shard reply_to won (records_of between) request answer after → Tells shard between answer
 claimed-tells shard reply_to won between request (Fresh at place reply) after (claimed, (unused, at_is, place_is, reply_is, after_is)) = (at_is, place_is)
 claimed-tells shard reply_to won between request (Kept at place reply) after changes = tt
@@ -88,7 +87,8 @@ setting-tells shard between name status (Queued at place) after changes = absurd
 setting-tells shard between name status (Set at place) after (at_is, place_is, after_is) = (at_is, place_is)
 setting-tells shard between name status (Refused refusal) after changes = tt
 
-module _ (issuer : Setup) (says : Result Asked Refusal) (claims : ClaimView) (logs : ShardView) (answer : Answer) (claims_now : ClaimView) (logs_now : ShardView) where
+module _ (issuer : Setup) (says : Result Asked Refusal) (claims : ClaimView)
+    (logs : ShardView) (answer : Answer) (claims_now : ClaimView) (logs_now : ShardView) where
   finished-turn : (checked : Checked) (between : ClaimView) → EndsIn issuer says (Ok checked) between logs answer claims_now logs_now
       → TakesTurn issuer says logs answer logs_now
   finished-turn (Decide found claim) between (says_is, turn, claims_are) = record {
@@ -128,11 +128,13 @@ module _ (issuer : Setup) (says : Result Asked Refusal) (claims : ClaimView) (lo
 why-refused : (issuer : Setup) (says : Result Asked Refusal) (claims : ClaimView) (refusal : Refusal) (between : ClaimView)
     → PreChecks issuer says claims (Err refusal) between → (says ≡ Err refusal) ⊎ ((told : ℕ) × (refusal ≡ Below told))
 why-refused issuer (Err first) claims refusal between (same, kept) = inl (sym (let e : Err refusal ≡ Err first = same in cc))
-why-refused issuer (Ok (AsksDecision request)) claims refusal between (card, number_is, checks) = let (told, top_is, below, refusal_is, kept) = checks.claims in inr (told, refusal_is)
+why-refused issuer (Ok (AsksDecision request)) claims refusal between (card, number_is, checks) = let (told, top_is, below, refusal_is, kept) = checks.claims in
+    inr (told, refusal_is)
 why-refused issuer (Ok (AsksQueue pan psn command)) claims refusal between (ok, kept) = absurd (cc)
 why-refused issuer (Ok (AsksStatus pan psn status)) claims refusal between (ok, kept) = absurd (cc)
 
-ended-turn : (issuer : Setup) (says : Result Asked Refusal) (claims : ClaimView) (logs : ShardView) (answer : Answer) (claims_now : ClaimView) (logs_now : ShardView)
+ended-turn : (issuer : Setup) (says : Result Asked Refusal) (claims : ClaimView)
+    (logs : ShardView) (answer : Answer) (claims_now : ClaimView) (logs_now : ShardView)
     (checked : Result Checked Refusal) (between : ClaimView) → PreChecks issuer says claims checked between
     → EndsIn issuer says checked between logs answer claims_now logs_now
     → IsTurnedAway says logs answer logs_now ⊎ TakesTurn issuer says logs answer logs_now
@@ -145,7 +147,8 @@ ended-turn issuer says claims logs answer claims_now logs_now (Err refusal) betw
 ended-turn issuer says claims logs answer claims_now logs_now (Ok checked) between checks ends =
     inr (finished-turn issuer says claims logs answer claims_now logs_now checked between ends)
 
-pub call-turn : (issuer : Setup) (says : Result Asked Refusal) (claims : ClaimView) (logs : ShardView) (answer : Answer) (claims_now : ClaimView) (logs_now : ShardView)
+pub call-turn : (issuer : Setup) (says : Result Asked Refusal) (claims : ClaimView)
+    (logs : ShardView) (answer : Answer) (claims_now : ClaimView) (logs_now : ShardView)
     → Authorises issuer says claims logs answer claims_now logs_now → IsTurnedAway says logs answer logs_now ⊎ TakesTurn issuer says logs answer logs_now
 call-turn issuer says claims logs answer claims_now logs_now call =
     ended-turn issuer says claims logs answer claims_now logs_now call.checked call.between call.checks call.ends
@@ -200,7 +203,8 @@ sees-then first second third one two =
           (two.fronts shard (omega arith));
     }
 
-pub calls-see : (issuer : Setup) (lines : List (List ℕ)) (answers : List Answer) (claims : ClaimView) (logs : ShardView) (claims_now : ClaimView) (logs_now : ShardView)
+pub calls-see : (issuer : Setup) (lines : List (List ℕ)) (answers : List Answer)
+    (claims : ClaimView) (logs : ShardView) (claims_now : ClaimView) (logs_now : ShardView)
     → Calls issuer lines answers claims logs claims_now logs_now → SeesMore logs logs_now
 calls-see issuer [] [] claims logs claims_now logs_now (claims_are, logs_are) = sees-same logs logs_now logs_are
 calls-see issuer [] (answer ∷ answers) claims logs claims_now logs_now calls = absurd calls
@@ -211,7 +215,8 @@ calls-see issuer (line ∷ lines) (answer ∷ answers) claims logs claims_now lo
     (calls-see issuer lines answers next_claims next_logs claims_now logs_now rest)
 
 -- where a turn was taken, the whole log as it was then is seen
-pub turn-seen : (issuer : Setup) (says : Result Asked Refusal) (before : ShardView) (answer : Answer) (after : ShardView) (turn : TakesTurn issuer says before answer after)
+pub turn-seen : (issuer : Setup) (says : Result Asked Refusal) (before : ShardView)
+    (answer : Answer) (after : ShardView) (turn : TakesTurn issuer says before answer after)
     → turn.shard < length before.seen → items_at after.seen turn.shard ≡ log_after turn.between turn.added
 turn-seen issuer says before answer after turn below =
     ap (λ (view : ShardView). items_at view.seen turn.shard) turn.after_is ∙ items-with_same before.seen turn.shard (log_after turn.between turn.added) below

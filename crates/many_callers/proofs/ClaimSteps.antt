@@ -1,8 +1,7 @@
 -- What one call does to its caller's claims, and what calls one after another do: nothing is forgotten, and a claim is made for a line alone
 -- that isn't told that its counter is pending.
-use Rattle.std.proofs.Common.{◌≡◌, ◌≢◌, ◌⊎◌, ℕ, zero, suc, ◌+◌, ◌<◌, ◌≤◌, List, [], ◌∷◌, map, Bool, true, false, ◌&&◌, Option, None, Some}
+use Rattle.std.proofs.Common.{◌≡◌, ◌≢◌, ◌⊎◌, ℕ, suc, ◌≤◌, List, [], ◌∷◌, true, false, ◌&&◌, Option, None, Some}
 use Rattle.std.proofs.Common.{Result, Ok, Err, refl, sym, ap, ◌∙◌, subst, inl, inr, arith}
-use Rattle.std.specs.List.{slice_get}
 use Rattle.issuer_base.specs.declared.answer.Answer.{Answer}
 use Rattle.issuer_base.specs.declared.answer.Answer.TheVariants.{Refused}
 use Rattle.issuer_base.specs.declared.answer.Refusal.{Refusal}
@@ -19,16 +18,10 @@ use Rattle.line_checks.specs.Reading.{reading}
 use Rattle.row_core.specs.Replying.{reply_to}
 use Rattle.seat_names.specs.Totals.{one_if}
 use Rattle.claim_words.specs.declared.view.ClaimView.{ClaimView}
-use Rattle.claim_words.specs.declared.view.Standing.{Standing}
-use Rattle.claim_words.specs.declared.view.Standing.TheVariants.{Open}
-use Rattle.claim_words.specs.declared.claim_words.Claim.{Claim}
 use Rattle.claim_words.specs.declared.claim_words.Claim.TheVariants.{Won, Lost}
-use Rattle.claim_words.specs.ClaimViews.{is_pair, is_any, claims_on, times, after_claim, after_top, settled, settled_claim}
+use Rattle.claim_words.specs.ClaimViews.{is_any, claims_on, times, after_claim, after_top, settled}
 use Rattle.claim_words.proofs.ClaimCounts.{pair_cases, pair-other, any-settled}
 use Rattle.shard_book.specs.Answering.{AnswersClaimed}
-use Rattle.turn_book.specs.declared.view.TurnView.{TurnView}
-use Rattle.shard_turns.specs.declared.logs.LogItem.{LogItem}
-use Rattle.shard_turns.specs.declared.logs.LogHead.{LogHead}
 use Rattle.shard_turns.specs.ShardLogs.{records_of}
 use Rattle.shard_turns.specs.Turned.{log_after}
 use Rattle.host_calls.specs.declared.pass.Checked.{Checked}
@@ -36,7 +29,7 @@ use Rattle.host_calls.specs.declared.pass.Checked.TheVariants.{Decide, Queue, St
 use Rattle.host_calls.specs.Authorising.{EndsIn, Authorises}
 use Rattle.host_calls.specs.Finishes.{standing_by}
 use Rattle.host_calls.specs.OneHistory.{IsAnswered}
-use Rattle.host_calls.specs.PreChecks.{asked_of, Claims, PreChecks}
+use Rattle.host_calls.specs.PreChecks.{asked_of, PreChecks}
 use Rattle.many_callers.specs.Callers.{Calls}
 use Rattle.many_callers.proofs.CallTurns.{ShardView}
 
@@ -99,12 +92,12 @@ module _ (issuer : Setup) (before : ClaimView) (logs : ShardView) (answer : Answ
         found = λ one counter. let same = ap (times one counter) (top-found card top before) in omega (arith, same);
         claims = λ one counter. elim (pair_cases one counter card request.atc) [
           | inl both ↦ inr (record {
-              request = request;
-              says_is = refl;
-              number_is = number_is ∙ ap Some (sym both.0);
-              on_counter = sym both.1;
-              not_pending = other;
-            })
+            request = request;
+            says_is = refl;
+            number_is = number_is ∙ ap Some (sym both.0);
+            on_counter = sym both.1;
+            not_pending = other;
+          })
           | inr apart ↦
               let claims = (after_claim Won card request.atc (after_top card top before)).claims in
               let kept = any-settled (standing_by answer) card request.atc one counter claims in
@@ -130,7 +123,8 @@ module _ (issuer : Setup) (before : ClaimView) (logs : ShardView) (answer : Answ
       (λ one counter. let same = ap (times one counter) (top-found card top before) in omega (arith, same))
       (top-claims card top before))
 
-  refused-step : (says : Result Asked Refusal) (refusal : Refusal) → PreChecks issuer says before (Err refusal) after → ClaimStep issuer says before answer after
+  refused-step : (says : Result Asked Refusal) (refusal : Refusal)
+      → PreChecks issuer says before (Err refusal) after → ClaimStep issuer says before answer after
   refused-step (Err first) refusal (same, kept) = same-step issuer (Err first) before answer after kept
   refused-step (Ok (AsksDecision request)) refusal (card, number_is, checks) =
       let (told, top_is, below, refusal_is, kept) = checks.claims in top-step (Ok (AsksDecision request)) card checks.top kept
@@ -146,7 +140,8 @@ module _ (issuer : Setup) (before : ClaimView) (logs : ShardView) (answer : Answ
       (records_of (log_after turn.between turn.added)) turn.changes)
       (claims_are
       ∙ ap (λ (view : ClaimView). settled (standing_by answer) found.card found.request.atc view) kept
-      ∙ ap (λ (here : ℕ). settled (standing_by answer) here found.request.atc (after_claim Won card found.request.atc (after_top card checks.top before))) card_is)
+      ∙ ap (λ (here : ℕ). settled (standing_by answer) here found.request.atc (after_claim Won card found.request.atc (after_top card checks.top before)))
+      card_is)
   finished-step (Decide found Lost) between (card, number_is, checks) (says_is, turn, claims_are) =
       let (in_window, card_is, kept, new) = checks.claims in
       lost-step found.request card checks.top (claims_are ∙ kept)
@@ -159,7 +154,8 @@ ended-step : (issuer : Setup) (says : Result Asked Refusal) (before : ClaimView)
     (checked : Result Checked Refusal) (between : ClaimView) → PreChecks issuer says before checked between
     → EndsIn issuer says checked between logs answer after logs_now → ClaimStep issuer says before answer after
 ended-step issuer says before logs answer after logs_now (Err refusal) between checks (answer_is, claims_are, logs_are) =
-    refused-step issuer before logs answer after logs_now says refusal (subst (λ (view : ClaimView). PreChecks issuer says before (Err refusal) view) (sym claims_are) checks)
+    refused-step issuer before logs answer after logs_now says refusal
+    (subst (λ (view : ClaimView). PreChecks issuer says before (Err refusal) view) (sym claims_are) checks)
 ended-step issuer says before logs answer after logs_now (Ok checked) between checks ends =
     let says_is = ends.0 in
     subst (λ (says : Result Asked Refusal). ClaimStep issuer says before answer after) says_is
@@ -175,7 +171,8 @@ call-step issuer says before logs answer after logs_now call =
 -- ---- one call after another
 
 -- what was found stays found
-pub calls-found : (issuer : Setup) (lines : List (List ℕ)) (answers : List Answer) (claims : ClaimView) (logs : ShardView) (claims_now : ClaimView) (logs_now : ShardView)
+pub calls-found : (issuer : Setup) (lines : List (List ℕ)) (answers : List Answer)
+    (claims : ClaimView) (logs : ShardView) (claims_now : ClaimView) (logs_now : ShardView)
     → Calls issuer lines answers claims logs claims_now logs_now → (card counter : ℕ)
     → times card counter claims.found ≤ times card counter claims_now.found
 calls-found issuer [] [] claims logs claims_now logs_now (claims_are, logs_are) card counter =
@@ -211,7 +208,8 @@ later-winner issuer line lines answer answers card counter has = record {
 }
 
 -- a claim that stands at last stood at first, or is a winner's
-pub calls-claims : (issuer : Setup) (lines : List (List ℕ)) (answers : List Answer) (claims : ClaimView) (logs : ShardView) (claims_now : ClaimView) (logs_now : ShardView)
+pub calls-claims : (issuer : Setup) (lines : List (List ℕ)) (answers : List Answer)
+    (claims : ClaimView) (logs : ShardView) (claims_now : ClaimView) (logs_now : ShardView)
     → Calls issuer lines answers claims logs claims_now logs_now → (card counter : ℕ)
     → (claims_on is_any card counter claims_now.claims ≡ claims_on is_any card counter claims.claims) ⊎ HasWinner issuer lines answers card counter
 calls-claims issuer [] [] claims logs claims_now logs_now (claims_are, logs_are) card counter =
@@ -227,12 +225,12 @@ calls-claims issuer (line ∷ lines) (answer ∷ answers) claims logs claims_now
             | inr has ↦ inr (later-winner issuer line lines answer answers card counter has)
           ]
       | inr winner ↦ inr (record {
-          index = 0;
-          request = winner.request;
-          answer = answer;
-          answered = record { line = line; line_is = refl; request_is = winner.says_is; answer_is = refl };
-          number_is = winner.number_is;
-          on_counter = winner.on_counter;
-          not_pending = winner.not_pending;
-        })
+        index = 0;
+        request = winner.request;
+        answer = answer;
+        answered = record { line = line; line_is = refl; request_is = winner.says_is; answer_is = refl };
+        number_is = winner.number_is;
+        on_counter = winner.on_counter;
+        not_pending = winner.not_pending;
+      })
     ]

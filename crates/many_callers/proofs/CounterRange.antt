@@ -1,13 +1,11 @@
 -- The transaction counter of a request that was read is of two bytes.
-use Rattle.std.proofs.Common.{◌≡◌, ℕ, zero, suc, ◌+◌, ◌*◌, ◌<◌, ◌≤◌, List, [], ◌∷◌, ◌++◌, replicate, Bool, true, false, cond, Option, None, Some, Result, Ok, Err}
-use Rattle.std.proofs.Common.{slice_index, length, refl, sym, ap, subst, ◌∙◌, arith, eqb, inl, inr}
+use Rattle.std.proofs.Common.{◌≡◌, ℕ, ◌+◌, ◌*◌, ◌<◌, List, [], ◌∷◌, ◌++◌, replicate, Bool, cond, Option, None, Some, Result, Ok, Err}
+use Rattle.std.proofs.Common.{slice_index, length, refl, sym, ap, subst, arith, eqb, inl, inr}
 use Rattle.std.proofs.lemmas.Bool.{cases_Bool}
 use Rattle.issuer_base.specs.declared.request.Request.{Request}
 use Rattle.issuer_base.specs.declared.command.Command.{Command}
-use Rattle.issuer_base.specs.declared.answer.Refusal.{Refusal}
-use Rattle.card_history.specs.declared.decision.Asked.{Asked}
 use Rattle.card_history.specs.declared.decision.Asked.TheVariants.{Decide}
-use Rattle.card_history.specs.Records.{CardName, named, card_of}
+use Rattle.card_history.specs.Records.{CardName, named}
 use Rattle.chip_request.specs.declared.line.LineKind.{LineKind}
 use Rattle.chip_request.specs.declared.line.LineKind.TheVariants.{Ask, Queue as IsQueue, Set as IsSet}
 use Rattle.chip_request.specs.declared.reading.RequestFault.{RequestFault}
@@ -18,7 +16,7 @@ use Rattle.chip_request.specs.Lines.{SpellsByte, Spells as SpellsBytes, ReadsAs}
 use Rattle.chip_request.specs.Reading.{values_of, first_or, parts_of, request_of, refused, first_wrong, is_missing, is_misformed, is_repeated}
 use Rattle.chip_request.proofs.LineLaws.{line_reads}
 use Rattle.tlv_objects.specs.Tlv.{TlvObject, objects_of}
-use Rattle.tlv_objects.specs.Grammar.{Spells, Covers}
+use Rattle.tlv_objects.specs.Grammar.{Covers}
 use Rattle.tlv_objects.proofs.Texts.{objects_cover}
 use Rattle.secure_msg.specs.Commands.{command_of}
 use Rattle.issuer_setup.specs.CardList.{number_of}
@@ -67,8 +65,7 @@ covered-bytes : (at : ℕ) (text : List ℕ) (objects : List TlvObject) (torn : 
 covered-bytes at text [] torn covers are = tt
 covered-bytes at text (object ∷ objects) torn (zeros, spelling, rest, text_is, at_is, spelled, covers) are =
     let behind : AreBytes (spelling ++ rest) = bytes-behind (replicate zeros 0) (spelling ++ rest) (subst AreBytes text_is are) in
-    let whole : AreBytes (spelled.tag_bytes ++ (spelled.length_bytes ++ object.value)) = subst AreBytes spelled.joined (bytes-front spelling rest behind) in
-    (
+    let whole : AreBytes (spelled.tag_bytes ++ (spelled.length_bytes ++ object.value)) = subst AreBytes spelled.joined (bytes-front spelling rest behind) in (
       bytes-behind spelled.length_bytes object.value (bytes-behind spelled.tag_bytes (spelled.length_bytes ++ object.value) whole),
       covered-bytes (object.at + length spelling) rest objects torn covers (bytes-behind spelling rest behind),
     )
@@ -90,7 +87,8 @@ two-bytes [] are = omega arith
 two-bytes (high ∷ []) are = let first = are.0 in omega (arith, first)
 two-bytes (high ∷ low ∷ more) are = let first = are.0 in let second = are.1.0 in omega (arith, first, second)
 
-refused-ok : {A : Type 0} (named : Option ℕ) (fault : ℕ → RequestFault) (next : Result A RequestFault) (value : A) → refused named fault next ≡ Ok value → next ≡ Ok value
+refused-ok : {A : Type 0} (named : Option ℕ) (fault : ℕ → RequestFault) (next : Result A RequestFault) (value : A)
+    → refused named fault next ≡ Ok value → next ≡ Ok value
 refused-ok (Some at) fault next value is = absurd (cc)
 refused-ok None fault next value is = is
 
@@ -102,7 +100,8 @@ request-parts bytes request is =
     let whole = refused-ok text.torn BadTlv _ request is in
     let all_there = refused-ok (first_wrong is_missing text.objects fields) Missing _ request whole in
     let formed = refused-ok (first_wrong is_misformed text.objects fields) BadField _ request all_there in
-    let once : Ok (parts_of text.objects) ≡ Ok request = refused-ok (first_wrong is_repeated text.objects fields) Repeated (Ok (parts_of text.objects)) request formed in
+    let once : Ok (parts_of text.objects) ≡ Ok request =
+    refused-ok (first_wrong is_repeated text.objects fields) Repeated (Ok (parts_of text.objects)) request formed in
     cc
 
 request-counter : (bytes : List ℕ) (request : Request) → AreBytes bytes → request_of bytes ≡ Ok request → request.atc < COUNTERS

@@ -94,7 +94,8 @@ weigh-one (Fault count ∷ items) zero =
     let none = weigh-none items in
     omega (arith, others, none)
 weigh-one (Fault count ∷ items) (suc here) =
-    let others = weigh-same items (λ place. one_if (eqb (suc here) (suc place))) (λ place. one_if (eqb here place)) (λ place. ap one_if (eqb-suc-suc here place)) in
+    let others =
+    weigh-same items (λ place. one_if (eqb (suc here) (suc place))) (λ place. one_if (eqb here place)) (λ place. ap one_if (eqb-suc-suc here place)) in
     let rest = weigh-one items here in
     let first = ap one_if (eqb-suc-zero here) in
     omega (arith, others, rest, first)

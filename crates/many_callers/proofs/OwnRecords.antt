@@ -1,8 +1,7 @@
 -- The answers of a caller that tell of a record are as many as its own places with that record.
-use Rattle.std.proofs.Common.{◌≡◌, ◌≢◌, ◌⊎◌, ℕ, ◌+◌, ◌<◌, ◌≤◌, List, [], ◌∷◌, ◌++◌, length, Bool, true, false, ◌&&◌, eqb, Option, None, Some}
-use Rattle.std.proofs.Common.{Result, Ok, Err, refl, sym, ap, ◌∙◌, subst, inl, inr, arith, append_assoc}
+use Rattle.std.proofs.Common.{◌≡◌, ◌⊎◌, ℕ, ◌+◌, ◌<◌, List, [], ◌∷◌, ◌++◌, length, Bool, true, false, ◌&&◌, eqb, Option, None, Some}
+use Rattle.std.proofs.Common.{Result, refl, sym, ap, ◌∙◌, subst, inl, inr, arith, append_assoc}
 use Rattle.std.proofs.lemmas.Bool.{cases_eq, ne_eqb, and_left}
-use Rattle.std.specs.List.{slice_get}
 use Rattle.issuer_base.specs.declared.answer.Answer.{Answer}
 use Rattle.issuer_base.specs.declared.answer.Answer.TheVariants.{Fresh, Kept, Queued, Set, Refused}
 use Rattle.issuer_base.specs.declared.answer.Refusal.{Refusal}
@@ -19,7 +18,7 @@ use Rattle.turn_book.proofs.LogLemmas.{front_trans}
 use Rattle.shard_turns.specs.declared.logs.LogItem.{LogItem}
 use Rattle.shard_turns.specs.declared.logs.LogItem.TheVariants.{Record, Fault}
 use Rattle.shard_turns.specs.ShardLogs.{records_of}
-use Rattle.shard_turns.specs.Turned.{log_after, mine_after, turned, AddsFault, IsAdded}
+use Rattle.shard_turns.specs.Turned.{log_after, mine_after, AddsFault, IsAdded}
 use Rattle.many_callers.specs.Callers.{Calls}
 use Rattle.many_callers.specs.OwnPlaces.{is_record_at}
 use Rattle.many_callers.proofs.CallTurns.{ShardView, Tells, TakesTurn, IsTurnedAway, call-turn, call-sees, calls-see, turn-seen}
@@ -74,19 +73,22 @@ module _ (items : List LogItem) (shard number : ℕ) where
         and-false true = refl
         and-false false = refl
 
-    record-counts : (answer : Answer) (added : Option LogItem) (entry : Entry) (at place : ℕ) → is_record_at shard number answer ≡ (eqb at shard && eqb place number)
+    record-counts : (answer : Answer) (added : Option LogItem) (entry : Entry) (at place : ℕ)
+        → is_record_at shard number answer ≡ (eqb at shard && eqb place number)
         → (home ≡ shard → IsFront (log_after between added) items) → added ≡ Some (Record entry) → at ≡ home → place ≡ length (records_of between)
         → Counts answer added
     record-counts answer added entry at place test seen added_is at_is place_is =
         subst (Counts answer) (sym added_is)
-        (let same = told entry at place (λ here. subst (λ (added : Option LogItem). IsFront (log_after between added) items) added_is (seen here)) at_is place_is in
+        (let same =
+        told entry at place (λ here. subst (λ (added : Option LogItem). IsFront (log_after between added) items) added_is (seen here)) at_is place_is in
         ap (λ (is : Bool). one_if is + times shard (spot items number) mine) (test ∙ same))
 
     none-counts : (answer : Answer) (added : Option LogItem) → is_record_at shard number answer ≡ false → added ≡ None → Counts answer added
     none-counts answer added test none =
         subst (Counts answer) (sym none) (let nothing = ap one_if test in omega (arith, nothing))
 
-    fault-counts : (added : Option LogItem) → (home ≡ shard → IsFront (log_after between added) items) → AddsFault between added → Counts (Refused StoreFault) added
+    fault-counts : (added : Option LogItem) → (home ≡ shard → IsFront (log_after between added) items)
+        → AddsFault between added → Counts (Refused StoreFault) added
     fault-counts None seen adds = omega arith
     fault-counts (Some (Record entry)) seen adds = absurd adds
     fault-counts (Some (Fault count)) seen adds =
@@ -121,7 +123,8 @@ module _ (items : List LogItem) (shard number : ℕ) where
       ∙ ap (λ (view : ShardView). times shard (spot items number) view.mine) (sym turn.after_is)
 
   -- one call after another
-  pub calls-count : (issuer : Setup) (lines : List (List ℕ)) (answers : List Answer) (claims : ClaimView) (logs : ShardView) (claims_now : ClaimView) (logs_now : ShardView)
+  pub calls-count : (issuer : Setup) (lines : List (List ℕ)) (answers : List Answer)
+      (claims : ClaimView) (logs : ShardView) (claims_now : ClaimView) (logs_now : ShardView)
       → shard < length logs.seen → IsFront (items_at logs_now.seen shard) items → Calls issuer lines answers claims logs claims_now logs_now
       → how_many (is_record_at shard number) answers + times shard (spot items number) logs.mine ≡ times shard (spot items number) logs_now.mine
   calls-count issuer [] [] claims logs claims_now logs_now below front (claims_are, logs_are) =

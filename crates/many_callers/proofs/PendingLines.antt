@@ -1,17 +1,16 @@
 -- A line that is told that its counter is pending: what its caller had seen, and whose claim it was.
-use Rattle.std.proofs.Common.{◌≡◌, ◌≢◌, ◌⊎◌, ℕ, zero, suc, ◌+◌, ◌%◌, ◌<◌, ◌≤◌, List, [], ◌∷◌, ◌++◌, length, take, drop, Bool, true, false, ◌&&◌, ◌||◌, eqb, Option, None, Some, Contains}
-use Rattle.std.proofs.Common.{Result, Ok, Err, refl, sym, ap, ◌∙◌, subst, inl, inr, arith}
-use Rattle.std.proofs.lemmas.Bool.{cases_Bool, cases_lt, and_parts, eqb-true}
+use Rattle.std.proofs.Common.{◌≡◌, ◌≢◌, ℕ, zero, suc, ◌<◌, List, [], ◌∷◌, ◌++◌, length, take, drop, Bool, true, false, Some, Contains}
+use Rattle.std.proofs.Common.{Result, Ok, Err, refl, sym, ap, ◌∙◌, subst, arith}
 use Rattle.std.proofs.lemmas.List.Elements.{All-contains}
 use Rattle.std.proofs.lemmas.Option.{same_Some, none-some}
-use Rattle.std.specs.List.{slice_get, list_any}
+use Rattle.std.specs.List.{slice_get}
 use Rattle.issuer_base.specs.declared.answer.Answer.{Answer}
 use Rattle.issuer_base.specs.declared.answer.Answer.TheVariants.{Fresh, Kept, Queued, Set, Refused}
 use Rattle.issuer_base.specs.declared.answer.Refusal.{Refusal}
-use Rattle.issuer_base.specs.declared.answer.Refusal.TheVariants.{Below, Taken, Pending, StoreFault}
+use Rattle.issuer_base.specs.declared.answer.Refusal.TheVariants.{Below, Taken, Pending}
 use Rattle.issuer_base.specs.declared.answer.Reply.{Reply}
 use Rattle.issuer_base.specs.declared.entry.Entry.{Entry}
-use Rattle.issuer_base.specs.declared.entry.Entry.TheVariants.{Decided, Queued as IsQueued, Status as IsStatus}
+use Rattle.issuer_base.specs.declared.entry.Entry.TheVariants.{Decided}
 use Rattle.issuer_base.specs.declared.request.Request.{Request}
 use Rattle.card_history.specs.declared.decision.Asked.{Asked}
 use Rattle.card_history.specs.declared.decision.Asked.TheVariants.{Decide as AsksDecision, Queue as AsksQueue, Status as AsksStatus}
@@ -25,17 +24,14 @@ use Rattle.issuer_setup.specs.CardList.{number_of}
 use Rattle.issuer_setup.specs.IssuerSetup.{Setup, shard_of}
 use Rattle.line_checks.specs.Reading.{reading}
 use Rattle.row_core.specs.Replying.{reply_to}
-use Rattle.seat_names.specs.Totals.{one_if}
 use Rattle.claim_words.specs.declared.view.ClaimView.{ClaimView}
 use Rattle.claim_words.specs.declared.claim_words.Claim.TheVariants.{Won, Lost}
 use Rattle.claim_words.specs.ClaimViews.{times, after_claim, after_top}
 use Rattle.claim_words.proofs.ClaimCounts.{times-cons}
 use Rattle.shard_book.specs.Answering.{AnswersClaimed}
-use Rattle.turn_book.specs.declared.logs.Log.{Log}
 use Rattle.turn_book.specs.Logs.{items_at, IsFront}
 use Rattle.shard_turns.specs.declared.logs.LogItem.{LogItem}
 use Rattle.shard_turns.specs.declared.logs.LogItem.TheVariants.{Record, Fault}
-use Rattle.shard_turns.specs.declared.logs.LogHead.{LogHead}
 use Rattle.shard_turns.specs.ShardLogs.{records_of}
 use Rattle.shard_turns.specs.Turned.{log_after}
 use Rattle.turn_book.proofs.LogLemmas.{items-with_same}
@@ -43,7 +39,6 @@ use Rattle.host_calls.specs.declared.pass.Checked.{Checked}
 use Rattle.host_calls.specs.declared.pass.Checked.TheVariants.{Decide, Queue, Status}
 use Rattle.host_calls.specs.Authorising.{EndsIn, Authorises}
 use Rattle.host_calls.specs.PreChecks.{asked_of, PreChecks}
-use Rattle.host_calls.specs.Decisions.{decides, is_number}
 use Rattle.host_calls.proofs.Places.{read-front}
 use Rattle.many_callers.specs.Callers.{Calls}
 use Rattle.many_callers.specs.OwnPlaces.{shows_record}
@@ -145,7 +140,8 @@ module _ (issuer : Setup) (before : ClaimView) (logs : ShardView) (answer : Answ
   finished-shown (Queue found) between request below shows (says_is, turn, claims_are) = absurd (cc)
   finished-shown (Status found) between request below shows (says_is, turn, claims_are) = absurd (cc)
 
-  ended-shown : (checked : Result Checked Refusal) (between : ClaimView) (request : Request) → PreChecks issuer (Ok (AsksDecision request)) before checked between
+  ended-shown : (checked : Result Checked Refusal) (between : ClaimView) (request : Request)
+      → PreChecks issuer (Ok (AsksDecision request)) before checked between
       → shard_of issuer (card_of request) < length logs.seen
       → shows_record answer ≡ true → EndsIn issuer (Ok (AsksDecision request)) checked between logs answer after logs_now
       → HasDecision (card_of request) request.atc (records_of (items_at logs_now.seen (shard_of issuer (card_of request))))
@@ -238,7 +234,8 @@ pub record CallAt (issuer : Setup) (lines : List (List ℕ)) (answers : List Ans
   pub call : Authorises issuer (reading issuer line) claims_before logs_before answer claims_after logs_after
   pub after : Calls issuer (drop (suc index) lines) (drop (suc index) answers) claims_after logs_after claims_now logs_now
 
-pub call-at : (issuer : Setup) (lines : List (List ℕ)) (answers : List Answer) (claims : ClaimView) (logs : ShardView) (claims_now : ClaimView) (logs_now : ShardView)
+pub call-at : (issuer : Setup) (lines : List (List ℕ)) (answers : List Answer)
+    (claims : ClaimView) (logs : ShardView) (claims_now : ClaimView) (logs_now : ShardView)
     → Calls issuer lines answers claims logs claims_now logs_now → (index : ℕ) (answer : Answer) → slice_get answers index ≡ Some answer
     → CallAt issuer lines answers claims logs claims_now logs_now index answer
 call-at issuer [] [] claims logs claims_now logs_now calls index answer is = absurd (none-some answer is)

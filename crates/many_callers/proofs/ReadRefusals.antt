@@ -1,5 +1,5 @@
 -- What a line is refused for as it is read: never for a pending counter, nor for a fault of a store.
-use Rattle.std.proofs.Common.{◌≡◌, ℕ, List, Bool, true, false, Option, None, Some, Result, Ok, Err, if◌then◌else◌, refl, sym, ap, subst, ◌∙◌}
+use Rattle.std.proofs.Common.{◌≡◌, ℕ, List, Bool, true, false, Option, None, Some, Result, Ok, Err, if◌then◌else◌}
 use Rattle.issuer_base.specs.declared.command.Command.{Command}
 use Rattle.issuer_base.specs.declared.request.Request.{Request}
 use Rattle.issuer_base.specs.declared.answer.Refusal.{Refusal}
@@ -20,7 +20,8 @@ use Rattle.issuer_setup.specs.CardList.{number_of}
 use Rattle.issuer_setup.specs.IssuerSetup.{Setup, keys_of}
 use Rattle.line_checks.specs.Reading.{checked_data, of_card, under_keys, is_right, command_for, status_for, said_by, reading}
 
-right-refusal : (right : Bool) (request : Request) → (let says : Result Asked Refusal = if right then Ok (Decide request) else Err BadCryptogram in says) ≡ Err Pending → ⊥
+right-refusal : (right : Bool) (request : Request) → (let says : Result Asked Refusal = if right then Ok (Decide request) else Err BadCryptogram in
+    says) ≡ Err Pending → ⊥
 right-refusal true request passes = cc
 right-refusal false request passes = cc
 

@@ -1,15 +1,14 @@
 -- A line is told rightly that its counter is pending, and a store's fault is told of lines that pass.
-use Rattle.std.proofs.Common.{◌≡◌, ◌≢◌, ◌⊎◌, ℕ, zero, suc, ◌+◌, ◌%◌, ◌<◌, ◌≤◌, List, [], ◌∷◌, length, take, drop, Bool, true, false, ◌&&◌, ◌||◌, eqb, Option, None, Some}
+use Rattle.std.proofs.Common.{◌≡◌, ◌⊎◌, ℕ, zero, suc, ◌%◌, ◌<◌, ◌≤◌, List, [], ◌∷◌, length, take, drop, Bool, true, false, ◌&&◌, ◌||◌, eqb, Option, None, Some}
 use Rattle.std.proofs.Common.{Result, Ok, Err, refl, sym, ap, ◌∙◌, subst, inl, inr, arith}
 use Rattle.std.proofs.lemmas.Bool.{cases_Bool, cases_lt, and_parts, eqb-true, eq-eqb}
 use Rattle.std.proofs.lemmas.Nat.{mod_below}
 use Rattle.std.proofs.lemmas.Option.{same_Some, none-some}
-use Rattle.std.specs.List.{slice_get, list_any}
+use Rattle.std.specs.List.{slice_get}
 use Rattle.issuer_base.specs.declared.answer.Answer.{Answer}
 use Rattle.issuer_base.specs.declared.answer.Answer.TheVariants.{Refused}
 use Rattle.issuer_base.specs.declared.answer.Refusal.{Refusal}
 use Rattle.issuer_base.specs.declared.answer.Refusal.TheVariants.{Below, Pending, StoreFault}
-use Rattle.issuer_base.specs.declared.answer.Reply.{Reply}
 use Rattle.issuer_base.specs.declared.entry.Entry.{Entry}
 use Rattle.issuer_base.specs.declared.entry.Entry.TheVariants.{Decided, Queued as IsQueued, Status as IsStatus}
 use Rattle.issuer_base.specs.declared.request.Request.{Request}
@@ -23,25 +22,23 @@ use Rattle.issuer_setup.proofs.Shards.{shard_of-known}
 use Rattle.issuer_setup.specs.CardList.{name_of}
 use Rattle.line_checks.specs.Reading.{reading}
 use Rattle.seat_names.specs.Totals.{total, one_if}
-use Rattle.claim_words.specs.declared.layout.TheConstants.{COUNTERS}
 use Rattle.claim_words.specs.ClaimViews.{claims_on, times, is_any}
 use Rattle.turn_book.specs.declared.logs.Log.{Log}
-use Rattle.turn_book.specs.Logs.{items_at, IsFront}
-use Rattle.turn_book.proofs.LogLemmas.{front_trans}
+use Rattle.turn_book.specs.Logs.{items_at}
 use Rattle.shard_turns.specs.declared.logs.LogItem.{LogItem}
 use Rattle.shard_turns.specs.declared.logs.LogItem.TheVariants.{Record, Fault}
 use Rattle.shard_turns.specs.declared.logs.LogHead.{LogHead}
 use Rattle.shard_turns.specs.ShardLogs.{records_of}
 use Rattle.host_calls.specs.Authorising.{Authorises}
-use Rattle.host_calls.specs.Decisions.{decides, is_number}
+use Rattle.host_calls.specs.Decisions.{is_number}
 use Rattle.host_calls.specs.OneHistory.{IsAnswered}
-use Rattle.host_calls.specs.OpeningLogs.{is_decided, opened_on}
+use Rattle.host_calls.specs.OpeningLogs.{is_decided}
 use Rattle.host_calls.proofs.Asked.{asks-no_store}
-use Rattle.many_callers.specs.Callers.{Calls, Caller, IsCaller, AreCallers}
+use Rattle.many_callers.specs.Callers.{Caller, IsCaller, AreCallers}
 use Rattle.many_callers.specs.OwnPlaces.{shows_record, IsAnsweredElse, IsPending, Passes}
 use Rattle.many_callers.proofs.CallTurns.{ShardView, SeesMore, IsTurnedAway, TakesTurn, call-turn, call-sees, calls-see}
 use Rattle.many_callers.proofs.CallerTotals.{part-below, some-part}
-use Rattle.many_callers.proofs.ClaimSteps.{HasWinner, calls-found, calls-claims}
+use Rattle.many_callers.proofs.ClaimSteps.{calls-found, calls-claims}
 use Rattle.many_callers.proofs.CounterRange.{counter-within}
 use Rattle.many_callers.proofs.PendingLines.{HasDecision, decision-later, unused-none, call-shown, IsLost, call-lost, CallAt, call-at}
 use Rattle.many_callers.proofs.ReadRefusals.{never-pending}
@@ -117,22 +114,22 @@ module _ (issuer : Setup) (opening logs : List (Log LogItem LogHead)) (callers :
   claimed-elsewhere : (request : Request) (card : ℕ) → number_of (card_of request) issuer.cards ≡ Some card
       → 0 < total (λ caller. claims_on is_any card request.atc caller.claims_now.claims) callers → IsAnsweredElse issuer callers request
   claimed-elsewhere request card number_is some =
-      let (index, caller, caller_is, here) = some-part (λ (caller : Caller). claims_on is_any card request.atc caller.claims_now.claims) callers some in
-      let one = are.each index caller caller_is in
+      let (number, caller, caller_is, here) = some-part (λ (caller : Caller). claims_on is_any card request.atc caller.claims_now.claims) callers some in
+      let one = are.each number caller caller_is in
       elim (calls-claims issuer caller.lines caller.answers caller.claims caller.logs caller.claims_now caller.logs_now one.calls card request.atc) [
         | inl same ↦ let none = ap (claims_on is_any card request.atc) one.no_claims in absurd (omega (arith, here, same, none))
         | inr has ↦ record {
-            index = index;
-            caller = caller;
-            caller_is = caller_is;
-            line = has.index;
-            other = has.request;
-            answer = has.answer;
-            answered = has.answered;
-            same_card = one-name issuer (card_of has.request) (card_of request) card has.number_is number_is;
-            same_counter = has.on_counter;
-            not_pending = has.not_pending;
-          }
+          number = number;
+          caller = caller;
+          caller_is = caller_is;
+          index = has.index;
+          other = has.request;
+          answer = has.answer;
+          answered = has.answered;
+          same_card = one-name issuer (card_of has.request) (card_of request) card has.number_is number_is;
+          same_counter = has.on_counter;
+          not_pending = has.not_pending;
+        }
       ]
 
   module _ (number : ℕ) (caller : Caller) (caller_is : slice_get callers number ≡ Some caller) (index : ℕ)
@@ -224,7 +221,8 @@ module _ (issuer : Setup) (opening logs : List (Log LogItem LogHead)) (callers :
               subst (λ (name : CardName). HasDecision name lost.request.atc (records_of (items_at first.logs_after.seen (shard_of issuer name)))) same_card
               (subst (λ (counter : ℕ). HasDecision (card_of other) counter (records_of (items_at first.logs_after.seen (shard_of issuer (card_of other)))))
               same_counter has) in
-              let turn = call-turn issuer (reading issuer first.line) first.claims_before first.logs_before answer first.claims_after first.logs_after first.call in
+              let turn =
+              call-turn issuer (reading issuer first.line) first.claims_before first.logs_before answer first.claims_after first.logs_after first.call in
               let then = call-sees issuer (reading issuer first.line) first.logs_before answer first.logs_after turn in
               let then_count = then.count_is in
               let later = calls-see issuer (drop (suc earlier) (take index caller.lines)) (drop (suc earlier) (take index caller.answers)) first.claims_after

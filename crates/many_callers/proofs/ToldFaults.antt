@@ -1,7 +1,7 @@
 -- The answers of a caller that tell that a shard's store failed are as many as its own places with a fault.
-use Rattle.std.proofs.Common.{◌≡◌, ◌⊎◌, ℕ, ◌+◌, ◌<◌, ◌≤◌, List, [], ◌∷◌, ◌++◌, length, Bool, true, false, ◌&&◌, eqb, Option, None, Some}
-use Rattle.std.proofs.Common.{Result, Ok, Err, refl, sym, ap, ◌∙◌, subst, inl, inr, arith}
-use Rattle.std.proofs.lemmas.Bool.{cases_eq, ne_eqb, and_left, eq-eqb}
+use Rattle.std.proofs.Common.{◌≡◌, ◌⊎◌, ℕ, ◌+◌, ◌<◌, List, [], ◌∷◌, length, Bool, true, false, ◌&&◌, eqb, Option, None, Some}
+use Rattle.std.proofs.Common.{Result, refl, sym, ap, ◌∙◌, subst, inl, inr, arith}
+use Rattle.std.proofs.lemmas.Bool.{cases_eq, ne_eqb, and_left}
 use Rattle.issuer_base.specs.declared.answer.Answer.{Answer}
 use Rattle.issuer_base.specs.declared.answer.Answer.TheVariants.{Fresh, Kept, Queued, Set, Refused}
 use Rattle.issuer_base.specs.declared.answer.Refusal.{Refusal}
@@ -54,7 +54,8 @@ module _ (items : List LogItem) (shard : ℕ) (few : length (faults_of items) < 
         (let nothing : one_if (eqb home shard && is_fault_at items (length between)) ≡ 0 =
         elim (cases_eq home shard) [
           | inl same ↦
-              let behind = added-in between items (Record entry) (subst (λ (added : Option LogItem). IsFront (log_after between added) items) added_is (seen same)) in
+              let behind =
+              added-in between items (Record entry) (subst (λ (added : Option LogItem). IsFront (log_after between added) items) added_is (seen same)) in
               let none : is_fault_at items (length between) ≡ false =
               subst (λ (items : List LogItem). is_fault_at items (length between) ≡ false) (sym behind.1) (fault-at_record between behind.0 entry) in
               let both : (eqb home shard && is_fault_at items (length between)) ≡ (eqb home shard && false) = ap (λ is. eqb home shard && is) none in
@@ -101,7 +102,8 @@ module _ (items : List LogItem) (shard : ℕ) (few : length (faults_of items) < 
             ap one_if (and_left (is_for issuer shard says) (is_store_fault answer) (ap (is_for issuer shard) read))
         | inr old ↦
             let quiet : is_store_fault answer ≡ false = ap is_store_fault (away.answer_is ∙ ap (λ (refusal : Refusal). Refused refusal) old.1) in
-            let both : (is_for issuer shard says && is_store_fault answer) ≡ (is_for issuer shard says && false) = ap (λ is. is_for issuer shard says && is) quiet in
+            let both : (is_for issuer shard says && is_store_fault answer) ≡ (is_for issuer shard says && false) =
+            ap (λ is. is_for issuer shard says && is) quiet in
             ap one_if (both ∙ and-false (is_for issuer shard says))
       ]
 
@@ -124,7 +126,8 @@ module _ (items : List LogItem) (shard : ℕ) (few : length (faults_of items) < 
       omega (arith, counts, same, test)
 
   -- one call after another
-  pub calls-fault : (issuer : Setup) (lines : List (List ℕ)) (answers : List Answer) (claims : ClaimView) (logs : ShardView) (claims_now : ClaimView) (logs_now : ShardView)
+  pub calls-fault : (issuer : Setup) (lines : List (List ℕ)) (answers : List Answer)
+      (claims : ClaimView) (logs : ShardView) (claims_now : ClaimView) (logs_now : ShardView)
       → shard < length logs.seen → IsFront (items_at logs_now.seen shard) items → Calls issuer lines answers claims logs claims_now logs_now
       → faults_told issuer shard lines answers + own_faults shard items logs.mine ≡ own_faults shard items logs_now.mine
   calls-fault issuer [] [] claims logs claims_now logs_now below front (claims_are, logs_are) =

@@ -1,5 +1,5 @@
 -- Which answers of all callers stand for which items of the logs: each record is one answer's, and so is each fault.
-use Rattle.std.specs.Prelude.{◌≡◌, ◌≢◌, ℕ, ◌+◌, ◌<◌, List, [], ◌∷◌, length, slice_get, Bool, true, false, ◌==◌, ◌&&◌, Some, Result, Ok, Err}
+use Rattle.std.specs.Prelude.{◌≡◌, ◌≢◌, ℕ, ◌+◌, ◌<◌, List, ◌∷◌, length, slice_get, Bool, true, false, ◌==◌, ◌&&◌, Some, Result, Ok, Err}
 use Rattle.issuer_base.specs.declared.request.Request.{Request}
 use Rattle.issuer_base.specs.declared.answer.Reply.{Reply}
 use Rattle.issuer_base.specs.declared.answer.Answer.{Answer}
@@ -22,7 +22,7 @@ use Rattle.shard_turns.specs.declared.logs.LogItem.{LogItem}
 use Rattle.shard_turns.specs.declared.logs.LogHead.{LogHead}
 use Rattle.shard_turns.specs.ShardLogs.{records_of, faults_of}
 use Rattle.host_calls.specs.OneHistory.{IsAnswered}
-use Rattle.many_callers.specs.Callers.{Caller, AreCallers}
+use Rattle.many_callers.specs.Callers.{Caller}
 
 -- whether the answer tells of a new record at this place of this shard
 abbrev pub is_record_at : ℕ → ℕ → Answer → Bool
@@ -57,13 +57,13 @@ shows_record _ = false
 
 -- some line of some caller says a request of the same card and counter, and its answer isn't that it is pending
 pub record IsAnsweredElse (issuer : Setup) (callers : List Caller) (request : Request) : Type 0 where
-  pub index : ℕ
+  pub number : ℕ
   pub caller : Caller
-  pub caller_is : slice_get callers index ≡ Some caller
-  pub line : ℕ
+  pub caller_is : slice_get callers number ≡ Some caller
+  pub index : ℕ
   pub other : Request
   pub answer : Answer
-  pub answered : IsAnswered issuer caller.lines caller.answers line other answer
+  pub answered : IsAnswered issuer caller.lines caller.answers index other answer
   pub same_card : card_of other ≡ card_of request
   pub same_counter : other.atc ≡ request.atc
   pub not_pending : answer ≢ Refused Pending
@@ -90,13 +90,14 @@ pub record Passes (issuer : Setup) (caller : Caller) (index : ℕ) : Type 0 wher
 
 -- what is sure of the callers' answers and the items of the logs
 pub record AreOwnPlaces (issuer : Setup) (opening logs : List (Log LogItem LogHead)) (callers : List Caller) : Type 0 where
-  -- each place of a record past the opening logs is told by just one answer, and no other place by any
+  -- each place of a record past the opening log is told by just one answer, and no other place of the shard by any
   pub places : (shard place : ℕ) → shard < issuer.shards
       → answers_at shard place callers
       ≡ between (length (records_of (items_at opening shard))) (length (records_of (items_at logs shard))) place
+  -- each answer that a counter is pending is right
   pub pending : (number index : ℕ) (caller : Caller) → slice_get callers number ≡ Some caller → slice_get caller.answers index ≡ Some (Refused Pending)
       → IsPending issuer opening callers caller index
-  -- a store's fault is told of lines that pass, as often as the log has one, where it hasn't as many as it may have
+  -- that a store failed is told of lines alone that pass, and as often as the shard's log has a fault, while it has fewer than it may have
   pub passes : (number index : ℕ) (caller : Caller) → slice_get callers number ≡ Some caller → slice_get caller.answers index ≡ Some (Refused StoreFault)
       → Passes issuer caller index
   pub faults : (shard : ℕ) → shard < issuer.shards → length (faults_of (items_at logs shard)) < MAX_FAULTS_TOLD
