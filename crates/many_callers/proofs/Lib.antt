@@ -1,4 +1,12 @@
--- The lemmas of this crate.
+-- The laws of this crate.
+pub mod MoreLines
+pub mod Seen
+pub mod Lists
+pub mod Decisions
+pub mod KeptClaims
+pub mod Explaining
+pub mod TooOld
+pub mod OneRun
 mod CallerTotals
 mod RecordSpots
 mod CallTurns
@@ -7,7 +15,7 @@ mod FaultPlaces
 mod ToldFaults
 mod EachPlace
 mod ReadRefusals
-mod CounterRange
+pub mod CounterRange
 mod ClaimSteps
 mod PendingLines
 mod RightlyPending

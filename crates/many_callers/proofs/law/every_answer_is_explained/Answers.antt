@@ -1,0 +1,6 @@
+-- The law of every answer to several callers.
+use Rattle.many_callers.proofs.OneRun.{callers-explained}
+use Rattle.many_callers.proofs.law.every_answer_is_explained.Goals as goal
+
+pub returns : goal.returns
+returns c = λ issuer opening logs callers some are. callers-explained issuer some opening logs callers are
