@@ -41,6 +41,7 @@ use Rattle.host_calls.specs.Authorising.{EndsIn, Authorises}
 use Rattle.host_calls.specs.PreChecks.{asked_of, PreChecks}
 use Rattle.host_calls.proofs.Places.{read-front}
 use Rattle.many_callers.specs.Callers.{Calls}
+use Rattle.many_callers.specs.Explained.{IsDecidedOn}
 use Rattle.many_callers.specs.OwnPlaces.{shows_record}
 use Rattle.many_callers.proofs.CallTurns.{ShardView}
 use Rattle.many_callers.proofs.ClaimSteps.{won-answers}
@@ -48,23 +49,14 @@ use Rattle.many_callers.proofs.RecordSpots.{front-rest}
 
 -- ---- a decision in a history
 
--- the history has a decision on this counter of this card
-pub record HasDecision (card : CardName) (counter : ℕ) (history : List Entry) : Type 0 where
-  pub place : ℕ
-  pub request : Request
-  pub reply : Reply
-  pub there : slice_get history place ≡ Some (Decided request reply)
-  pub card_is : card_of request ≡ card
-  pub on_counter : request.atc ≡ counter
-
 records-append : (items more : List LogItem) → records_of (items ++ more) ≡ records_of items ++ records_of more
 records-append [] more = refl
 records-append (Record entry ∷ items) more = λ i. entry ∷ records-append items more i
 records-append (Fault count ∷ items) more = records-append items more
 
 -- it has it still where more items were added
-pub decision-later : (card : CardName) (counter : ℕ) (items later : List LogItem) → IsFront items later → HasDecision card counter (records_of items)
-    → HasDecision card counter (records_of later)
+pub decision-later : (card : CardName) (counter : ℕ) (items later : List LogItem) → IsFront items later → IsDecidedOn card counter (records_of items)
+    → IsDecidedOn card counter (records_of later)
 decision-later card counter items later front has =
     let rest = front-rest items later front in
     let both : records_of later ≡ records_of items ++ records_of rest.0 = ap records_of rest.1 ∙ records-append items rest.0 in
@@ -72,51 +64,51 @@ decision-later card counter items later front has =
       place = has.place;
       request = has.request;
       reply = has.reply;
-      there = ap (λ (history : List Entry). slice_get history has.place) both
-          ∙ read-front (records_of items) (records_of rest.0) has.place (Decided has.request has.reply) has.there;
+      record_is = ap (λ (history : List Entry). slice_get history has.place) both
+          ∙ read-front (records_of items) (records_of rest.0) has.place (Decided has.request has.reply) has.record_is;
       card_is = has.card_is;
-      on_counter = has.on_counter;
+      counter_is = has.counter_is;
     }
 
 -- where a request's counter is unused, no decision is on it
 pub unused-none : (history : List Entry) (request : Request) → IsUnused (decided_for request history) request
-    → HasDecision (card_of request) request.atc history → ⊥
+    → IsDecidedOn (card_of request) request.atc history → ⊥
 unused-none history request unused has =
     let its = subst (λ (name : CardName). Contains (decided name history) (record { request = has.request; reply = has.reply; place = has.place })) has.card_is
-    (recorded-decided (card_of has.request) history has.place has.request has.reply has.there (is_of-card_of has.request)) in
+    (recorded-decided (card_of has.request) history has.place has.request has.reply has.record_is (is_of-card_of has.request)) in
     All-contains (λ (decision : Decision). decision.request.atc ≢ request.atc) (decided_for request history)
-    (record { request = has.request; reply = has.reply; place = has.place }) unused.unrecorded its has.on_counter
+    (record { request = has.request; reply = has.reply; place = has.place }) unused.unrecorded its has.counter_is
 
 used-has : (history : List Entry) (request : Request) (decision : Decision) → IsUsed (decided_for request history) request decision
-    → HasDecision (card_of request) request.atc history
+    → IsDecidedOn (card_of request) request.atc history
 used-has history request decision used =
     let it = decided-recorded (card_of request) history decision used.recorded in
     record {
       place = decision.place;
       request = decision.request;
       reply = decision.reply;
-      there = it.0;
+      record_is = it.0;
       card_is = sym (is_of-names (card_of request) decision.request it.1);
-      on_counter = used.same_counter;
+      counter_is = used.same_counter;
     }
 
 -- an answer that shows a record of its counter is true of a history that has one
 shown-has : (shard : ℕ) (reply : List Entry → Request → Reply) (won : Bool) (old : List Entry) (request : Request) (answer : Answer) (new : List Entry)
-    → shows_record answer ≡ true → AnswersClaimed shard reply won old request answer new → HasDecision (card_of request) request.atc new
+    → shows_record answer ≡ true → AnswersClaimed shard reply won old request answer new → IsDecidedOn (card_of request) request.atc new
 shown-has shard reply won old request (Fresh at place given) new shows (claimed, (unused, at_is, place_is, reply_is, after_is)) =
-    subst (HasDecision (card_of request) request.atc) (sym after_is) (record {
+    subst (IsDecidedOn (card_of request) request.atc) (sym after_is) (record {
       place = length old;
       request = request;
       reply = given;
-      there = slice_get-push old (Decided request given);
+      record_is = slice_get-push old (Decided request given);
       card_is = refl;
-      on_counter = refl;
+      counter_is = refl;
     })
 shown-has shard reply won old request (Kept at place given) new shows (used, at_is, after_is) =
-    subst (HasDecision (card_of request) request.atc) (sym after_is)
+    subst (IsDecidedOn (card_of request) request.atc) (sym after_is)
     (used-has old request (record { request = request; reply = given; place = place }) used)
 shown-has shard reply won old request (Refused (Taken at place)) new shows ((decision, used, place_is, apart), at_is, after_is) =
-    subst (HasDecision (card_of request) request.atc) (sym after_is) (used-has old request decision used)
+    subst (IsDecidedOn (card_of request) request.atc) (sym after_is) (used-has old request decision used)
 shown-has shard reply won old request (Queued at place) new shows changes = absurd (cc)
 shown-has shard reply won old request (Set at place) new shows changes = absurd (cc)
 shown-has shard reply won old request (Refused refusal) new shows changes = absurd (cc)
@@ -126,7 +118,7 @@ shown-has shard reply won old request (Refused refusal) new shows changes = absu
 module _ (issuer : Setup) (before : ClaimView) (logs : ShardView) (answer : Answer) (after : ClaimView) (logs_now : ShardView) where
   finished-shown : (checked : Checked) (between : ClaimView) (request : Request) → shard_of issuer (card_of request) < length logs.seen
       → shows_record answer ≡ true → EndsIn issuer (Ok (AsksDecision request)) (Ok checked) between logs answer after logs_now
-      → HasDecision (card_of request) request.atc (records_of (items_at logs_now.seen (shard_of issuer (card_of request))))
+      → IsDecidedOn (card_of request) request.atc (records_of (items_at logs_now.seen (shard_of issuer (card_of request))))
   finished-shown (Decide found claim) between request below shows (says_is, turn, claims_are) =
       let same : found.request ≡ request = cc in
       let here : shard_of issuer (card_of found.request) < length logs.seen =
@@ -135,8 +127,8 @@ module _ (issuer : Setup) (before : ClaimView) (logs : ShardView) (answer : Answ
       (records_of (log_after turn.between turn.added)) shows turn.changes in
       let seen = ap (λ (view : ShardView). items_at view.seen (shard_of issuer (card_of found.request))) turn.after_is
       ∙ items-with_same logs.seen (shard_of issuer (card_of found.request)) (log_after turn.between turn.added) here in
-      subst (λ (request : Request). HasDecision (card_of request) request.atc (records_of (items_at logs_now.seen (shard_of issuer (card_of request))))) same
-      (subst (λ (items : List LogItem). HasDecision (card_of found.request) found.request.atc (records_of items)) (sym seen) has)
+      subst (λ (request : Request). IsDecidedOn (card_of request) request.atc (records_of (items_at logs_now.seen (shard_of issuer (card_of request))))) same
+      (subst (λ (items : List LogItem). IsDecidedOn (card_of found.request) found.request.atc (records_of items)) (sym seen) has)
   finished-shown (Queue found) between request below shows (says_is, turn, claims_are) = absurd (cc)
   finished-shown (Status found) between request below shows (says_is, turn, claims_are) = absurd (cc)
 
@@ -144,7 +136,7 @@ module _ (issuer : Setup) (before : ClaimView) (logs : ShardView) (answer : Answ
       → PreChecks issuer (Ok (AsksDecision request)) before checked between
       → shard_of issuer (card_of request) < length logs.seen
       → shows_record answer ≡ true → EndsIn issuer (Ok (AsksDecision request)) checked between logs answer after logs_now
-      → HasDecision (card_of request) request.atc (records_of (items_at logs_now.seen (shard_of issuer (card_of request))))
+      → IsDecidedOn (card_of request) request.atc (records_of (items_at logs_now.seen (shard_of issuer (card_of request))))
   ended-shown (Err refusal) between request (card, number_is, checks) below shows (answer_is, claims_are, logs_are) =
       let (told, top_is, lower, refusal_is, kept) = checks.claims in
       let away : shows_record answer ≡ false = ap shows_record (answer_is ∙ ap (λ (refusal : Refusal). Refused refusal) refusal_is) in
@@ -154,7 +146,7 @@ module _ (issuer : Setup) (before : ClaimView) (logs : ShardView) (answer : Answ
   -- a call that shows a record of its counter has seen it then
   pub call-shown : (request : Request) → shard_of issuer (card_of request) < length logs.seen → shows_record answer ≡ true
       → Authorises issuer (Ok (AsksDecision request)) before logs answer after logs_now
-      → HasDecision (card_of request) request.atc (records_of (items_at logs_now.seen (shard_of issuer (card_of request))))
+      → IsDecidedOn (card_of request) request.atc (records_of (items_at logs_now.seen (shard_of issuer (card_of request))))
   call-shown request below shows call = ended-shown call.checked call.between request call.checks below shows call.ends
 
 -- a request that lost its claim, and whose counter was unused in the log that its caller had then seen

@@ -35,12 +35,13 @@ use Rattle.host_calls.specs.OneHistory.{IsAnswered}
 use Rattle.host_calls.specs.OpeningLogs.{is_decided}
 use Rattle.host_calls.proofs.Asked.{asks-no_store}
 use Rattle.many_callers.specs.Callers.{Caller, IsCaller, AreCallers}
+use Rattle.many_callers.specs.Explained.{IsDecidedOn}
 use Rattle.many_callers.specs.OwnPlaces.{shows_record, IsAnsweredElse, IsPending, Passes}
 use Rattle.many_callers.proofs.CallTurns.{ShardView, SeesMore, IsTurnedAway, TakesTurn, call-turn, call-sees, calls-see}
 use Rattle.many_callers.proofs.CallerTotals.{part-below, some-part}
 use Rattle.many_callers.proofs.ClaimSteps.{calls-found, calls-claims}
 use Rattle.many_callers.proofs.CounterRange.{counter-within}
-use Rattle.many_callers.proofs.PendingLines.{HasDecision, decision-later, unused-none, call-shown, IsLost, call-lost, CallAt, call-at}
+use Rattle.many_callers.proofs.PendingLines.{decision-later, unused-none, call-shown, IsLost, call-lost, CallAt, call-at}
 use Rattle.many_callers.proofs.ReadRefusals.{never-pending}
 
 -- cards of one number have one name
@@ -61,17 +62,17 @@ or-cases false rest is = inr is
 
 -- items with a decision on a counter of the card have its record
 module _ (issuer : Setup) (name : CardName) (card counter : ℕ) (known : number_of name issuer.cards ≡ Some card) where
-  behind : (entry : Entry) (history : List Entry) → HasDecision name counter history → HasDecision name counter (entry ∷ history)
+  behind : (entry : Entry) (history : List Entry) → IsDecidedOn name counter history → IsDecidedOn name counter (entry ∷ history)
   behind entry history has = record {
     place = suc has.place;
     request = has.request;
     reply = has.reply;
-    there = has.there;
+    record_is = has.record_is;
     card_is = has.card_is;
-    on_counter = has.on_counter;
+    counter_is = has.counter_is;
   }
 
-  pub decided-has : (items : List LogItem) → is_decided issuer items card counter ≡ true → HasDecision name counter (records_of items)
+  pub decided-has : (items : List LogItem) → is_decided issuer items card counter ≡ true → IsDecidedOn name counter (records_of items)
   decided-has [] is = absurd (cc)
   decided-has (Fault count ∷ items) is = decided-has items is
   decided-has (Record (IsQueued pan psn command) ∷ items) is = behind (IsQueued pan psn command) (records_of items) (decided-has items is)
@@ -84,9 +85,9 @@ module _ (issuer : Setup) (name : CardName) (card counter : ℕ) (known : number
               place = 0;
               request = request;
               reply = reply;
-              there = refl;
+              record_is = refl;
               card_is = one-name issuer (card_of request) name card (is_number-true card (number_of (card_of request) issuer.cards) both.0) known;
-              on_counter = eqb-true request.atc counter both.1;
+              counter_is = eqb-true request.atc counter both.1;
             }
         | inr later ↦ behind (Decided request reply) (records_of items) (decided-has items later)
       ]
@@ -150,26 +151,26 @@ module _ (issuer : Setup) (opening logs : List (Log LogItem LogHead)) (callers :
     earlier-sees = calls-see issuer (take index caller.lines) (take index caller.answers) caller.claims caller.logs at.claims_before at.logs_before at.before
 
     -- no decision stood on the counter in what the caller had seen
-    unseen : HasDecision (card_of lost.request) lost.request.atc (records_of (items_at at.logs_before.seen home)) → ⊥
+    unseen : IsDecidedOn (card_of lost.request) lost.request.atc (records_of (items_at at.logs_before.seen home)) → ⊥
     unfolding home
     unseen has =
         unused-none (records_of lost.between) lost.request lost.unused
         (decision-later (card_of lost.request) lost.request.atc (items_at at.logs_before.seen home) lost.between lost.front has)
 
-    unopened : HasDecision (card_of lost.request) lost.request.atc (records_of (items_at opening home)) → ⊥
+    unopened : IsDecidedOn (card_of lost.request) lost.request.atc (records_of (items_at opening home)) → ⊥
     unfolding home
     unopened has =
         elim (cases_lt home (length opening)) [
           | inl below ↦
-              let first : HasDecision (card_of lost.request) lost.request.atc (records_of (items_at caller.logs.seen home)) =
-              subst (λ (logs : List (Log LogItem LogHead)). HasDecision (card_of lost.request) lost.request.atc (records_of (items_at logs home)))
+              let first : IsDecidedOn (card_of lost.request) lost.request.atc (records_of (items_at caller.logs.seen home)) =
+              subst (λ (logs : List (Log LogItem LogHead)). IsDecidedOn (card_of lost.request) lost.request.atc (records_of (items_at logs home)))
               (sym one.opened) has in
               let within : home < length caller.logs.seen = subst (λ (logs : List (Log LogItem LogHead)). home < length logs) (sym one.opened) below in
               unseen (decision-later (card_of lost.request) lost.request.atc (items_at caller.logs.seen home) (items_at at.logs_before.seen home)
               (earlier-sees.fronts home within) first)
           | inr past ↦
               let none = ap (λ (items : List LogItem). slice_get (records_of items) has.place) (items-past opening home (omega (arith, past))) in
-              none-some (Decided has.request has.reply) (sym none ∙ has.there)
+              none-some (Decided has.request has.reply) (sym none ∙ has.record_is)
         ]
 
     elsewhere : IsAnsweredElse issuer callers lost.request
@@ -186,7 +187,7 @@ module _ (issuer : Setup) (opening logs : List (Log LogItem LogHead)) (callers :
               let has = decided-has issuer (card_of lost.request) lost.card lost.request.atc lost.number_is
               (items_at opening (lost.card % issuer.shards)) recorded in
               let at_home = shard_of-known issuer (card_of lost.request) lost.card lost.number_is in
-              absurd (unopened (subst (λ (shard : ℕ). HasDecision (card_of lost.request) lost.request.atc (records_of (items_at opening shard)))
+              absurd (unopened (subst (λ (shard : ℕ). IsDecidedOn (card_of lost.request) lost.request.atc (records_of (items_at opening shard)))
               (sym at_home) has))
           | inr none ↦
               let nothing = ap one_if none in
@@ -217,9 +218,9 @@ module _ (issuer : Setup) (opening logs : List (Log LogItem LogHead)) (callers :
               let has = call-shown issuer first.claims_before first.logs_before answer first.claims_after first.logs_after other
               (subst (λ (shard : ℕ). shard < length first.logs_before.seen) (sym at_home) within) shows
               (subst (λ says. Authorises issuer says first.claims_before first.logs_before answer first.claims_after first.logs_after) says first.call) in
-              let here : HasDecision (card_of lost.request) lost.request.atc (records_of (items_at first.logs_after.seen home)) =
-              subst (λ (name : CardName). HasDecision name lost.request.atc (records_of (items_at first.logs_after.seen (shard_of issuer name)))) same_card
-              (subst (λ (counter : ℕ). HasDecision (card_of other) counter (records_of (items_at first.logs_after.seen (shard_of issuer (card_of other)))))
+              let here : IsDecidedOn (card_of lost.request) lost.request.atc (records_of (items_at first.logs_after.seen home)) =
+              subst (λ (name : CardName). IsDecidedOn name lost.request.atc (records_of (items_at first.logs_after.seen (shard_of issuer name)))) same_card
+              (subst (λ (counter : ℕ). IsDecidedOn (card_of other) counter (records_of (items_at first.logs_after.seen (shard_of issuer (card_of other)))))
               same_counter has) in
               let turn =
               call-turn issuer (reading issuer first.line) first.claims_before first.logs_before answer first.claims_after first.logs_after first.call in
@@ -238,8 +239,7 @@ module _ (issuer : Setup) (opening logs : List (Log LogItem LogHead)) (callers :
       request = lost.request;
       answered = record { line = at.line; line_is = at.line_is; request_is = lost.says_is; answer_is = is };
       elsewhere = elsewhere;
-      unopened = λ place other reply there same_card same_counter.
-          unopened (record { place = place; request = other; reply = reply; there = there; card_is = same_card; on_counter = same_counter });
+      unopened = unopened;
       unshown = unshown;
     }
 

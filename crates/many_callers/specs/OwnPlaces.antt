@@ -1,12 +1,10 @@
 -- Which answers of all callers stand for which items of the logs: each record is one answer's, and so is each fault.
 use Rattle.std.specs.Prelude.{◌≡◌, ◌≢◌, ℕ, ◌+◌, ◌<◌, List, ◌∷◌, length, slice_get, Bool, true, false, ◌==◌, ◌&&◌, Some, Result, Ok, Err}
 use Rattle.issuer_base.specs.declared.request.Request.{Request}
-use Rattle.issuer_base.specs.declared.answer.Reply.{Reply}
 use Rattle.issuer_base.specs.declared.answer.Answer.{Answer}
 use Rattle.issuer_base.specs.declared.answer.Answer.TheVariants.{Fresh, Kept, Queued, Set, Refused}
 use Rattle.issuer_base.specs.declared.answer.Refusal.{Refusal}
 use Rattle.issuer_base.specs.declared.answer.Refusal.TheVariants.{Taken, Pending, StoreFault}
-use Rattle.issuer_base.specs.declared.entry.Entry.TheVariants.{Decided}
 use Rattle.issuer_base.specs.declared.limits.TheConstants.{MAX_FAULTS_TOLD}
 use Rattle.card_history.specs.declared.decision.Asked.{Asked}
 use Rattle.card_history.specs.declared.decision.Asked.TheVariants.{Decide, Queue, Status}
@@ -20,9 +18,10 @@ use Rattle.turn_book.specs.Logs.{items_at}
 use Rattle.turn_book.specs.TurnRule.{between}
 use Rattle.shard_turns.specs.declared.logs.LogItem.{LogItem}
 use Rattle.shard_turns.specs.declared.logs.LogHead.{LogHead}
-use Rattle.shard_turns.specs.ShardLogs.{records_of, faults_of}
+use Rattle.shard_turns.specs.ShardLogs.{faults_of}
 use Rattle.host_calls.specs.OneHistory.{IsAnswered}
 use Rattle.many_callers.specs.Callers.{Caller}
+use Rattle.many_callers.specs.Explained.{IsDecidedOn, history_at}
 
 -- whether the answer tells of a new record at this place of this shard
 abbrev pub is_record_at : ℕ → ℕ → Answer → Bool
@@ -74,9 +73,7 @@ pub record IsPending (issuer : Setup) (opening : List (Log LogItem LogHead)) (ca
   pub request : Request
   pub answered : IsAnswered issuer caller.lines caller.answers index request (Refused Pending)
   pub elsewhere : IsAnsweredElse issuer callers request
-  pub unopened : (place : ℕ) (other : Request) (reply : Reply)
-      → slice_get (records_of (items_at opening (shard_of issuer (card_of request)))) place ≡ Some (Decided other reply)
-      → card_of other ≡ card_of request → other.atc ≢ request.atc
+  pub unopened : IsDecidedOn (card_of request) request.atc (history_at opening (shard_of issuer (card_of request))) → ⊥
   pub unshown : (earlier : ℕ) (other : Request) (answer : Answer) → 0 < issuer.shards → earlier < index
       → IsAnswered issuer caller.lines caller.answers earlier other answer → card_of other ≡ card_of request → other.atc ≡ request.atc
       → shows_record answer ≡ false
@@ -93,7 +90,7 @@ pub record AreOwnPlaces (issuer : Setup) (opening logs : List (Log LogItem LogHe
   -- each place of a record past the opening log is told by just one answer, and no other place of the shard by any
   pub places : (shard place : ℕ) → shard < issuer.shards
       → answers_at shard place callers
-      ≡ between (length (records_of (items_at opening shard))) (length (records_of (items_at logs shard))) place
+      ≡ between (length (history_at opening shard)) (length (history_at logs shard)) place
   -- each answer that a counter is pending is right
   pub pending : (number index : ℕ) (caller : Caller) → slice_get callers number ≡ Some caller → slice_get caller.answers index ≡ Some (Refused Pending)
       → IsPending issuer opening callers caller index
