@@ -1,5 +1,5 @@
 -- Each record and each fault of a run is one answer's.
-use Rattle.std.proofs.Common.{◌≡◌, ℕ, ◌<◌, List, length, Some, sym, ap, ◌∙◌, arith}
+use Rattle.std.proofs.Common.{◌≡◌, ℕ, ◌<◌, ◌≤◌, List, length, Some, sym, ap, ◌∙◌, arith}
 use Rattle.std.specs.List.{slice_get}
 use Rattle.issuer_base.specs.declared.limits.TheConstants.{MAX_FAULTS_TOLD}
 use Rattle.issuer_setup.specs.IssuerSetup.{Setup}
@@ -13,7 +13,7 @@ use Rattle.shard_turns.specs.declared.logs.LogHead.{LogHead}
 use Rattle.shard_turns.specs.ShardLogs.{records_of, faults_of}
 use Rattle.many_callers.specs.Callers.{Caller, AreCallers}
 use Rattle.many_callers.specs.OwnPlaces.{is_record_at, answers_at, faults_told}
-use Rattle.many_callers.proofs.CallerTotals.{total-each}
+use Rattle.many_callers.proofs.CallerTotals.{total-each, total-below}
 use Rattle.many_callers.proofs.FaultPlaces.{own_faults, weigh, weigh-own, weigh-total, weigh-between}
 use Rattle.many_callers.proofs.OwnRecords.{calls-count}
 use Rattle.many_callers.proofs.RecordSpots.{spot, spot-between}
@@ -43,19 +43,13 @@ module _ (issuer : Setup) (opening logs : List (Log LogItem LogHead)) (callers :
       ∙ are.own shard (spot items place) below
       ∙ spot-between (items_at opening shard) items place (are.opening_front shard)
 
-  pub each-fault : length (faults_of (items_at logs shard)) < MAX_FAULTS_TOLD
-      → total (λ caller. faults_told issuer shard caller.lines caller.answers) callers ≡ length (faults_of (items_at logs shard))
-  each-fault few =
+  -- how often the places of the log's faults are some caller's own
+  own-faults : total (λ (caller : Caller). own_faults shard (items_at logs shard) caller.logs_now.mine) callers ≡ length (faults_of (items_at logs shard))
+  own-faults =
       let items : List LogItem = items_at logs shard in
-      total-each (λ (caller : Caller). faults_told issuer shard caller.lines caller.answers)
+      total-each (λ (caller : Caller). own_faults shard items caller.logs_now.mine)
       (λ (caller : Caller). weigh items (λ place. times shard place caller.logs_now.mine)) callers
-      (λ index caller is.
-      let one = are.each index caller is in
-      let none = ap (λ mine. own_faults shard items mine) one.no_places in
-      let counts = calls-fault items shard few issuer caller.lines caller.answers caller.claims caller.logs caller.claims_now caller.logs_now
-      (begins-below index caller is) (are.seen index shard caller is) one.calls in
-      let own = weigh-own items shard caller.logs_now.mine in
-      omega (arith, none, counts, own))
+      (λ index caller is. sym (weigh-own items shard caller.logs_now.mine))
       ∙ sym (weigh-total items (λ (caller : Caller) place. times shard place caller.logs_now.mine) callers)
       ∙ weighed items
       ∙ weigh-between (items_at opening shard) items (are.opening_front shard) (are.opened_plain shard)
@@ -63,3 +57,34 @@ module _ (issuer : Setup) (opening logs : List (Log LogItem LogHead)) (callers :
       weighed : (items : List LogItem) → weigh items (λ place. total (λ caller. times shard place caller.logs_now.mine) callers)
           ≡ weigh items (λ place. between (length (items_at opening shard)) (length (items_at logs shard)) place)
       weighed items i = weigh items (λ place. are.own shard place below i)
+
+  -- each fault of the log is told
+  pub faults-told : length (faults_of (items_at logs shard)) ≤ total (λ caller. faults_told issuer shard caller.lines caller.answers) callers
+  faults-told =
+      let items : List LogItem = items_at logs shard in
+      let all = total-below (λ (caller : Caller). own_faults shard items caller.logs_now.mine)
+      (λ (caller : Caller). faults_told issuer shard caller.lines caller.answers) callers
+      (λ index caller is.
+      let one = are.each index caller is in
+      let none = ap (λ mine. own_faults shard items mine) one.no_places in
+      let counts = calls-fault items shard issuer caller.lines caller.answers caller.claims caller.logs caller.claims_now caller.logs_now
+      (begins-below index caller is) (are.seen index shard caller is) one.calls in
+      omega (arith, none, counts.0)) in
+      let own = own-faults in
+      omega (arith, all, own)
+
+  -- and told once, while the log hasn't as many as it may have
+  pub each-fault : length (faults_of (items_at logs shard)) < MAX_FAULTS_TOLD
+      → total (λ caller. faults_told issuer shard caller.lines caller.answers) callers ≡ length (faults_of (items_at logs shard))
+  each-fault few =
+      let items : List LogItem = items_at logs shard in
+      total-each (λ (caller : Caller). faults_told issuer shard caller.lines caller.answers)
+      (λ (caller : Caller). own_faults shard items caller.logs_now.mine) callers
+      (λ index caller is.
+      let one = are.each index caller is in
+      let none = ap (λ mine. own_faults shard items mine) one.no_places in
+      let counts = calls-fault items shard issuer caller.lines caller.answers caller.claims caller.logs caller.claims_now caller.logs_now
+      (begins-below index caller is) (are.seen index shard caller is) one.calls in
+      let exact = counts.1 few in
+      omega (arith, none, exact))
+      ∙ own-faults

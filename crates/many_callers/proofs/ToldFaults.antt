@@ -1,5 +1,6 @@
--- The answers of a caller that tell that a shard's store failed are as many as its own places with a fault.
-use Rattle.std.proofs.Common.{◌≡◌, ◌⊎◌, ℕ, ◌+◌, ◌<◌, List, [], ◌∷◌, length, Bool, true, false, ◌&&◌, eqb, Option, None, Some}
+-- The answers of a caller that tell that a shard's store failed are no fewer than its own places with a fault, and as many while the log has
+-- fewer faults than it may have.
+use Rattle.std.proofs.Common.{◌≡◌, ◌⊎◌, ℕ, ◌+◌, ◌<◌, ◌≤◌, List, [], ◌∷◌, length, Bool, true, false, ◌&&◌, eqb, Option, None, Some}
 use Rattle.std.proofs.Common.{Result, refl, sym, ap, ◌∙◌, subst, inl, inr, arith}
 use Rattle.std.proofs.lemmas.Bool.{cases_eq, ne_eqb, and_left}
 use Rattle.issuer_base.specs.declared.answer.Answer.{Answer}
@@ -30,11 +31,19 @@ and-false : (test : Bool) → (test && false) ≡ false
 and-false true = refl
 and-false false = refl
 
-module _ (items : List LogItem) (shard : ℕ) (few : length (faults_of items) < MAX_FAULTS_TOLD) where
+module _ (items : List LogItem) (shard : ℕ) where
+  -- no fewer answers than own places, and as many while the log hasn't as many faults as it may have
+  abbrev Agree : ℕ → ℕ → Type 0
+  Agree own told = (own ≤ told) × (length (faults_of items) < MAX_FAULTS_TOLD → told ≡ own)
+
+  agree : (own told : ℕ) → told ≡ own → Agree own told
+  agree own told same = (omega (arith, same), λ few. same)
+
   module _ (issuer : Setup) (home : ℕ) (between : List LogItem) (mine : List (ℕ × ℕ)) where
     abbrev Counts : Answer → Option LogItem → Type 0
     Counts answer added =
-        one_if (eqb home shard && is_store_fault answer) + own_faults shard items mine ≡ own_faults shard items (mine_after home between added mine)
+        Agree (own_faults shard items (mine_after home between added mine))
+        (one_if (eqb home shard && is_store_fault answer) + own_faults shard items mine)
 
     untold : (answer : Answer) → is_store_fault answer ≡ false → one_if (eqb home shard && is_store_fault answer) ≡ 0
     untold answer quiet =
@@ -45,7 +54,7 @@ module _ (items : List LogItem) (shard : ℕ) (few : length (faults_of items) < 
     elsewhere test apart = ap one_if (and_left (eqb home shard) test (ne_eqb home shard apart))
 
     none-counts : (answer : Answer) (added : Option LogItem) → is_store_fault answer ≡ false → added ≡ None → Counts answer added
-    none-counts answer added quiet none = subst (Counts answer) (sym none) (omega (arith, untold answer quiet))
+    none-counts answer added quiet none = subst (Counts answer) (sym none) (agree _ _ (omega (arith, untold answer quiet)))
 
     record-counts : (answer : Answer) (added : Option LogItem) (entry : Entry) → is_store_fault answer ≡ false
         → (home ≡ shard → IsFront (log_after between added) items) → added ≡ Some (Record entry) → Counts answer added
@@ -62,14 +71,17 @@ module _ (items : List LogItem) (shard : ℕ) (few : length (faults_of items) < 
               ap one_if (both ∙ and-false (eqb home shard))
           | inr apart ↦ elsewhere (is_fault_at items (length between)) apart
         ] in
-        omega (arith, nothing, untold answer quiet))
+        agree _ _ (omega (arith, nothing, untold answer quiet)))
 
     fault-counts : (added : Option LogItem) → (home ≡ shard → IsFront (log_after between added) items) → AddsFault between added
         → Counts (Refused StoreFault) added
     fault-counts None seen adds =
         elim (cases_eq home shard) [
-          | inl same ↦ absurd (let more = faults-front between items (seen same) in omega (arith, more, few, adds))
-          | inr apart ↦ omega (arith, elsewhere true apart)
+          | inl same ↦ (
+            omega arith,
+            λ few. absurd (let more = faults-front between items (seen same) in omega (arith, more, few, adds)),
+          )
+          | inr apart ↦ agree _ _ (omega (arith, elsewhere true apart))
         ]
     fault-counts (Some (Record entry)) seen adds = absurd adds
     fault-counts (Some (Fault count)) seen adds =
@@ -80,8 +92,8 @@ module _ (items : List LogItem) (shard : ℕ) (few : length (faults_of items) < 
               subst (λ (items : List LogItem). is_fault_at items (length between) ≡ true) (sym behind.1) (fault-at_fault between behind.0 count) in
               let both : one_if (eqb home shard && is_fault_at items (length between)) ≡ one_if (eqb home shard && true) =
               ap (λ is. one_if (eqb home shard && is)) there in
-              omega (arith, both)
-          | inr apart ↦ omega (arith, elsewhere true apart, elsewhere (is_fault_at items (length between)) apart)
+              agree _ _ (omega (arith, both))
+          | inr apart ↦ agree _ _ (omega (arith, elsewhere true apart, elsewhere (is_fault_at items (length between)) apart))
         ]
 
     turn-counts : (answer : Answer) (added : Option LogItem) → (home ≡ shard → IsFront (log_after between added) items)
@@ -110,11 +122,11 @@ module _ (items : List LogItem) (shard : ℕ) (few : length (faults_of items) < 
   -- one call
   call-faults : (issuer : Setup) (says : Result Asked Refusal) (before : ShardView) (answer : Answer) (after : ShardView) → shard < length before.seen
       → IsFront (items_at after.seen shard) items → IsTurnedAway says before answer after ⊎ TakesTurn issuer says before answer after
-      → one_if (is_for issuer shard says && is_store_fault answer) + own_faults shard items before.mine ≡ own_faults shard items after.mine
+      → Agree (own_faults shard items after.mine) (one_if (is_for issuer shard says && is_store_fault answer) + own_faults shard items before.mine)
   call-faults issuer says before answer after below front (inl away) =
       let nothing = away-counts issuer says before answer after away in
       let same = ap (λ (view : ShardView). own_faults shard items view.mine) away.after_is in
-      omega (arith, nothing, same)
+      agree _ _ (omega (arith, nothing, same))
   call-faults issuer says before answer after below front (inr turn) =
       let counts = turn-counts issuer turn.shard turn.between before.mine answer turn.added
       (λ same.
@@ -123,15 +135,15 @@ module _ (items : List LogItem) (shard : ℕ) (few : length (faults_of items) < 
       turn.adds in
       let same = ap (λ (view : ShardView). own_faults shard items view.mine) turn.after_is in
       let test = ap (λ is. one_if (is && is_store_fault answer)) (turn.home shard) in
-      omega (arith, counts, same, test)
+      (omega (arith, counts.0, same, test), λ few. let exact = counts.1 few in omega (arith, exact, same, test))
 
   -- one call after another
   pub calls-fault : (issuer : Setup) (lines : List (List ℕ)) (answers : List Answer)
       (claims : ClaimView) (logs : ShardView) (claims_now : ClaimView) (logs_now : ShardView)
       → shard < length logs.seen → IsFront (items_at logs_now.seen shard) items → Calls issuer lines answers claims logs claims_now logs_now
-      → faults_told issuer shard lines answers + own_faults shard items logs.mine ≡ own_faults shard items logs_now.mine
+      → Agree (own_faults shard items logs_now.mine) (faults_told issuer shard lines answers + own_faults shard items logs.mine)
   calls-fault issuer [] [] claims logs claims_now logs_now below front (claims_are, logs_are) =
-      let same = ap (λ (view : ShardView). own_faults shard items view.mine) logs_are in omega (arith, same)
+      let same = ap (λ (view : ShardView). own_faults shard items view.mine) logs_are in agree _ _ (omega (arith, same))
   calls-fault issuer [] (answer ∷ answers) claims logs claims_now logs_now below front calls = absurd calls
   calls-fault issuer (line ∷ lines) [] claims logs claims_now logs_now below front calls = absurd calls
   calls-fault issuer (line ∷ lines) (answer ∷ answers) claims logs claims_now logs_now below front (next_claims, next_logs, call, rest) =
@@ -142,5 +154,7 @@ module _ (items : List LogItem) (shard : ℕ) (few : length (faults_of items) < 
       let later = calls-see issuer lines answers next_claims next_logs claims_now logs_now rest in
       let next_front = front_trans (items_at next_logs.seen shard) (items_at logs_now.seen shard) items (later.fronts shard next_below) front in
       let one = call-faults issuer (reading issuer line) logs answer next_logs below next_front turn in
-      let others = calls-fault issuer lines answers next_claims next_logs claims_now logs_now next_below front rest in
-      omega (arith, one, others)
+      let others = calls-fault issuer lines answers next_claims next_logs claims_now logs_now next_below front rest in (
+        omega (arith, one.0, others.0),
+        λ few. let first = one.1 few in let second = others.1 few in omega (arith, first, second),
+      )

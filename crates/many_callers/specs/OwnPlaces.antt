@@ -1,5 +1,5 @@
 -- Which answers of all callers stand for which items of the logs: each record is one answer's, and so is each fault.
-use Rattle.std.specs.Prelude.{◌≡◌, ◌≢◌, ℕ, ◌+◌, ◌<◌, List, ◌∷◌, length, slice_get, Bool, true, false, ◌==◌, ◌&&◌, Some, Result, Ok, Err}
+use Rattle.std.specs.Prelude.{◌≡◌, ◌≢◌, ℕ, ◌+◌, ◌<◌, ◌≤◌, List, ◌∷◌, length, slice_get, Bool, true, false, ◌==◌, ◌&&◌, Some, Result, Ok, Err}
 use Rattle.issuer_base.specs.declared.request.Request.{Request}
 use Rattle.issuer_base.specs.declared.answer.Answer.{Answer}
 use Rattle.issuer_base.specs.declared.answer.Answer.TheVariants.{Fresh, Kept, Queued, Set, Refused}
@@ -94,8 +94,11 @@ pub record AreOwnPlaces (issuer : Setup) (opening logs : List (Log LogItem LogHe
   -- each answer that a counter is pending is right
   pub pending : (number index : ℕ) (caller : Caller) → slice_get callers number ≡ Some caller → slice_get caller.answers index ≡ Some (Refused Pending)
       → IsPending issuer opening callers caller index
-  -- that a store failed is told of lines alone that pass, and as often as the shard's log has a fault, while it has fewer than it may have
+  -- that a store failed is told of lines alone that pass
   pub passes : (number index : ℕ) (caller : Caller) → slice_get callers number ≡ Some caller → slice_get caller.answers index ≡ Some (Refused StoreFault)
       → Passes issuer caller index
-  pub faults : (shard : ℕ) → shard < issuer.shards → length (faults_of (items_at logs shard)) < MAX_FAULTS_TOLD
+  -- each fault in a shard's log is told, and by just one answer while the log has fewer of them than it may have
+  pub told : (shard : ℕ) → shard < issuer.shards
+      → length (faults_of (items_at logs shard)) ≤ total (λ caller. faults_told issuer shard caller.lines caller.answers) callers
+  pub told_once : (shard : ℕ) → shard < issuer.shards → length (faults_of (items_at logs shard)) < MAX_FAULTS_TOLD
       → total (λ caller. faults_told issuer shard caller.lines caller.answers) callers ≡ length (faults_of (items_at logs shard))
