@@ -8,8 +8,8 @@ ghost use Rattle.many_callers.specs.Callers.{AreCallers, Caller};
 ghost use Rattle.many_callers.specs.OwnPlaces.{AreOwnPlaces};
 
 /// Whatever lines several callers bring to a host, and in whatever order their turns come: each record that the host added is told by just one
-/// answer, a counter is told pending only where another line on it has another answer and no record was there before, and each fault of a
-/// store is told by one answer.
+/// answer; a counter is told pending only where another line on it has another answer and its caller had seen no record of it; and each fault
+/// in a shard's log is told, by just one answer while the log has fewer than 2^62 of them.
 ///
 /// The contract is a theorem on every run; the function does nothing.
 pub fn every_record_is_one_answers()
