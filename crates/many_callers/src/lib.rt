@@ -1,9 +1,12 @@
-//! What the calls of several callers at one host come to: the law of a whole run, from the opening of its logs to the closing of the host.
+//! What the calls of several callers at one host come to: the laws of a whole run, from the opening of its logs to the closing of the host.
 //!
 //! This crate is definitions and their proofs alone. `specs/Callers.antt` says what a run of several callers is, and `specs/Explained.antt` what is
-//! sure of its answers: it is the contract of [`every_answer_is_explained`].
+//! sure of its answers: it is the contract of [`every_answer_is_explained`]. `specs/OwnPlaces.antt` says which answers tell of which records
+//! and faults of the logs: it is the contract of [`every_record_is_one_answers`].
 #![tactic(auto)]
 
 mod law;
+mod places;
 
 pub use law::every_answer_is_explained;
+pub use places::every_record_is_one_answers;

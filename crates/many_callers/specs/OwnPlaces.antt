@@ -1,0 +1,104 @@
+-- Which answers of all callers stand for which items of the logs: each record is one answer's, and so is each fault.
+use Rattle.std.specs.Prelude.{◌≡◌, ◌≢◌, ℕ, ◌+◌, ◌<◌, ◌≤◌, List, ◌∷◌, length, slice_get, Bool, true, false, ◌==◌, ◌&&◌, Some, Result, Ok, Err}
+use Rattle.issuer_base.specs.declared.request.Request.{Request}
+use Rattle.issuer_base.specs.declared.answer.Answer.{Answer}
+use Rattle.issuer_base.specs.declared.answer.Answer.TheVariants.{Fresh, Kept, Queued, Set, Refused}
+use Rattle.issuer_base.specs.declared.answer.Refusal.{Refusal}
+use Rattle.issuer_base.specs.declared.answer.Refusal.TheVariants.{Taken, Pending, StoreFault}
+use Rattle.issuer_base.specs.declared.limits.TheConstants.{MAX_FAULTS_TOLD}
+use Rattle.card_history.specs.declared.decision.Asked.{Asked}
+use Rattle.card_history.specs.declared.decision.Asked.TheVariants.{Decide, Queue, Status}
+use Rattle.card_history.specs.Records.{named, card_of}
+use Rattle.issuer_setup.specs.IssuerSetup.{Setup, shard_of}
+use Rattle.line_checks.specs.Reading.{reading}
+use Rattle.seat_names.specs.Totals.{total, how_many, one_if}
+use Rattle.shard_book.specs.Answering.{is_store_fault}
+use Rattle.turn_book.specs.declared.logs.Log.{Log}
+use Rattle.turn_book.specs.Logs.{items_at}
+use Rattle.turn_book.specs.TurnRule.{between}
+use Rattle.shard_turns.specs.declared.logs.LogItem.{LogItem}
+use Rattle.shard_turns.specs.declared.logs.LogHead.{LogHead}
+use Rattle.shard_turns.specs.ShardLogs.{faults_of}
+use Rattle.host_calls.specs.OneHistory.{IsAnswered}
+use Rattle.many_callers.specs.Callers.{Caller}
+use Rattle.many_callers.specs.Explained.{IsDecidedOn, history_at}
+
+-- whether the answer tells of a new record at this place of this shard
+abbrev pub is_record_at : ℕ → ℕ → Answer → Bool
+is_record_at shard place (Fresh at here reply) = (at == shard) && (here == place)
+is_record_at shard place (Queued at here) = (at == shard) && (here == place)
+is_record_at shard place (Set at here) = (at == shard) && (here == place)
+is_record_at shard place _ = false
+
+-- how many of the callers' answers do
+abbrev pub answers_at : ℕ → ℕ → List Caller → ℕ
+answers_at shard place callers = total (λ caller. how_many (is_record_at shard place) caller.answers) callers
+
+-- whether what a line says is for a card of this shard
+abbrev pub is_for : Setup → ℕ → Result Asked Refusal → Bool
+is_for issuer shard (Ok (Decide request)) = shard_of issuer (card_of request) == shard
+is_for issuer shard (Ok (Queue pan psn command)) = shard_of issuer (named pan psn) == shard
+is_for issuer shard (Ok (Status pan psn status)) = shard_of issuer (named pan psn) == shard
+is_for issuer shard (Err refusal) = false
+
+-- how many of these answers to these lines tell that the store of this shard failed
+abbrev pub faults_told : Setup → ℕ → List (List ℕ) → List Answer → ℕ
+faults_told issuer shard (line ∷ lines) (answer ∷ answers) =
+    one_if (is_for issuer shard (reading issuer line) && is_store_fault answer) + faults_told issuer shard lines answers
+faults_told issuer shard _ _ = 0
+
+-- whether the answer to a request shows a record of its counter
+abbrev pub shows_record : Answer → Bool
+shows_record (Fresh shard place reply) = true
+shows_record (Kept shard place reply) = true
+shows_record (Refused (Taken shard place)) = true
+shows_record _ = false
+
+-- some line of some caller says a request of the same card and counter, and its answer isn't that it is pending
+pub record IsAnsweredElse (issuer : Setup) (callers : List Caller) (request : Request) : Type 0 where
+  pub number : ℕ
+  pub caller : Caller
+  pub caller_is : slice_get callers number ≡ Some caller
+  pub index : ℕ
+  pub other : Request
+  pub answer : Answer
+  pub answered : IsAnswered issuer caller.lines caller.answers index other answer
+  pub same_card : card_of other ≡ card_of request
+  pub same_counter : other.atc ≡ request.atc
+  pub not_pending : answer ≢ Refused Pending
+
+-- the line with this number of a caller is a request that passes, and is rightly told that its counter is pending: some line on the same card
+-- and counter has another answer, the opening log has no decision on them, and no earlier line of the caller's showed one
+pub record IsPending (issuer : Setup) (opening : List (Log LogItem LogHead)) (callers : List Caller) (caller : Caller) (index : ℕ) : Type 0 where
+  pub request : Request
+  pub answered : IsAnswered issuer caller.lines caller.answers index request (Refused Pending)
+  pub elsewhere : IsAnsweredElse issuer callers request
+  pub unopened : IsDecidedOn (card_of request) request.atc (history_at opening (shard_of issuer (card_of request))) → ⊥
+  pub unshown : (earlier : ℕ) (other : Request) (answer : Answer) → 0 < issuer.shards → earlier < index
+      → IsAnswered issuer caller.lines caller.answers earlier other answer → card_of other ≡ card_of request → other.atc ≡ request.atc
+      → shows_record answer ≡ false
+
+-- the line with this number of a caller passes
+pub record Passes (issuer : Setup) (caller : Caller) (index : ℕ) : Type 0 where
+  pub line : List ℕ
+  pub line_is : slice_get caller.lines index ≡ Some line
+  pub asked : Asked
+  pub asked_is : reading issuer line ≡ Ok asked
+
+-- what is sure of the callers' answers and the items of the logs
+pub record AreOwnPlaces (issuer : Setup) (opening logs : List (Log LogItem LogHead)) (callers : List Caller) : Type 0 where
+  -- each place of a record past the opening log is told by just one answer, and no other place of the shard by any
+  pub places : (shard place : ℕ) → shard < issuer.shards
+      → answers_at shard place callers
+      ≡ between (length (history_at opening shard)) (length (history_at logs shard)) place
+  -- each answer that a counter is pending is right
+  pub pending : (number index : ℕ) (caller : Caller) → slice_get callers number ≡ Some caller → slice_get caller.answers index ≡ Some (Refused Pending)
+      → IsPending issuer opening callers caller index
+  -- that a store failed is told of lines alone that pass
+  pub passes : (number index : ℕ) (caller : Caller) → slice_get callers number ≡ Some caller → slice_get caller.answers index ≡ Some (Refused StoreFault)
+      → Passes issuer caller index
+  -- each fault in a shard's log is told, and by just one answer while the log has fewer of them than it may have
+  pub told : (shard : ℕ) → shard < issuer.shards
+      → length (faults_of (items_at logs shard)) ≤ total (λ caller. faults_told issuer shard caller.lines caller.answers) callers
+  pub told_once : (shard : ℕ) → shard < issuer.shards → length (faults_of (items_at logs shard)) < MAX_FAULTS_TOLD
+      → total (λ caller. faults_told issuer shard caller.lines caller.answers) callers ≡ length (faults_of (items_at logs shard))

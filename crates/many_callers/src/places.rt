@@ -1,0 +1,18 @@
+//! The law of the records of a run of several callers.
+ghost use Rattle.std.specs.Prelude.{List};
+ghost use Rattle.issuer_setup.specs.IssuerSetup.{Setup};
+ghost use Rattle.turn_book.specs.declared.logs.Log.{Log};
+ghost use Rattle.shard_turns.specs.declared.logs.LogItem.{LogItem};
+ghost use Rattle.shard_turns.specs.declared.logs.LogHead.{LogHead};
+ghost use Rattle.many_callers.specs.Callers.{AreCallers, Caller};
+ghost use Rattle.many_callers.specs.OwnPlaces.{AreOwnPlaces};
+
+/// Whatever lines several callers bring to a host, and in whatever order their turns come: each record that the host added is told by just one
+/// answer; a counter is told pending only where another line on it has another answer and its caller had seen no record of it; and each fault
+/// in a shard's log is told, by just one answer while the log has fewer than 2^62 of them.
+///
+/// The contract is a theorem on every run; the function does nothing.
+pub fn every_record_is_one_answers()
+    ensures { (issuer : Setup) (opening logs : List (Log LogItem LogHead)) (callers : List Caller)
+        → AreCallers issuer opening logs callers → AreOwnPlaces issuer opening logs callers }
+{}
