@@ -18,6 +18,13 @@ use store_edge::MemoryStore;
 /// A line that sets the card's status.
 const STATUS: &str = "S 4000000000000002 00 3";
 
+/// The same card's request on its counter 9, and that on its counter 6.
+const NINTH: &str =
+    "A 5A0840000000000000029F260807332ABBD4FE880C9F2701809F10200FA501A00000000000000000000000000F0000000000000000000000000000009F37041A2B3C4D9F36020009950500000080009A032601159C01009F02060000000123455F2A020978820239009F1A020276";
+
+const SIXTH: &str =
+    "A 5A0840000000000000029F2608C1B01DE98A830E399F2701809F10200FA501A00000000000000000000000000F0000000000000000000000000000009F37041A2B3C4D9F36020006950500000080009A032601159C01009F02060000000123455F2A020978820239009F1A020276";
+
 /// A host of one shard over an empty store, which fails at the listed calls, and its first pass, where it can be loaded.
 fn open(alloc: Global, fails: Vec<u64>) -> Result<Option<(Host<MemoryStore>, Pass)>, Fail>
     ensures { IfOk result (λ made. IfSome made (λ pair. IsFree pair.0 pair.1 × ((claims_of pair.1).names ≡ first_names))) }
@@ -93,6 +100,52 @@ fn a_lost_claim_is_pending_until_it_is_kept(rt: HostRuntime) -> Result<(), Fail>
     close_both(host, first, other);
     assert!(rt; is_refused(&pending, &Refusal::Pending));
     assert!(rt; is_fresh(&fresh, 0) && is_kept(&kept, 0));
+    Ok(())
+}
+
+/// Whether the records of three requests, which three passes check in one order and finish in another, stand in the order of finishing.
+fn stand_as_finished<R: Wait>(
+    rt: &R,
+    host: &Host<MemoryStore>,
+    first: &mut Pass,
+    second: &mut Pass,
+    third: &mut Pass,
+) -> bool
+    requires free { IsFree host.now first.old × IsFree host.now second.old × IsFree host.now third.old }
+    ensures free { IsFree host.now first.new × IsFree host.now second.new × IsFree host.now third.new }
+    ensures first { (claims_of first.new).names ≡ (claims_of first.old).names }
+    ensures second { (claims_of second.new).names ≡ (claims_of second.old).names }
+    ensures third { (claims_of third.new).names ≡ (claims_of third.old).names }
+{
+    let seventh = host.pre_check(first, REQUEST.as_bytes());
+    let ninth = host.pre_check(second, NINTH.as_bytes());
+    let sixth = host.pre_check(third, SIXTH.as_bytes());
+    let sixth = end(rt, host, third, sixth);
+    let seventh = end(rt, host, first, seventh);
+    let ninth = end(rt, host, second, ninth);
+    is_fresh(&sixth, 0) && is_fresh(&seventh, 1) && is_fresh(&ninth, 2)
+}
+
+/// Joins three passes, and ends the host.
+fn close_three(host: Host<MemoryStore>, mut first: Pass, second: Pass, third: Pass)
+    requires free { IsFree host first × IsFree host second × IsFree host third }
+    requires first { (claims_of first).names ≡ after_split (after_split first_names) }
+    requires second { (claims_of second).names ≡ split_off first_names }
+    requires third { (claims_of third).names ≡ split_off (after_split first_names) }
+{
+    host.join(&mut first, second);
+    host.join(&mut first, third);
+    host.close(first);
+}
+
+#[test]
+fn records_stand_in_the_order_of_finishing(rt: HostRuntime) -> Result<(), Fail> {
+    let (host, mut first) = open(rt.alloc(), Vec::new(rt.alloc()))?.ok_or("a host")?;
+    let mut other = second(&host, &mut first);
+    let mut third = host.split(&mut first);
+    let stand = stand_as_finished(&rt, &host, &mut first, &mut other, &mut third);
+    close_three(host, first, other, third);
+    assert!(rt; stand);
     Ok(())
 }
 
