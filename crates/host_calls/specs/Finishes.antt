@@ -1,5 +1,5 @@
 -- What finishing what was checked may answer, and what it makes of a pass.
-use Rattle.std.specs.Prelude.{◌≡◌, ℕ, ⊤, Bool, true, false, List, Contains}
+use Rattle.std.specs.Prelude.{◌≡◌, ⊤, Bool, true, false, List, Contains}
 use Rattle.issuer_base.specs.declared.answer.Answer.{Answer}
 use Rattle.issuer_base.specs.declared.answer.Answer.TheVariants.{Fresh, Kept, Refused}
 use Rattle.issuer_base.specs.declared.answer.Refusal.TheVariants.{Below, Taken, StoreFault}

@@ -8,6 +8,7 @@ ghost use Rattle.host_calls.specs.PreChecks.{HasPassed};
 use super::*;
 use crate::tests::{REQUEST, is_fresh, is_kept, issuer};
 use issuer_base::{Answer, Refusal};
+use issuer_setup::Issuer;
 use std::alloc::Global;
 use std::sync::Wait;
 use std::test::Fail;
@@ -15,17 +16,27 @@ use std::thread;
 use std::thread::Threads;
 use store_edge::MemoryStore;
 
-/// A line that sets the card's status.
+/// Lines that set the status of the first card and of the second one.
 const STATUS: &str = "S 4000000000000002 00 3";
 
-/// A host of one shard over an empty store, which fails at the listed calls, and its first pass, where it can be loaded.
-fn open(alloc: Global, fails: Vec<u64>) -> Result<Option<(Host<MemoryStore>, Pass)>, Fail>
+const SECOND_STATUS: &str = "S 4000000000000010 00 3";
+
+/// The same card's request on its counter 9, and that on its counter 6.
+const NINTH: &str =
+    "A 5A0840000000000000029F260807332ABBD4FE880C9F2701809F10200FA501A00000000000000000000000000F0000000000000000000000000000009F37041A2B3C4D9F36020009950500000080009A032601159C01009F02060000000123455F2A020978820239009F1A020276";
+
+const SIXTH: &str =
+    "A 5A0840000000000000029F2608C1B01DE98A830E399F2701809F10200FA501A00000000000000000000000000F0000000000000000000000000000009F37041A2B3C4D9F36020006950500000080009A032601159C01009F02060000000123455F2A020978820239009F1A020276";
+
+/// A host over these stores, and its first pass, where it can be loaded.
+fn load(
+    alloc: Global,
+    stores: Vec<MemoryStore>,
+    issuer: Issuer,
+) -> Result<Option<(Host<MemoryStore>, Pass)>, Fail>
+    requires { length stores.items ≡ issuer.shards }
     ensures { IfOk result (λ made. IfSome made (λ pair. IsFree pair.0 pair.1 × ((claims_of pair.1).names ≡ first_names))) }
 {
-    let issuer = issuer(alloc, 1)?;
-    let mut stores = Vec::new(alloc);
-    let text = Vec::new(alloc);
-    stores.push(MemoryStore::new(alloc, text, 65_536, fails).map_err(|_| "a store")?)?;
     match Host::load(alloc, stores, issuer) {
         Ok(made) => Ok(Some(made)),
         Err(
@@ -36,6 +47,33 @@ fn open(alloc: Global, fails: Vec<u64>) -> Result<Option<(Host<MemoryStore>, Pas
             },
         ) => Ok(None),
     }
+}
+
+/// An empty store that fails at the listed calls.
+fn empty(alloc: Global, fails: Vec<u64>) -> Result<MemoryStore, Fail> {
+    let text = Vec::new(alloc);
+    Ok(MemoryStore::new(alloc, text, 65_536, fails).map_err(|_| "a store")?)
+}
+
+/// A host of one shard over an empty store, which fails at the listed calls, and its first pass, where it can be loaded.
+fn open(alloc: Global, fails: Vec<u64>) -> Result<Option<(Host<MemoryStore>, Pass)>, Fail>
+    ensures { IfOk result (λ made. IfSome made (λ pair. IsFree pair.0 pair.1 × ((claims_of pair.1).names ≡ first_names))) }
+{
+    let issuer = issuer(alloc, 1)?;
+    let mut stores = Vec::new(alloc);
+    stores.push(empty(alloc, fails)?)?;
+    load(alloc, stores, issuer)
+}
+
+/// A host of two shards over empty stores, and its first pass, where it can be loaded.
+fn open_two(alloc: Global) -> Result<Option<(Host<MemoryStore>, Pass)>, Fail>
+    ensures { IfOk result (λ made. IfSome made (λ pair. IsFree pair.0 pair.1 × ((claims_of pair.1).names ≡ first_names))) }
+{
+    let issuer = issuer(alloc, 2)?;
+    let mut stores = Vec::new(alloc);
+    stores.push(empty(alloc, Vec::new(alloc))?)?;
+    stores.push(empty(alloc, Vec::new(alloc))?)?;
+    load(alloc, stores, issuer)
 }
 
 /// Whether the answer is this refusal.
@@ -93,6 +131,52 @@ fn a_lost_claim_is_pending_until_it_is_kept(rt: HostRuntime) -> Result<(), Fail>
     close_both(host, first, other);
     assert!(rt; is_refused(&pending, &Refusal::Pending));
     assert!(rt; is_fresh(&fresh, 0) && is_kept(&kept, 0));
+    Ok(())
+}
+
+/// Whether the records of three requests, which three passes check in one order and finish in another, stand in the order of finishing.
+fn stand_as_finished<R: Wait>(
+    rt: &R,
+    host: &Host<MemoryStore>,
+    first: &mut Pass,
+    second: &mut Pass,
+    third: &mut Pass,
+) -> bool
+    requires free { IsFree host.now first.old × IsFree host.now second.old × IsFree host.now third.old }
+    ensures free { IsFree host.now first.new × IsFree host.now second.new × IsFree host.now third.new }
+    ensures first { (claims_of first.new).names ≡ (claims_of first.old).names }
+    ensures second { (claims_of second.new).names ≡ (claims_of second.old).names }
+    ensures third { (claims_of third.new).names ≡ (claims_of third.old).names }
+{
+    let seventh = host.pre_check(first, REQUEST.as_bytes());
+    let ninth = host.pre_check(second, NINTH.as_bytes());
+    let sixth = host.pre_check(third, SIXTH.as_bytes());
+    let sixth = end(rt, host, third, sixth);
+    let seventh = end(rt, host, first, seventh);
+    let ninth = end(rt, host, second, ninth);
+    is_fresh(&sixth, 0) && is_fresh(&seventh, 1) && is_fresh(&ninth, 2)
+}
+
+/// Joins three passes, and ends the host.
+fn close_three(host: Host<MemoryStore>, mut first: Pass, second: Pass, third: Pass)
+    requires free { IsFree host first × IsFree host second × IsFree host third }
+    requires first { (claims_of first).names ≡ after_split (after_split first_names) }
+    requires second { (claims_of second).names ≡ split_off first_names }
+    requires third { (claims_of third).names ≡ split_off (after_split first_names) }
+{
+    host.join(&mut first, second);
+    host.join(&mut first, third);
+    host.close(first);
+}
+
+#[test]
+fn records_stand_in_the_order_of_finishing(rt: HostRuntime) -> Result<(), Fail> {
+    let (host, mut first) = open(rt.alloc(), Vec::new(rt.alloc()))?.ok_or("a host")?;
+    let mut other = second(&host, &mut first);
+    let mut third = host.split(&mut first);
+    let stand = stand_as_finished(&rt, &host, &mut first, &mut other, &mut third);
+    close_three(host, first, other, third);
+    assert!(rt; stand);
     Ok(())
 }
 
@@ -245,5 +329,69 @@ fn contest<R: Threads + Wait + Sync>(
 fn callers_at_once_decide_a_request_once(rt: HostRuntime) -> Result<(), Fail> {
     let (fresh, set) = contest(&rt, rt.alloc(), 4)?;
     assert!(rt; fresh == 1 && set == 4 * STATUSES);
+    Ok(())
+}
+
+/// How many statuses a caller sets of the card of its own shard.
+const LINES: u64 = 100;
+
+/// Sets so many statuses of a shard's card, and counts those whose records stand next in that shard.
+fn fill<R: Wait>(rt: &R, host: &Host<MemoryStore>, shard: usize, caller: &mut Caller)
+    requires free { IsFree host.now caller.old.pass }
+    ensures free { IsFree host.now caller.new.pass }
+    ensures names { (claims_of caller.new.pass).names ≡ (claims_of caller.old.pass).names }
+{
+    let line = if shard == 0 { STATUS } else { SECOND_STATUS };
+    for next in 0..LINES {
+        let answer = host.authorise(rt, &mut caller.pass, line.as_bytes());
+        if matches!(answer, Answer::Set { shard: at, place } if usize::from(at) == shard && place == next)
+        {
+            caller.set = caller.set.saturating_add(1);
+        }
+    }
+}
+
+/// Lets each caller fill a shard, all at once, each in a thread of its own.
+fn fill_at_once<R: Threads + Wait + Sync>(rt: &R, host: &Host<MemoryStore>, callers: &mut [Caller])
+    requires ready { All (λ caller. IsFree host.now caller.pass) callers.old }
+    requires some { 0 < length callers.old }
+    ensures names { (i : ℕ) (d : _) → i < length callers.old
+        → (claims_of (slice_index_or callers.new i d).pass).names ≡ (claims_of (slice_index_or callers.old i d).pass).names }
+    ensures done { All (λ caller. IsFree host.now caller.pass) callers.new }
+{
+    let count = callers.len();
+    thread::for_each_mut(
+        rt,
+        callers,
+        count,
+        &|shard, caller| fill(rt, host, shard, caller),
+    );
+}
+
+/// Two callers at once, over a shard each: how many of their records stand at the places that were next in their shard.
+fn fill_both<R: Threads + Wait + Sync>(rt: &R, alloc: Global) -> Result<u64, Fail> {
+    let mut callers = Vec::with_capacity(alloc, 2)?;
+    let (host, mut pass) = match open_two(alloc) {
+        Ok(Some(made)) => made,
+        Ok(None) => {
+            callers.destroy_empty();
+            return Err("a host".into());
+        }
+        Err(fail) => {
+            callers.destroy_empty();
+            return Err(fail);
+        }
+    };
+    seat_all(&host, &mut pass, 2, &mut callers);
+    fill_at_once(rt, &host, callers.as_mut_slice());
+    let answered = join_all(&host, &mut pass, callers);
+    host.close(pass);
+    Ok(answered.1)
+}
+
+#[test]
+fn callers_over_a_shard_each_fill_its_places(rt: HostRuntime) -> Result<(), Fail> {
+    let filled = fill_both(&rt, rt.alloc())?;
+    assert_eq!(rt; filled, 2 * LINES);
     Ok(())
 }
