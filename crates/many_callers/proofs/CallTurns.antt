@@ -91,7 +91,7 @@ module _ (issuer : Setup) (says : Result Asked Refusal) (claims : ClaimView)
     (logs : ShardView) (answer : Answer) (claims_now : ClaimView) (logs_now : ShardView) where
   finished-turn : (checked : Checked) (between : ClaimView) → EndsIn issuer says (Ok checked) between logs answer claims_now logs_now
       → TakesTurn issuer says logs answer logs_now
-  finished-turn (Decide found claim) between (says_is, turn, claims_are) = record {
+  finished-turn (Decide found claim) between (says_is, turn, claims_are, won) = record {
     shard = shard_of issuer (card_of found.request);
     home = λ other. ap (is_for issuer other) (sym says_is);
     between = turn.between;
@@ -102,7 +102,7 @@ module _ (issuer : Setup) (says : Result Asked Refusal) (claims : ClaimView)
         (records_of (log_after turn.between turn.added)) turn.changes;
     after_is = turn.after_is;
   }
-  finished-turn (Queue found) between (says_is, turn, claims_are) = record {
+  finished-turn (Queue found) between (says_is, turn, claims_are, won) = record {
     shard = shard_of issuer (named found.pan found.psn);
     home = λ other. ap (is_for issuer other) (sym says_is);
     between = turn.between;
@@ -113,7 +113,7 @@ module _ (issuer : Setup) (says : Result Asked Refusal) (claims : ClaimView)
         (records_of (log_after turn.between turn.added)) turn.changes;
     after_is = turn.after_is;
   }
-  finished-turn (Status found) between (says_is, turn, claims_are) = record {
+  finished-turn (Status found) between (says_is, turn, claims_are, won) = record {
     shard = shard_of issuer (named found.pan found.psn);
     home = λ other. ap (is_for issuer other) (sym says_is);
     between = turn.between;

@@ -133,7 +133,7 @@ module _ (issuer : Setup) (before : ClaimView) (logs : ShardView) (answer : Answ
 
   finished-step : (checked : Checked) (between : ClaimView) → PreChecks issuer (Ok (asked_of checked)) before (Ok checked) between
       → EndsIn issuer (Ok (asked_of checked)) (Ok checked) between logs answer after logs_now → ClaimStep issuer (Ok (asked_of checked)) before answer after
-  finished-step (Decide found Won) between (card, number_is, checks) (says_is, turn, claims_are) =
+  finished-step (Decide found Won) between (card, number_is, checks) (says_is, turn, claims_are, won) =
       let (in_window, card_is, kept, new) = checks.claims in
       won-step found.request card checks.top number_is
       (won-answers (shard_of issuer (card_of found.request)) (reply_to issuer) (records_of turn.between) found.request answer
@@ -142,12 +142,12 @@ module _ (issuer : Setup) (before : ClaimView) (logs : ShardView) (answer : Answ
       ∙ ap (λ (view : ClaimView). settled (standing_by answer) found.card found.request.atc view) kept
       ∙ ap (λ (here : ℕ). settled (standing_by answer) here found.request.atc (after_claim Won card found.request.atc (after_top card checks.top before)))
       card_is)
-  finished-step (Decide found Lost) between (card, number_is, checks) (says_is, turn, claims_are) =
+  finished-step (Decide found Lost) between (card, number_is, checks) (says_is, turn, claims_are, won) =
       let (in_window, card_is, kept, new) = checks.claims in
       lost-step found.request card checks.top (claims_are ∙ kept)
-  finished-step (Queue found) between (ok, kept) (says_is, turn, claims_are) =
+  finished-step (Queue found) between (ok, kept) (says_is, turn, claims_are, won) =
       same-step issuer (Ok (asked_of (Queue found))) before answer after (claims_are ∙ kept)
-  finished-step (Status found) between (ok, kept) (says_is, turn, claims_are) =
+  finished-step (Status found) between (ok, kept) (says_is, turn, claims_are, won) =
       same-step issuer (Ok (asked_of (Status found))) before answer after (claims_are ∙ kept)
 
 ended-step : (issuer : Setup) (says : Result Asked Refusal) (before : ClaimView) (logs : ShardView) (answer : Answer) (after : ClaimView) (logs_now : ShardView)

@@ -119,7 +119,7 @@ module _ (issuer : Setup) (before : ClaimView) (logs : ShardView) (answer : Answ
   finished-shown : (checked : Checked) (between : ClaimView) (request : Request) → shard_of issuer (card_of request) < length logs.seen
       → shows_record answer ≡ true → EndsIn issuer (Ok (AsksDecision request)) (Ok checked) between logs answer after logs_now
       → IsDecidedOn (card_of request) request.atc (records_of (items_at logs_now.seen (shard_of issuer (card_of request))))
-  finished-shown (Decide found claim) between request below shows (says_is, turn, claims_are) =
+  finished-shown (Decide found claim) between request below shows (says_is, turn, claims_are, won) =
       let same : found.request ≡ request = cc in
       let here : shard_of issuer (card_of found.request) < length logs.seen =
       subst (λ (request : Request). shard_of issuer (card_of request) < length logs.seen) (sym same) below in
@@ -129,8 +129,8 @@ module _ (issuer : Setup) (before : ClaimView) (logs : ShardView) (answer : Answ
       ∙ items-with_same logs.seen (shard_of issuer (card_of found.request)) (log_after turn.between turn.added) here in
       subst (λ (request : Request). IsDecidedOn (card_of request) request.atc (records_of (items_at logs_now.seen (shard_of issuer (card_of request))))) same
       (subst (λ (items : List LogItem). IsDecidedOn (card_of found.request) found.request.atc (records_of items)) (sym seen) has)
-  finished-shown (Queue found) between request below shows (says_is, turn, claims_are) = absurd (cc)
-  finished-shown (Status found) between request below shows (says_is, turn, claims_are) = absurd (cc)
+  finished-shown (Queue found) between request below shows (says_is, turn, claims_are, won) = absurd (cc)
+  finished-shown (Status found) between request below shows (says_is, turn, claims_are, won) = absurd (cc)
 
   ended-shown : (checked : Result Checked Refusal) (between : ClaimView) (request : Request)
       → PreChecks issuer (Ok (AsksDecision request)) before checked between
@@ -163,10 +163,10 @@ pub record IsLost (issuer : Setup) (says : Result Asked Refusal) (logs : ShardVi
 finished-lost : (issuer : Setup) (before : ClaimView) (logs : ShardView) (after : ClaimView) (logs_now : ShardView) (checked : Checked) (between : ClaimView)
     → PreChecks issuer (Ok (asked_of checked)) before (Ok checked) between
     → EndsIn issuer (Ok (asked_of checked)) (Ok checked) between logs (Refused Pending) after logs_now → IsLost issuer (Ok (asked_of checked)) logs after
-finished-lost issuer before logs after logs_now (Decide found Won) between checks (says_is, turn, claims_are) =
+finished-lost issuer before logs after logs_now (Decide found Won) between checks (says_is, turn, claims_are, won) =
     absurd (won-answers (shard_of issuer (card_of found.request)) (reply_to issuer) (records_of turn.between) found.request (Refused Pending)
     (records_of (log_after turn.between turn.added)) turn.changes refl)
-finished-lost issuer before logs after logs_now (Decide found Lost) between (card, number_is, checks) (says_is, turn, claims_are) =
+finished-lost issuer before logs after logs_now (Decide found Lost) between (card, number_is, checks) (says_is, turn, claims_are, won) =
     let (in_window, card_is, kept, new) = checks.claims in
     let view = after_top card checks.top before in
     let is : after ≡ after_claim Lost card found.request.atc view = claims_are ∙ kept in
@@ -181,8 +181,8 @@ finished-lost issuer before logs after logs_now (Decide found Lost) between (car
       front = turn.front;
       unused = turn.changes.1;
     }
-finished-lost issuer before logs after logs_now (Queue found) between checks (says_is, turn, claims_are) = absurd turn.changes
-finished-lost issuer before logs after logs_now (Status found) between checks (says_is, turn, claims_are) = absurd turn.changes
+finished-lost issuer before logs after logs_now (Queue found) between checks (says_is, turn, claims_are, won) = absurd turn.changes
+finished-lost issuer before logs after logs_now (Status found) between checks (says_is, turn, claims_are, won) = absurd turn.changes
 
 refused-lost : (issuer : Setup) (says : Result Asked Refusal) (before : ClaimView) (between : ClaimView) → (says ≡ Err Pending → ⊥)
     → PreChecks issuer says before (Err Pending) between → ⊥

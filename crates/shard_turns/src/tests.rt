@@ -71,10 +71,10 @@ fn one_shard(alloc: Global, issuer: &Issuer) -> Result<OneShard, Fail>
 {
     let text = Vec::new(alloc);
     let store = MemoryStore::new(alloc, text, 4_096, Vec::new(alloc)).map_err(|_| "a store")?;
-    let mut shards = Vec::with_capacity(alloc, 1)?;
     let mut ahead = Vec::with_capacity(alloc, 1)?;
     ahead.push_reserved(store);
     let stores = Snapshot::of(&ahead);
+    let mut shards = Vec::with_capacity(alloc, 1)?;
     match Shard::load(alloc, ahead.pop().unwrap(), 0, issuer) {
         Ok(shard) => {
             shards.push_reserved(shard);
