@@ -161,7 +161,7 @@ ended-step issuer says before logs answer after logs_now (Ok checked) between ch
     subst (λ (says : Result Asked Refusal). ClaimStep issuer says before answer after) says_is
     (finished-step issuer before logs answer after logs_now checked between
     (subst (λ (says : Result Asked Refusal). PreChecks issuer says before (Ok checked) between) (sym says_is) checks)
-    (refl, ends.1, ends.2))
+    (refl, ends.1, ends.2, ends.3))
 
 call-step : (issuer : Setup) (says : Result Asked Refusal) (before : ClaimView) (logs : ShardView) (answer : Answer) (after : ClaimView) (logs_now : ShardView)
     → Authorises issuer says before logs answer after logs_now → ClaimStep issuer says before answer after

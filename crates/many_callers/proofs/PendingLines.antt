@@ -203,7 +203,7 @@ ended-lost issuer says before logs after logs_now (Ok checked) between never che
     subst (λ (says : Result Asked Refusal). IsLost issuer says logs after) says_is
     (finished-lost issuer before logs after logs_now checked between
     (subst (λ (says : Result Asked Refusal). PreChecks issuer says before (Ok checked) between) (sym says_is) checks)
-    (refl, ends.1, ends.2))
+    (refl, ends.1, ends.2, ends.3))
 
 -- a call that is told that its counter is pending is for a request that lost its claim
 pub call-lost : (issuer : Setup) (says : Result Asked Refusal) (before : ClaimView) (logs : ShardView) (after : ClaimView) (logs_now : ShardView)
