@@ -20,14 +20,14 @@ pub use faults::{
     BadCommand, Full, NoMemory, NotEntry, QueueFull, ReadFault, StoreFail, WriteFault,
 };
 pub use limits::{
-    BARE_COMMAND_BYTES, BARE_TEMPLATE_BYTES, KEPT_BYTES, MAX_BODY_BYTES, MAX_CARDS, MAX_CHIP_BYTES,
-    MAX_FAULTS_TOLD, MAX_KEY_SETS, MAX_PAN_DIGITS, MAX_QUEUED, MAX_REPLY_BYTES, MAX_SHARDS,
-    MAX_STATUS, MAX_STORE_BYTES, MAX_TABLE_ROWS, MAX_TEMPLATE_BYTES, MAX_UNDONE, MIN_PAN_DIGITS,
-    WINDOW,
+    BARE_COMMAND_BYTES, BARE_TEMPLATE_BYTES, KEPT_BYTES, MAX_BODY_BYTES, MAX_CALLERS, MAX_CARDS,
+    MAX_CHIP_BYTES, MAX_FAULTS_TOLD, MAX_KEY_SETS, MAX_PAN_DIGITS, MAX_QUEUED, MAX_REPLY_BYTES,
+    MAX_SHARDS, MAX_STATUS, MAX_STORE_BYTES, MAX_TABLE_ROWS, MAX_TEMPLATE_BYTES, MAX_UNDONE,
+    MIN_PAN_DIGITS, WINDOW,
 };
 pub use outside::{
-    Desk, DeskCall, DeskFault, FailingCalls, MemorySink, MemorySource, Sink, Source, Store,
-    write_all,
+    Desk, DeskCall, DeskFault, FailingCalls, Gate, MemorySink, MemorySource, OpenGate, Sink,
+    Source, Store, write_all,
 };
 pub use pan::Pan;
 pub use request::{Parts, Request};

@@ -6,6 +6,9 @@ pub const MAX_SHARDS: u8 = 16;
 /// How many key sets an issuer has at most.
 pub const MAX_KEY_SETS: usize = 16;
 
+/// How many callers share a host at most.
+pub const MAX_CALLERS: u8 = 16;
+
 /// How many cards an issuer has at most.
 pub const MAX_CARDS: usize = 4_096;
 

@@ -10,6 +10,7 @@ ghost use Rattle.issuer_base.specs.declared.outside.DeskCall.TheVariants.{Log, R
 ghost use Rattle.issuer_base.specs.declared.outside.DeskFault.TheVariants.{NoMemory};
 
 mod failing_calls;
+mod gate;
 mod memory_sink;
 mod memory_source;
 mod store;
@@ -18,6 +19,7 @@ mod tests;
 
 use crate::faults::{ReadFault, WriteFault};
 pub use failing_calls::FailingCalls;
+pub use gate::{Gate, OpenGate};
 pub use memory_sink::MemorySink;
 pub use memory_source::MemorySource;
 use std::alloc::AllocError;
