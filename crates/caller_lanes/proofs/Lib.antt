@@ -1,0 +1,8 @@
+-- The lemmas of this crate.
+mod Every
+mod Merged
+mod HavingTurns
+mod Turning
+mod Serving
+mod Opening
+mod Joining
