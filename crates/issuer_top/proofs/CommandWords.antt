@@ -2,7 +2,7 @@
 use Rattle.std.proofs.Common.{◌≡◌, ℕ, ◌+◌, ◌-◌, ◌*◌, ◌<◌, ◌≤◌, zero, suc, Bool, true, false, List, [], ◌∷◌, length, drop, get_or, Option}
 use Rattle.std.proofs.Common.{refl, sym, ap, ◌∙◌, subst, arith, add-one, inl, inr, ⊎_elim}
 use Rattle.std.proofs.Common.{drop-cons}
-use Rattle.std.specs.Prelude.{◌&&◌, ◌||◌, ◌==◌, ◌%◌, ◌/◌, not, if◌then◌else◌, map, slice_get, Some, None, IsTrue, codes}
+use Rattle.std.specs.Prelude.{◌&&◌, ◌||◌, ◌==◌, ◌%◌, ◌/◌, not, if◌then◌else◌, map, slice_get, Some, None, IsTrue, MatchOption, codes}
 use Rattle.std.specs.Prelude.{◌^◌}
 use Rattle.std.specs.Fmt.{decimal}
 use Rattle.std.specs.Str.{bytes_eq}
@@ -16,7 +16,7 @@ use Rattle.std.proofs.lemmas.List.Elements.{All-from_recursion, recursion_from_A
 use Rattle.issuer_top.specs.declared.words.Command.{Command}
 use Rattle.issuer_top.specs.declared.words.Command.TheVariants.{Serve, Show, World}
 use Rattle.issuer_top.specs.Command.{IsValue, Pair, words_of, values_of, is_one_of, IsCall, IsSize, serve_options, callers_option, show_options, world_options}
-use Rattle.issuer_top.specs.Command.{RequestFile, IsServe, IsShow, IsWorld, IsCommand, IsNoCommand}
+use Rattle.issuer_top.specs.Command.{RequestFile, IsGroup, IsServe, IsShow, IsWorld, IsCommand, IsNoCommand}
 use Rattle.issuer_top.specs.Pairs.{is_value, first_word, options_of, pairs_of, is_pair, are_pairs, only, values_in, value_in, AreWordsWith, AreWordsOf, GivesCallers, Asks, is_within}
 
 -- ---- the pairs of words
@@ -117,6 +117,18 @@ pub only-by_count : (values : List (List ℕ)) (found : Option (List ℕ)) (time
 only-by_count [] found times first count = (λ one. absurd (omega (arith, one, count)), λ other. refl)
 only-by_count (value ∷ []) found times first count = (λ one. sym first, λ other. absurd (other count))
 only-by_count (value ∷ next ∷ values) found times first count = (λ one. absurd (omega (arith, one, count)), λ other. refl)
+
+-- where there is no first value there is none
+none-first : (values : List (List ℕ)) → slice_get values 0 ≡ None → values ≡ []
+none-first [] none = refl
+none-first (value ∷ values) none = absurd (cc)
+
+-- where there is a first value and it is the only one
+pub one-first : (values : List (List ℕ)) (word : List ℕ) (times : ℕ) → Some word ≡ slice_get values 0 → times ≡ length values → times ≡ 1
+    → values ≡ word ∷ []
+one-first [] word times first count one = absurd (cc)
+one-first (value ∷ []) word times first count one = cc
+one-first (value ∷ next ∷ values) word times first count one = absurd (omega (arith, one, count))
 
 -- ---- known pairs
 
@@ -408,6 +420,27 @@ one-number value word number said given is below other other_below =
     let both : Some word ≡ Some (decimal said) = given ∙ other in
     let same : word ≡ decimal said = cc in
     decimal_injective number said (omega (arith, below)) (omega (arith, other_below)) (sym is ∙ same)
+
+-- a word says one number
+pub said-once : (word : List ℕ) (number said : ℕ) → number < 2 ^ 32 → said < 2 ^ 32 → word ≡ decimal number → word ≡ decimal said → number ≡ said
+said-once word number said below other_below is other =
+    decimal_injective number said (omega (arith, below)) (omega (arith, other_below)) (sym is ∙ other)
+
+-- how many callers the words give, by what they give the option
+pub gives-one : (words : List (List ℕ)) → slice_get (values_in words callers_option) 0 ≡ None → GivesCallers words 1
+gives-one words none = inl (none-first (values_in words callers_option) none, refl)
+
+pub gives-group : (words : List (List ℕ)) (word : List ℕ) (result : Option ℕ) → values_in words callers_option ≡ word ∷ []
+    → MatchOption result ((callers : ℕ) → IsGroup callers → word ≡ decimal callers → ⊥) (λ callers. (word ≡ decimal callers) × IsGroup callers)
+    → MatchOption result ((callers : ℕ) → GivesCallers words callers → ⊥) (GivesCallers words)
+gives-group words word None values none = λ callers gives.
+    ⊎_elim
+    (λ absent. absurd (let e : word ∷ [] ≡ [] = sym values ∙ absent.0 in cc))
+    (λ said.
+    let e : word ∷ [] ≡ decimal callers ∷ [] = sym values ∙ said.0 in
+    none callers said.1 (cc))
+    gives
+gives-group words word (Some callers) values said = inr (values ∙ ap (λ (w : List ℕ). w ∷ []) said.0, said.1)
 
 -- ---- one command
 

@@ -248,6 +248,21 @@ module _ (seen : Seen) (requests : Option RequestFile) (journal : List ℕ) (iss
   ends_no_host ReadFault with_config no_requests cause left stopping = absurd cause
   ends_no_host (TooLong line) with_config no_requests cause left stopping = absurd cause
 
+-- the journals gave no host, by what the desk told and counted before
+pub ends_unloaded : (seen : Seen) (requests : Option RequestFile) (journal : List ℕ) (issuer : Setup) (ending : Ending)
+    (set_up : IsSetUp seen requests journal issuer) (other : Logged) (mid : ℕ) (stores : List SeenStore) (cause : Stop)
+    → is_some seen.config ≡ true → is_some seen.requests ≡ false → seen.stores ≡ stores → other ≡ seen.desk.logs → mid ≡ seen.desk.faults_before
+    → GivesNoHost issuer journal other (record { before = mid; after = seen.desk.faults_after; last = seen.desk.last_fault }) stores cause
+    → LeaveJournals journal other stores → StopsAtOnce seen cause ending → EndsBy seen ending
+ends_unloaded seen requests journal issuer ending set_up other mid stores cause with_config no_requests same told stood none left stopping =
+    let logs = seen.desk.logs in
+    ends_no_host seen requests journal issuer ending set_up cause with_config no_requests
+    (subst (λ (ss : List SeenStore). GivesNoHost issuer journal logs
+    (record { before = seen.desk.faults_before; after = seen.desk.faults_after; last = seen.desk.last_fault }) ss cause) (sym same)
+    (no_host-since issuer journal logs other seen.desk.faults_before mid seen.desk.faults_after seen.desk.last_fault stores cause told stood none))
+    (subst (LeaveJournals journal logs) (sym same) (subst (λ (l : Logged). LeaveJournals journal l stores) told left))
+    stopping
+
 -- ---- the ways that serving ends
 
 module _ (seen : Seen) (requests : RequestFile) (journal : List ℕ) (issuer : Setup) (set_up : IsSetUp seen (Some requests) journal issuer) where

@@ -1,12 +1,13 @@
 -- Serving, one line more and to each of its ends.
-use Rattle.std.proofs.Common.{◌≡◌, ℕ, ◌+◌, List, [], ◌∷◌, ◌++◌, length, map, Option, None, Some, Ok, Err}
+use Rattle.std.proofs.Common.{◌≡◌, ℕ, ◌+◌, ◌≤◌, List, [], ◌∷◌, ◌++◌, length, map, Option, None, Some, Ok, Err}
 use Rattle.std.proofs.Common.{refl, sym, ap, subst, ◌∙◌, arith, append-nil, append_assoc, ⊎_elim}
 use Rattle.std.specs.Prelude.{Result}
-use Rattle.std.proofs.lemmas.List.{length-append, map-append}
+use Rattle.std.proofs.lemmas.List.{length-append, length-take, map-append}
 use Rattle.std.specs.List.{flat_map}
 use Rattle.std.specs.Io.KnownBytes.{Appends, Consumes, IsAtEnd}
 use Rattle.std.proofs.KnownBytes.{Appends-nil, Appends-trans, Consumes-nil, Consumes-trans}
 use Rattle.issuer_base.specs.declared.faults.WriteFault.{WriteFault}
+use Rattle.issuer_base.specs.declared.limits.TheConstants.{KEPT_BYTES}
 use Rattle.issuer_base.specs.Sink.{AppendsFront, WritesAll}
 use Rattle.issuer_base.specs.Tells.{Tells}
 use Rattle.issuer_base.proofs.ManyCalls.{AppendsFront-after, Tells-whole}
@@ -221,6 +222,10 @@ pub record HasReadFile (HasServed : List (List ℕ) → List ℕ → List (List 
   pub within : IsWithinLimits (length (lines file)) (length file)
   pub taken : AreTaken HasServed held_before held_after due (lines file)
 
+-- a line in hand is no longer than what is kept of one
+pub kept-given : (old new : Reading) (line : List ℕ) (taken : ℕ) → HasGiven old new line taken → length new.line ≤ KEPT_BYTES
+kept-given old new line taken given = let long = length-take KEPT_BYTES line in let same = ap length given.in_hand in omega (arith, long, same)
+
 -- ---- what is taken
 
 module _ (Before Taken : List (List ℕ) → List ℕ → List (List ℕ) → Type 0) (was mid now held_before held : Option (List ℕ))
@@ -297,18 +302,18 @@ read-end HasServed was mid now held_before held reader new due so_far ends =
 
 -- ---- what is written
 
-module _ (Before After : List (List ℕ) → List ℕ → List (List ℕ) → Type 0) (was now held_before held next : Option (List ℕ)) (reader new : Reading)
-    (due left : List ℕ) (so_far : HasRead Before was now held_before held reader due) where
+module _ (Before After : List (List ℕ) → List ℕ → List (List ℕ) → Type 0) (was now held_before held next : Option (List ℕ)) (reader : Reading)
+    (due : List ℕ) (so_far : HasRead Before was now held_before held reader due) where
   within_so_far : IsWithinLimits (length so_far.whole) (length (flat_map ended so_far.whole))
   within_so_far = subst (λ (n : ℕ). IsWithinLimits n (length (flat_map ended so_far.whole))) so_far.given.lines_counted
       (subst (λ (n : ℕ). IsWithinLimits reader.lines n) so_far.given.bytes_counted so_far.given.within)
 
   -- answers were written where that was due, and serving goes on
-  pub read-on : new ≡ reader
+  pub read-on : (new : Reading) (left : List ℕ) → new ≡ reader
       → ((answered : List (List ℕ)) (text : List ℕ) (waiting : List (List ℕ)) → Before answered text waiting
       → WritesDue After answered text waiting due left held next (Ok tt))
       → HasRead After was now held_before next new left
-  read-on same writes =
+  read-on new left same writes =
       subst (λ (r : Reading). HasRead After was now held_before next r left) (sym same)
       (record {
         read = so_far.read;
@@ -335,11 +340,11 @@ module _ (Before After : List (List ℕ) → List ℕ → List (List ℕ) → Ty
         written = finished.written;
       }
 
-  pub serves-broken_line : (fault : WriteFault)
+  pub serves-broken_line : (left : List ℕ) (fault : WriteFault)
       → ((answered : List (List ℕ)) (text : List ℕ) (waiting : List (List ℕ)) → Before answered text waiting
       → WritesDue After answered text waiting due left held next (Err fault))
       → ServesLines (FrontAnswered (AnswersAll After)) (AppendsFront held_before next) was now
-  serves-broken_line fault writes =
+  serves-broken_line left fault writes =
       serves-front [] now (Consumes-nil now) (broken-due Before After held_before held next due left fault so_far.whole so_far.taken writes)
 
   -- ---- the ends at a fault and at a limit
@@ -376,11 +381,11 @@ module _ (Before After : List (List ℕ) → List ℕ → List (List ℕ) → Ty
         end.ends
 
   -- the input failed
-  pub serves-fault : (later : Option (List ℕ)) (result : Served) → StopsAtFault now later reader new
+  pub serves-fault : (new : Reading) (later : Option (List ℕ)) (result : Served) → StopsAtFault now later reader new
       → ((answered : List (List ℕ)) (text : List ℕ) (waiting : List (List ℕ)) → Before answered text waiting
       → EndsBy After answered text waiting due held next ReadFault result)
       → Serves (AnswersAll After) was later held_before next result
-  serves-fault later result stops ends =
+  serves-fault new later result stops ends =
       let behind = reader.ahead ++ stops.given in
       ends_reading later ReadFault result ends (WholeAnswered (AnswersAll After)) stops.given stops.consumed
       (λ file text answered. record {
@@ -394,11 +399,11 @@ module _ (Before After : List (List ℕ) → List ℕ → List (List ℕ) → Ty
       (λ serves. serves)
 
   -- the input goes past a limit
-  pub serves-limit : (later : Option (List ℕ)) (number : ℕ) (result : Served) → StopsAtLimit now later reader new → number ≡ reader.lines + 1
+  pub serves-limit : (new : Reading) (later : Option (List ℕ)) (number : ℕ) (result : Served) → StopsAtLimit now later reader new → number ≡ reader.lines + 1
       → ((answered : List (List ℕ)) (text : List ℕ) (waiting : List (List ℕ)) → Before answered text waiting
       → EndsBy After answered text waiting due held next (TooLong number) result)
       → Serves (AnswersAll After) was later held_before next result
-  serves-limit later number result stops counted ends =
+  serves-limit new later number result stops counted ends =
       ends_reading later (TooLong number) result ends (PassedAnswered number (AnswersAll After)) stops.given stops.consumed
       (λ file text answered. record {
         whole = so_far.whole;

@@ -62,7 +62,7 @@ pub(crate) trait LineHost<S: Store> {
         requires { may_settle self.old block.old.lines }
         ensures answered { (first : Self) (lines : List (List ℕ)) (text : List ℕ) (waiting : List (List ℕ)) → served first lines text waiting self.old
             → Settles (λ lines text waiting. served first lines text waiting self.new) lines text waiting block.old.text.items block.new.text.items }
-        ensures room { has_room self.new 0 }
+        ensures room { has_room self.new 0 × may_settle self.new 0 }
         ensures settled { is_settled self.new };
 
     /// The stores of its journals, in the order of their shards.

@@ -64,7 +64,7 @@ impl Server {
         W: Sink,
         G: Gate + Sync,
         requires new { IsNew self.old }
-        requires room { H.LineHost.has_room host.old 0 }
+        requires room { H.LineHost.has_room host.old 0 × H.LineHost.may_settle host.old 0 }
         ensures served { (first : H) → H.LineHost.served first [] [] [] host.old
             → Serves (λ lines text. H.LineHost.served first (map kept lines) text [] host.new) (I.left source.old) (I.left source.new)
             (W.held out.old) (W.held out.new) result }
@@ -134,7 +134,7 @@ impl Server {
             → H.LineHost.served first lines text waiting host.old
             → WritesDue (λ lines text waiting. H.LineHost.served first lines text waiting host.new) lines text waiting self.old.block.text.items
             self.new.block.text.items (W.held out.old) (W.held out.new) result }
-        ensures room { OnOk result (H.LineHost.has_room host.new self.new.block.lines) }
+        ensures room { OnOk result (H.LineHost.has_room host.new self.new.block.lines × H.LineHost.may_settle host.new self.new.block.lines) }
         ensures settled { OnErr result (H.LineHost.is_settled host.new) }
         ensures reader { self.new.reader ≡ self.old.reader }
         ensures count { CountsFaults (W.faults out.old) (W.faults out.new) (is_err result) }
@@ -174,7 +174,7 @@ impl Server {
             → WritesAnswers (λ lines text waiting. H.LineHost.served first lines text waiting host.new) lines text waiting self.old.block.text.items
             (W.held out.old) (W.held out.new) result }
         ensures none { self.new.block.text.items ≡ [] }
-        ensures room { H.LineHost.has_room host.new self.new.block.lines }
+        ensures room { H.LineHost.has_room host.new self.new.block.lines × H.LineHost.may_settle host.new self.new.block.lines }
         ensures settled { H.LineHost.is_settled host.new }
         ensures reader { self.new.reader ≡ self.old.reader }
         ensures count { CountsFaults (W.faults out.old) (W.faults out.new) (is_err result) }

@@ -119,7 +119,7 @@ fn callers_of(words: &Words) -> Option<u8>
     requires { length words.now % 2 ≡ 1 }
     ensures { MatchOption result ((callers : ℕ) → GivesCallers words.now callers → ⊥) (GivesCallers words.now) }
 {
-    let given = given(words, "--callers");
+    let given = given_for(words, "--callers");
     match given.first {
         None => Some(1),
         Some(word) if given.times == 1 => group_of(word),
@@ -152,15 +152,6 @@ fn show_names(words: &Words) -> Option<Names<'_>>
         requests: None,
         journal,
     })
-}
-
-/// What the words of the command to serve say of the request lines.
-#[derive(Clone, Copy)]
-pub(crate) struct Requests<'a> {
-    /// The name of their file.
-    pub(crate) file: &'a str,
-    /// How many callers answer them, 1 to 16.
-    pub(crate) callers: u8,
 }
 
 /// The numbers in the words of the command to play a world.
@@ -261,11 +252,12 @@ fn value_of<'a>(words: &'a Words, option: &str) -> Option<&'a str>
     requires { length words.now % 2 ≡ 1 }
     ensures { option_map (λ value. value.now) result ≡ value_in words.now option.now }
 {
-    let given = given(words, option);
+    let given = given_for(words, option);
     if given.times == 1 { given.first } else { None }
 }
 
 /// What the words behind the first one give an option.
+#[derive(Clone, Copy)]
 struct Given<'a> {
     /// How often they give it a value.
     times: usize,
@@ -273,7 +265,7 @@ struct Given<'a> {
     first: Option<&'a str>,
 }
 
-fn given<'a>(words: &'a Words, option: &str) -> Given<'a>
+fn given_for<'a>(words: &'a Words, option: &str) -> Given<'a>
     requires { length words.now % 2 ≡ 1 }
     ensures times { result.times ≡ length (values_in words.now option.now) }
     ensures first { option_map (λ value. value.now) result.first ≡ slice_get (values_in words.now option.now) 0 }

@@ -4,7 +4,7 @@ use Rattle.std.specs.Prelude.{slice_get}
 use Rattle.std.specs.Option.{option_map}
 use Rattle.issuer_top.specs.Command.{values_of}
 use Rattle.issuer_top.specs.Pairs.{pairs_of}
-use Rattle.issuer_top.proofs.words.given.Given as goal
+use Rattle.issuer_top.proofs.words.given_for.Given as goal
 
 abbrev pub invariant-loop-left : goal.invariant-loop-left
 invariant-loop-left l = record {

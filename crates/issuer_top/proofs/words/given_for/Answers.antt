@@ -5,7 +5,7 @@ use Rattle.std.specs.Str.{bytes_eq}
 use Rattle.issuer_top.specs.Command.{values_of}
 use Rattle.issuer_top.specs.Pairs.{pairs_of}
 use Rattle.issuer_top.proofs.CommandWords.{values-more, values-same}
-use Rattle.issuer_top.proofs.words.given.Goals as goal
+use Rattle.issuer_top.proofs.words.given_for.Goals as goal
 
 pub loop-left-preserved-then-eq : goal.loop-left-preserved-then-eq
 loop-left-preserved-then-eq c =
