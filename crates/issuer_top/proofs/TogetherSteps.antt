@@ -46,10 +46,10 @@ use Rattle.many_callers.specs.OwnPlaces.{AreOwnPlaces, all_faults_told}
 use Rattle.many_callers.specs.Settled.{TellNoFault, AreSettled}
 use Rattle.caller_lanes.specs.Dealing.{every, AreDealt}
 use Rattle.caller_lanes.specs.declared.lanes.Lanes.{Lanes}
-use Rattle.caller_lanes.specs.Lanes.{HasSameHost, HasServed as LanesServe}
+use Rattle.caller_lanes.specs.Lanes.{issuer_in, opening_logs, callers_in, HasSameHost, HasClosed, HasServed as LanesServe}
 use Rattle.issuer_top.specs.Answers.{AreAnsweredTogether, AreBooksOf, AnswersNone, ByCallers, AreAnsweredBy}
 use Rattle.issuer_top.specs.Configuration.{HasSoundParts}
-use Rattle.issuer_top.specs.Hosts.{TakesLine, Settles, LeavesAnswered, LeavesLoaded, HaveAnswered}
+use Rattle.issuer_top.specs.Hosts.{TakesLine, Settles, LeavesAnswered, LeavesLoaded, IsReadyTogether, HaveAnswered}
 use Rattle.issuer_top.specs.Journals.{journal_name, IsOpened, AreOpened}
 use Rattle.issuer_top.specs.Kept.{WasJournal, LeavesNow, KeepsJournal, KeepJournals}
 use Rattle.issuer_top.specs.Seen.{Logged, SeenStore, store_seen}
@@ -76,11 +76,6 @@ calls-kept issuer (line ∷ asked) (answer ∷ answers) claims logs claims_now l
 )
 calls-kept issuer [] (answer ∷ answers) claims logs claims_now logs_now calls = absurd calls
 calls-kept issuer (line ∷ asked) [] claims logs claims_now logs_now calls = absurd calls
-
--- a caller with other lines
-with_lines : Caller → List (List ℕ) → Caller
-with_lines caller asked = record caller { lines = asked }
-unfolding with_lines
 
 -- callers, from the one of this number on, with the lines of their turns
 abbrev with_turns : ℕ → ℕ → List (List ℕ) → List Caller → List Caller
@@ -224,11 +219,10 @@ opening_book log = book_of log log.head.faults
 
 module _ {S : Type 0} (faults : S → ℕ) where
   -- the books of logs at close, with the counts of their stores
-  closing_books : List (Log LogItem LogHead) → List S → List Book
+  abbrev closing_books : List (Log LogItem LogHead) → List S → List Book
   closing_books [] stores = []
   closing_books (log ∷ logs) [] = book_of log 0 ∷ closing_books logs []
   closing_books (log ∷ logs) (store ∷ stores) = book_of log (faults store) ∷ closing_books logs stores
-  unfolding closing_books
 
   length-closing : (logs : List (Log LogItem LogHead)) (stores : List S) → length (closing_books logs stores) ≡ length logs
   length-closing [] stores = refl
@@ -289,12 +283,11 @@ module _ {S : Type 0} {G : Ghosts S} (count : ℕ) (issuer : Setup) (prefix : Li
     (opening logs : List (Log LogItem LogHead)) (stores_are : length stores ≡ issuer.shards) (opened : AreOpened G prefix told stores)
     (opens : AreOpenedFrom G.bytes G.faults issuer stores opening) (same_count : length logs ≡ length opening)
     (closed : AreClosed G.bytes G.disk G.faults issuer opening logs back) where
-  first_books : List Book
+  abbrev first_books : List Book
   first_books = map opening_book opening
 
-  last_books : List Book
+  abbrev last_books : List Book
   last_books = closing_books G.faults logs back
-  unfolding first_books, last_books
 
   count-first : length first_books ≡ issuer.shards
   count-first = length-map opening opening_book ∙ opens.count_is ∙ stores_are
@@ -545,6 +538,56 @@ module _ {S : Type 0} {G : Ghosts S} (count : ℕ) (issuer : Setup) (prefix : Li
       none = record { same_histories = same-histories; none_told = no-fault; alone = λ one. absurd (omega (arith, one, more)) };
       left = λ one. absurd (omega (arith, one, more));
     }
+
+-- ---- what it leaves, by what its close says
+
+module _ {S : Type 0} {G : Ghosts S} (issuer : Setup) (prefix : List ℕ) (told : Logged) where
+  -- a host under the issuer that it was loaded for was closed
+  module _ (first now : Lanes S G) (back : List S) (ready : IsReadyTogether issuer prefix told first) (same : HasSameHost first now)
+      (asked : List (List ℕ)) (answers : List Answer) where
+    closed-under : HasClosed G.bytes G.disk G.faults (issuer_in now) (opening_logs now) (callers_in now) asked answers back
+        → HasClosed G.bytes G.disk G.faults issuer (opening_logs first) (callers_in first) asked answers back
+    closed-under closed =
+        subst (λ (i : Setup). HasClosed G.bytes G.disk G.faults i (opening_logs first) (callers_in first) asked answers back)
+        (same.same_issuer ∙ ready.issuer_is)
+        (subst (λ (o : List (Log LogItem LogHead)). HasClosed G.bytes G.disk G.faults (issuer_in now) o (callers_in first) asked answers back)
+        same.same_opening
+        (subst (λ (n : ℕ). HasClosed G.bytes G.disk G.faults (issuer_in now) (opening_logs now) n asked answers back) same.same_callers closed))
+
+  pub closes-together : (first now : Lanes S G) (back : List S) → IsReadyTogether issuer prefix told first → HasSoundParts issuer
+      → (asked : List (List ℕ)) (text : List ℕ) → HaveAnswered first (map kept asked) text [] now
+      → ((issuer : Setup) (opening logs : List (Log LogItem LogHead)) (callers : List Caller) → AreCallers issuer opening logs callers
+      → AreExplained issuer opening logs callers)
+      → ((issuer : Setup) (opening logs : List (Log LogItem LogHead)) (callers : List Caller) → AreCallers issuer opening logs callers
+      → AreOwnPlaces issuer opening logs callers)
+      → ((issuer : Setup) (opening logs : List (Log LogItem LogHead)) (callers : List Caller) → AreCallers issuer opening logs callers
+      → TellNoFault issuer logs → AreSettled issuer opening callers)
+      → ((issuer : Setup) (opening logs : List (Log LogItem LogHead)) (callers : List Caller) → AreCallers issuer opening logs callers
+      → AreFaultsCounted issuer logs callers)
+      → ((lines : List (List ℕ)) (answers due : List Answer) → LanesServe now lines answers due []
+      → HasClosed G.bytes G.disk G.faults (issuer_in now) (opening_logs now) (callers_in now) lines answers back)
+      → LeavesAnswered (callers_in first) issuer prefix told (map (store_seen G) back) asked text
+  closes-together first now back ready sound asked text so_far explained own settled counted closes =
+      let answers = so_far.answers in
+      let c = closed-under first now back ready so_far.same (map kept asked) answers (closes (map kept asked) answers [] so_far.served) in
+      let count = callers_in first in
+      let opening = opening_logs first in
+      let callers = askers count asked answers c.callers c.dealt in
+      let shared = callers-kept count asked answers c.callers c.dealt issuer opening c.logs c.shared in
+      leaves-together count issuer prefix told ready.stores back opening c.logs ready.stores_are ready.opened ready.opening c.shared.same_count c.closed
+      ready.several sound asked answers callers (dealt-kept count asked answers c.callers c.dealt) shared
+      (explained issuer opening c.logs callers shared) (own issuer opening c.logs callers shared) (settled issuer opening c.logs callers shared)
+      (counted issuer opening c.logs callers shared) text so_far.text_is
+
+  pub closes-loaded_together : (host : Lanes S G) (back : List S) → IsReadyTogether issuer prefix told host
+      → ((lines : List (List ℕ)) (answers due : List Answer) → LanesServe host lines answers due []
+      → HasClosed G.bytes G.disk G.faults (issuer_in host) (opening_logs host) (callers_in host) lines answers back)
+      → LeavesLoaded (callers_in host) issuer prefix told (map (store_seen G) back)
+  closes-loaded_together host back ready closes =
+      let c = closed-under host host back ready (record { same_issuer = refl; same_opening = refl; same_callers = refl }) [] []
+      (closes [] [] [] ready.none) in
+      leaves-loaded_together (callers_in host) issuer prefix told ready.stores back (opening_logs host) c.logs ready.stores_are ready.opened ready.opening
+      c.shared.same_count c.closed ready.several c.callers c.dealt c.shared
 
 -- ---- a line more
 

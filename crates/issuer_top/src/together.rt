@@ -7,6 +7,10 @@ use crate::block::Block;
 use crate::hosts::LineHost;
 use caller_lanes::Lanes;
 use issuer_base::{Gate, Store};
+use many_callers::{
+    every_answer_is_explained, every_counter_is_settled, every_record_is_one_answers,
+    faults_are_counted,
+};
 use std::sync::Wait;
 use std::thread::Threads;
 
@@ -51,6 +55,10 @@ impl<S: Store> LineHost<S> for Lanes<S> {
     }
 
     fn close(self) -> Vec<S> {
+        every_answer_is_explained();
+        every_record_is_one_answers();
+        every_counter_is_settled();
+        faults_are_counted();
         Lanes::close(self)
     }
 }
