@@ -1,7 +1,7 @@
 //! Lines that one caller answers, each at once.
 ghost use Rattle.std.specs.Prelude.{◌<◌, ◌≤◌, ⊤};
 ghost use Rattle.issuer_top.specs.Hosts.{IsReadySolo, HasAnswered};
-ghost use Rattle.issuer_top.specs.declared.block.TheConstants.{BLOCK_LINES};
+ghost use Rattle.caller_lanes.specs.declared.lanes.TheConstants.{BLOCK_LINES};
 
 use crate::block::Block;
 use crate::hosts::LineHost;

@@ -161,7 +161,7 @@ where
     D: Desk,
     W: Sink,
     G: Gate + Sync,
-    requires { IfSome names.entry.requests (λ requests. IsGroup requests.callers) }
+    requires { IfSome names.requests (λ requests. IsGroup requests.callers) }
     ensures { (words : List (List ℕ)) → IsCommand words names.entry.config.now (option_map request_file names.entry.requests) names.entry.journal.now
         → EndsBy (seen_of words (desk_seen D.Desk desk.old desk.new)
         (option_map (input_seen D.Input.Source) result.config) (option_map (input_seen D.Input.Source) result.requests)
@@ -230,7 +230,7 @@ where
     D: Desk,
     W: Sink,
     G: Gate + Sync,
-    requires { IfSome names.entry.requests (λ requests. IsGroup requests.callers) }
+    requires { IfSome names.requests (λ requests. IsGroup requests.callers) }
     ensures { (words : List (List ℕ)) (given : D) (config : SeenInput)
         → let seen = seen_of words (desk_seen D.Desk given desk.new) (Some config) (option_map (input_seen D.Input.Source) result.requests)
         (map (store_seen D.Journal.Store) result.stores.items) (sink_seen W.Sink out.old out.new) in
