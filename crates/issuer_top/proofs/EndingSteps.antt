@@ -396,7 +396,7 @@ module _ (seen : Seen) (requests : RequestFile) (journal : List ℕ) (issuer : S
         → CountsFaults seen.sink.faults_before faults (write_failed served)
         → fresh ≡ 0 → (read_failed served ≡ true → Rose fresh input.faults)
         → EndsServing held seen.sink.held_after faults seen.sink.faults_after served ending → EndsBy seen ending
-    unfolding answers-served, all-served, whole-served, passed-served, front-served
+    unfolding answers-served all-served whole-served passed-served front-served
     ends_serving All ending held faults fresh serves counts none failed ends =
         let written : Appends seen.sink.held_before seen.sink.held_after serves.text =
         subst (λ (h : Option (List ℕ)). Appends seen.sink.held_before h serves.text) (sym ends.same) serves.written in

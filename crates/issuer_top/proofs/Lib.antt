@@ -10,6 +10,7 @@ pub mod KeptSteps
 pub mod LeftSteps
 pub mod AloneSteps
 pub mod TogetherSteps
+pub mod HostSteps
 pub mod LoadingSteps
 pub mod ShowSteps
 pub mod EndingSteps

@@ -2,7 +2,8 @@
 use Rattle.std.proofs.Common.{◌≡◌, ℕ, ◌+◌, ◌-◌, ◌^◌, ◌<◌, ◌≤◌, zero, suc, false, List, [], ◌∷◌, ◌++◌, length, take, map, Option, None, Some}
 use Rattle.std.proofs.Common.{refl, sym, ap, subst, ◌∙◌, arith, append-nil, append_assoc, inl, inr, ⊎_elim}
 use Rattle.std.specs.Prelude.{slice_get, IfSome, All}
-use Rattle.std.proofs.lemmas.List.{length-map, take_all, flat_map_more, flat_map-append}
+use Rattle.std.proofs.lemmas.List.{length-map, take_all, flat_map_more}
+use Rattle.std.proofs.lemmas.Grind.{flat_map-append}
 use Rattle.std.proofs.lemmas.Option.{slice_get_within}
 use Rattle.std.specs.List.{flat_map}
 use Rattle.issuer_base.specs.OutsideFaults.{Rose}
@@ -106,6 +107,14 @@ turns-at count number asked (first ∷ callers) (suc place) caller is =
       is = rest.is ∙ ap (λ (n : ℕ). record rest.was { lines = every count n asked }) (omega arith);
     }
 
+-- and of those from the first one on
+first-turn : (count : ℕ) (asked : List (List ℕ)) (callers : List Caller) (place : ℕ) (caller : Caller)
+    → slice_get (with_turns count 0 asked callers) place ≡ Some caller
+    → (was : Caller) × (slice_get callers place ≡ Some was) × (caller ≡ record was { lines = every count place asked })
+first-turn count asked callers place caller is =
+    let at = turns-at count 0 asked callers place caller is in
+    (at.was, at.was_at, at.is ∙ ap (λ (n : ℕ). record at.was { lines = every count n asked }) (omega arith))
+
 length-turns : (count number : ℕ) (asked : List (List ℕ)) (callers : List Caller) → length (with_turns count number asked callers) ≡ length callers
 length-turns count number asked [] = refl
 length-turns count number asked (caller ∷ callers) = ap suc (length-turns count (suc number) asked callers)
@@ -126,10 +135,10 @@ module _ (count : ℕ) (asked : List (List ℕ)) (answers : List Answer) (caller
   dealt-kept = record {
     count_is = length-turns count 0 asked callers ∙ dealt.count_is;
     answered = dealt.answered ∙ length-map asked kept;
-    lines_are = λ number caller is. let at = turns-at count 0 asked callers number caller is in ap (λ (c : Caller). c.lines) at.is;
+    lines_are = λ number caller is. let at = first-turn count asked callers number caller is in ap (λ (c : Caller). c.lines) at.2;
     answers_are = λ number caller is.
-        let at = turns-at count 0 asked callers number caller is in
-        ap (λ (c : Caller). c.answers) at.is ∙ dealt.answers_are number at.was at.was_at;
+        let at = first-turn count asked callers number caller is in
+        ap (λ (c : Caller). c.answers) at.2 ∙ dealt.answers_are number at.0 at.1;
   }
 
   pub callers-kept : (issuer : Setup) (opening logs : List (Log LogItem LogHead)) → AreCallers issuer opening logs callers
@@ -140,24 +149,24 @@ module _ (count : ℕ) (asked : List (List ℕ)) (answers : List Answer) (caller
     same_count = are.same_count;
     heads = are.heads;
     each = λ number caller is.
-        let at = turns-at count 0 asked callers number caller is in
-        let one = are.each number at.was at.was_at in
-        let lines_are = dealt.lines_are number at.was at.was_at ∙ every-map kept count number asked in
-        subst (IsCaller issuer opening) (sym at.is)
+        let at = first-turn count asked callers number caller is in
+        let one = are.each number at.0 at.1 in
+        let lines_are = dealt.lines_are number at.0 at.1 ∙ every-map kept count number asked in
+        subst (IsCaller issuer opening) (sym at.2)
         (record {
           no_claims = one.no_claims;
           no_found = one.no_found;
           no_tops = one.no_tops;
           no_places = one.no_places;
           opened = one.opened;
-          calls = calls-kept issuer (every count number asked) at.was.answers at.was.claims at.was.logs at.was.claims_now at.was.logs_now
-              (subst (λ (ls : List (List ℕ)). Calls issuer ls at.was.answers at.was.claims at.was.logs at.was.claims_now at.was.logs_now) lines_are
+          calls = calls-kept issuer (every count number asked) at.0.answers at.0.claims at.0.logs at.0.claims_now at.0.logs_now
+              (subst (λ (ls : List (List ℕ)). Calls issuer ls at.0.answers at.0.claims at.0.logs at.0.claims_now at.0.logs_now) lines_are
               one.calls);
         });
     seen = λ number shard caller is.
-        let at = turns-at count 0 asked callers number caller is in
-        subst (λ (c : Caller). take (length (items_at c.logs_now.seen shard)) (items_at logs shard) ≡ items_at c.logs_now.seen shard) (sym at.is)
-        (are.seen number shard at.was at.was_at);
+        let at = first-turn count asked callers number caller is in
+        subst (λ (c : Caller). take (length (items_at c.logs_now.seen shard)) (items_at logs shard) ≡ items_at c.logs_now.seen shard) (sym at.2)
+        (are.seen number shard at.0 at.1);
     opening_front = are.opening_front;
     own = λ shard place below.
         total-turns (λ caller. times_placed shard place caller.logs_now.mine) (λ caller lines. refl) count 0 asked callers ∙ are.own shard place below;
@@ -256,13 +265,14 @@ if-told P Q None to holds = tt
 if-told P Q (Some d) to holds = to d holds
 
 -- nothing is dealt where there is nothing
-every-none : {A : Type 0} (count skip : ℕ) → every {A} count skip [] ≡ []
-every-none count skip = refl
+every-none : {A : Type 0} (count skip : ℕ) → every {A = A} count skip [] ≡ []
+every-none count zero = refl
+every-none count (suc skip) = refl
 
 -- a sum of nothing
 total-zero : {A : Type 0} (f : A → ℕ) (xs : List A) → ((number : ℕ) (x : A) → slice_get xs number ≡ Some x → f x ≡ 0) → total f xs ≡ 0
 total-zero f [] none = refl
-total-zero f (x ∷ xs) none = ap (λ (n : ℕ). n + total f xs) (none zero x refl) ∙ total-zero f xs (λ number. none (suc number))
+total-zero f (x ∷ xs) none = let here = none zero x refl in let rest = total-zero f xs (λ number. none (suc number)) in omega (arith, here, rest)
 
 -- where no place is between two counts, the second isn't above the first
 between-none : (first last : ℕ) → between first last first ≡ 0 → last ≤ first
@@ -491,10 +501,9 @@ module _ {S : Type 0} {G : Ghosts S} (count : ℕ) (issuer : Setup) (prefix : Li
     no-places : (shard place : ℕ) (caller : Caller) → (number : ℕ) → slice_get callers number ≡ Some caller → times_placed shard place caller.logs_now.mine ≡ 0
     no-places shard place caller number is =
         let one = shared.each number caller is in
-        let none = every-none count number in
         let lines_are : caller.lines ≡ [] = dealt.lines_are number caller is ∙ every-none count number in
         let answers_are : caller.answers ≡ [] = dealt.answers_are number caller is ∙ every-none count number in
-        let calls = subst (λ (as : List Answer). Calls issuer [] as caller.claims caller.logs caller.claims_now caller.logs_now) answers_are
+        let calls = subst (λ (given : List Answer). Calls issuer [] given caller.claims caller.logs caller.claims_now caller.logs_now) answers_are
         (subst (λ (ls : List (List ℕ)). Calls issuer ls caller.answers caller.claims caller.logs caller.claims_now caller.logs_now) lines_are one.calls) in
         ap (λ (view : TurnView LogItem LogHead). times_placed shard place view.mine) calls.1 ∙ ap (times_placed shard place) one.no_places
 
@@ -648,8 +657,8 @@ module _ {S : Type 0} {G : Ghosts S} where
     rest = next.0;
     due = more ∙ ap (λ (t : List ℕ). t ++ printed answer) so_far.due ∙ append_assoc was_due (flat_map printed so_far.taken) (printed answer)
         ∙ ap (λ (t : List ℕ). was_due ++ t) (flat_map_more printed [] so_far.taken answer);
-    served = subst (λ (as : List Answer). LanesServe now (lines ++ waiting) (answers ++ as) next.0 [])
-        (ap (λ (as : List Answer). so_far.taken ++ as) next.1 ∙ sym (append_assoc so_far.taken (answer ∷ []) next.0)) next.2;
+    served = subst (λ (rest : List Answer). LanesServe now (lines ++ waiting) (answers ++ rest) next.0 [])
+        (ap (λ (rest : List Answer). so_far.taken ++ rest) next.1 ∙ sym (append_assoc so_far.taken (answer ∷ []) next.0)) next.2;
   }
 
   -- all were taken
@@ -664,7 +673,7 @@ module _ {S : Type 0} {G : Ghosts S} where
       same = same-again first old now so_far.same taking.same;
       answers = so_far.answers ++ taking.taken;
       text_is = ap (λ (t : List ℕ). t ++ flat_map printed taking.taken) so_far.text_is ∙ sym (flat_map-append printed so_far.answers taking.taken);
-      served = subst (λ (as : List Answer). LanesServe now (lines ++ waiting) (so_far.answers ++ as) [] [])
+      served = subst (λ (rest : List Answer). LanesServe now (lines ++ waiting) (so_far.answers ++ rest) [] [])
           (append-nil taking.taken)
           (subst (λ (rest : List Answer). LanesServe now (lines ++ waiting) (so_far.answers ++ (taking.taken ++ rest)) rest []) none taking.served);
     };

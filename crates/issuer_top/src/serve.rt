@@ -33,7 +33,7 @@ pub(crate) enum Served {
 }
 
 impl Server {
-    ghost use Rattle.issuer_top.specs.Hosts.{TakesLine};
+    ghost use Rattle.issuer_top.specs.Hosts.{TakesLine, HasServed, MaySettle, HasRoom, IsSettled};
     ghost use Rattle.issuer_top.specs.Serving.{IsNew, Serves, WritesAnswers, WritesDue, EndsBy, read_failed, write_failed};
 
     /// All the memory that serving takes.
@@ -48,27 +48,26 @@ impl Server {
 
     /// Answers the lines of an input. Answers are written where the host or their block is full, and before more of the input is
     /// waited for.
-    pub(crate) fn serve<R, H, T, I, W, G>(
+    pub(crate) fn serve<R, T, I, W, G>(
         &mut self,
         rt: &R,
         gate: &G,
-        host: &mut H,
+        host: &mut LineHost<T>,
         source: &mut I,
         out: &mut W,
     ) -> Served
     where
         R: Threads + Wait + Sync,
-        H: LineHost<T>,
         T: Store,
         I: Source,
         W: Sink,
         G: Gate + Sync,
         requires new { IsNew self.old }
-        requires room { H.LineHost.has_room host.old 0 × H.LineHost.may_settle host.old 0 }
-        ensures served { (first : H) → H.LineHost.served first [] [] [] host.old
-            → Serves (λ lines text. H.LineHost.served first (map kept lines) text [] host.new) (I.left source.old) (I.left source.new)
+        requires room { HasRoom host.old 0 × MaySettle host.old 0 }
+        ensures served { (first : LineHost T T.Store) → HasServed first [] [] [] host.old
+            → Serves (λ lines text. HasServed first (map kept lines) text [] host.new) (I.left source.old) (I.left source.new)
             (W.held out.old) (W.held out.new) result }
-        ensures settled { H.LineHost.is_settled host.new }
+        ensures settled { IsSettled host.new }
         ensures source_count { read_failed result ≡ true → Rose (I.faults source.old) (I.faults source.new) }
         ensures sink_count { CountsFaults (W.faults out.old) (W.faults out.new) (write_failed result) }
     {
@@ -96,19 +95,19 @@ impl Server {
     }
 
     /// Lets the host take the line in hand.
-    fn take_line<R: Wait, H: LineHost<T>, T: Store, G: Gate>(
+    fn take_line<R: Wait, T: Store, G: Gate>(
         &mut self,
         rt: &R,
         gate: &G,
-        host: &mut H,
+        host: &mut LineHost<T>,
     )
-        requires room { H.LineHost.has_room host.old self.old.block.lines }
+        requires room { HasRoom host.old self.old.block.lines }
         requires kept { length self.old.reader.line ≤ KEPT_BYTES }
-        ensures taken { (first : H) (lines : List (List ℕ)) (text : List ℕ) (waiting : List (List ℕ))
-            → H.LineHost.served first lines text waiting host.old
-            → TakesLine (λ lines text waiting. H.LineHost.served first lines text waiting host.new) lines text waiting self.old.reader.line
+        ensures taken { (first : LineHost T T.Store) (lines : List (List ℕ)) (text : List ℕ) (waiting : List (List ℕ))
+            → HasServed first lines text waiting host.old
+            → TakesLine (λ lines text waiting. HasServed first lines text waiting host.new) lines text waiting self.old.reader.line
             self.old.block.text.items self.new.block.text.items }
-        ensures open { H.LineHost.may_settle host.new self.new.block.lines }
+        ensures open { MaySettle host.new self.new.block.lines }
         ensures reader { self.new.reader ≡ self.old.reader }
     {
         let number = u64::from(self.reader.number());
@@ -116,26 +115,25 @@ impl Server {
     }
 
     /// Settles the lines that wait and writes the answers, where that is due.
-    fn write_due<R, H, T, W, G>(
+    fn write_due<R, T, W, G>(
         &mut self,
         rt: &R,
         gate: &G,
-        host: &mut H,
+        host: &mut LineHost<T>,
         out: &mut W,
     ) -> Result<(), WriteFault>
     where
         R: Threads + Wait + Sync,
-        H: LineHost<T>,
         T: Store,
         W: Sink,
         G: Gate + Sync,
-        requires open { H.LineHost.may_settle host.old self.old.block.lines }
-        ensures written { (first : H) (lines : List (List ℕ)) (text : List ℕ) (waiting : List (List ℕ))
-            → H.LineHost.served first lines text waiting host.old
-            → WritesDue (λ lines text waiting. H.LineHost.served first lines text waiting host.new) lines text waiting self.old.block.text.items
+        requires open { MaySettle host.old self.old.block.lines }
+        ensures written { (first : LineHost T T.Store) (lines : List (List ℕ)) (text : List ℕ) (waiting : List (List ℕ))
+            → HasServed first lines text waiting host.old
+            → WritesDue (λ lines text waiting. HasServed first lines text waiting host.new) lines text waiting self.old.block.text.items
             self.new.block.text.items (W.held out.old) (W.held out.new) result }
-        ensures room { OnOk result (H.LineHost.has_room host.new self.new.block.lines × H.LineHost.may_settle host.new self.new.block.lines) }
-        ensures settled { OnErr result (H.LineHost.is_settled host.new) }
+        ensures room { OnOk result (HasRoom host.new self.new.block.lines × MaySettle host.new self.new.block.lines) }
+        ensures settled { OnErr result (IsSettled host.new) }
         ensures reader { self.new.reader ≡ self.old.reader }
         ensures count { CountsFaults (W.faults out.old) (W.faults out.new) (is_err result) }
     {
@@ -147,35 +145,34 @@ impl Server {
     }
 
     /// Whether answers are to be written before more is read: no other line can be taken, or no whole line is in hand.
-    fn is_due<H: LineHost<T>, T: Store>(&self, host: &H) -> bool
-        requires { H.LineHost.may_settle host.now self.now.block.lines }
-        ensures { result ≡ false → H.LineHost.has_room host.now self.now.block.lines }
+    fn is_due<T: Store>(&self, host: &LineHost<T>) -> bool
+        requires { MaySettle host.now self.now.block.lines }
+        ensures { result ≡ false → HasRoom host.now self.now.block.lines }
     {
         host.is_full(&self.block) || !self.reader.has_line()
     }
 
     /// Settles the lines that wait, and writes all answers.
-    fn write<R, H, T, W, G>(
+    fn write<R, T, W, G>(
         &mut self,
         rt: &R,
         gate: &G,
-        host: &mut H,
+        host: &mut LineHost<T>,
         out: &mut W,
     ) -> Result<(), WriteFault>
     where
         R: Threads + Wait + Sync,
-        H: LineHost<T>,
         T: Store,
         W: Sink,
         G: Gate + Sync,
-        requires open { H.LineHost.may_settle host.old self.old.block.lines }
-        ensures written { (first : H) (lines : List (List ℕ)) (text : List ℕ) (waiting : List (List ℕ))
-            → H.LineHost.served first lines text waiting host.old
-            → WritesAnswers (λ lines text waiting. H.LineHost.served first lines text waiting host.new) lines text waiting self.old.block.text.items
+        requires open { MaySettle host.old self.old.block.lines }
+        ensures written { (first : LineHost T T.Store) (lines : List (List ℕ)) (text : List ℕ) (waiting : List (List ℕ))
+            → HasServed first lines text waiting host.old
+            → WritesAnswers (λ lines text waiting. HasServed first lines text waiting host.new) lines text waiting self.old.block.text.items
             (W.held out.old) (W.held out.new) result }
         ensures none { self.new.block.text.items ≡ [] }
-        ensures room { H.LineHost.has_room host.new self.new.block.lines × H.LineHost.may_settle host.new self.new.block.lines }
-        ensures settled { H.LineHost.is_settled host.new }
+        ensures room { HasRoom host.new self.new.block.lines × MaySettle host.new self.new.block.lines }
+        ensures settled { IsSettled host.new }
         ensures reader { self.new.reader ≡ self.old.reader }
         ensures count { CountsFaults (W.faults out.old) (W.faults out.new) (is_err result) }
     {
@@ -184,26 +181,25 @@ impl Server {
     }
 
     /// Settles the lines that wait, writes the answers that are left, and says how serving ended.
-    fn end<R, H, T, W, G>(
+    fn end<R, T, W, G>(
         &mut self,
         rt: &R,
         gate: &G,
-        host: &mut H,
+        host: &mut LineHost<T>,
         served: Served,
         out: &mut W,
     ) -> Served
     where
         R: Threads + Wait + Sync,
-        H: LineHost<T>,
         T: Store,
         W: Sink,
         G: Gate + Sync,
-        requires open { H.LineHost.may_settle host.old self.old.block.lines }
-        ensures ended { (first : H) (lines : List (List ℕ)) (text : List ℕ) (waiting : List (List ℕ))
-            → H.LineHost.served first lines text waiting host.old
-            → EndsBy (λ lines text waiting. H.LineHost.served first lines text waiting host.new) lines text waiting self.old.block.text.items
+        requires open { MaySettle host.old self.old.block.lines }
+        ensures ended { (first : LineHost T T.Store) (lines : List (List ℕ)) (text : List ℕ) (waiting : List (List ℕ))
+            → HasServed first lines text waiting host.old
+            → EndsBy (λ lines text waiting. HasServed first lines text waiting host.new) lines text waiting self.old.block.text.items
             (W.held out.old) (W.held out.new) served result }
-        ensures settled { H.LineHost.is_settled host.new }
+        ensures settled { IsSettled host.new }
         ensures count { write_failed served ≡ false → CountsFaults (W.faults out.old) (W.faults out.new) (write_failed result) }
         ensures read { read_failed result ≡ true → read_failed served ≡ true }
     {

@@ -4,7 +4,7 @@ ghost use Rattle.std.specs.Option.{option_map};
 ghost use Rattle.issuer_setup.specs.IssuerSetup.{Setup};
 ghost use Rattle.issuer_top.specs.Configuration.{HasSoundParts};
 ghost use Rattle.issuer_top.specs.Opening.{stop_of};
-ghost use Rattle.issuer_top.specs.Hosts.{IsReadySolo};
+ghost use Rattle.issuer_top.specs.Hosts.{IsReadySolo, callers_of, IsReady, HasServed, MaySettle, HasRoom, IsSettled};
 ghost use Rattle.issuer_top.specs.Status.{IsStatus};
 ghost use Rattle.issuer_top.specs.Stopping.{EndsServing, GivesStop};
 ghost use Rattle.issuer_top.specs.Seen.{SeenDesk, SeenInput, IsSameDesk, seen_of, seen_by, desk_seen, input_seen, store_seen, sink_seen};
@@ -15,7 +15,7 @@ ghost use Rattle.issuer_top.specs.Endings.{IsSetUp, EndsBy, Writes, IsDone, IsUs
 use crate::config::read_issuer;
 use crate::ending::{Ending, end_writing, status_of};
 use crate::hosts::LineHost;
-use crate::journals::{NoHost, load_alone, load_together};
+use crate::journals::{NoHost, load_alone, load_host};
 use crate::play::play_world;
 use crate::serve::{Served, Server};
 use crate::show::show;
@@ -243,14 +243,8 @@ where
             Ok(host) => show_cards::<D, W>(host, out),
             Err(back) => not_loaded(back, out),
         },
-        Some(requests) if requests.callers == 1 => {
-            match load_alone(alloc, desk, names.journal, issuer) {
-                Ok(host) => serve_requests(rt, host, desk, requests.file, out, gate),
-                Err(back) => not_loaded(back, out),
-            }
-        }
         Some(requests) => {
-            match load_together(alloc, desk, names.journal, issuer, requests.callers) {
+            match load_host(alloc, desk, names.journal, issuer, requests.callers) {
                 Ok(host) => serve_requests(rt, host, desk, requests.file, out, gate),
                 Err(back) => not_loaded(back, out),
             }
@@ -273,9 +267,9 @@ fn not_loaded<I, J, W: Sink>(back: NoHost<J>, out: &mut W) -> Finished<I, J>
 }
 
 /// Answers all lines of the request file under this name.
-fn serve_requests<R, H, D, W, G>(
+fn serve_requests<R, D, W, G>(
     rt: &R,
-    mut host: H,
+    mut host: LineHost<D::Journal>,
     desk: &mut D,
     name: &str,
     out: &mut W,
@@ -283,17 +277,15 @@ fn serve_requests<R, H, D, W, G>(
 ) -> Finished<D::Input, D::Journal>
 where
     R: AllocGlobal + Threads + Wait + Sync,
-    H: LineHost<D::Journal>,
     D: Desk,
     W: Sink,
     G: Gate + Sync,
-    requires room { H.LineHost.has_room host 0 }
-    requires settled { H.LineHost.is_settled host }
+    requires room { HasRoom host 0 × MaySettle host 0 × IsSettled host }
     ensures { (words : List (List ℕ)) (given : D) (config : SeenInput) (journal : List ℕ) (issuer : Setup)
         → let seen = seen_of words (desk_seen D.Desk given desk.new) (Some config) (option_map (input_seen D.Input.Source) result.requests)
         (map (store_seen D.Journal.Store) result.stores.items) (sink_seen W.Sink out.old out.new) in
-        IsSetUp seen (Some (record { name = name.now; callers = H.LineHost.callers host })) journal issuer
-        → H.LineHost.ready issuer journal (D.logs given) host → H.LineHost.served host [] [] [] host
+        IsSetUp seen (Some (record { name = name.now; callers = callers_of host })) journal issuer
+        → IsReady issuer journal (D.logs given) host → HasServed host [] [] [] host
         → HasSoundParts issuer → IsSameDesk D.Desk given desk.old → EndsBy seen result.ending }
 {
     let mut server = match Server::new(rt.alloc()) {

@@ -1,5 +1,6 @@
 -- How a run ends that came to its request file.
 use Rattle.std.proofs.Common.{refl, sym, ap, ◌∙◌, subst}
+use Rattle.issuer_top.specs.Hosts.{HasServed}
 use Rattle.issuer_top.specs.Opening.{GivesInput}
 use Rattle.issuer_top.proofs.ServingSteps.{AnswersAll}
 use Rattle.issuer_top.proofs.EndingSteps.{gives_input, ends_unserved, ends_no_requests, ends_serving}
@@ -24,7 +25,7 @@ returns g c = λ words given config journal issuer set_up ready served sound sam
     (record { config_is = refl; requests_is = refl; desk_stood = c.in-Ok-read.ensures.count.counted ∙ same.faults_are }) refl
     (subst (λ told. GivesInput (told c.args.name.now) (g.D.Input.Source.left c.in-Ok-read.requests)) same.holds_are
     (gives_input _ _ c.in-Ok-read.ensures.input c.in-Ok-read.ensures.absent))
-    (AnswersAll (λ lines text waiting. g.H.LineHost.served c.args.host lines text waiting c.serve-served.new.host))
+    (AnswersAll (λ lines text waiting. HasServed c.args.host lines text waiting c.serve-served.new.host))
     (λ asked text answered. c.close-2.ensures.answered issuer journal (g.D.Desk.logs given) c.args.host asked text ready sound answered)
     _ _ _ _ _ (c.serve-served.ensures.served c.args.host served) c.serve-served.ensures.sink_count c.in-Ok-read.ensures.new
     c.serve-served.ensures.source_count c.end_serving.ensures

@@ -1,6 +1,6 @@
 -- A line is answered at once.
 use Rattle.issuer_top.proofs.AloneSteps.{takes-alone}
-use Rattle.issuer_top.proofs.alone.SoloLineHost.take_line.Goals as goal
+use Rattle.issuer_top.proofs.alone.answer_at_once.Goals as goal
 
 pub returns-clause-taken : goal.returns-clause-taken
 returns-clause-taken g c = λ first lines text waiting so_far.
