@@ -188,6 +188,14 @@ IsSetUp-from_said seen config requests journal left issuer command given said = 
   says = said.says;
 }
 
+-- and with the request file that they name, for as many callers as there are
+pub set_up-named : (seen : Seen) (requests : Option RequestFile) (file : RequestFile) (callers : ℕ) (journal : List ℕ) (issuer : Setup)
+    → requests ≡ Some file → callers ≡ file.callers → IsSetUp seen requests journal issuer
+    → IsSetUp seen (Some (record { name = file.name; callers = callers })) journal issuer
+set_up-named seen requests file callers journal issuer named same set_up =
+    subst (λ (n : ℕ). IsSetUp seen (Some (record { name = file.name; callers = n })) journal issuer) (sym same)
+    (subst (λ (r : Option RequestFile). IsSetUp seen r journal issuer) named set_up)
+
 -- why there is no host, by what the desk told and counted before
 pub no_host-since : (issuer : Setup) (journal : List ℕ) (logs other : Logged) (before mid after : ℕ) (last : Option FailedCall) (stores : List SeenStore)
     (cause : Stop) → other ≡ logs → mid ≡ before

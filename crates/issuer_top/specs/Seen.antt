@@ -62,10 +62,9 @@ desk_seen desk before after = record {
   last_fault = desk.last_fault after;
 }
 
--- a desk is as it was given: it tells what it told, and its count of faults is the same
+-- a desk tells of inputs what it told when it was given, and its count of faults is the same
 pub record IsSameDesk {D I J : Type 0} (desk : Desk D I J) (given now : D) : Type 0 where
   pub holds_are : desk.holds now ≡ desk.holds given
-  pub logs_are : desk.logs now ≡ desk.logs given
   pub faults_are : desk.faults now ≡ desk.faults given
 
 -- an input after the run

@@ -235,7 +235,7 @@ where
         → let seen = seen_of words (desk_seen D.Desk given desk.new) (Some config) (option_map (input_seen D.Input.Source) result.requests)
         (map (store_seen D.Journal.Store) result.stores.items) (sink_seen W.Sink out.old out.new) in
         IsSetUp seen (option_map request_file names.entry.requests) names.entry.journal.now issuer → HasSoundParts issuer
-        → IsSameDesk D.Desk given desk.old → EndsBy seen result.ending }
+        → IsSameDesk D.Desk given desk.old → D.logs desk.old ≡ D.logs given → EndsBy seen result.ending }
 {
     let alloc = rt.alloc();
     match names.requests {

@@ -31,4 +31,4 @@ returns g c = λ words command.
     c.do_command-ending.ensures words _ _
     (IsSetUp-from_said _ _ _ _ _ _ command (gives_input _ _ c.in-Ok.ensures.input c.in-Ok.ensures.absent) c.in-Ok-read_issuer.ensures.says)
     c.in-Ok-read_issuer.ensures.sound
-    (record { holds_are = c.in-Ok.ensures.kept; logs_are = c.in-Ok.ensures.kept_logs; faults_are = c.in-Ok.ensures.count.counted })
+    (record { holds_are = c.in-Ok.ensures.kept; faults_are = c.in-Ok.ensures.count.counted }) c.in-Ok.ensures.kept_logs
