@@ -22,7 +22,11 @@ impl Reply {
     pub fn copy(&self) -> Reply
         ensures { result ≡ self.now }
     {
-        self.clone().unwrap()
+        Reply {
+            arc: self.arc,
+            approve: self.approve,
+            bytes: ArrayVec::try_from(self.bytes.as_slice()).unwrap(),
+        }
     }
 
     /// Whether the two are the same, as `==` is.
