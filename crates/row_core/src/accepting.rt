@@ -12,6 +12,7 @@ ghost use Rattle.row_core.specs.CardRow.{KeepsWindow, KeepsScripts, StandsFor};
 ghost use Rattle.row_core.specs.Accepting.{told_update, says_approval, IsMade, MayFollow, IsAccepted};
 
 use crate::row::{Row, Step};
+use arrayvec::ArrayVec;
 use cryptogram_in::holds_under;
 use issuer_base::{Method, Reply, Request};
 use key_derive::{CardKeys, SessionKey};
@@ -117,7 +118,9 @@ impl Row {
         if !agrees(self.method, update, reply.approve) {
             return false;
         }
-        self.reply_bytes(session, keys, request, reply.arc, update) == reply.bytes
+        let mut bytes = ArrayVec::new();
+        self.write_reply(&mut bytes, session, keys, request, reply.arc, update);
+        bytes == reply.bytes
     }
 }
 

@@ -1,5 +1,5 @@
 //! The bytes that go to the card: the response code, the issuer's cryptogram, and the batch of the card's script commands.
-ghost use Rattle.std.specs.Prelude.{◌≡◌, ◌+◌, ◌≤◌, ◌++◌, length, All, IsTrue};
+ghost use Rattle.std.specs.Prelude.{◌≡◌, ◌+◌, ◌≤◌, [], ◌++◌, length, All, IsTrue};
 ghost use Rattle.issuer_base.specs.ScriptCommand.{is_command};
 ghost use Rattle.issuer_base.specs.ScriptTemplate.{template_size};
 ghost use Rattle.tlv_objects.specs.Writing.{is_tag_number, object_text};
@@ -19,25 +19,25 @@ const RESPONSE_CODE: u32 = 0x8A;
 /// The tag of the issuer authentication data.
 const AUTHENTICATION_DATA: u32 = 0x91;
 
-/// The response code and the issuer's cryptogram, by method 2 that of the card status update, under the session key for cryptograms
-/// of the request's transaction.
-pub(crate) fn answer_bytes(
+/// Writes the response code and the issuer's cryptogram, by method 2 that of the card status update, under the session key for
+/// cryptograms of the request's transaction, where nothing is written yet.
+pub(crate) fn write_answer(
+    bytes: &mut ArrayVec<u8, ROOM>,
     method: Method,
     session: &SessionKey,
     request: &Request,
     arc: [u8; 2],
     csu: [u8; 4],
-) -> ArrayVec<u8, ROOM>
-    ensures exact { result.items ≡ answer_bytes method session.now request.now arc csu }
-    ensures room { length result.items + MAX_TEMPLATE_BYTES ≤ ROOM }
-    ensures some { 1 ≤ length result.items }
+)
+    requires { bytes.old.items ≡ [] }
+    ensures exact { bytes.new.items ≡ answer_bytes method session.now request.now arc csu }
+    ensures room { length bytes.new.items + MAX_TEMPLATE_BYTES ≤ ROOM }
+    ensures some { 1 ≤ length bytes.new.items }
 {
     let application_cryptogram = &request.parts().ac;
     let value = value91_under(method, session.cipher(), application_cryptogram, arc, csu);
-    let mut bytes = ArrayVec::new();
-    write(&mut bytes, RESPONSE_CODE, &arc);
-    write(&mut bytes, AUTHENTICATION_DATA, value.as_slice());
-    bytes
+    write(bytes, RESPONSE_CODE, &arc);
+    write(bytes, AUTHENTICATION_DATA, value.as_slice());
 }
 
 /// Writes an object behind bytes that leave room for it.

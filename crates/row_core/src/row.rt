@@ -15,7 +15,7 @@ ghost use Rattle.row_core.specs.Launching.{TakesOff};
 ghost use Rattle.row_core.specs.Replying.{script_bytes, reply_bytes, decided_reply};
 ghost use Rattle.row_core.specs.Plan.{IsPlan, IsForRequest, IsNext, with_record, with_command_for, with_status_for};
 
-use crate::reply::{answer_bytes, write_scripts};
+use crate::reply::{write_answer, write_scripts};
 use crate::scripts::CardScripts;
 use arrayvec::ArrayVec;
 use cvr_settle::Flight;
@@ -168,6 +168,7 @@ impl Row {
     }
 
     /// As `plan`, under the session key for the cryptograms of the request's transaction, which is set up already.
+    #[inline(always)]
     pub fn plan_under(
         &self,
         session: &SessionKey,
@@ -233,6 +234,7 @@ impl Row {
     }
 
     /// The plan for a request on an unused counter.
+    #[inline(always)]
     fn decide(
         &self,
         session: &SessionKey,
@@ -248,11 +250,12 @@ impl Row {
         ensures some { IsForRequest request.now place result }
     {
         let row = decide(table, self.status, request);
-        let reply = Reply {
+        let mut reply = Reply {
             arc: row.arc,
             approve: row.approve,
-            bytes: self.reply_bytes(session, keys, request, row.arc, row.csu),
+            bytes: ArrayVec::new(),
         };
+        self.write_reply(&mut reply.bytes, session, keys, request, row.arc, row.csu);
         let decision = KeptEntry {
             request: request.copy(),
             reply: reply.copy(),
@@ -261,25 +264,26 @@ impl Row {
         Outcome::Fresh(reply, Step { decision })
     }
 
-    /// What goes to the card with this response code and, by method 2, this card status update.
-    pub(crate) fn reply_bytes(
+    /// Writes what goes to the card with this response code and, by method 2, this card status update, where nothing is written yet.
+    pub(crate) fn write_reply(
         &self,
+        bytes: &mut ArrayVec<u8, MAX_REPLY_BYTES>,
         session: &SessionKey,
         keys: &CardKeys,
         request: &Request,
         arc: [u8; 2],
         csu: [u8; 4],
-    ) -> ArrayVec<u8, MAX_REPLY_BYTES>
-        requires { session.now ≡ session_ac keys.now.ac.0 request.now.atc }
+    )
+        requires empty { bytes.old.items ≡ [] }
+        requires session { session.now ≡ session_ac keys.now.ac.0 request.now.atc }
         ensures bytes { (scripts : Scripts) → KeepsScripts self.now scripts
-            → result.items ≡ reply_bytes self.now.method keys.now scripts request.now arc csu }
-        ensures some { 1 ≤ length result.items }
+            → bytes.new.items ≡ reply_bytes self.now.method keys.now scripts request.now arc csu }
+        ensures some { 1 ≤ length bytes.new.items }
     {
-        let mut bytes = answer_bytes(self.method, session, request, arc, csu);
+        write_answer(bytes, self.method, session, request, arc, csu);
         if is_newest(request.parts().atc, self.hi) {
-            self.write_batch(&mut bytes, keys, request);
+            self.write_batch(bytes, keys, request);
         }
-        bytes
     }
 
     /// Writes the batch that goes with the reply to a request on the newest counter behind the bytes of the reply.
@@ -302,6 +306,7 @@ impl Row {
     }
 
     /// What the decisions of the window say of a request; `None` where its counter is in the window and unused.
+    #[inline(always)]
     pub(crate) fn known(&self, request: &Request) -> Option<Outcome>
         ensures known { (decisions : List Decision) → self.now.hi ≡ greatest decisions → KeepsWindow self.now.slots decisions
             → MatchOption result (IsUnused decisions request.now) (IsKnown decisions request.now) }
