@@ -1,5 +1,6 @@
 -- The definitions that the contracts of this crate cite.
 pub mod Json
+pub mod JsonView
 pub mod Words
 pub mod Elements
 pub mod RowParts

@@ -5,6 +5,8 @@ mod config;
 mod elements;
 mod fault;
 mod front;
+mod json_number;
+mod json_text;
 mod json_value;
 mod parts;
 #[cfg(test)]
