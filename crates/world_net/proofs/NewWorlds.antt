@@ -64,12 +64,12 @@ first-known : {X : Type 0} (xs : List X) (x : X) → slice_get xs 0 ≡ Some x �
 first-known xs x is = (0, slice_get_within xs 0 x is, get_or_from_slice_get xs 0 x x is)
 
 -- one more card
-pub cards-more : (keys : KeySet) (infos : List CardInfo) (count : ℕ) (cards longer : List CardState) (info : CardInfo)
-    → cards ≡ map (card_under keys) (take count infos) → slice_get infos count ≡ Some info → longer ≡ cards ++ card_under keys info ∷ []
+pub cards-more : (keys : KeySet) (infos : List CardInfo) (count : ℕ) (cards longer : List CardState) (info : CardInfo) (card : CardState)
+    → cards ≡ map (card_under keys) (take count infos) → slice_get infos count ≡ Some info → card ≡ card_under keys info → longer ≡ cards ++ card ∷ []
     → longer ≡ map (card_under keys) (take (count + 1) infos)
-cards-more keys infos count cards longer info cards_are info_is longer_is =
+cards-more keys infos count cards longer info card cards_are info_is card_is longer_is =
     longer_is
-    ∙ ap (λ cards. cards ++ card_under keys info ∷ []) cards_are
+    ∙ (λ i. cards_are i ++ card_is i ∷ [])
     ∙ ap (λ (info : CardInfo). map (card_under keys) (take count infos) ++ card_under keys info ∷ []) (sym (get_or_from_slice_get infos count info info info_is))
     ∙ sym (map_more (card_under keys) infos count info (slice_get_within infos count info info_is))
 
