@@ -243,12 +243,14 @@ request_among bytes founds whole found =
 pub refuses_fault : (bytes : List ℕ) (founds : List Found) (fault : RequestFault) → (objects_of bytes).torn ≡ None
     → founds ≡ all_found (objects_of bytes).objects → Some fault ≡ fault_among founds → request_of bytes ≡ Err fault
 unfolding with_fault
-refuses_fault bytes founds fault whole found named = request_among bytes founds whole found ∙ ap (λ among. with_fault among (Ok (parts_of (objects_of bytes).objects))) (sym named)
+refuses_fault bytes founds fault whole found named =
+    request_among bytes founds whole found ∙ ap (λ among. with_fault among (Ok (parts_of (objects_of bytes).objects))) (sym named)
 
 pub takes_without_fault : (bytes : List ℕ) (founds : List Found) → (objects_of bytes).torn ≡ None
     → founds ≡ all_found (objects_of bytes).objects → None ≡ fault_among founds → request_of bytes ≡ Ok (parts_of (objects_of bytes).objects)
 unfolding with_fault
-takes_without_fault bytes founds whole found none = request_among bytes founds whole found ∙ ap (λ among. with_fault among (Ok (parts_of (objects_of bytes).objects))) (sym none)
+takes_without_fault bytes founds whole found none =
+    request_among bytes founds whole found ∙ ap (λ among. with_fault among (Ok (parts_of (objects_of bytes).objects))) (sym none)
 
 -- where nothing is named, nothing is missing, misformed or repeated
 none_named : (tag : Option ℕ) (fault : ℕ → RequestFault) (rest : Option RequestFault) → named tag fault rest ≡ None → (tag ≡ None) × (rest ≡ None)

@@ -27,6 +27,7 @@ pub enum RequestFault {
 /// The request that chip data say, which are BER-TLV objects in any order. Objects of other tags are passed over.
 /// A torn text is refused first, then a missing field, a misformed one and a repeated one, each time the first in the
 /// order of the table.
+#[inline(always)]
 pub fn read_request(bytes: &[u8]) -> Result<Request, RequestFault>
     requires { length bytes.now ≤ MAX_CHIP_BYTES }
     ensures { result ≡ request_of bytes.now }
@@ -78,6 +79,7 @@ fn note_all<'a>(slots: &mut Slots<'a>, objects: Objects<'a>) -> Result<(), Reque
 
 // The request that was found, where each field that is there has its form.
 #[tactic(auto, unfolding(crate::specs::Slots::request_in))]
+#[inline(always)]
 fn request_in(slots: &Slots<'_>) -> Option<Request>
     ensures { result ≡ request_in (founds_in slots.now) }
 {

@@ -16,9 +16,9 @@ ghost use Rattle.host_calls.specs.Turns.{Turn};
 ghost use Rattle.host_calls.specs.Views.{view_of};
 
 use crate::loading::{HostBack, Lists, load_all, take_lists, take_stores};
-use issuer_base::{Answer, Store};
+use issuer_base::{Answer, MAX_CHIP_BYTES, Store};
 use issuer_setup::Issuer;
-use line_checks::{Checked, CheckedCommand, CheckedRequest, CheckedStatus, check_line};
+use line_checks::{Checked, CheckedCommand, CheckedRequest, CheckedStatus, check_line_in};
 use shard_book::{LoadFault, Shard};
 use shard_turns::row_shown;
 use show_text::CardView;
@@ -33,6 +33,9 @@ pub struct Solo<S: Store> {
 
     /// Room for their stores.
     back: Vec<S>,
+
+    /// Room for the data of a line.
+    data: [u8; MAX_CHIP_BYTES],
     ghost are_shards: { AreShards issuer shards.items },
     ghost empty: { back.items ≡ [] },
     ghost room: { length shards.items ≤ vec_capacity back },
@@ -61,6 +64,7 @@ impl<S: Store> Solo<S> {
                 issuer,
                 shards,
                 back,
+                data: [0; MAX_CHIP_BYTES],
             }),
             Err(back) => Err(back),
         }
@@ -77,7 +81,7 @@ impl<S: Store> Solo<S> {
             → LeaveBetween self.old.issuer books books self.old.shards.items self.new.shards.items }
         ensures issuer { self.new.issuer ≡ self.old.issuer }
     {
-        match check_line(&self.issuer, line) {
+        match check_line_in(&self.issuer, line, &mut self.data) {
             Ok(Checked::Decide(found)) => self.decide(&found),
             Ok(Checked::Queue(found)) => self.queue(found),
             Ok(Checked::Status(found)) => self.set_status(found),
@@ -112,6 +116,7 @@ impl<S: Store> Solo<S> {
             issuer: _,
             shards,
             back,
+            data: _,
         } = self;
         take_stores(shards, back)
     }
