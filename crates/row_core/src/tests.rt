@@ -187,7 +187,13 @@ fn decides_by_the_first_row_that_fits(rt: HostRuntime) -> Result<(), Fail> {
         let asked = request_for(amount).ok_or("a request")?;
         let keys = keys();
         let session = SessionKey::for_cryptograms(&keys.ac, asked.parts().atc);
-        let Outcome::Fresh(reply, _) = row.plan_under(&session, &LazyKeys::from(keys), &table, &asked, 0) else {
+        let Outcome::Fresh(reply, _) = row.plan_under(
+            &session,
+            &LazyKeys::from(keys),
+            &table,
+            &asked,
+            0,
+        ) else {
             return Err(Fail::from(name));
         };
         let decided = shown(rt.alloc(), &reply)?;
