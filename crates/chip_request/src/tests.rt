@@ -112,7 +112,7 @@ const CASES: [Case; 17] = [
         name: "another core identifier",
         edits: &[(
             3,
-            "9F10200FA401A00000000000000000000000000F000000000000000000000000000000",
+            "9F10200FA701A00000000000000000000000000F000000000000000000000000000000",
         )],
         fault: Some(RequestFault::BadField(0x9F10)),
     },

@@ -4,7 +4,7 @@ use super::*;
 use arrayvec::ArrayVec;
 use decision_table::{Table, TableRow};
 use des_block::Key16;
-use issuer_base::{MasterOption, Method, Pan, Refusal};
+use issuer_base::{MAX_CHIP_BYTES, MasterOption, Method, Pan, Refusal};
 use issuer_setup::{CardInfo, Issuer};
 use key_derive::KeySet;
 use std::alloc::{AllocError, Global};
@@ -88,6 +88,24 @@ const CASES: [Case; 6] = [
         },
         expected: "BadField(40706)",
     },
+];
+
+/// Lines that say no request, and what is found in each.
+const LINES: [(&str, &str); 14] = [
+    ("X", "BadLine(1)"),
+    ("A 9F3602", "BadTlv(0)"),
+    ("A 9F36020007", "Missing(90)"),
+    ("A 0000", "Missing(90)"),
+    ("A 5A08400000", "BadTlv(0)"),
+    ("A 5A084000000000000002", "Missing(130)"),
+    ("A 5A0840000000000000029F2608", "BadTlv(10)"),
+    ("A 1F8181810100", "BadTlv(0)"),
+    ("A 9F10830000010F", "BadTlv(0)"),
+    ("Q 4000000000000010 00 84160000", "queue for card 1"),
+    ("Q 4000000000000010 0 84160000", "BadLine(21)"),
+    ("Q 4000000000000010 01 84", "UnknownCard"),
+    ("Q 4000000000000010 00 84", "BadCommand"),
+    ("S 4000000000000010 00 3", "status for card 1"),
 ];
 
 fn line(alloc: Global, asked: Asked) -> Result<String, AllocError> {
@@ -183,19 +201,22 @@ fn checks_requests(rt: HostRuntime) -> Result<(), Fail> {
 #[test]
 fn checks_other_lines(rt: HostRuntime) -> Result<(), Fail> {
     let issuer = issuer(rt.alloc())?;
-    for (line, expected) in [
-        ("X", "BadLine(1)"),
-        ("A 9F3602", "BadTlv(0)"),
-        ("A 9F36020007", "Missing(90)"),
-        ("Q 4000000000000010 00 84160000", "queue for card 1"),
-        ("Q 4000000000000010 0 84160000", "BadLine(21)"),
-        ("Q 4000000000000010 01 84", "UnknownCard"),
-        ("Q 4000000000000010 00 84", "BadCommand"),
-        ("S 4000000000000010 00 3", "status for card 1"),
-        ("S 4000000000000010 01 3", "UnknownCard"),
-    ] {
+    for (line, expected) in &LINES {
         let found = told(rt.alloc(), check_line(&issuer, line.as_bytes()))?;
-        assert_eq!(rt; found.as_str(), expected, "{line}");
+        assert_eq!(rt; found.as_str(), *expected, "{line}");
     }
+    Ok(())
+}
+
+/// A byte more than chip data may have is refused at its own column.
+#[test]
+fn checks_the_longest_line(rt: HostRuntime) -> Result<(), Fail> {
+    let issuer = issuer(rt.alloc())?;
+    let mut line = String::from_str(rt.alloc(), "A ")?;
+    for _ in 0..=MAX_CHIP_BYTES {
+        line.push_str("00")?;
+    }
+    let found = told(rt.alloc(), check_line(&issuer, line.as_bytes()))?;
+    assert_eq!(rt; found.as_str(), "BadLine(2051)");
     Ok(())
 }
