@@ -1,5 +1,6 @@
 -- What a value of the JSON reader stands for: its numbers, its members, and when its text is a JSON value.
-use Rattle.std.proofs.Common.{◌≡◌, ◌⊎◌, ℕ, pos, ◌&&◌, ◌<◌, ◌≤◌, ◌+◌, Bool, true, false, List, [], ◌∷◌, length, drop, get_or, map, cond, Option, Some, None, Vec, Bor, inl, inr}
+use Rattle.std.proofs.Common.{◌≡◌, ◌⊎◌, ℕ, pos, ◌&&◌, ◌<◌, ◌≤◌, ◌+◌, Bool, true, false, List, []}
+use Rattle.std.proofs.Common.{◌∷◌, length, drop, get_or, map, cond, Option, Some, None, Vec, Bor, inl, inr}
 use Rattle.std.proofs.Common.{is_some, MatchOption, option_map, option_and_then, unwrap_or, bytes_eq, refl, sym, ap, ◌∙◌, true≢false}
 use Rattle.std.proofs.lemmas.List.{at_drop_more, at_drop_all}
 use Rattle.std.proofs.lemmas.Slice.Eq.{bytes_eq-Decides}
@@ -52,7 +53,8 @@ get-data_of name (json.array elements) = refl
 get-data_of name (json.object members) = get_member-members_of name members no_members ∙ or_none _
 
 -- what is found, as the told that it stands for
-pub view-found : (found : Option (Bor (Value Global))) → option_map (λ value. view value.now) found ≡ option_map data_of (option_map (λ value. value_view value.now) found)
+pub view-found : (found : Option (Bor (Value Global)))
+    → option_map (λ value. view value.now) found ≡ option_map data_of (option_map (λ value. value_view value.now) found)
 unfolding view
 view-found None = refl
 view-found (Some found) = refl
@@ -79,12 +81,14 @@ some-map : {A B : Type 0} (f : A → B) (found : Option A) → is_some (option_m
 some-map f None = refl
 some-map f (Some value) = refl
 
-some-then : {A B : Type 0} (f : A → Option B) (found : Option A) (later : Bool) → ((value : A) → is_some (f value) ≡ later) → is_some (option_and_then f found) ≡ (is_some found && later)
+some-then : {A B : Type 0} (f : A → Option B) (found : Option A) (later : Bool) → ((value : A) → is_some (f value) ≡ later)
+    → is_some (option_and_then f found) ≡ (is_some found && later)
 some-then f None later is = refl
 some-then f (Some value) later is = is value
 
 -- all elements are values where the first is and the others are
-pub some-items : (value : json.Json) (elements : json.Items) → is_some (of_items (json.item value elements)) ≡ (is_some (of_json value) && is_some (of_items elements))
+pub some-items : (value : json.Json) (elements : json.Items)
+    → is_some (of_items (json.item value elements)) ≡ (is_some (of_json value) && is_some (of_items elements))
 some-items value elements = some-then _ (of_json value) (is_some (of_items elements)) (λ told. some-map (item told) (of_items elements))
 
 -- whether members are values doesn't depend on those before them
@@ -105,11 +109,13 @@ said-number : (found : Option Num) → (option_map number found ≡ None) ⊎ (o
 said-number None = inl refl
 said-number (Some num) = inr refl
 
-under : {A B : Type 0} (f : A → B) (found : Option A) (told : A) → (found ≡ None) ⊎ (found ≡ Some told) → (option_map f found ≡ None) ⊎ (option_map f found ≡ Some (f told))
+under : {A B : Type 0} (f : A → B) (found : Option A) (told : A) → (found ≡ None) ⊎ (found ≡ Some told)
+    → (option_map f found ≡ None) ⊎ (option_map f found ≡ Some (f told))
 under f found told (inl none) = inl (ap (option_map f) none)
 under f found told (inr some) = inr (ap (option_map f) some)
 
-behind : {A B : Type 0} (f : A → Option B) (found : Option A) (told : A) (last : B) → (found ≡ None) ⊎ (found ≡ Some told) → (f told ≡ None) ⊎ (f told ≡ Some last)
+behind : {A B : Type 0} (f : A → Option B) (found : Option A) (told : A) (last : B) → (found ≡ None) ⊎ (found ≡ Some told)
+    → (f told ≡ None) ⊎ (f told ≡ Some last)
     → (option_and_then f found ≡ None) ⊎ (option_and_then f found ≡ Some last)
 behind f found told last (inl none) after = inl (ap (option_and_then f) none)
 behind f found told last (inr some) (inl none) = inl (ap (option_and_then f) some ∙ none)

@@ -34,7 +34,8 @@ said_by-found part said conflict elements found is =
     rw (silent, count, ← is) refl
 
 -- a part that is broken at this element
-pub said_by-broken : {A : Type 0} (part : ℕ) (said : Data → Option A) (conflict : List A → Option ℕ) (elements : List (Value Global)) (found : List A) (place : ℕ)
+pub said_by-broken : {A : Type 0} (part : ℕ) (said : Data → Option A) (conflict : List A → Option ℕ) (elements : List (Value Global))
+    (found : List A) (place : ℕ)
     → found ≡ front said (map view elements) → broken_place (conflict found) (length found) (length elements) ≡ Some place
     → said_by part said conflict (map view elements) ≡ Err (At part (place + 1))
 said_by-broken part said conflict elements found place is broken =
@@ -80,7 +81,8 @@ no-repeat : (keys : List KeySet) → bad_key keys ≡ None → first_repeat [] k
 no-repeat [] good = refl
 no-repeat (set ∷ keys) good = sym (bad_key-some (set ∷ keys) (omega arith)) ∙ good
 
-module _ (value : Data) (elements : List (Value Global)) (keys : List KeySet) (is : part_elements KEYS (codes "keys") MAX_KEY_SETS value ≡ Ok (map view elements))
+module _ (value : Data) (elements : List (Value Global)) (keys : List KeySet)
+    (is : part_elements KEYS (codes "keys") MAX_KEY_SETS value ≡ Ok (map view elements))
     (found : keys ≡ front key_set_in (map view elements)) where
   keys_in-elements : keys_in value ≡ said_by KEYS key_set_in (first_repeat []) (map view elements)
   keys_in-elements = ap (λ these. these >>= said_by KEYS key_set_in (first_repeat [])) is

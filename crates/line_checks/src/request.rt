@@ -51,10 +51,10 @@ pub fn check_request(issuer: &Issuer, request: Request) -> Result<CheckedRequest
     if !request.is_arqc() {
         return Err(Refusal::NotArqc);
     }
-    let Some(keys) = issuer.keys_of(card, &request) else {
+    let Some(keys) = issuer.lazy_keys_of(card, &request) else {
         return Err(Refusal::UnknownKey(request.dki()));
     };
-    let session = SessionKey::for_cryptograms(&keys.ac, request.parts().atc);
+    let session = SessionKey::for_cryptograms(keys.ac(), request.parts().atc);
     if !holds_under(&session, &request) {
         return Err(Refusal::BadCryptogram);
     }

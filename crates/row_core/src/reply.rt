@@ -7,9 +7,8 @@ ghost use Rattle.row_core.specs.Replying.{answer_bytes, script_bytes};
 
 use arpc_methods::value91_under;
 use arrayvec::ArrayVec;
-use des_block::Key16;
 use issuer_base::{Command, MAX_TEMPLATE_BYTES, Method, Request};
-use key_derive::{SessionKey, session_sm};
+use key_derive::{LazyKeys, SessionKey, session_sm};
 use secure_msg::template_of;
 use tlv_objects::{ROOM, put};
 
@@ -50,10 +49,11 @@ fn write(bytes: &mut ArrayVec<u8, ROOM>, tag: u32, value: &[u8])
 }
 
 /// Writes the script template of a batch, which lies in two parts, behind the bytes of a reply: nothing where the batch is empty.
-/// `master_key` is the card's master key for secure messaging, and `first` the number of the batch's first command.
+/// `keys` are the card's master keys, of which the one for secure messages is asked for where there is a batch, and `first` is the number of
+/// the batch's first command.
 pub(crate) fn write_scripts(
     bytes: &mut ArrayVec<u8, ROOM>,
-    master_key: &Key16,
+    keys: &LazyKeys,
     application_cryptogram: &[u8; 8],
     first: u32,
     front: &[Command],
@@ -62,12 +62,12 @@ pub(crate) fn write_scripts(
     requires form { All (λ command. IsTrue (is_command command)) (front.now ++ back.now) }
     requires fit { template_size (front.now ++ back.now) ≤ MAX_TEMPLATE_BYTES }
     requires room { length bytes.old.items + MAX_TEMPLATE_BYTES ≤ ROOM }
-    ensures { bytes.new.items ≡ bytes.old.items ++ script_bytes master_key.now.0 application_cryptogram.now first (front.now ++ back.now) }
+    ensures { bytes.new.items ≡ bytes.old.items ++ script_bytes keys.now.smi.0 application_cryptogram.now first (front.now ++ back.now) }
 {
     if front.is_empty() && back.is_empty() {
         return;
     }
-    let key = session_sm(master_key, application_cryptogram);
+    let key = session_sm(&keys.smi(), application_cryptogram);
     let template = template_of(&key, application_cryptogram, first, front, back);
     bytes.try_extend_from_slice(template.as_slice()).unwrap();
 }

@@ -24,7 +24,7 @@ use issuer_base::{
     Command, MAX_REPLY_BYTES, MAX_STATUS, MAX_TEMPLATE_BYTES, Method, NoMemory, QueueFull, Reply,
     Request, WINDOW,
 };
-use key_derive::{CardKeys, SessionKey};
+use key_derive::{CardKeys, LazyKeys, SessionKey};
 use reply_keep::{Kept, KeptEntry};
 use script_queue::Queue;
 use std::alloc::Global;
@@ -164,15 +164,16 @@ impl Row {
             return outcome;
         }
         let session = SessionKey::for_cryptograms(&keys.ac, request.parts().atc);
-        self.decide(&session, keys, table, request, place)
+        self.decide(&session, &LazyKeys::from(*keys), table, request, place)
     }
 
-    /// As `plan`, under the session key for the cryptograms of the request's transaction, which is set up already.
+    /// As `plan`, under the session key for the cryptograms of the request's transaction, which is set up already. The card's key
+    /// for secure messages is asked for only where the reply carries a command.
     #[inline(always)]
     pub fn plan_under(
         &self,
         session: &SessionKey,
-        keys: &CardKeys,
+        keys: &LazyKeys,
         table: &Table,
         request: &Request,
         place: u64,
@@ -238,7 +239,7 @@ impl Row {
     fn decide(
         &self,
         session: &SessionKey,
-        keys: &CardKeys,
+        keys: &LazyKeys,
         table: &Table,
         request: &Request,
         place: u64,
@@ -269,7 +270,7 @@ impl Row {
         &self,
         bytes: &mut ArrayVec<u8, MAX_REPLY_BYTES>,
         session: &SessionKey,
-        keys: &CardKeys,
+        keys: &LazyKeys,
         request: &Request,
         arc: [u8; 2],
         csu: [u8; 4],
@@ -290,7 +291,7 @@ impl Row {
     fn write_batch(
         &self,
         bytes: &mut ArrayVec<u8, MAX_REPLY_BYTES>,
-        keys: &CardKeys,
+        keys: &LazyKeys,
         request: &Request,
     )
         requires { length bytes.old.items + MAX_TEMPLATE_BYTES ≤ MAX_REPLY_BYTES }
@@ -302,7 +303,7 @@ impl Row {
         let launch = self.scripts.launch(request);
         let first = self.scripts.first_number(launch);
         let (front, back) = self.scripts.batch(launch);
-        write_scripts(bytes, &keys.smi, &request.parts().ac, first, front, back);
+        write_scripts(bytes, keys, &request.parts().ac, first, front, back);
     }
 
     /// What the decisions of the window say of a request; `None` where its counter is in the window and unused.
