@@ -70,7 +70,8 @@ pub cards-more : (keys : KeySet) (infos : List CardInfo) (count : ℕ) (cards lo
 cards-more keys infos count cards longer info card cards_are info_is card_is longer_is =
     longer_is
     ∙ (λ i. cards_are i ++ card_is i ∷ [])
-    ∙ ap (λ (info : CardInfo). map (card_under keys) (take count infos) ++ card_under keys info ∷ []) (sym (get_or_from_slice_get infos count info info info_is))
+    ∙ ap (λ (info : CardInfo). map (card_under keys) (take count infos) ++ card_under keys info ∷ [])
+    (sym (get_or_from_slice_get infos count info info info_is))
     ∙ sym (map_more (card_under keys) infos count info (slice_get_within infos count info info_is))
 
 -- a world of new cards, without anything else
