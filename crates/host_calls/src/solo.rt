@@ -1,5 +1,5 @@
 //! The host of one caller.
-ghost use Rattle.std.specs.Prelude.{◌≡◌, ◌<◌, ◌≤◌, ◌%◌, ℕ, List, [], ◌∷◌, ◌++◌, length, map, reverse, vec_capacity, slice_get, Some, Ok, IfOk, IfErr};
+ghost use Rattle.std.specs.Prelude.{◌≡◌, ◌<◌, ◌≤◌, ◌%◌, ℕ, List, [], ◌∷◌, ◌++◌, length, map, reverse, vec_capacity, slice_get, Some, Ok, IfOk, IfErr, false};
 ghost use Rattle.card_history.specs.declared.decision.Asked.TheVariants.{Decide, Queue, Status};
 ghost use Rattle.card_history.specs.Records.{CardName};
 ghost use Rattle.issuer_setup.specs.CardList.{name_of, number_of};
@@ -7,6 +7,7 @@ ghost use Rattle.issuer_setup.specs.IssuerSetup.{shard_of};
 ghost use Rattle.issuer_setup.specs.declared.card.CardInfo.{CardInfo};
 ghost use Rattle.line_checks.specs.AtHand.{IsRequestAtHand, IsCommandAtHand, IsStatusAtHand};
 ghost use Rattle.line_checks.specs.Reading.{checked, reading};
+ghost use Rattle.shard_book.specs.Answering.{tells_change};
 ghost use Rattle.shard_book.specs.Shards.{store_in};
 ghost use Rattle.host_calls.specs.Books.{Book};
 ghost use Rattle.host_calls.specs.Hosts.{AreShards, Stand};
@@ -76,6 +77,9 @@ impl<S: Store> Solo<S> {
             → (after : List Book) × Stand self.new.issuer self.new.shards.items after
             × Turn self.old.issuer books (reading self.old.issuer line.now) result after }
 
+        // An answer that tells neither a new record nor that a store failed leaves all shards as they were.
+        ensures unchanged { tells_change result ≡ false → self.new.shards.items ≡ self.old.shards.items }
+
         // Whatever a crash since the start of the call may leave of a store is the text of its shard's history before it, and a torn record behind it.
         ensures crash { (books : List Book) → Stand self.old.issuer self.old.shards.items books
             → LeaveBetween self.old.issuer books books self.old.shards.items self.new.shards.items }
@@ -139,6 +143,7 @@ impl<S: Store> Solo<S> {
             × Turn self.old.issuer books (Ok (Decide found.now.request)) result after }
         ensures crash { (books : List Book) → Stand self.old.issuer self.old.shards.items books
             → LeaveBetween self.old.issuer books books self.old.shards.items self.new.shards.items }
+        ensures unchanged { tells_change result ≡ false → self.new.shards.items ≡ self.old.shards.items }
         ensures issuer { self.new.issuer ≡ self.old.issuer }
     {
         let shard = self.home(found.card);
@@ -153,6 +158,7 @@ impl<S: Store> Solo<S> {
             × Turn self.old.issuer books (Ok (Queue found.pan found.psn found.command)) result after }
         ensures crash { (books : List Book) → Stand self.old.issuer self.old.shards.items books
             → LeaveBetween self.old.issuer books books self.old.shards.items self.new.shards.items }
+        ensures unchanged { tells_change result ≡ false → self.new.shards.items ≡ self.old.shards.items }
         ensures issuer { self.new.issuer ≡ self.old.issuer }
     {
         let shard = self.home(found.card);
@@ -167,6 +173,7 @@ impl<S: Store> Solo<S> {
             × Turn self.old.issuer books (Ok (Status found.pan found.psn found.status)) result after }
         ensures crash { (books : List Book) → Stand self.old.issuer self.old.shards.items books
             → LeaveBetween self.old.issuer books books self.old.shards.items self.new.shards.items }
+        ensures unchanged { tells_change result ≡ false → self.new.shards.items ≡ self.old.shards.items }
         ensures issuer { self.new.issuer ≡ self.old.issuer }
     {
         let shard = self.home(found.card);
