@@ -83,6 +83,10 @@ record IsFreshFor (says : Result Asked Refusal) (request : Request) (answer : An
   reply : Reply
   answer_is : answer ≡ Fresh shard place reply
 
+given-fresh : (answers : List Answer) (index : ℕ) (answer : Answer) (shard place : ℕ) (reply : Reply) → slice_get answers index ≡ Some answer
+    → answer ≡ Fresh shard place reply → slice_get answers index ≡ Some (Fresh shard place reply)
+given-fresh answers index answer shard place reply is same = is ∙ ap Some same
+
 module _ (issuer : Setup) (first last : ℕ → List Entry) (home place : ℕ) (request : Request) (reply : Reply)
     (there : slice_get (last home) place ≡ Some (Decided request reply)) where
   -- what stands at the place that an answer tells of
@@ -188,7 +192,7 @@ module _ (issuer : Setup) (opening logs : List (Log LogItem LogHead)) (callers :
             line = call.line;
             line_is = call.line_is;
             request_is = fresh.says_is;
-            answer_is = answer_is ∙ ap Some fresh.answer_is;
+            answer_is = given-fresh caller.answers index answer fresh.shard fresh.place fresh.reply answer_is fresh.answer_is;
           };
           card_is = card_is;
           counter_is = counter_is;
