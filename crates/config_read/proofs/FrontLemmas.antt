@@ -5,28 +5,27 @@ use Rattle.std.proofs.lemmas.List.{at_drop_more, at_drop_all}
 use Rattle.std.proofs.lemmas.List.Recursion.{is_position_or_len}
 use Rattle.std.specs.List.{position_or_len}
 use Rattle.serde_json.specs.Data.{Data}
-use Rattle.config_read.specs.JsonView.{view}
-use Rattle.std.specs.declared.alloc.Global.{Global}
-use Rattle.json.specs.declared.value.Value.{Value}
+use Rattle.serde_json.specs.View.{view}
+use Rattle.serde_json.specs.declared.value.Value.{Value}
 use Rattle.config_read.specs.Parts.{front, in_front, silent_at}
 
 -- after so many elements, these things were said, and what is said in front begins with them
-pub record HasFront {A : Type 0} (said : Data → Option A) (elements : List (Value Global)) (count : ℕ) (found : List A) : Type 0 where
+pub record HasFront {A : Type 0} (said : Data → Option A) (elements : List Value) (count : ℕ) (found : List A) : Type 0 where
   pub so_far : front said (map view elements) ≡ found ++ front said (map view (drop count elements))
   pub each : length found ≡ count
 
-pub HasFront-none : {A : Type 0} (said : Data → Option A) (elements : List (Value Global)) → HasFront said elements 0 []
+pub HasFront-none : {A : Type 0} (said : Data → Option A) (elements : List Value) → HasFront said elements 0 []
 HasFront-none said elements = record { so_far = refl; each = refl }
 
 -- the next element
-front-next : {A : Type 0} (said : Data → Option A) (elements : List (Value Global)) (i : ℕ) (element : Value Global) → i < length elements
+front-next : {A : Type 0} (said : Data → Option A) (elements : List Value) (i : ℕ) (element : Value) → i < length elements
     → element ≡ get_or elements i element
     → front said (map view (drop i elements)) ≡ in_front (said (view element)) (front said (map view (drop (i + 1) elements)))
 front-next said elements i element below is =
     at_drop_more (λ rest. front said (map view rest)) elements i element below
     ∙ ap (λ first. in_front (said (view first)) (front said (map view (drop (i + 1) elements)))) (sym is)
 
-pub HasFront-more : {A : Type 0} (said : Data → Option A) (elements : List (Value Global)) (i : ℕ) (found : List A) (element : Value Global) (thing : A)
+pub HasFront-more : {A : Type 0} (said : Data → Option A) (elements : List Value) (i : ℕ) (found : List A) (element : Value) (thing : A)
     → HasFront said elements i found → i < length elements → element ≡ get_or elements i element → Some thing ≡ said (view element)
     → HasFront said elements (i + 1) (found ++ thing ∷ [])
 HasFront-more said elements i found element thing has below is says =
@@ -37,7 +36,7 @@ HasFront-more said elements i found element thing has below is says =
     }
 
 -- the first element that says nothing
-pub HasFront-silent : {A : Type 0} (said : Data → Option A) (elements : List (Value Global)) (i : ℕ) (found : List A) (element : Value Global)
+pub HasFront-silent : {A : Type 0} (said : Data → Option A) (elements : List Value) (i : ℕ) (found : List A) (element : Value)
     → HasFront said elements i found → i < length elements → element ≡ get_or elements i element → None ≡ said (view element)
     → found ≡ front said (map view elements)
 HasFront-silent said elements i found element has below is silent =
@@ -46,7 +45,7 @@ HasFront-silent said elements i found element has below is silent =
     ∙ append-nil found)
 
 -- no element that says nothing
-pub HasFront-all : {A : Type 0} (said : Data → Option A) (elements : List (Value Global)) (i : ℕ) (found : List A) → HasFront said elements i found
+pub HasFront-all : {A : Type 0} (said : Data → Option A) (elements : List Value) (i : ℕ) (found : List A) → HasFront said elements i found
     → length elements ≤ i → found ≡ front said (map view elements)
 HasFront-all said elements i found has all =
     sym (has.so_far ∙ ap (λ more. found ++ more) (at_drop_all (λ rest. front said (map view rest)) elements i all) ∙ append-nil found)

@@ -1,7 +1,5 @@
 -- The laws of this crate.
 pub mod JsonLemmas
-pub mod NumberLemmas
-pub mod JsonViews
 pub mod WordsLemmas
 pub mod RowPartsLemmas
 pub mod FrontLemmas

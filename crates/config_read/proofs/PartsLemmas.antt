@@ -5,9 +5,8 @@ use Rattle.std.proofs.lemmas.Bool.{cond-true, cond-false, lt-ltb}
 use Rattle.std.proofs.lemmas.List.{length-map}
 use Rattle.std.specs.Option.{option_or}
 use Rattle.serde_json.specs.Data.{Data}
-use Rattle.config_read.specs.JsonView.{view}
-use Rattle.std.specs.declared.alloc.Global.{Global}
-use Rattle.json.specs.declared.value.Value.{Value}
+use Rattle.serde_json.specs.View.{view}
+use Rattle.serde_json.specs.declared.value.Value.{Value}
 use Rattle.issuer_base.specs.declared.limits.TheConstants.{MAX_KEY_SETS, MAX_CARDS}
 use Rattle.key_derive.specs.declared.card.KeySet.{KeySet}
 use Rattle.issuer_setup.specs.declared.card.CardInfo.{CardInfo}
@@ -25,7 +24,7 @@ use Rattle.config_read.proofs.FrontLemmas.{silent_at-front, length-front-le}
 abbrev pub broken_place : Option ℕ → ℕ → ℕ → Option ℕ
 broken_place conflict found elements = option_or conflict (if nat_lt found elements then Some found else None)
 
-said_by-found : {A : Type 0} (part : ℕ) (said : Data → Option A) (conflict : List A → Option ℕ) (elements : List (Value Global)) (found : List A)
+said_by-found : {A : Type 0} (part : ℕ) (said : Data → Option A) (conflict : List A → Option ℕ) (elements : List Value) (found : List A)
     → found ≡ front said (map view elements)
     → said_by part said conflict (map view elements) ≡ unless_broken part (broken_place (conflict found) (length found) (length elements)) found
 said_by-found part said conflict elements found is =
@@ -34,15 +33,14 @@ said_by-found part said conflict elements found is =
     rw (silent, count, ← is) refl
 
 -- a part that is broken at this element
-pub said_by-broken : {A : Type 0} (part : ℕ) (said : Data → Option A) (conflict : List A → Option ℕ) (elements : List (Value Global))
-    (found : List A) (place : ℕ)
+pub said_by-broken : {A : Type 0} (part : ℕ) (said : Data → Option A) (conflict : List A → Option ℕ) (elements : List Value) (found : List A) (place : ℕ)
     → found ≡ front said (map view elements) → broken_place (conflict found) (length found) (length elements) ≡ Some place
     → said_by part said conflict (map view elements) ≡ Err (At part (place + 1))
 said_by-broken part said conflict elements found place is broken =
     said_by-found part said conflict elements found is ∙ ap (λ place. unless_broken part place found) broken
 
 -- and one that isn't broken
-pub said_by-whole : {A : Type 0} (part : ℕ) (said : Data → Option A) (conflict : List A → Option ℕ) (elements : List (Value Global)) (found : List A)
+pub said_by-whole : {A : Type 0} (part : ℕ) (said : Data → Option A) (conflict : List A → Option ℕ) (elements : List Value) (found : List A)
     → found ≡ front said (map view elements) → broken_place (conflict found) (length found) (length elements) ≡ None
     → said_by part said conflict (map view elements) ≡ Ok found
 said_by-whole part said conflict elements found is whole =
@@ -62,7 +60,7 @@ empty-place : (elements place : ℕ) → Some 0 ≡ Some place → 1 ≤ element
 empty-place elements place first some = cond-true (nat_lt 0 elements) _ _ (lt-ltb 0 elements some) ∙ first
 
 -- no more are found in front than there are elements
-pub front-few : {A : Type 0} (said : Data → Option A) (elements : List (Value Global)) (found : List A) (most : ℕ)
+pub front-few : {A : Type 0} (said : Data → Option A) (elements : List Value) (found : List A) (most : ℕ)
     → found ≡ front said (map view elements) → length elements ≤ most → length found ≤ most
 front-few said elements found most is few =
     omega (arith, length-front-le said (map view elements), length-map elements view, ap length is, few)
@@ -81,8 +79,7 @@ no-repeat : (keys : List KeySet) → bad_key keys ≡ None → first_repeat [] k
 no-repeat [] good = refl
 no-repeat (set ∷ keys) good = sym (bad_key-some (set ∷ keys) (omega arith)) ∙ good
 
-module _ (value : Data) (elements : List (Value Global)) (keys : List KeySet)
-    (is : part_elements KEYS (codes "keys") MAX_KEY_SETS value ≡ Ok (map view elements))
+module _ (value : Data) (elements : List Value) (keys : List KeySet) (is : part_elements KEYS (codes "keys") MAX_KEY_SETS value ≡ Ok (map view elements))
     (found : keys ≡ front key_set_in (map view elements)) where
   keys_in-elements : keys_in value ≡ said_by KEYS key_set_in (first_repeat []) (map view elements)
   keys_in-elements = ap (λ these. these >>= said_by KEYS key_set_in (first_repeat [])) is
@@ -118,7 +115,7 @@ no-bad : (cards : List CardInfo) → length cards ≤ MAX_CARDS → bad_card car
 no-bad [] few good = refl
 no-bad (card ∷ cards) few good = sym (bad_card-sized (card ∷ cards) (omega arith) few) ∙ good
 
-module _ (value : Data) (elements : List (Value Global)) (cards : List CardInfo)
+module _ (value : Data) (elements : List Value) (cards : List CardInfo)
     (is : part_elements CARDS (codes "cards") MAX_CARDS value ≡ Ok (map view elements)) (found : cards ≡ front card_in (map view elements))
     (few : length cards ≤ MAX_CARDS) where
   cards_in-elements : cards_in value ≡ said_by CARDS card_in (first_bad []) (map view elements)

@@ -5,9 +5,8 @@ use Rattle.std.proofs.lemmas.List.{length-map}
 use Rattle.std.specs.List.{list_all}
 use Rattle.std.specs.Option.{IfSome}
 use Rattle.serde_json.specs.Data.{Data}
-use Rattle.config_read.specs.JsonView.{view}
-use Rattle.std.specs.declared.alloc.Global.{Global}
-use Rattle.json.specs.declared.value.Value.{Value}
+use Rattle.serde_json.specs.View.{view}
+use Rattle.serde_json.specs.declared.value.Value.{Value}
 use Rattle.issuer_base.specs.declared.limits.TheConstants.{MAX_TABLE_ROWS}
 use Rattle.decision_table.specs.declared.row.TableRow.{TableRow}
 use Rattle.decision_table.specs.Tables.{tells_approval, ends_in_all, is_table, table_from}
@@ -41,7 +40,7 @@ table_from-front elements rows found = table_from-told rows (ap (list_all tells_
 
 -- ---- the part
 
-module _ (value : Data) (elements : List (Value Global)) (rows : List TableRow)
+module _ (value : Data) (elements : List Value) (rows : List TableRow)
     (is : part_elements TABLE (codes "table") MAX_TABLE_ROWS value ≡ Ok (map view elements)) (found : rows ≡ front row_in (map view elements)) where
   table_in-elements : table_in value ≡ (said_by TABLE row_in no_conflict (map view elements) >>= where_last_takes_all)
   table_in-elements = ap (λ these. these >>= said_by TABLE row_in no_conflict >>= where_last_takes_all) is

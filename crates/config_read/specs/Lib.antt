@@ -1,6 +1,5 @@
 -- The definitions that the contracts of this crate cite.
 pub mod Json
-pub mod JsonView
 pub mod Words
 pub mod Elements
 pub mod RowParts

@@ -1,14 +1,13 @@
 //! What a configuration says: an issuer, or its first broken place.
 ghost use Rattle.std.specs.Prelude.{◌≡◌, ◌≢◌, Ok, Err, IfOk, IfErr};
-ghost use Rattle.config_read.specs.JsonView.{view};
+ghost use Rattle.serde_json.specs.View.{view};
 ghost use Rattle.config_read.specs.Configuration.{configured, setup_in};
 
 use crate::fault::{ConfigFault, WHOLE};
-use crate::json_text::read_json;
-use crate::json_value::is_object;
+use crate::json_value::read_json;
 use crate::parts::{read_cards, read_keys, read_shards, read_table};
 use issuer_setup::Issuer;
-use json::{Scratch, Value};
+use serde_json::Value;
 use std::alloc::Global;
 
 /// How many bytes a configuration has at most.
@@ -24,17 +23,16 @@ pub fn read_config(alloc: Global, bytes: &[u8]) -> Result<Issuer, ConfigFault>
     if bytes.len() > MAX_CONFIG_BYTES {
         return Err(ConfigFault::of_part(WHOLE));
     }
-    let mut scratch = Scratch::new(alloc);
-    let value = read_json(alloc, bytes, &mut scratch)?;
+    let value = read_json(alloc, bytes)?;
     read_issuer(alloc, &value)
 }
 
 /// The issuer that a JSON value says.
-fn read_issuer(alloc: Global, value: &Value<'_>) -> Result<Issuer, ConfigFault>
+fn read_issuer(alloc: Global, value: &Value) -> Result<Issuer, ConfigFault>
     ensures issuer { IfOk result (λ issuer. setup_in (view value.now) ≡ Ok issuer) }
     ensures refused { IfErr result (λ fault. fault ≢ ConfigFault.NoMemory → setup_in (view value.now) ≡ Err fault) }
 {
-    if !is_object(value) {
+    if !value.is_object() {
         return Err(ConfigFault::of_part(WHOLE));
     }
     let shards = read_shards(value)?;

@@ -2,21 +2,21 @@
 ghost use Rattle.std.specs.Prelude.{◌≡◌, codes};
 ghost use Rattle.std.specs.Option.{option_and_then, option_zip};
 ghost use Rattle.serde_json.specs.Find.{get};
-ghost use Rattle.config_read.specs.JsonView.{view};
+ghost use Rattle.serde_json.specs.View.{view};
 ghost use Rattle.config_read.specs.Elements.{bytes_member, card_in, key_set_in, number_up_to, row_in, status_from, where_told};
 ghost use Rattle.config_read.specs.RowParts.{decision_in};
 
-use crate::json_value::{is_null, member, number, number_member, text_member, truth};
+use crate::json_value::{number_member, text_member};
 use crate::words::{read_bytes, read_method, read_option, read_pan, read_psn, up_to};
 use decision_table::{MAX_AMOUNT, TableRow, tells_approval};
 use des_block::Key16;
 use issuer_setup::CardInfo;
-use json::Value;
 use key_derive::KeySet;
+use serde_json::Value;
 
 /// The key set that an element says.
 #[tactic(auto, unfolding(crate::specs::Elements::key_set_in))]
-pub(crate) fn read_key_set(element: &Value<'_>) -> Option<KeySet>
+pub(crate) fn read_key_set(element: &Value) -> Option<KeySet>
     ensures { result ≡ key_set_in (view element.now) }
 {
     Some(KeySet {
@@ -29,7 +29,7 @@ pub(crate) fn read_key_set(element: &Value<'_>) -> Option<KeySet>
 
 /// The card that an element says.
 #[tactic(auto, unfolding(crate::specs::Elements::card_in))]
-pub(crate) fn read_card(element: &Value<'_>) -> Option<CardInfo>
+pub(crate) fn read_card(element: &Value) -> Option<CardInfo>
     ensures { result ≡ card_in (view element.now) }
 {
     Some(CardInfo {
@@ -41,7 +41,7 @@ pub(crate) fn read_card(element: &Value<'_>) -> Option<CardInfo>
 
 /// The row of the decision table that an element says.
 #[tactic(auto, unfolding(crate::specs::Elements::row_in))]
-pub(crate) fn read_row(element: &Value<'_>) -> Option<TableRow>
+pub(crate) fn read_row(element: &Value) -> Option<TableRow>
     ensures { result ≡ row_in (view element.now) }
 {
     let (tvr_mask, tvr_value) = read_bits(element, "tvr_mask", "tvr_value")?;
@@ -64,7 +64,7 @@ pub(crate) fn read_row(element: &Value<'_>) -> Option<TableRow>
 }
 
 /// The mask and the value of these members.
-fn read_bits(element: &Value<'_>, mask: &str, value: &str) -> Option<([u8; 5], [u8; 5])>
+fn read_bits(element: &Value, mask: &str, value: &str) -> Option<([u8; 5], [u8; 5])>
     ensures { result ≡ option_zip
         (bytes_member mask.now 5 (view element.now))
         (bytes_member value.now 5 (view element.now)) }
@@ -73,7 +73,7 @@ fn read_bits(element: &Value<'_>, mask: &str, value: &str) -> Option<([u8; 5], [
 }
 
 /// The least and the greatest amount of a row.
-fn read_amounts(element: &Value<'_>) -> Option<(u64, u64)>
+fn read_amounts(element: &Value) -> Option<(u64, u64)>
     ensures { result ≡ option_zip
         (number_up_to (codes "least") MAX_AMOUNT (view element.now))
         (number_up_to (codes "most") MAX_AMOUNT (view element.now)) }
@@ -84,30 +84,30 @@ fn read_amounts(element: &Value<'_>) -> Option<(u64, u64)>
     ))
 }
 
-fn read_amount(element: &Value<'_>, name: &str) -> Option<u64>
+fn read_amount(element: &Value, name: &str) -> Option<u64>
     ensures { result ≡ number_up_to name.now MAX_AMOUNT (view element.now) }
 {
     up_to(MAX_AMOUNT, number_member(element, name)?)
 }
 
 /// The status of a row, 0 to 9, or `None` within, for any.
-fn read_status(element: &Value<'_>) -> Option<Option<u8>>
+fn read_status(element: &Value) -> Option<Option<u8>>
     ensures { result ≡ option_and_then status_from (get (codes "status") (view element.now)) }
 {
-    let status = member(element, "status")?;
-    if is_null(status) {
+    let status = element.get("status")?;
+    if status.is_null() {
         return Some(None);
     }
-    Some(Some(up_to(9, number(status)?)? as u8))
+    Some(Some(up_to(9, status.as_u64()?)? as u8))
 }
 
 /// What a row decides.
-fn read_decision(element: &Value<'_>) -> Option<([u8; 2], bool, [u8; 4])>
+fn read_decision(element: &Value) -> Option<([u8; 2], bool, [u8; 4])>
     ensures { result ≡ decision_in (view element.now) }
 {
     Some((
         bytes_member(element, "arc")?,
-        truth(member(element, "approve")?)?,
+        element.get("approve")?.as_bool()?,
         bytes_member(element, "csu")?,
     ))
 }
@@ -124,14 +124,14 @@ fn told(row: TableRow) -> Option<TableRow>
 }
 
 /// The number of this member, where it is a byte.
-fn small_number(element: &Value<'_>, name: &str) -> Option<u8>
+fn small_number(element: &Value, name: &str) -> Option<u8>
     ensures { result ≡ number_up_to name.now 255 (view element.now) }
 {
     Some(up_to(255, number_member(element, name)?)? as u8)
 }
 
 /// The bytes that the text of this member writes.
-fn bytes_member<const N: usize>(element: &Value<'_>, name: &str) -> Option<[u8; N]>
+fn bytes_member<const N: usize>(element: &Value, name: &str) -> Option<[u8; N]>
     ensures { result ≡ bytes_member name.now N (view element.now) }
 {
     read_bytes(text_member(element, name)?)

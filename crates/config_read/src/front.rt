@@ -1,6 +1,6 @@
 //! What the elements of a part say, up to the first that says nothing.
 ghost use Rattle.std.specs.Prelude.{◌≡◌, ◌≤◌, length, map, IfOk};
-ghost use Rattle.config_read.specs.JsonView.{view};
+ghost use Rattle.serde_json.specs.View.{view};
 ghost use Rattle.config_read.specs.Elements.{card_in, key_set_in, row_in};
 ghost use Rattle.config_read.specs.Parts.{front};
 
@@ -9,12 +9,12 @@ use arrayvec::ArrayVec;
 use decision_table::TableRow;
 use issuer_base::{MAX_KEY_SETS, MAX_TABLE_ROWS, NoMemory};
 use issuer_setup::CardInfo;
-use json::Value;
 use key_derive::KeySet;
+use serde_json::Value;
 use std::alloc::Global;
 
 /// The key sets that the elements say, up to the first that says none.
-pub(crate) fn front_keys(elements: &[Value<'_>]) -> ArrayVec<KeySet, MAX_KEY_SETS>
+pub(crate) fn front_keys(elements: &[Value]) -> ArrayVec<KeySet, MAX_KEY_SETS>
     requires { length elements.now ≤ MAX_KEY_SETS }
     ensures { result.items ≡ front key_set_in (map view elements.now) }
 {
@@ -29,7 +29,7 @@ pub(crate) fn front_keys(elements: &[Value<'_>]) -> ArrayVec<KeySet, MAX_KEY_SET
 }
 
 /// The cards that the elements say, up to the first that says none.
-pub(crate) fn front_cards(alloc: Global, elements: &[Value<'_>]) -> Result<Vec<CardInfo>, NoMemory>
+pub(crate) fn front_cards(alloc: Global, elements: &[Value]) -> Result<Vec<CardInfo>, NoMemory>
     ensures cards { IfOk result (λ cards. cards.items ≡ front card_in (map view elements.now)) }
     ensures few { IfOk result (λ cards. length cards.items ≤ length elements.now) }
 {
@@ -44,7 +44,7 @@ pub(crate) fn front_cards(alloc: Global, elements: &[Value<'_>]) -> Result<Vec<C
 }
 
 /// The rows that the elements say, up to the first that says none.
-pub(crate) fn front_rows(elements: &[Value<'_>]) -> ArrayVec<TableRow, MAX_TABLE_ROWS>
+pub(crate) fn front_rows(elements: &[Value]) -> ArrayVec<TableRow, MAX_TABLE_ROWS>
     requires { length elements.now ≤ MAX_TABLE_ROWS }
     ensures { result.items ≡ front row_in (map view elements.now) }
 {

@@ -5,8 +5,6 @@ mod config;
 mod elements;
 mod fault;
 mod front;
-mod json_number;
-mod json_text;
 mod json_value;
 mod parts;
 #[cfg(test)]

@@ -1,7 +1,7 @@
 //! The parts of a configuration, in order, each with its first broken place.
 ghost use Rattle.std.specs.Prelude.{◌≡◌, ◌≢◌, ◌+◌, ◌<◌, ◌≤◌, length, map, MatchResult, IfOk, Ok, Err, codes};
 ghost use Rattle.std.specs.Option.{option_and_then};
-ghost use Rattle.config_read.specs.JsonView.{view};
+ghost use Rattle.serde_json.specs.View.{view};
 ghost use Rattle.issuer_setup.specs.Shards.{shards_from};
 ghost use Rattle.config_read.specs.Json.{number_member};
 ghost use Rattle.config_read.specs.Parts.{cards_in, keys_in, part_elements, shards_in, table_in};
@@ -12,17 +12,17 @@ use crate::json_value::{list_member, number_member};
 use decision_table::Table;
 use issuer_base::{MAX_CARDS, MAX_KEY_SETS, MAX_TABLE_ROWS};
 use issuer_setup::{Cards, CardsFault, KeySets, ShardCount};
-use json::Value;
+use serde_json::Value;
 use std::alloc::Global;
 
 /// The number of shards, 1 to 16.
-pub(crate) fn read_shards(value: &Value<'_>) -> Result<ShardCount, ConfigFault>
+pub(crate) fn read_shards(value: &Value) -> Result<ShardCount, ConfigFault>
     ensures { result ≡ shards_in (view value.now) }
 {
     shard_count(value).ok_or(ConfigFault::of_part(SHARDS))
 }
 
-fn shard_count(value: &Value<'_>) -> Option<ShardCount>
+fn shard_count(value: &Value) -> Option<ShardCount>
     ensures { result ≡ option_and_then shards_from (number_member (codes "shards") (view value.now)) }
 {
     match number_member(value, "shards")? {
@@ -32,7 +32,7 @@ fn shard_count(value: &Value<'_>) -> Option<ShardCount>
 }
 
 /// The 1 to 16 key sets, no two of one index.
-pub(crate) fn read_keys(value: &Value<'_>) -> Result<KeySets, ConfigFault>
+pub(crate) fn read_keys(value: &Value) -> Result<KeySets, ConfigFault>
     ensures { result ≡ keys_in (view value.now) }
 {
     let elements = part_elements(KEYS, "keys", MAX_KEY_SETS, value)?;
@@ -45,7 +45,7 @@ pub(crate) fn read_keys(value: &Value<'_>) -> Result<KeySets, ConfigFault>
 }
 
 /// The 1 to 4,096 cards, no two of one account and sequence number.
-pub(crate) fn read_cards(alloc: Global, value: &Value<'_>) -> Result<Cards, ConfigFault>
+pub(crate) fn read_cards(alloc: Global, value: &Value) -> Result<Cards, ConfigFault>
     ensures { MatchResult result
         (λ cards. cards_in (view value.now) ≡ Ok cards)
         (λ fault. fault ≢ ConfigFault.NoMemory → cards_in (view value.now) ≡ Err fault) }
@@ -61,7 +61,7 @@ pub(crate) fn read_cards(alloc: Global, value: &Value<'_>) -> Result<Cards, Conf
 }
 
 /// The 1 to 64 rows, of which the last takes all.
-pub(crate) fn read_table(value: &Value<'_>) -> Result<Table, ConfigFault>
+pub(crate) fn read_table(value: &Value) -> Result<Table, ConfigFault>
     ensures { result ≡ table_in (view value.now) }
 {
     let elements = part_elements(TABLE, "table", MAX_TABLE_ROWS, value)?;
@@ -77,12 +77,12 @@ pub(crate) fn read_table(value: &Value<'_>) -> Result<Table, ConfigFault>
 }
 
 /// The elements of a part, where it is a list of 1 to so many.
-fn part_elements<'v, 'a>(
+fn part_elements<'a>(
     part: u8,
     name: &str,
     most: usize,
-    value: &'v Value<'a>,
-) -> Result<&'v [Value<'a>], ConfigFault>
+    value: &'a Value,
+) -> Result<&'a [Value], ConfigFault>
     ensures elements { MatchResult result
         (λ elements. part_elements part name.now most (view value.now) ≡ Ok (map view elements.now))
         (λ fault. part_elements part name.now most (view value.now) ≡ Err fault) }
@@ -96,7 +96,7 @@ fn part_elements<'v, 'a>(
 }
 
 /// The fault of the first element that says nothing, where only so many in front say something.
-fn all_said(part: u8, said: usize, elements: &[Value<'_>]) -> Result<(), ConfigFault>
+fn all_said(part: u8, said: usize, elements: &[Value]) -> Result<(), ConfigFault>
     requires { length elements.now ≤ MAX_CARDS }
     ensures { MatchResult result
         (λ _. length elements.now ≤ said)

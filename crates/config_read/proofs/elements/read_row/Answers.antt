@@ -1,6 +1,6 @@
 -- An element without amounts or without a decision says no row; one with all its parts says the row of them.
 use Rattle.std.proofs.Common.{◌∙◌, sym}
-use Rattle.config_read.specs.JsonView.{view}
+use Rattle.serde_json.specs.View.{view}
 use Rattle.decision_table.specs.declared.row.TableRow.{TableRow}
 use Rattle.config_read.proofs.RowPartsLemmas.{row_in-no_amounts, row_in-no_decision, row_in-parts}
 use Rattle.config_read.proofs.elements.read_row.Goals as goal

@@ -1,7 +1,7 @@
 -- Named is the first card that may not stand, else the first element that says none; with neither, all cards are read.
 use Rattle.std.proofs.Common.{◌≡◌, ◌≤◌, length, Ok, Err, ap, sym, ◌∙◌}
 use Rattle.std.proofs.lemmas.Result.{err_from_is_err_and}
-use Rattle.config_read.specs.JsonView.{view}
+use Rattle.serde_json.specs.View.{view}
 use Rattle.issuer_base.specs.declared.limits.TheConstants.{MAX_CARDS}
 use Rattle.issuer_setup.proofs.CardListLemmas.{bad_card-below}
 use Rattle.config_read.specs.Elements.{card_in}

@@ -1,7 +1,7 @@
 -- Named is the first key set that repeats an index, else the first element that says none; with neither, all are read.
 use Rattle.std.proofs.Common.{◌≡◌, ◌≤◌, length, Ok, Err, ap, sym, ◌∙◌, arith}
 use Rattle.std.proofs.lemmas.Result.{err_from_is_err_and}
-use Rattle.config_read.specs.JsonView.{view}
+use Rattle.serde_json.specs.View.{view}
 use Rattle.issuer_base.specs.declared.limits.TheConstants.{MAX_KEY_SETS}
 use Rattle.issuer_setup.proofs.KeyListLemmas.{bad_key-below}
 use Rattle.config_read.specs.Elements.{key_set_in}

@@ -1,7 +1,7 @@
 -- Named is the first element that says no row, else the last row where it doesn't take all; with neither, the rows are a table.
 use Rattle.std.proofs.Common.{◌≤◌, length, sym}
 use Rattle.std.proofs.lemmas.Result.{err_from_is_err_and}
-use Rattle.config_read.specs.JsonView.{view}
+use Rattle.serde_json.specs.View.{view}
 use Rattle.config_read.proofs.TableLemmas.{table_in-silent, table_in-last, table_in-whole}
 use Rattle.config_read.proofs.parts.read_table.Goals as goal
 
