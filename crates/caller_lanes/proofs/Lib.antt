@@ -1,0 +1,4 @@
+-- The lemmas of this crate.
+mod Every
+mod Merged
+mod HavingTurns

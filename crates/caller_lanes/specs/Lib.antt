@@ -1,0 +1,6 @@
+-- The definitions that the contracts of this crate cite.
+pub mod Dealing
+pub mod OneLane
+pub mod Turns
+pub mod Seated
+pub mod Lanes

@@ -1,0 +1,123 @@
+//! The lanes, and whose turn it is.
+ghost use Rattle.std.specs.Prelude.{◌≡◌, ℕ, ◌<◌, ◌≤◌, ◌+◌, ◌*◌, List, [], ◌∷◌, ◌++◌, length, vec_len, slice_index_or, All, MatchOption, map, Some, None};
+ghost use Rattle.issuer_base.specs.declared.answer.Answer.{Answer};
+ghost use Rattle.issuer_base.specs.declared.limits.TheConstants.{KEPT_BYTES};
+ghost use Rattle.host_calls.specs.Passes.{claims_of, logs_of, IsFree};
+ghost use Rattle.many_callers.specs.Callers.{Calls};
+
+use crate::lane::Lane;
+use host_calls::Host;
+use issuer_base::{Answer, Gate, Store};
+use std::sync::Wait;
+use std::thread;
+use std::thread::Threads;
+
+/// How far dealing lines and taking answers got.
+#[derive(Drop)]
+pub(crate) struct Progress {
+    /// The lane that is dealt the next line.
+    pub(crate) next: usize,
+
+    /// The lane that has the next answer.
+    pub(crate) from: usize,
+
+    /// How many lines wait.
+    pub(crate) waiting: usize,
+
+    /// How many answers are still to be taken.
+    pub(crate) due: usize,
+}
+
+/// The lanes, and how many lines may wait for them together.
+pub(crate) struct Dealer {
+    pub(crate) lanes: Vec<Lane>,
+    pub(crate) progress: Progress,
+    pub(crate) room: usize,
+    ghost some: { 0 < vec_len lanes },
+    ghost each_room: { All (λ lane. vec_len lanes * lane.room ≡ room) lanes.items },
+    ghost waiting_fit: { progress.waiting ≤ room },
+    ghost due_fit: { progress.due ≤ room },
+    ghost in_turn: { IsInTurn lanes.items progress },
+}
+
+impl Dealer {
+    ghost use Rattle.caller_lanes.specs.OneLane.{waiting_lines};
+    ghost use Rattle.caller_lanes.specs.Turns.{AreInTurns, IsInTurn};
+    ghost use Rattle.caller_lanes.specs.declared.lane.Lane.{Lane};
+
+    /// Deals the next line to the lane whose turn it is.
+    pub(crate) fn deal(&mut self, line: &[u8])
+        requires room { self.old.progress.waiting < self.old.room }
+        requires kept { length line.now ≤ KEPT_BYTES }
+        ensures turns { (lines : List (List ℕ)) (taken due : List Answer) (waiting : List (List ℕ))
+            → AreInTurns self.old.lanes.items self.old.progress lines taken due waiting
+            → AreInTurns self.new.lanes.items self.new.progress lines taken due (waiting ++ line.now ∷ []) }
+        ensures passes { map (λ lane. lane.pass) self.new.lanes.items ≡ map (λ lane. lane.pass) self.old.lanes.items }
+        ensures counts { (self.new.progress.waiting ≡ self.old.progress.waiting + 1) × (self.new.progress.due ≡ self.old.progress.due) }
+        ensures room { self.new.room ≡ self.old.room }
+    {
+        self.lanes[self.progress.next].add(line);
+        self.progress.next = self.behind(self.progress.next);
+        self.progress.waiting += 1;
+    }
+
+    /// The lane whose turn comes behind that of this one.
+    fn behind(&self, lane: usize) -> usize
+        requires { lane < vec_len self.now.lanes }
+        ensures { (lane + 1 < vec_len self.now.lanes → result ≡ lane + 1) × (lane + 1 ≡ vec_len self.now.lanes → result ≡ 0) }
+    {
+        if lane + 1 < self.lanes.len() {
+            lane + 1
+        } else {
+            0
+        }
+    }
+
+    /// Takes the next answer in the order of lines.
+    pub(crate) fn next_answer(&mut self) -> Option<Answer>
+        ensures turns { (lines : List (List ℕ)) (taken due : List Answer) (waiting : List (List ℕ))
+            → AreInTurns self.old.lanes.items self.old.progress lines taken due waiting
+            → MatchOption result (due ≡ []) (λ answer. (rest : List Answer) × (due ≡ answer ∷ rest)
+            × AreInTurns self.new.lanes.items self.new.progress lines (taken ++ answer ∷ []) rest waiting) }
+        ensures passes { map (λ lane. lane.pass) self.new.lanes.items ≡ map (λ lane. lane.pass) self.old.lanes.items }
+        ensures counts { (self.new.progress.waiting ≡ self.old.progress.waiting) × MatchOption result (self.old.progress.due ≡ 0) (λ _. self.new.progress.due + 1 ≡ self.old.progress.due) }
+        ensures none { MatchOption result (self.new ≡ self.old) (λ _. ⊤) }
+        ensures room { self.new.room ≡ self.old.room }
+    {
+        let answer = self.lanes[self.progress.from].answers.pop_front()?;
+        self.progress.from = self.behind(self.progress.from);
+        self.progress.due -= 1;
+        Some(answer)
+    }
+
+    /// Lets all callers answer the lines that wait, each in a thread of its own.
+    pub(crate) fn answer<S: Store, R: Threads + Wait + Sync, G: Gate + Sync>(
+        &mut self,
+        rt: &R,
+        host: &Host<S>,
+        gate: &G,
+    )
+        requires free { All (λ lane. IsFree host.now lane.pass) self.old.lanes.items }
+        requires none { self.old.progress.due ≡ 0 }
+        ensures free { All (λ lane. IsFree host.now lane.pass) self.new.lanes.items }
+    {
+        answer_at_once(rt, host, gate, self.lanes.as_mut_slice());
+        self.progress.due = self.progress.waiting;
+        self.progress.waiting = 0;
+    }
+}
+
+/// Lets all callers answer the lines that wait, each in a thread of its own.
+fn answer_at_once<S: Store, R: Threads + Wait + Sync, G: Gate + Sync>(
+    rt: &R,
+    host: &Host<S>,
+    gate: &G,
+    lanes: &mut [Lane],
+)
+    requires free { All (λ lane. IsFree host.now lane.pass) lanes.old }
+    requires none { All (λ lane. lane.answers.items ≡ []) lanes.old }
+    requires some { 0 < length lanes.old }
+{
+    let count = lanes.len();
+    thread::for_each_mut(rt, lanes, count, &|_, lane| lane.answer(rt, host, gate));
+}
