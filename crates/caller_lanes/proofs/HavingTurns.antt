@@ -11,16 +11,16 @@ use Rattle.caller_lanes.proofs.Every.{left, left-none, left-below, every-append,
 use Rattle.caller_lanes.proofs.Merged.{left-alike, merged}
 
 module _ {X : Type 0} where
-  some-same : (x y : X) → Some x ≡ Some y → x ≡ y
+  pub some-same : (x y : X) → Some x ≡ Some y → x ≡ y
   some-same x y same = cc
 
-  length-same : (xs : List X) (place : ℕ) (new : X) → length (set xs place new) ≡ length xs
+  pub length-same : (xs : List X) (place : ℕ) (new : X) → length (set xs place new) ≡ length xs
   length-same [] place new = refl
   length-same (x ∷ xs) zero new = refl
   length-same (x ∷ xs) (suc place) new = omega (arith, length-same xs place new)
 
   -- what stands in a list of which one place changed
-  at-set : (xs : List X) (place : ℕ) (new : X) (number : ℕ) (x : X) → slice_get (set xs place new) number ≡ Some x
+  pub at-set : (xs : List X) (place : ℕ) (new : X) (number : ℕ) (x : X) → slice_get (set xs place new) number ≡ Some x
       → ((number ≡ place) × (x ≡ new)) ⊎ ((number ≢ place) × (slice_get xs number ≡ Some x))
   at-set [] place new number x is = absurd (cc)
   at-set (y ∷ xs) zero new zero x is = inl (refl, sym (some-same new x is))
@@ -119,6 +119,17 @@ module _ {L A : Type 0} (items_of : L → List A) where
       subst (λ count. every count number (before ++ items) ≡ every count number before ++ items_of other) (sym long)
       (have number (get_or lanes number other) lane_is
       ∙ ap (λ (mine : List A). every (length lanes) number before ++ mine) (sym (same number (get_or lanes number other) other lane_is other_is)))
+
+  -- one lane changed, and has the same
+  pub turns-same : (lanes : List L) (before items : List A) (place : ℕ) (old new : L) → slice_get lanes place ≡ Some old → items_of new ≡ items_of old
+      → HaveTurns items_of lanes before items → HaveTurns items_of (set lanes place new) before items
+  turns-same lanes before items place old new old_is kept =
+      turns-alike lanes (set lanes place new) before items (length-same lanes place new) (λ number lane other lane_is other_is.
+          elim (at-set lanes place new number other other_is) [
+            | inl here ↦
+                ap items_of here.1 ∙ kept ∙ ap items_of (some-same old lane (sym old_is ∙ ap (slice_get lanes) (sym here.0) ∙ lane_is))
+            | inr there ↦ ap items_of (some-same other lane (sym there.1 ∙ lane_is))
+          ])
 
   -- nothing is dealt where each has nothing
   pub turns-nothing : (lanes : List L) (before : List A) → ((number : ℕ) (lane : L) → slice_get lanes number ≡ Some lane → items_of lane ≡ [])

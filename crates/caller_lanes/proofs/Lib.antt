@@ -2,3 +2,7 @@
 mod Every
 mod Merged
 mod HavingTurns
+mod Turning
+mod Serving
+mod Opening
+mod Joining

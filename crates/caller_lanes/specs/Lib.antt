@@ -3,4 +3,5 @@ pub mod Dealing
 pub mod OneLane
 pub mod Turns
 pub mod Seated
+pub mod Joins
 pub mod Lanes

@@ -1,7 +1,10 @@
 //! The end of a host of several callers, to whom lines were dealt.
-ghost use Rattle.std.specs.Prelude.{◌≡◌, ℕ, List, [], All};
+ghost use Rattle.std.specs.Prelude.{◌≡◌, ℕ, List, []};
 ghost use Rattle.issuer_base.specs.declared.answer.Answer.{Answer};
-ghost use Rattle.host_calls.specs.Passes.{IsFree};
+ghost use Rattle.seat_names.specs.SeatNames.{IsWhole};
+ghost use Rattle.host_calls.specs.Passes.{claims_of, IsFree};
+ghost use Rattle.caller_lanes.specs.Joins.{HasJoined};
+ghost use Rattle.caller_lanes.specs.Seated.{AreSeated};
 
 use crate::dealer::Dealer;
 use crate::lane::Lane;
@@ -35,9 +38,10 @@ impl<S: Store> Lanes<S> {
 
 /// Joins the passes of all lanes into the first one.
 fn join_all<S: Store>(host: &Host<S>, first: &mut Pass, mut lanes: Vec<Lane>)
-    requires first { IsFree host.now first.old }
-    requires free { All (λ lane. IsFree host.now lane.pass) lanes.items }
-    ensures first { IsFree host.now first.new }
+    requires { AreSeated host.now first.old lanes.items }
+    ensures free { IsFree host.now first.new }
+    ensures whole { IsWhole (claims_of first.new).names }
+    ensures joined { HasJoined first.old lanes.items first.new }
 {
     while let Some(lane) = lanes.pop() {
         let pass = lane.into_pass();

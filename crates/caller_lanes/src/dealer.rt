@@ -1,9 +1,10 @@
 //! The lanes, and whose turn it is.
-ghost use Rattle.std.specs.Prelude.{◌≡◌, ℕ, ◌<◌, ◌≤◌, ◌+◌, ◌*◌, List, [], ◌∷◌, ◌++◌, length, vec_len, slice_index_or, All, MatchOption, map, Some, None};
+ghost use Rattle.std.specs.Prelude.{◌≡◌, ℕ, ◌<◌, ◌≤◌, ◌+◌, ◌*◌, ⊤, List, [], ◌∷◌, ◌++◌, length, vec_len, All, MatchOption, map};
 ghost use Rattle.issuer_base.specs.declared.answer.Answer.{Answer};
 ghost use Rattle.issuer_base.specs.declared.limits.TheConstants.{KEPT_BYTES};
-ghost use Rattle.host_calls.specs.Passes.{claims_of, logs_of, IsFree};
-ghost use Rattle.many_callers.specs.Callers.{Calls};
+ghost use Rattle.host_calls.specs.Passes.{IsFree};
+ghost use Rattle.caller_lanes.specs.OneLane.{HaveAnswered};
+ghost use Rattle.caller_lanes.specs.Turns.{AreInTurns, IsInTurn};
 
 use crate::lane::Lane;
 use host_calls::Host;
@@ -41,9 +42,6 @@ pub(crate) struct Dealer {
 }
 
 impl Dealer {
-    ghost use Rattle.caller_lanes.specs.OneLane.{waiting_lines};
-    ghost use Rattle.caller_lanes.specs.Turns.{AreInTurns, IsInTurn};
-    ghost use Rattle.caller_lanes.specs.declared.lane.Lane.{Lane};
 
     /// Deals the next line to the lane whose turn it is.
     pub(crate) fn deal(&mut self, line: &[u8])
@@ -99,7 +97,12 @@ impl Dealer {
     )
         requires free { All (λ lane. IsFree host.now lane.pass) self.old.lanes.items }
         requires none { self.old.progress.due ≡ 0 }
-        ensures free { All (λ lane. IsFree host.now lane.pass) self.new.lanes.items }
+        ensures turns { (lines : List (List ℕ)) (answers : List Answer) (waiting : List (List ℕ))
+            → AreInTurns self.old.lanes.items self.old.progress lines answers [] waiting
+            → (more : List Answer) × AreInTurns self.new.lanes.items self.new.progress (lines ++ waiting) answers more [] }
+        ensures lanes { HaveAnswered host.now self.old.lanes.items self.new.lanes.items }
+        ensures counts { (self.new.progress.waiting ≡ 0) × (self.new.progress.due ≡ self.old.progress.waiting) }
+        ensures room { self.new.room ≡ self.old.room }
     {
         answer_at_once(rt, host, gate, self.lanes.as_mut_slice());
         self.progress.due = self.progress.waiting;
@@ -117,6 +120,7 @@ fn answer_at_once<S: Store, R: Threads + Wait + Sync, G: Gate + Sync>(
     requires free { All (λ lane. IsFree host.now lane.pass) lanes.old }
     requires none { All (λ lane. lane.answers.items ≡ []) lanes.old }
     requires some { 0 < length lanes.old }
+    ensures { HaveAnswered host.now lanes.old lanes.new }
 {
     let count = lanes.len();
     thread::for_each_mut(rt, lanes, count, &|_, lane| lane.answer(rt, host, gate));

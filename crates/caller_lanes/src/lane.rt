@@ -3,7 +3,6 @@ ghost use Rattle.std.specs.Prelude.{◌≡◌, ◌<◌, ◌≤◌, [], ◌∷◌
 ghost use Rattle.line_checks.specs.Reading.{reading};
 ghost use Rattle.host_calls.specs.Authorising.{Authorises};
 ghost use Rattle.host_calls.specs.Passes.{claims_of, logs_of, IsFree};
-ghost use Rattle.many_callers.specs.Callers.{Calls};
 ghost use Rattle.issuer_base.specs.declared.limits.TheConstants.{KEPT_BYTES};
 
 use arrayvec::ArrayVec;
@@ -56,7 +55,7 @@ pub(crate) struct Lane {
 }
 
 impl Lane {
-    ghost use Rattle.caller_lanes.specs.OneLane.{waiting_lines};
+    ghost use Rattle.caller_lanes.specs.OneLane.{waiting_lines, HasAnswered};
 
     /// A caller with this pass, whose first line has this number in the run.
     pub(crate) fn new(pass: Pass, room: LaneRoom, number: u64, step: u64) -> Lane
@@ -110,12 +109,7 @@ impl Lane {
     pub(crate) fn answer<S: Store, R: Wait, G: Gate>(&mut self, rt: &R, host: &Host<S>, gate: &G)
         requires free { IsFree host.now self.old.pass }
         requires none { self.old.answers.items ≡ [] }
-        ensures free { IsFree host.now self.new.pass }
-        ensures names { (claims_of self.new.pass).names ≡ (claims_of self.old.pass).names }
-        ensures calls { Calls host.now.issuer (waiting_lines self.old) self.new.answers.items (claims_of self.old.pass) (logs_of self.old.pass)
-            (claims_of self.new.pass) (logs_of self.new.pass) }
-        ensures lines { self.new.lines.items ≡ [] }
-        ensures room { self.new.room ≡ self.old.room }
+        ensures { HasAnswered host.now self.old self.new }
     {
         for place in 0..self.lines.len() {
             let line = self.lines[place].as_slice();

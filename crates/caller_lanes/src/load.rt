@@ -1,8 +1,10 @@
 //! The loading of a host for several callers.
-ghost use Rattle.std.specs.Prelude.{◌≡◌, ◌<◌, ◌≤◌, ◌*◌, ◌/◌, [], length, vec_len, vec_capacity, All, IfOk, IfErr};
+ghost use Rattle.std.specs.Prelude.{◌≡◌, ℕ, ◌<◌, ◌≤◌, ◌*◌, ◌/◌, [], length, vec_len, vec_capacity, All, IfOk, IfErr};
 ghost use Rattle.issuer_base.specs.declared.limits.TheConstants.{MAX_CALLERS};
 ghost use Rattle.host_calls.specs.OpeningLogs.{AreOpenedFrom, HostComesBack};
-ghost use Rattle.host_calls.specs.Passes.{IsFree};
+ghost use Rattle.shard_turns.specs.ShardSeats.{opening_in};
+ghost use Rattle.caller_lanes.specs.OneLane.{IsNew};
+ghost use Rattle.caller_lanes.specs.Seated.{AreSeated};
 ghost use Rattle.caller_lanes.specs.declared.lanes.TheConstants.{BLOCK_LINES};
 
 use crate::dealer::{Dealer, Progress};
@@ -98,10 +100,12 @@ fn seat_all<S: Store>(
     mut lanes: Vec<Lane>,
     mut rooms: Vec<LaneRoom>,
 ) -> Vec<Lane>
-    requires first { IsFree host.now first.old }
+    requires first { AreSeated host.now first.old [] }
     requires room { (lanes.items ≡ []) × (vec_len rooms ≤ vec_capacity lanes) }
-    ensures first { IsFree host.now first.new }
+    ensures seated { AreSeated host.now first.new result.items }
+    ensures new { All (IsNew host.now.issuer (opening_in host.now.turns)) result.items }
     ensures count { vec_len result ≡ vec_len rooms }
+    ensures room { (count : ℕ) → All (λ room. room.count ≡ count) rooms.items → All (λ lane. lane.room ≡ count) result.items }
 {
     let step = rooms.len() as u64;
     let mut number = 0u64;
