@@ -87,12 +87,12 @@ module _ {S : Type 0} {G : Ghosts S} (host : Host S G) (first : Pass) where
       let names : Lane → List SeatName = λ lane. (claims_of lane.pass).names in
       let before : (number : ℕ) (lane : Lane) → slice_get new number ≡ Some lane → HasAnswered host (get_or old number lane) lane =
       λ number lane is.
-          let within = slice_get_within new number lane is in
-          answered.each number (get_or old number lane) lane (slice_get-get_or old number lane (omega (arith, within, answered.count_is))) is in
+      let within = slice_get_within new number lane is in
+      answered.each number (get_or old number lane) lane (slice_get-get_or old number lane (omega (arith, within, answered.count_is))) is in
       let all_names : flat_map names new ≡ flat_map names old =
       flat_map-kept names old new answered.count_is (λ number d below.
-          (answered.each number (get_or old number d) (get_or new number d) (slice_get-get_or old number d below)
-          (slice_get-get_or new number d (omega (arith, below, answered.count_is)))).names) in
+      (answered.each number (get_or old number d) (get_or new number d) (slice_get-get_or old number d below)
+      (slice_get-get_or new number d (omega (arith, below, answered.count_is)))).names) in
       record {
         first_free = seated.first_free;
         untouched = seated.untouched;

@@ -84,6 +84,9 @@ impl<S: Store> Lanes<S> {
             (λ _. (due_in self.new + 1 ≡ due_in self.old) × (waiting_in self.new ≡ waiting_in self.old)) }
         ensures host { HasSameHost self.old self.new }
     {
-        self.dealer.next_answer()
+        if self.dealer.progress.due == 0 {
+            return None;
+        }
+        Some(self.dealer.take_next())
     }
 }
