@@ -1,8 +1,8 @@
 -- Whose turn it is, and what the lanes have, after each step of dealing.
-use Rattle.std.proofs.Common.{◌≡◌, ℕ, zero, suc, ◌+◌, ◌*◌, ◌%◌, ◌<◌, ◌≤◌, ◌⊎◌, List, [], ◌∷◌, ◌++◌, length, set, Some, inl, inr, refl, sym, ap, subst, ◌∙◌, arith}
+use Rattle.std.proofs.Common.{◌≡◌, ℕ, zero, suc, ◌+◌, ◌*◌, ◌%◌, ◌<◌, ◌≤◌, ◌⊎◌, List, [], ◌∷◌, ◌++◌, length, set, Some, get_or, inl, inr, refl, sym, ap, subst, ◌∙◌, arith}
 use Rattle.std.proofs.Common.{append_assoc, append-nil}
 use Rattle.std.proofs.lemmas.List.{length-append}
-use Rattle.std.proofs.lemmas.Option.{slice_get_within}
+use Rattle.std.proofs.lemmas.Option.{slice_get_within, slice_get-get_or}
 use Rattle.std.proofs.Math.Logic.{∥∥₁_elim, ∥∥₁_map}
 use Rattle.std.proofs.Props.{props}
 use Rattle.std.specs.List.{slice_get}
@@ -139,8 +139,8 @@ pub lane-room : (lanes : List Lane) (progress : Progress) (room : ℕ) (lane : L
     → length lanes * lane.room ≡ room → progress.waiting < room → length (waiting_lines lane) < lane.room
 lane-room lanes progress room lane there lane_is all fits =
     ∥∥₁_elim there (search props) (λ is.
-        turns-room waiting_lines lanes is.lines is.waiting progress.next lane.room lane lane_is is.are.next_is is.are.waits
-        (omega (arith, all, fits, is.are.waiting_is)))
+    turns-room waiting_lines lanes is.lines is.waiting progress.next lane.room lane lane_is is.are.next_is is.are.waits
+    (omega (arith, all, fits, is.are.waiting_is)))
 
 some-length : {A : Type 0} (items : List A) → (items ≡ [] → ⊥) → 0 < length items
 some-length [] some = absurd (some refl)
@@ -151,9 +151,9 @@ pub lane-due : (lanes : List Lane) (progress : Progress) (lane : Lane) → ∥ I
     → 0 < progress.due → 0 < length (due_answers lane)
 lane-due lanes progress lane there lane_is some =
     ∥∥₁_elim there (search props) (λ is.
-        some-length (due_answers lane) (λ none.
-            let nothing = in-turns-none lanes progress is.lines is.taken is.due is.waiting lane lane_is none is.are in
-            absurd (omega (arith, nothing.1, some))))
+    some-length (due_answers lane) (λ none.
+    let nothing = in-turns-none lanes progress is.lines is.taken is.due is.waiting lane lane_is none is.are in
+    absurd (omega (arith, nothing.1, some))))
 
 -- the lanes are still in turn
 pub still-dealt : (lanes : List Lane) (progress after : Progress) (old new : Lane) (line : List ℕ) → 0 < length lanes
@@ -175,8 +175,8 @@ pub still-taken : (lanes : List Lane) (progress after : Progress) (old new : Lan
     → after.next ≡ progress.next → ∥ IsInTurn lanes progress ∥₁ → ∥ IsInTurn (set lanes progress.from new) after ∥₁
 still-taken lanes progress after old new answer some old_is shrunk kept same less from next there =
     ∥∥₁_map there (λ is.
-        let taking = in-turns-taken lanes progress after is.lines is.taken is.due is.waiting old new answer some old_is shrunk kept same less from next is.are in
-        record { lines = is.lines; taken = is.taken ++ answer ∷ []; due = taking.0; waiting = is.waiting; are = taking.2 })
+    let taking = in-turns-taken lanes progress after is.lines is.taken is.due is.waiting old new answer some old_is shrunk kept same less from next is.are in
+    record { lines = is.lines; taken = is.taken ++ answer ∷ []; due = taking.0; waiting = is.waiting; are = taking.2 })
 
 pub still-answered : (lanes others : List Lane) (progress after : Progress) → 0 < length lanes → length others ≡ length lanes → progress.due ≡ 0
     → after.waiting ≡ 0 → after.due ≡ progress.waiting → after.next ≡ progress.next → after.from ≡ progress.from
@@ -185,7 +185,19 @@ pub still-answered : (lanes others : List Lane) (progress after : Progress) → 
     → ∥ IsInTurn lanes progress ∥₁ → ∥ IsInTurn others after ∥₁
 still-answered lanes others progress after some long taken none all next from each there =
     ∥∥₁_map there (λ is.
-        let nothing = none-due lanes progress is.lines is.taken is.due is.waiting taken is.are in
-        let are = subst (λ (due : List Answer). AreInTurns lanes progress is.lines is.taken due is.waiting) nothing is.are in
-        let done = in-turns-answered lanes others progress after is.lines is.taken is.waiting some long none all next from each are in
-        record { lines = is.lines ++ is.waiting; taken = is.taken; due = done.0; waiting = []; are = done.1 })
+    let nothing = none-due lanes progress is.lines is.taken is.due is.waiting taken is.are in
+    let are = subst (λ (due : List Answer). AreInTurns lanes progress is.lines is.taken due is.waiting) nothing is.are in
+    let done = in-turns-answered lanes others progress after is.lines is.taken is.waiting some long none all next from each are in
+    record { lines = is.lines ++ is.waiting; taken = is.taken; due = done.0; waiting = []; are = done.1 })
+
+-- no lane has an answer where none is due
+pub none-due-all : (lanes : List Lane) (progress : Progress) → ∥ IsInTurn lanes progress ∥₁ → progress.due ≡ 0 → (number : ℕ) (d : Lane)
+    → number < length lanes → due_answers (get_or lanes number d) ≡ []
+none-due-all lanes progress there none number d below =
+    let lane : Lane = get_or lanes number d in
+    let lane_is : slice_get lanes number ≡ Some lane = slice_get-get_or lanes number d below in
+    let few : length (due_answers lane) < 1 = ∥∥₁_elim there (search props) (λ is.
+        let nothing = ap (λ (answers : List Answer). length answers)
+        (in-turns-empty lanes progress is.lines is.taken is.due is.waiting none is.are number lane lane_is) in
+        omega (arith, nothing)) in
+    none-length (due_answers lane) (omega (arith, few))

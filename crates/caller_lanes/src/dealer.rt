@@ -79,7 +79,7 @@ impl Dealer {
     }
 
     /// Lets all callers answer the lines that wait, each in a thread of its own.
-    pub(crate) fn answer<S: Store, R: Threads + Wait + Sync, G: Gate + Sync>(
+    pub(crate) fn answer<S: Store + Send, R: Threads + Wait + Sync, G: Gate + Sync>(
         &mut self,
         rt: &R,
         host: &Host<S>,
@@ -101,7 +101,7 @@ impl Dealer {
 }
 
 /// Lets all callers answer the lines that wait, each in a thread of its own.
-fn answer_at_once<S: Store, R: Threads + Wait + Sync, G: Gate + Sync>(
+fn answer_at_once<S: Store + Send, R: Threads + Wait + Sync, G: Gate + Sync>(
     rt: &R,
     host: &Host<S>,
     gate: &G,
@@ -121,9 +121,5 @@ fn behind(lane: usize, count: usize) -> usize
     requires { lane < count }
     ensures { IsBehind count lane result }
 {
-    if lane + 1 < count {
-        lane + 1
-    } else {
-        0
-    }
+    if lane + 1 < count { lane + 1 } else { 0 }
 }

@@ -9,13 +9,13 @@ use Rattle.caller_lanes.proofs.Joining.{joined-none, joined-more}
 use Rattle.caller_lanes.proofs.close.join_all.Goals as goal
 
 pub join-requires : goal.join-requires
-join-requires c =
+join-requires g c =
     let popped = All-pop (λ (lane : Lane). IsFree c.args.host.now lane.pass) c.loop-lane.lanes.items c.pop.new.self.items c.pop.result c.pop.ensures.items
     c.loop-lane.invariant.free in
     (c.loop-lane.invariant.first, rw (c.into_pass-pass.ensures) (rw c.in-Some.is at popped.1))
 
 pub loop-lane-preserved : goal.loop-lane-preserved
-loop-lane-preserved c =
+loop-lane-preserved g c =
     let popped = All-pop (λ (lane : Lane). IsFree c.args.host.now lane.pass) c.loop-lane.lanes.items c.pop.new.self.items c.pop.result c.pop.ensures.items
     c.loop-lane.invariant.free in
     let last : Lane = c.in-Some.lane in

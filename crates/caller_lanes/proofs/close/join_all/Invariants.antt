@@ -8,7 +8,7 @@ use Rattle.caller_lanes.specs.declared.lane.Lane.{Lane}
 use Rattle.caller_lanes.proofs.close.join_all.Given as goal
 
 abbrev pub invariant-loop-lane : goal.invariant-loop-lane
-invariant-loop-lane l = record {
+invariant-loop-lane g l = record {
   first : IsFree l.host l.first;
   free : All (λ lane. IsFree l.host lane.pass) l.lanes.items;
   whole : IsWhole ((claims_of l.first).names ++ flat_map (λ lane. (claims_of lane.pass).names) l.lanes.items);
@@ -16,4 +16,4 @@ invariant-loop-lane l = record {
 }
 
 abbrev pub decreases-loop-lane : goal.decreases-loop-lane
-decreases-loop-lane l = goal.left-loop-lane l
+decreases-loop-lane g l = goal.left-loop-lane g l

@@ -6,7 +6,7 @@ use Rattle.caller_lanes.specs.Seated.{AreSeated}
 use Rattle.caller_lanes.proofs.load.seat_all.Given as goal
 
 abbrev pub invariant-loop-room : goal.invariant-loop-room
-invariant-loop-room l = record {
+invariant-loop-room g l = record {
   seated : AreSeated l.host l.first l.lanes.items;
   new : All (IsNew l.host.issuer (opening_in l.host.turns)) l.lanes.items;
   count : vec_len l.lanes + vec_len l.rooms ≡ vec_len l.fn.rooms;
@@ -17,4 +17,4 @@ invariant-loop-room l = record {
 }
 
 abbrev pub decreases-loop-room : goal.decreases-loop-room
-decreases-loop-room l = goal.left-loop-room l
+decreases-loop-room g l = goal.left-loop-room g l

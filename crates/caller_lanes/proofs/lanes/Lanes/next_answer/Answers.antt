@@ -6,12 +6,12 @@ use Rattle.caller_lanes.proofs.Turning.{none-due}
 use Rattle.caller_lanes.proofs.lanes.Lanes.next_answer.Goals as goal
 
 pub invariant_of-self-clause-seated : goal.invariant_of-self-clause-seated
-invariant_of-self-clause-seated c =
+invariant_of-self-clause-seated g c =
     let lanes = c.args.self.now in
     seated-alike lanes.host lanes.first lanes.dealer.lanes.items c.take_next.new.self.lanes.items c.take_next.ensures.passes lanes.seated
 
 pub returns-clause-served : goal.returns-clause-served
-returns-clause-served c =
+returns-clause-served g c =
     λ lines answers due waiting has.
     let lanes = c.args.self.now in
     let taking = c.take_next.ensures.turns lines has.taken due waiting has.turns in (
@@ -27,7 +27,7 @@ returns-clause-served c =
     )
 
 pub returns-clause-host : goal.returns-clause-host
-returns-clause-host c = record {
+returns-clause-host g c = record {
   same_issuer = refl;
   same_opening = refl;
   same_callers = same-length c.args.self.now.dealer.lanes.items c.take_next.new.self.lanes.items c.take_next.ensures.passes;

@@ -3,7 +3,7 @@ use Rattle.std.proofs.Common.{sym, ap, ◌∙◌, List, length, append-nil}
 use Rattle.issuer_base.specs.declared.answer.Answer.{Answer}
 use Rattle.shard_turns.specs.ShardSeats.{opening_in}
 use Rattle.caller_lanes.proofs.Joining.{closed-lanes}
-use Rattle.caller_lanes.proofs.close.Lanes.close.Goals as goal
+use Rattle.caller_lanes.proofs.lanes.Lanes.close.Goals as goal
 
 pub returns : goal.returns
 returns g c =
