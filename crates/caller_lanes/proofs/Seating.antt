@@ -122,3 +122,7 @@ room-some lines count some fits =
 
 pub room-most : (lines count : ℕ) → count * (lines / count) ≤ lines
 room-most lines count = mul-div-le lines count
+
+pub rooms-all : (lanes : List Lane) (count each whole : ℕ) → whole ≡ count * each → All (λ (lane : Lane). lane.room ≡ each) lanes
+    → All (λ (lane : Lane). count * lane.room ≡ whole) lanes
+rooms-all lanes count each whole is all = λ number d below. ap (λ room. count * room) (all number d below) ∙ sym is

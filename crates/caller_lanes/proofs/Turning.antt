@@ -201,3 +201,9 @@ none-due-all lanes progress there none number d below =
         (in-turns-empty lanes progress is.lines is.taken is.due is.waiting none is.are number lane lane_is) in
         omega (arith, nothing)) in
     none-length (due_answers lane) (omega (arith, few))
+
+pub none-due-lent : (lanes lent : List Lane) (progress : Progress) → lent ≡ lanes → ∥ IsInTurn lanes progress ∥₁ → progress.due ≡ 0 → (number : ℕ) (d : Lane)
+    → number < length lent → (get_or lent number d).answers.items ≡ []
+none-due-lent lanes lent progress is there none =
+    subst (λ (lanes : List Lane). (number : ℕ) (d : Lane) → number < length lanes → (get_or lanes number d).answers.items ≡ []) (sym is)
+    (none-due-all lanes progress there none)

@@ -8,6 +8,14 @@ use Rattle.caller_lanes.specs.declared.lane.Lane.{Lane}
 use Rattle.caller_lanes.proofs.Joining.{joined-none, joined-more}
 use Rattle.caller_lanes.proofs.close.join_all.Goals as goal
 
+pub loop-lane-init : goal.loop-lane-init
+loop-lane-init g c = record {
+  first = c.requires.first_free;
+  free = c.requires.free;
+  whole = c.requires.whole;
+  joined = ([], sym (append-nil c.args.lanes.items), joined-none c.args.first.now);
+}
+
 pub join-requires : goal.join-requires
 join-requires g c =
     let popped = All-pop (λ (lane : Lane). IsFree c.args.host.now lane.pass) c.loop-lane.lanes.items c.pop.new.self.items c.pop.result c.pop.ensures.items

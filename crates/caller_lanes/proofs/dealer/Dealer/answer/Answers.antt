@@ -1,16 +1,13 @@
 -- The lanes that were lent to threads come back, and their lines are answered.
-use Rattle.std.proofs.Common.{◌≡◌, ℕ, ◌<◌, List, [], length, get_or, rules, refl, sym, subst}
-use Rattle.caller_lanes.specs.OneLane.{due_answers}
-use Rattle.caller_lanes.specs.declared.lane.Lane.{Lane}
+use Rattle.std.proofs.Common.{rules, refl}
 use Rattle.caller_lanes.proofs.Serving.{lent-answered, lent-rooms, lent-turns, lent-still}
-use Rattle.caller_lanes.proofs.Turning.{none-due-all}
+use Rattle.caller_lanes.proofs.Turning.{none-due-lent}
 use Rattle.caller_lanes.proofs.dealer.Dealer.answer.Goals as goal
 
 pub answer_at_once-requires-clause-none : goal.answer_at_once-requires-clause-none
-answer_at_once-requires-clause-none g c =
+answer_at_once-requires-clause-none g c lifetimes =
     let dealer = c.args.self.now in
-    subst (λ (lanes : List Lane). (number : ℕ) (d : Lane) → number < length lanes → due_answers (get_or lanes number d) ≡ [])
-    (sym c.as_mut_slice.ensures.value) (none-due-all dealer.lanes.items dealer.progress dealer.in_turn c.requires.none)
+    none-due-lent dealer.lanes.items c.as_mut_slice.result.now dealer.progress c.as_mut_slice.ensures.value dealer.in_turn c.requires.none
 
 pub invariant_of-self-clause-each_room : goal.invariant_of-self-clause-each_room
 invariant_of-self-clause-each_room g c =
