@@ -230,11 +230,11 @@ module _ {S : Type 0} {G : Ghosts S} (host : Host S G) (old lent new : List Lane
       → All (λ (lane : Lane). count * lane.room ≡ room) (take count (new ++ drop (length new) old))
   lent-rooms room all =
       subst (All (λ (lane : Lane). count * lane.room ≡ room)) (sym back) (all-at (λ (lane : Lane). count * lane.room ≡ room) new (λ number lane lane_is.
-          let within = slice_get_within new number lane lane_is in
-          let before : Lane = get_or old number lane in
-          let before_is : slice_get old number ≡ Some before = slice_get-get_or old number lane (omega (arith, within, all-answered.count_is)) in
-          ap (λ room. count * room) (all-answered.each number before lane before_is lane_is).room
-          ∙ at-all (λ (lane : Lane). count * lane.room ≡ room) old number before all before_is))
+      let within = slice_get_within new number lane lane_is in
+      let before : Lane = get_or old number lane in
+      let before_is : slice_get old number ≡ Some before = slice_get-get_or old number lane (omega (arith, within, all-answered.count_is)) in
+      ap (λ room. count * room) (all-answered.each number before lane before_is lane_is).room
+      ∙ at-all (λ (lane : Lane). count * lane.room ≡ room) old number before all before_is))
 
   module _ (progress after : Progress) (some : 0 < length old) (none : after.waiting ≡ 0) (every_one : after.due ≡ progress.waiting)
       (next : after.next ≡ progress.next) (from : after.from ≡ progress.from) where

@@ -197,9 +197,9 @@ none-due-all lanes progress there none number d below =
     let lane : Lane = get_or lanes number d in
     let lane_is : slice_get lanes number ≡ Some lane = slice_get-get_or lanes number d below in
     let few : length (due_answers lane) < 1 = ∥∥₁_elim there (search props) (λ is.
-        let nothing = ap (λ (answers : List Answer). length answers)
-        (in-turns-empty lanes progress is.lines is.taken is.due is.waiting none is.are number lane lane_is) in
-        omega (arith, nothing)) in
+    let nothing = ap (λ (answers : List Answer). length answers)
+    (in-turns-empty lanes progress is.lines is.taken is.due is.waiting none is.are number lane lane_is) in
+    omega (arith, nothing)) in
     none-length (due_answers lane) (omega (arith, few))
 
 pub none-due-lent : (lanes lent : List Lane) (progress : Progress) → lent ≡ lanes → ∥ IsInTurn lanes progress ∥₁ → progress.due ≡ 0 → (number : ℕ) (d : Lane)

@@ -5,7 +5,7 @@ use Rattle.caller_lanes.proofs.Turning.{none-due-lent}
 use Rattle.caller_lanes.proofs.dealer.Dealer.answer.Goals as goal
 
 pub answer_at_once-requires-clause-none : goal.answer_at_once-requires-clause-none
-answer_at_once-requires-clause-none g c lifetimes =
+answer_at_once-requires-clause-none g c lifetimes outlives =
     let dealer = c.args.self.now in
     none-due-lent dealer.lanes.items c.as_mut_slice.result.now dealer.progress c.as_mut_slice.ensures.value dealer.in_turn c.requires.none
 

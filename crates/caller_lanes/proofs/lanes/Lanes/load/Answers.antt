@@ -30,14 +30,14 @@ pub invariant_of-dealer-clause-in_turn : goal.invariant_of-dealer-clause-in_turn
 invariant_of-dealer-clause-in_turn g c =
     let host = c.in-Ok-load.made.0 in
     ∣
-        record {
-          lines = [];
-          taken = [];
-          due = [];
-          waiting = [];
-          are = new-in-turns host.issuer (opening_in host.turns) c.seat_all-lanes.result.items _ c.seat_all-lanes.ensures.new refl refl refl refl;
-        }
-        ∣₁
+    record {
+      lines = [];
+      taken = [];
+      due = [];
+      waiting = [];
+      are = new-in-turns host.issuer (opening_in host.turns) c.seat_all-lanes.result.items _ c.seat_all-lanes.ensures.new refl refl refl refl;
+    }
+    ∣₁
 
 pub invariant_of-result-clause-plain : goal.invariant_of-result-clause-plain
 invariant_of-result-clause-plain g c =
