@@ -15,7 +15,8 @@ one-left [] count long = absurd (omega arith)
 one-left (item ∷ items) count long = (item, items, refl, omega arith)
 
 -- what is passed over next depends on how many items there were alone
-pub left-alike : {A B : Type 0} (count skip : ℕ) (items : List A) (others : List B) → length items ≡ length others → left count skip items ≡ left count skip others
+pub left-alike : {A B : Type 0} (count skip : ℕ) (items : List A) (others : List B) → length items ≡ length others
+    → left count skip items ≡ left count skip others
 left-alike count skip [] [] long = refl
 left-alike count skip [] (other ∷ others) long = absurd (omega arith)
 left-alike count skip (item ∷ items) [] long = absurd (omega arith)

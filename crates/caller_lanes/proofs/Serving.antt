@@ -1,5 +1,6 @@
 -- What the lanes' callers were asked and answered, after each step, and that their passes stay seated.
-use Rattle.std.proofs.Common.{◌≡◌, ℕ, zero, suc, ◌+◌, ◌*◌, ◌<◌, List, [], ◌∷◌, ◌++◌, length, take, drop, map, Some, All, get_or, refl, sym, ap, subst, ◌∙◌, arith}
+use Rattle.std.proofs.Common.{◌≡◌, ℕ, zero, suc, ◌+◌, ◌*◌, ◌<◌, List, [], ◌∷◌, ◌++◌, length, take, drop, map, Some}
+use Rattle.std.proofs.Common.{All, get_or, refl, sym, ap, subst, ◌∙◌, arith}
 use Rattle.std.proofs.Common.{append_assoc}
 use Rattle.std.proofs.lemmas.List.{length-map, take_more, map-append}
 use Rattle.std.proofs.lemmas.List.Folds.{flat_map-map}
@@ -116,7 +117,8 @@ calls-join issuer [] [] claims logs claims_then logs_then more told claims_now l
     (subst (λ (logs : TurnView LogItem LogHead). Calls issuer more told claims_then logs claims_now logs_now) logs_same calls)
 calls-join issuer [] (answer ∷ answers) claims logs claims_then logs_then more told claims_now logs_now before calls = absurd before
 calls-join issuer (line ∷ lines) [] claims logs claims_then logs_then more told claims_now logs_now before calls = absurd before
-calls-join issuer (line ∷ lines) (answer ∷ answers) claims logs claims_then logs_then more told claims_now logs_now (claims_first, logs_first, head, before) calls =
+calls-join issuer (line ∷ lines) (answer ∷ answers) claims logs claims_then logs_then more told claims_now logs_now
+    (claims_first, logs_first, head, before) calls =
     (claims_first, logs_first, head, calls-join issuer lines answers claims_first logs_first claims_then logs_then more told claims_now logs_now before calls)
 
 -- as many answers as lines
