@@ -1,13 +1,12 @@
 -- Lanes that have their turns of what was dealt: one item more, one taken, and all answered.
-use Rattle.std.proofs.Common.{◌≡◌, ◌≢◌, ℕ, zero, suc, ◌+◌, ◌-◌, ◌*◌, ◌%◌, ◌<◌, ◌≤◌, ◌⊎◌, List, [], ◌∷◌, ◌++◌, length, set, Some, get_or, inl, inr, refl, sym}
+use Rattle.std.proofs.Common.{◌≡◌, ◌≢◌, ℕ, zero, suc, ◌-◌, ◌*◌, ◌%◌, ◌<◌, ◌⊎◌, List, [], ◌∷◌, ◌++◌, length, set, Some, get_or, inl, inr, refl, sym}
 use Rattle.std.proofs.Common.{ap, subst, ◌∙◌, append-nil, append_assoc, arith}
-use Rattle.std.proofs.lemmas.Bool.Decides.{eqb_tells}
 use Rattle.std.proofs.lemmas.List.{append_cancel_left}
 use Rattle.std.proofs.lemmas.Option.{slice_get-get_or}
-use Rattle.std.proofs.Math.Nat.{mod-lt, lt_of_mul-lt-mul_left}
+use Rattle.std.proofs.Math.Nat.{lt_of_mul-lt-mul_left}
 use Rattle.std.specs.List.{slice_get}
 use Rattle.caller_lanes.specs.Dealing.{every, HaveTurns}
-use Rattle.caller_lanes.proofs.Every.{left, left-none, left-below, every-append, every-none, every-here, every-elsewhere, every-length, left-append}
+use Rattle.caller_lanes.proofs.Every.{left, left-none, left-below, every-append, every-here, every-elsewhere, every-length, left-append}
 use Rattle.caller_lanes.proofs.Merged.{left-alike, merged}
 
 module _ {X : Type 0} where

@@ -1,5 +1,5 @@
 -- Passes that are joined, one after another, and what closing the host says of all callers together.
-use Rattle.std.proofs.Common.{◌≡◌, ℕ, zero, suc, ◌+◌, ◌<◌, List, [], ◌∷◌, ◌++◌, length, Some, get_or, refl, sym, ap, subst, ◌∙◌, arith, Option}
+use Rattle.std.proofs.Common.{◌≡◌, ℕ, zero, suc, ◌<◌, List, [], ◌∷◌, length, Some, refl, sym, ap, subst, ◌∙◌, arith, Option}
 use Rattle.std.proofs.lemmas.Option.{slice_get_within}
 use Rattle.std.specs.List.{slice_get}
 use Rattle.std.specs.Prelude.{Bool, ◌==◌, ◌&&◌}
@@ -26,7 +26,7 @@ use Rattle.host_calls.specs.Passes.{claims_of, logs_of}
 use Rattle.host_calls.specs.declared.pass.Pass.{Pass}
 use Rattle.host_calls.proofs.Places.{read-within, choose}
 use Rattle.many_callers.specs.Callers.{Caller, IsCaller, AreCallers}
-use Rattle.caller_lanes.specs.Dealing.{every, AreDealt}
+use Rattle.caller_lanes.specs.Dealing.{every}
 use Rattle.caller_lanes.specs.Joins.{HasJoined}
 use Rattle.caller_lanes.specs.Lanes.{HasClosed}
 use Rattle.caller_lanes.specs.OneLane.{IsServed}

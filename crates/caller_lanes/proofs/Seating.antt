@@ -1,9 +1,8 @@
 -- The passes of lanes as they are split off, and what the lanes begin with.
-use Rattle.std.proofs.Common.{◌≡◌, ℕ, ◌*◌, ◌/◌, ◌%◌, ◌<◌, ◌≤◌, List, [], ◌∷◌, ◌++◌, length, Some, All, refl, sym, ap, subst, ◌∙◌, append-nil, arith}
+use Rattle.std.proofs.Common.{◌≡◌, ℕ, ◌*◌, ◌/◌, ◌<◌, ◌≤◌, List, [], ◌∷◌, ◌++◌, length, All, refl, sym, ap, subst, ◌∙◌, append-nil, arith}
 use Rattle.std.proofs.lemmas.List.Elements.{All-push}
 use Rattle.std.proofs.Math.Nat.{zero-mod, mul-div-le, le-div_iff_mul-le, one-le-mul}
-use Rattle.std.specs.List.{slice_get, flat_map}
-use Rattle.issuer_base.specs.declared.answer.Answer.{Answer}
+use Rattle.std.specs.List.{flat_map}
 use Rattle.issuer_base.specs.declared.outside.store.Store.{Ghosts}
 use Rattle.issuer_setup.specs.IssuerSetup.{Setup}
 use Rattle.seat_names.specs.SeatNames.{first_names, after_split, split_off, IsWhole}

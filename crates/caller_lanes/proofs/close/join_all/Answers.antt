@@ -1,9 +1,8 @@
 -- A pass that takes over the last lane's is free, whole with those left, and has what both had.
-use Rattle.std.proofs.Common.{◌≡◌, ◌++◌, ◌∷◌, [], List, sym, ap, ◌∙◌, append-nil, append_assoc, subst}
+use Rattle.std.proofs.Common.{◌≡◌, ◌++◌, ◌∷◌, [], List, sym, ap, ◌∙◌, append-nil, append_assoc}
 use Rattle.std.proofs.lemmas.List.Elements.{All-pop}
 use Rattle.seat_names.proofs.ManySeats.{whole_popped}
 use Rattle.host_calls.specs.Passes.{claims_of, IsFree}
-use Rattle.caller_lanes.specs.Joins.{HasJoined}
 use Rattle.caller_lanes.specs.declared.lane.Lane.{Lane}
 use Rattle.caller_lanes.proofs.Joining.{joined-none, joined-more}
 use Rattle.caller_lanes.proofs.close.join_all.Goals as goal

@@ -1,5 +1,5 @@
 -- One line more is answered, behind the others.
-use Rattle.std.proofs.Common.{◌≡◌, ◌+◌, ◌<◌, ◌∷◌, [], length, ap, ◌∙◌, sym, subst, rules, arith}
+use Rattle.std.proofs.Common.{◌∷◌, [], length, ap, ◌∙◌, rules, arith}
 use Rattle.std.proofs.lemmas.List.{length-append}
 use Rattle.caller_lanes.proofs.Serving.{calls-line}
 use Rattle.caller_lanes.proofs.lane.Lane.answer.Goals as goal

@@ -1,5 +1,5 @@
 -- The lines that waited were answered, and all passes are free and whole again.
-use Rattle.std.proofs.Common.{◌≡◌, List, [], ◌++◌, refl, sym, subst, ◌∙◌, append-nil}
+use Rattle.std.proofs.Common.{◌≡◌, List, [], refl, sym, subst, ◌∙◌, append-nil}
 use Rattle.issuer_base.specs.declared.answer.Answer.{Answer}
 use Rattle.caller_lanes.specs.Turns.{AreInTurns}
 use Rattle.caller_lanes.proofs.Serving.{served-answered, seated-answered}

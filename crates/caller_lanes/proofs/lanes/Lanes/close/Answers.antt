@@ -1,5 +1,5 @@
 -- The first pass has joined all others, and closing the host with it says what all callers shared.
-use Rattle.std.proofs.Common.{sym, ap, ◌∙◌, List, length, append-nil}
+use Rattle.std.proofs.Common.{ap, ◌∙◌, List, length}
 use Rattle.issuer_base.specs.declared.answer.Answer.{Answer}
 use Rattle.shard_turns.specs.ShardSeats.{opening_in}
 use Rattle.caller_lanes.proofs.Joining.{closed-lanes}

@@ -1,6 +1,5 @@
 -- The line waits behind the others, and all passes are as they were.
-use Rattle.std.proofs.Common.{rules, refl}
-use Rattle.caller_lanes.specs.Lanes.{HasServed}
+use Rattle.std.proofs.Common.{refl}
 use Rattle.caller_lanes.proofs.Serving.{served-alike, seated-alike, same-length}
 use Rattle.caller_lanes.proofs.lanes.Lanes.deal.Goals as goal
 

@@ -1,9 +1,7 @@
 -- The lanes begin with nothing asked, or the stores come back.
-use Rattle.std.proofs.Common.{◌≡◌, ℕ, ◌*◌, ◌/◌, ◌<◌, ◌≤◌, [], All, vec_len, length, inl, rules, refl, sym, subst, ap, ◌∙◌}
+use Rattle.std.proofs.Common.{◌≡◌, ◌*◌, ◌/◌, ◌<◌, ◌≤◌, [], vec_len, inl, rules, refl, sym, subst, ap, ◌∙◌}
 use Rattle.shard_turns.specs.ShardSeats.{opening_in}
 use Rattle.host_calls.proofs.Loads.{none-loaded}
-use Rattle.caller_lanes.specs.declared.lane.Lane.{Lane}
-use Rattle.caller_lanes.specs.declared.lane.LaneRoom.{LaneRoom}
 use Rattle.caller_lanes.specs.declared.lanes.TheConstants.{BLOCK_LINES}
 use Rattle.caller_lanes.proofs.Opening.{opened-plain}
 use Rattle.caller_lanes.proofs.Seating.{seated-none, new-in-turns, new-all-served, rooms-all, room-some, room-most}

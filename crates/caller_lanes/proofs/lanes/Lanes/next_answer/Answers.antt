@@ -1,8 +1,7 @@
 -- The first answer that was due is taken, and all passes are as they were.
-use Rattle.std.proofs.Common.{◌≡◌, List, [], ◌∷◌, ◌++◌, refl, sym, ap, ◌∙◌, append_assoc}
+use Rattle.std.proofs.Common.{List, [], ◌∷◌, ◌++◌, refl, sym, ap, ◌∙◌, append_assoc}
 use Rattle.issuer_base.specs.declared.answer.Answer.{Answer}
 use Rattle.caller_lanes.proofs.Serving.{served-alike, seated-alike, same-length}
-use Rattle.caller_lanes.proofs.Turning.{none-due}
 use Rattle.caller_lanes.proofs.lanes.Lanes.next_answer.Goals as goal
 
 pub invariant_of-self-clause-seated : goal.invariant_of-self-clause-seated
