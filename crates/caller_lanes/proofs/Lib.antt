@@ -1,0 +1,9 @@
+-- The lemmas of this crate.
+mod Every
+mod Merged
+mod HavingTurns
+mod Turning
+mod Serving
+mod Seating
+mod Opening
+mod Joining

@@ -1,0 +1,69 @@
+-- What callers of one host were asked and answered, and what waits.
+use Rattle.std.specs.Prelude.{◌≡◌, ℕ, ◌==◌, Bool, List, ◌++◌, length, slice_get, Option, Some}
+use Rattle.issuer_base.specs.Stores.{Disk}
+use Rattle.issuer_base.specs.declared.answer.Answer.{Answer}
+use Rattle.issuer_base.specs.declared.outside.store.Store.{Ghosts}
+use Rattle.issuer_setup.specs.IssuerSetup.{Setup}
+use Rattle.turn_book.specs.declared.logs.Log.{Log}
+use Rattle.shard_turns.specs.ShardSeats.{opening_in}
+use Rattle.shard_turns.specs.declared.logs.LogItem.{LogItem}
+use Rattle.shard_turns.specs.declared.logs.LogHead.{LogHead}
+use Rattle.host_calls.specs.Closing.{AreClosed}
+use Rattle.many_callers.specs.Callers.{Caller, AreCallers}
+use Rattle.caller_lanes.specs.Dealing.{every, AreDealt}
+use Rattle.caller_lanes.specs.OneLane.{IsServed}
+use Rattle.caller_lanes.specs.Turns.{AreInTurns}
+use Rattle.caller_lanes.specs.declared.lane.Lane.{Lane}
+use Rattle.caller_lanes.specs.declared.lanes.Lanes.{Lanes}
+
+module _ {S : Type 0} {G : Ghosts S} where
+  -- the issuer of the host
+  abbrev pub issuer_in : Lanes S G → Setup
+  issuer_in lanes = lanes.host.issuer
+
+  -- the logs that the host was loaded with
+  abbrev pub opening_logs : Lanes S G → List (Log LogItem LogHead)
+  opening_logs lanes = opening_in lanes.host.turns
+
+  -- how many callers there are
+  abbrev pub callers_in : Lanes S G → ℕ
+  callers_in lanes = length lanes.dealer.lanes.items
+
+  -- how many lines wait
+  abbrev pub waiting_in : Lanes S G → ℕ
+  waiting_in lanes = lanes.dealer.progress.waiting
+
+  -- how many answers are still to be taken
+  abbrev pub due_in : Lanes S G → ℕ
+  due_in lanes = lanes.dealer.progress.due
+
+  -- whether no line more fits
+  abbrev pub is_full_in : Lanes S G → Bool
+  is_full_in lanes = waiting_in lanes == lanes.dealer.room
+
+  -- the issuer, the opening logs and the callers are the same
+  pub record HasSameHost (old new : Lanes S G) : Type 0 where
+    pub same_issuer : issuer_in new ≡ issuer_in old
+    pub same_opening : opening_logs new ≡ opening_logs old
+    pub same_callers : callers_in new ≡ callers_in old
+
+  -- since the host was loaded these lines were answered so by its callers; these answers, the last of them, are still to be taken; and these lines
+  -- wait
+  pub record HasServed (lanes : Lanes S G) (lines : List (List ℕ)) (answers due : List Answer) (waiting : List (List ℕ)) : Type 0 where
+    pub taken : List Answer
+    pub answers_are : answers ≡ taken ++ due
+    pub turns : AreInTurns lanes.dealer.lanes.items lanes.dealer.progress lines taken due waiting
+    pub served : (number : ℕ) (lane : Lane) → slice_get lanes.dealer.lanes.items number ≡ Some lane
+        → IsServed (issuer_in lanes) (opening_logs lanes) lane.pass (every (callers_in lanes) number lines) (every (callers_in lanes) number answers)
+
+-- by what stores tell of their bytes and disks, and by their counts of faults
+module _ {S : Type 0} (bytes : S → Option (List ℕ)) (disk : S → Option Disk) (faults : S → ℕ) where
+  -- a host that began with these opening logs was closed: its callers, so many, were dealt these lines in turns and answered them so; they shared the
+  -- host, whose logs at close these are, and its stores hold the logs' journals
+  pub record HasClosed (issuer : Setup) (opening : List (Log LogItem LogHead)) (count : ℕ) (lines : List (List ℕ)) (answers : List Answer)
+      (stores : List S) : Type 0 where
+    pub logs : List (Log LogItem LogHead)
+    pub callers : List Caller
+    pub dealt : AreDealt count lines answers callers
+    pub shared : AreCallers issuer opening logs callers
+    pub closed : AreClosed bytes disk faults issuer opening logs stores

@@ -1,0 +1,7 @@
+-- The definitions that the contracts of this crate cite.
+pub mod Dealing
+pub mod OneLane
+pub mod Turns
+pub mod Seated
+pub mod Joins
+pub mod Lanes

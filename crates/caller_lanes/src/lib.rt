@@ -1,0 +1,14 @@
+//! Lines dealt in turns to several callers of one host, who answer them at once, and the answers, in the order of the lines.
+#![tactic(auto)]
+
+mod close;
+mod dealer;
+mod lane;
+mod lanes;
+mod load;
+
+pub use host_calls::{HostBack, LoadFault};
+pub use lanes::{BLOCK_LINES, Lanes};
+
+#[cfg(test)]
+mod tests;
