@@ -1,6 +1,7 @@
 -- A text of records has one reading: which history a text loads to, and that a legal one is loaded.
 use Rattle.std.proofs.Common.{◌≡◌, ◌≢◌, ◌⊎◌, ◌<◌, ◌≤◌, ℕ, List, [], ◌∷◌, ◌++◌, length, take, refl, sym, ap, ap₂, subst, ◌∙◌, inl, inr, ⊎_elim, arith}
-use Rattle.std.proofs.Common.{true, false, Option, None, Some, Result, Ok, Err, IfOk, IfErr, IfSome, MatchResult, IsTrue, All, append_assoc, append-nil, length-append}
+use Rattle.std.proofs.Common.{true, false, Option, None, Some, Result, Ok, Err, IfOk, IfErr, IfSome, MatchResult, IsTrue, All}
+use Rattle.std.proofs.Common.{append_assoc, append-nil, length-append}
 use Rattle.std.proofs.lemmas.Bool.{cases_lt}
 use Rattle.std.proofs.lemmas.List.{take_all, take-append-le}
 use Rattle.std.proofs.lemmas.List.Elements.{All-nil, All-head, All-tail, All-take, All-push}
