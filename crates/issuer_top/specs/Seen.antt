@@ -1,5 +1,5 @@
 -- What a run sees of the outside: its words, the desk, the inputs and the journals that it opened, and the sink.
-use Rattle.std.specs.Prelude.{ℕ, List, map, Option}
+use Rattle.std.specs.Prelude.{◌≡◌, ℕ, List, map, Option}
 use Rattle.std.specs.Option.{option_map}
 use Rattle.issuer_base.specs.Desk.{FailedCall}
 use Rattle.issuer_base.specs.Stores.{Disk}
@@ -61,6 +61,12 @@ desk_seen desk before after = record {
   faults_after = desk.faults after;
   last_fault = desk.last_fault after;
 }
+
+-- a desk is as it was given: it tells what it told, and its count of faults is the same
+pub record IsSameDesk {D I J : Type 0} (desk : Desk D I J) (given now : D) : Type 0 where
+  pub holds_are : desk.holds now ≡ desk.holds given
+  pub logs_are : desk.logs now ≡ desk.logs given
+  pub faults_are : desk.faults now ≡ desk.faults given
 
 -- an input after the run
 abbrev pub input_seen : {I : Type 0} → Source I → I → SeenInput

@@ -4,7 +4,7 @@ use super::*;
 use issuer_base::Store;
 
 /// What a run over this desk writes, its status, and the bytes of its first journal.
-pub(super) fn run_over<R: AllocGlobal>(
+pub(super) fn run_over<R: AllocGlobal + Threads + Wait + Sync>(
     rt: &R,
     words: &[&str],
     desk: MemoryDesk,
@@ -16,7 +16,7 @@ pub(super) fn run_over<R: AllocGlobal>(
         config: _config,
         requests: _requests,
         stores,
-    } = issue(rt, &words_of(rt.alloc(), words)?, desk, &mut out);
+    } = issue(rt, &words_of(rt.alloc(), words)?, desk, &mut out, &OpenGate);
     let text = String::from_utf8(out.bytes().to_vec(rt.alloc())?)?;
     Ok((status, text, first_bytes(rt.alloc(), &stores)))
 }
@@ -120,7 +120,7 @@ fn answers_before_it_waits_for_more(rt: HostRuntime) -> Result<(), Fail> {
         alloc: rt.alloc(),
     };
     let mut out = MemorySink::new(rt.alloc(), 0, Vec::new(rt.alloc()))?;
-    let ended = issue(&rt, &words_of(rt.alloc(), &COMMAND)?, desk, &mut out);
+    let ended = issue(&rt, &words_of(rt.alloc(), &COMMAND)?, desk, &mut out, &OpenGate);
     let Ended {
         status,
         desk: _desk,

@@ -1,0 +1,12 @@
+-- What either host leaves.
+use Rattle.std.proofs.Common.{refl}
+use Rattle.issuer_top.proofs.HostSteps.{leaves_alone, leaves_together}
+use Rattle.issuer_top.proofs.hosts.LineHost.close.Goals as goal
+
+pub returns-in-Alone-clause-answered : goal.returns-in-Alone-clause-answered
+returns-in-Alone-clause-answered g c = λ issuer prefix logs first lines text.
+    leaves_alone first c.args.self c.in-Alone.host _ c.in-Alone.is c.close_alone.ensures.answered issuer prefix logs lines text
+
+pub returns-in-Together-clause-answered : goal.returns-in-Together-clause-answered
+returns-in-Together-clause-answered g c = λ issuer prefix logs first lines text.
+    leaves_together first c.args.self c.in-Together.lanes _ c.in-Together.is c.close_together.ensures.answered issuer prefix logs lines text
