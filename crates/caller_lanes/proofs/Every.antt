@@ -1,6 +1,6 @@
 -- What is dealt in turns, item by item.
-use Rattle.std.proofs.Common.{◌≡◌, ◌≢◌, ℕ, zero, suc, ◌+◌, ◌-◌, ◌*◌, ◌%◌, ◌<◌, ◌≤◌, ◌⊎◌, List, [], ◌∷◌, ◌++◌, length, inl, inr, refl, sym, ap, subst}
-use Rattle.std.proofs.Common.{◌∙◌, append-nil, append_assoc, arith}
+use Rattle.std.proofs.Common.{◌≡◌, ◌≢◌, ℕ, zero, suc, ◌+◌, ◌-◌, ◌*◌, ◌%◌, ◌<◌, ◌⊎◌, List, [], ◌∷◌, ◌++◌, length, inl, inr, refl, sym, ap}
+use Rattle.std.proofs.Common.{◌∙◌, append-nil, arith}
 use Rattle.std.proofs.lemmas.Bool.{cases_lt}
 use Rattle.std.proofs.Math.Nat.{mod-lt, mod-eq_of_lt, mod_self, suc-mod, mul-suc, mul-zero}
 use Rattle.caller_lanes.specs.Dealing.{every}
@@ -33,7 +33,8 @@ module _ {A : Type 0} where
   left count zero (item ∷ items) = left count (count - 1) items
   left count (suc skip) (item ∷ items) = left count skip items
 
-  pub every-append : (count skip : ℕ) (items more : List A) → every count skip (items ++ more) ≡ every count skip items ++ every count (left count skip items) more
+  pub every-append : (count skip : ℕ) (items more : List A) → every count skip (items ++ more)
+      ≡ every count skip items ++ every count (left count skip items) more
   every-append count skip [] more = refl
   every-append count zero (item ∷ items) more = ap (λ (rest : List A). item ∷ rest) (every-append count (count - 1) items more)
   every-append count (suc skip) (item ∷ items) more = every-append count skip items more

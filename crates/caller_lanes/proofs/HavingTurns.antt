@@ -1,13 +1,12 @@
 -- Lanes that have their turns of what was dealt: one item more, one taken, and all answered.
-use Rattle.std.proofs.Common.{◌≡◌, ◌≢◌, ℕ, zero, suc, ◌+◌, ◌-◌, ◌*◌, ◌%◌, ◌<◌, ◌≤◌, ◌⊎◌, List, [], ◌∷◌, ◌++◌, length, set, Some, get_or, inl, inr, refl, sym}
+use Rattle.std.proofs.Common.{◌≡◌, ◌≢◌, ℕ, zero, suc, ◌-◌, ◌*◌, ◌%◌, ◌<◌, ◌⊎◌, List, [], ◌∷◌, ◌++◌, length, set, Some, get_or, inl, inr, refl, sym}
 use Rattle.std.proofs.Common.{ap, subst, ◌∙◌, append-nil, append_assoc, arith}
-use Rattle.std.proofs.lemmas.Bool.Decides.{eqb_tells}
 use Rattle.std.proofs.lemmas.List.{append_cancel_left}
 use Rattle.std.proofs.lemmas.Option.{slice_get-get_or}
-use Rattle.std.proofs.Math.Nat.{mod-lt, lt_of_mul-lt-mul_left}
+use Rattle.std.proofs.Math.Nat.{lt_of_mul-lt-mul_left}
 use Rattle.std.specs.List.{slice_get}
 use Rattle.caller_lanes.specs.Dealing.{every, HaveTurns}
-use Rattle.caller_lanes.proofs.Every.{left, left-none, left-below, every-append, every-none, every-here, every-elsewhere, every-length, left-append}
+use Rattle.caller_lanes.proofs.Every.{left, left-none, left-below, every-append, every-here, every-elsewhere, every-length, left-append}
 use Rattle.caller_lanes.proofs.Merged.{left-alike, merged}
 
 module _ {X : Type 0} where
@@ -125,11 +124,11 @@ module _ {L A : Type 0} (items_of : L → List A) where
       → HaveTurns items_of lanes before items → HaveTurns items_of (set lanes place new) before items
   turns-same lanes before items place old new old_is kept =
       turns-alike lanes (set lanes place new) before items (length-same lanes place new) (λ number lane other lane_is other_is.
-          elim (at-set lanes place new number other other_is) [
-            | inl here ↦
-                ap items_of here.1 ∙ kept ∙ ap items_of (some-same old lane (sym old_is ∙ ap (slice_get lanes) (sym here.0) ∙ lane_is))
-            | inr there ↦ ap items_of (some-same other lane (sym there.1 ∙ lane_is))
-          ])
+      elim (at-set lanes place new number other other_is) [
+        | inl here ↦
+            ap items_of here.1 ∙ kept ∙ ap items_of (some-same old lane (sym old_is ∙ ap (slice_get lanes) (sym here.0) ∙ lane_is))
+        | inr there ↦ ap items_of (some-same other lane (sym there.1 ∙ lane_is))
+      ])
 
   -- nothing is dealt where each has nothing
   pub turns-nothing : (lanes : List L) (before : List A) → ((number : ℕ) (lane : L) → slice_get lanes number ≡ Some lane → items_of lane ≡ [])
@@ -177,14 +176,14 @@ turns-answered {L} {A} {B} items_of answers_of (first ∷ lanes) others before i
     let count : ℕ = length (first ∷ lanes) in
     let parts : ℕ → List B = λ number. answers_of (get_or others number first) in
     let fit : (number : ℕ) → number < count → length (parts number) ≡ length (every count (left count number answers) items) = λ number below.
-        let lane : L = get_or (first ∷ lanes) number first in
-        let lane_is : slice_get (first ∷ lanes) number ≡ Some lane = slice_get-get_or (first ∷ lanes) number first below in
-        let other_is : slice_get others number ≡ Some (get_or others number first) = slice_get-get_or others number first (omega (arith, below, long)) in
-        let mine : every count (left count number before) items ≡ items_of lane =
-        append_cancel_left (every count number before) (every count (left count number before) items) (items_of lane)
-        (sym (every-append count number before items) ∙ have number lane lane_is) in
-        same number lane (get_or others number first) lane_is other_is ∙ sym (ap length mine)
-        ∙ ap (λ skip. length (every count skip items)) (sym (left-alike count number answers before told)) in
+    let lane : L = get_or (first ∷ lanes) number first in
+    let lane_is : slice_get (first ∷ lanes) number ≡ Some lane = slice_get-get_or (first ∷ lanes) number first below in
+    let other_is : slice_get others number ≡ Some (get_or others number first) = slice_get-get_or others number first (omega (arith, below, long)) in
+    let mine : every count (left count number before) items ≡ items_of lane =
+    append_cancel_left (every count number before) (every count (left count number before) items) (items_of lane)
+    (sym (every-append count number before items) ∙ have number lane lane_is) in
+    same number lane (get_or others number first) lane_is other_is ∙ sym (ap length mine)
+    ∙ ap (λ skip. length (every count skip items)) (sym (left-alike count number answers before told)) in
     let all = merged count some items answers parts fit in (
       all.0,
       all.1,

@@ -1,19 +1,21 @@
 -- Passes that are joined, one after another, and what closing the host says of all callers together.
-use Rattle.std.proofs.Common.{◌≡◌, ℕ, zero, suc, ◌+◌, ◌<◌, List, [], ◌∷◌, ◌++◌, length, Some, get_or, refl, sym, ap, subst, ◌∙◌, arith, Option}
+use Rattle.std.proofs.Common.{◌≡◌, ℕ, zero, suc, ◌<◌, List, [], ◌∷◌, length, Some, refl, sym, ap, subst, ◌∙◌, arith, Option}
 use Rattle.std.proofs.lemmas.Option.{slice_get_within}
 use Rattle.std.specs.List.{slice_get}
+use Rattle.std.specs.Prelude.{Bool, ◌==◌, ◌&&◌}
 use Rattle.issuer_base.specs.Stores.{Disk}
 use Rattle.issuer_base.specs.declared.answer.Answer.{Answer}
 use Rattle.issuer_setup.specs.IssuerSetup.{Setup}
-use Rattle.seat_names.specs.Totals.{total}
+use Rattle.seat_names.specs.Totals.{total, one_if}
 use Rattle.seat_names.proofs.Totals.{total-append}
 use Rattle.claim_words.specs.declared.view.Claimed.{Claimed}
 use Rattle.claim_words.specs.declared.view.ClaimView.{ClaimView}
-use Rattle.claim_words.specs.ClaimViews.{claims_on, times, is_live, is_kept, is_any, joined as joined_claims}
+use Rattle.claim_words.specs.declared.view.Standing.{Standing}
+use Rattle.claim_words.specs.ClaimViews.{is_pair, is_live, is_kept, is_any, joined as joined_claims}
 use Rattle.turn_book.specs.declared.logs.Log.{Log}
 use Rattle.turn_book.specs.declared.view.TurnView.{TurnView}
 use Rattle.turn_book.specs.Logs.{heads_of, items_at, IsFront}
-use Rattle.turn_book.specs.TurnViews.{joined, times as times_placed}
+use Rattle.turn_book.specs.TurnViews.{joined}
 use Rattle.turn_book.proofs.LogLemmas.{front_refl, front_trans, heads-length}
 use Rattle.shard_turns.specs.declared.logs.LogItem.{LogItem}
 use Rattle.shard_turns.specs.declared.logs.LogHead.{LogHead}
@@ -24,7 +26,7 @@ use Rattle.host_calls.specs.Passes.{claims_of, logs_of}
 use Rattle.host_calls.specs.declared.pass.Pass.{Pass}
 use Rattle.host_calls.proofs.Places.{read-within, choose}
 use Rattle.many_callers.specs.Callers.{Caller, IsCaller, AreCallers}
-use Rattle.caller_lanes.specs.Dealing.{every, AreDealt}
+use Rattle.caller_lanes.specs.Dealing.{every}
 use Rattle.caller_lanes.specs.Joins.{HasJoined}
 use Rattle.caller_lanes.specs.Lanes.{HasClosed}
 use Rattle.caller_lanes.specs.OneLane.{IsServed}
@@ -78,6 +80,16 @@ joined-more first pass after lanes lane claims logs fronts before = record {
 
 -- ---- closing
 
+-- 1 for a claim on the pair in a standing that passes the test, for the pair itself, and for the place
+abbrev on_claim : (Standing → Bool) → ℕ → ℕ → Claimed → ℕ
+on_claim test card counter claim = one_if (is_pair card counter claim.card claim.counter && test claim.standing)
+
+abbrev on_pair : ℕ → ℕ → (ℕ × ℕ) → ℕ
+on_pair card counter pair = one_if (is_pair card counter pair.0 pair.1)
+
+abbrev on_place : ℕ → ℕ → (ℕ × ℕ) → ℕ
+on_place shard place pair = one_if ((pair.0 == shard) && (pair.1 == place))
+
 -- a total over callers is that over their lanes
 totals-alike : {X Y : Type 0} (f : X → ℕ) (g : Y → ℕ) (xs : List X) (ys : List Y) → length ys ≡ length xs
     → ((number : ℕ) (x : X) (y : Y) → slice_get xs number ≡ Some x → slice_get ys number ≡ Some y → g y ≡ f x) → total g ys ≡ total f xs
@@ -103,6 +115,7 @@ record IsCallerOf (issuer : Setup) (opening : List (Log LogItem LogHead)) (count
 
 -- what is known where the first pass is joined with all others, and the host is closed with it
 pub record AreJoined (issuer : Setup) (opening : List (Log LogItem LogHead)) (first pass : Pass) (lanes : List Lane) : Type 0 where
+  pub some : 0 < issuer.shards
   pub count_is : length opening ≡ issuer.shards
   pub heads : heads_of (logs_of pass).seen ≡ heads_of opening
   pub plain : (shard : ℕ) → faults_of (items_at opening shard) ≡ []
@@ -203,6 +216,7 @@ module _ {S : Type 0} (bytes : S → Option (List ℕ)) (disk : S → Option Dis
 
     shared : AreCallers issuer opening (logs_of pass).seen callers
     shared = record {
+      some = all.some;
       count_is = all.count_is;
       same_count = long-logs;
       heads = all.heads;
@@ -214,18 +228,18 @@ module _ {S : Type 0} (bytes : S → Option (List ℕ)) (disk : S → Option Dis
       opening_front = λ shard.
           subst (λ (logs : List (Log LogItem LogHead)). IsFront (items_at logs shard) (items_at (logs_of pass).seen shard)) all.opened
           (all.joined.first_front shard);
-      own = λ shard place below. mine-all _ ∙ all.own shard place below;
+      own = λ shard place below. mine-all (on_place shard place) ∙ all.own shard place below;
       found = λ card counter below some. omega (
         arith,
-        claims-all _,
-        all.settled.found card counter below (omega (arith, some, found-all _)),
+        claims-all (on_claim is_any card counter),
+        all.settled.found card counter below (omega (arith, some, found-all (on_pair card counter))),
       );
       tops = λ card counter below some. omega (
         arith,
-        claims-all _,
-        all.settled.tops card counter below (omega (arith, some, tops-all _)),
+        claims-all (on_claim is_kept card counter),
+        all.settled.tops card counter below (omega (arith, some, tops-all (on_pair card counter))),
       );
-      once = λ card counter below. omega (arith, claims-all _, all.settled.once card counter below);
+      once = λ card counter below. omega (arith, claims-all (on_claim is_live card counter), all.settled.once card counter below);
       goes_on = goes-on;
       opened_plain = all.plain;
     }

@@ -4,5 +4,6 @@ mod Merged
 mod HavingTurns
 mod Turning
 mod Serving
+mod Seating
 mod Opening
 mod Joining

@@ -1,6 +1,6 @@
 -- Lists that were dealt in turns are one list again.
-use Rattle.std.proofs.Common.{◌≡◌, ◌≢◌, ℕ, zero, suc, ◌+◌, ◌-◌, ◌%◌, ◌<◌, ◌⊎◌, List, [], ◌∷◌, ◌++◌, length, Bool, true, false, eqb, cond, inl, inr, refl, sym}
-use Rattle.std.proofs.Common.{ap, subst, ◌∙◌, append-nil, append_assoc, arith}
+use Rattle.std.proofs.Common.{◌≡◌, ◌≢◌, ℕ, zero, suc, ◌-◌, ◌%◌, ◌<◌, List, [], ◌∷◌, ◌++◌, length, eqb, cond, inl, inr, refl, sym}
+use Rattle.std.proofs.Common.{ap, ◌∙◌, append-nil, append_assoc, arith}
 use Rattle.std.proofs.lemmas.Bool.Decides.{eqb_tells}
 use Rattle.std.proofs.Math.Nat.{mod-lt}
 use Rattle.caller_lanes.specs.Dealing.{every}
@@ -15,7 +15,8 @@ one-left [] count long = absurd (omega arith)
 one-left (item ∷ items) count long = (item, items, refl, omega arith)
 
 -- what is passed over next depends on how many items there were alone
-pub left-alike : {A B : Type 0} (count skip : ℕ) (items : List A) (others : List B) → length items ≡ length others → left count skip items ≡ left count skip others
+pub left-alike : {A B : Type 0} (count skip : ℕ) (items : List A) (others : List B) → length items ≡ length others
+    → left count skip items ≡ left count skip others
 left-alike count skip [] [] long = refl
 left-alike count skip [] (other ∷ others) long = absurd (omega arith)
 left-alike count skip (item ∷ items) [] long = absurd (omega arith)

@@ -1,5 +1,5 @@
 -- What a host of several callers begins with.
-use Rattle.std.proofs.Common.{◌≡◌, ℕ, zero, suc, ◌<◌, ◌≤◌, List, [], ◌∷◌, length, map, Some, Option, refl, sym, ap, subst, ◌∙◌, arith}
+use Rattle.std.proofs.Common.{◌≡◌, ℕ, zero, suc, List, [], ◌∷◌, map, Some, Option, refl, ap, ◌∙◌, arith}
 use Rattle.std.proofs.lemmas.Option.{slice_get_within}
 use Rattle.std.specs.List.{slice_get}
 use Rattle.issuer_base.specs.declared.entry.Entry.{Entry}
@@ -29,7 +29,7 @@ pub opened-plain : {S : Type 0} (bytes : S → Option (List ℕ)) (faults : S �
     → AreOpenedFrom bytes faults issuer stores logs → (shard : ℕ) → faults_of (items_at logs shard) ≡ []
 opened-plain bytes faults issuer stores logs opened =
     plain-each logs (λ number log is.
-        let within = slice_get_within logs number log is in
-        let store = read-within stores number (omega (arith, within, opened.count_is)) in
-        let its = opened.each number store.0 log store.1 is in
-        ap (λ (log : Log LogItem LogHead). faults_of log.items) its.log_is ∙ plain-map its.history)
+    let within = slice_get_within logs number log is in
+    let store = read-within stores number (omega (arith, within, opened.count_is)) in
+    let its = opened.each number store.0 log store.1 is in
+    ap (λ (log : Log LogItem LogHead). faults_of log.items) its.log_is ∙ plain-map its.history)

@@ -1,30 +1,37 @@
 -- What the lanes' callers were asked and answered, after each step, and that their passes stay seated.
-use Rattle.std.proofs.Common.{◌≡◌, ℕ, zero, suc, ◌+◌, ◌<◌, List, [], ◌∷◌, ◌++◌, length, map, Some, All, get_or, refl, sym, ap, subst, ◌∙◌, arith}
-use Rattle.std.proofs.Common.{append_assoc}
-use Rattle.std.proofs.lemmas.List.{length-map}
+use Rattle.std.proofs.Common.{◌≡◌, ℕ, ◌+◌, ◌*◌, ◌<◌, List, [], ◌∷◌, ◌++◌, length, take, drop, map, Some}
+use Rattle.std.proofs.Common.{All, get_or, refl, sym, ap, subst, ◌∙◌, arith}
+use Rattle.std.proofs.lemmas.List.{length-map, take_more, map-append}
 use Rattle.std.proofs.lemmas.List.Folds.{flat_map-map}
-use Rattle.std.proofs.lemmas.Option.{slice_get-get_or, slice_get_within}
+use Rattle.std.proofs.lemmas.List.Elements.{All-get_or}
+use Rattle.std.proofs.lemmas.Option.{slice_get-get_or, slice_get_within, get_or_from_slice_get}
 use Rattle.std.specs.List.{slice_get, flat_map}
 use Rattle.issuer_base.specs.declared.answer.Answer.{Answer}
 use Rattle.issuer_base.specs.declared.outside.store.Store.{Ghosts}
 use Rattle.issuer_setup.specs.IssuerSetup.{Setup}
 use Rattle.seat_names.specs.SeatNames.{IsWhole}
 use Rattle.seat_names.specs.declared.seat_name.SeatName.{SeatName}
-use Rattle.seat_names.proofs.ManySeats.{flat_map-kept}
+use Rattle.seat_names.proofs.ManySeats.{flat_map-kept, lent_whole}
 use Rattle.claim_words.specs.declared.view.ClaimView.{ClaimView}
 use Rattle.turn_book.specs.declared.logs.Log.{Log}
 use Rattle.turn_book.specs.declared.view.TurnView.{TurnView}
 use Rattle.shard_turns.specs.declared.logs.LogItem.{LogItem}
 use Rattle.shard_turns.specs.declared.logs.LogHead.{LogHead}
+use Rattle.line_checks.specs.Reading.{reading}
+use Rattle.host_calls.specs.Authorising.{Authorises}
 use Rattle.host_calls.specs.Passes.{claims_of, logs_of, IsFree}
 use Rattle.host_calls.specs.declared.host.Host.{Host}
 use Rattle.host_calls.specs.declared.pass.Pass.{Pass}
 use Rattle.host_calls.proofs.Places.{read-map, read-mapped}
 use Rattle.many_callers.specs.Callers.{Caller, Calls, IsCaller}
+use Rattle.many_callers.proofs.MoreLines.{calls-more}
 use Rattle.caller_lanes.specs.Dealing.{every}
 use Rattle.caller_lanes.specs.OneLane.{waiting_lines, due_answers, IsServed, HasAnswered, HaveAnswered}
 use Rattle.caller_lanes.specs.Seated.{AreSeated}
+use Rattle.caller_lanes.specs.Turns.{AreInTurns, IsInTurn}
+use Rattle.caller_lanes.specs.declared.dealer.Progress.{Progress}
 use Rattle.caller_lanes.specs.declared.lane.Lane.{Lane}
+use Rattle.caller_lanes.proofs.Turning.{in-turns-answered, still-answered}
 
 -- the lane's pass
 abbrev pub pass_of : Lane → Pass
@@ -56,13 +63,11 @@ served-alike issuer opening old new lines answers same served number lane is =
     (served number before.0 before.1))
 
 all-at : {X : Type 0} (P : X → Type 0) (xs : List X) → ((number : ℕ) (x : X) → slice_get xs number ≡ Some x → P x) → All P xs
-all-at P [] each = tt
-all-at P (x ∷ xs) each = (each 0 x refl, all-at P xs (λ number. each (suc number)))
+all-at P xs each = λ number d below. each number (get_or xs number d) (slice_get-get_or xs number d below)
 
 pub at-all : {X : Type 0} (P : X → Type 0) (xs : List X) (number : ℕ) (x : X) → All P xs → slice_get xs number ≡ Some x → P x
-at-all P [] number x all is = absurd (cc)
-at-all P (y ∷ xs) zero x all is = let same : y ≡ x = let e : Some y ≡ Some x = is in cc in subst P same all.0
-at-all P (y ∷ xs) (suc number) x all is = at-all P xs number x all.1 is
+at-all P xs number x all is =
+    subst P (get_or_from_slice_get xs number x x is) (All-get_or P xs number x (slice_get_within xs number x is) all)
 
 module _ {S : Type 0} {G : Ghosts S} (host : Host S G) (first : Pass) where
   pub seated-alike : (old new : List Lane) → map pass_of new ≡ map pass_of old → AreSeated host first old → AreSeated host first new
@@ -87,12 +92,12 @@ module _ {S : Type 0} {G : Ghosts S} (host : Host S G) (first : Pass) where
       let names : Lane → List SeatName = λ lane. (claims_of lane.pass).names in
       let before : (number : ℕ) (lane : Lane) → slice_get new number ≡ Some lane → HasAnswered host (get_or old number lane) lane =
       λ number lane is.
-          let within = slice_get_within new number lane is in
-          answered.each number (get_or old number lane) lane (slice_get-get_or old number lane (omega (arith, within, answered.count_is))) is in
+      let within = slice_get_within new number lane is in
+      answered.each number (get_or old number lane) lane (slice_get-get_or old number lane (omega (arith, within, answered.count_is))) is in
       let all_names : flat_map names new ≡ flat_map names old =
       flat_map-kept names old new answered.count_is (λ number d below.
-          (answered.each number (get_or old number d) (get_or new number d) (slice_get-get_or old number d below)
-          (slice_get-get_or new number d (omega (arith, below, answered.count_is)))).names) in
+      (answered.each number (get_or old number d) (get_or new number d) (slice_get-get_or old number d below)
+      (slice_get-get_or new number d (omega (arith, below, answered.count_is)))).names) in
       record {
         first_free = seated.first_free;
         untouched = seated.untouched;
@@ -111,7 +116,8 @@ calls-join issuer [] [] claims logs claims_then logs_then more told claims_now l
     (subst (λ (logs : TurnView LogItem LogHead). Calls issuer more told claims_then logs claims_now logs_now) logs_same calls)
 calls-join issuer [] (answer ∷ answers) claims logs claims_then logs_then more told claims_now logs_now before calls = absurd before
 calls-join issuer (line ∷ lines) [] claims logs claims_then logs_then more told claims_now logs_now before calls = absurd before
-calls-join issuer (line ∷ lines) (answer ∷ answers) claims logs claims_then logs_then more told claims_now logs_now (claims_first, logs_first, head, before) calls =
+calls-join issuer (line ∷ lines) (answer ∷ answers) claims logs claims_then logs_then more told claims_now logs_now
+    (claims_first, logs_first, head, before) calls =
     (claims_first, logs_first, head, calls-join issuer lines answers claims_first logs_first claims_then logs_then more told claims_now logs_now before calls)
 
 -- as many answers as lines
@@ -123,6 +129,21 @@ calls-length issuer [] (answer ∷ answers) claims logs claims_now logs_now call
 calls-length issuer (line ∷ lines) [] claims logs claims_now logs_now calls = absurd calls
 calls-length issuer (line ∷ lines) (answer ∷ answers) claims logs claims_now logs_now (claims_first, logs_first, head, calls) =
     omega (arith, calls-length issuer lines answers claims_first logs_first claims_now logs_now calls)
+
+-- one line more of those in a list was answered
+pub calls-line : {X : Type 0} (f : X → List ℕ) (issuer : Setup) (lines : List X) (place : ℕ) (kept : X) (line : List ℕ) (answers all : List Answer)
+    (answer : Answer) (claims : ClaimView) (logs : TurnView LogItem LogHead) (claims_then : ClaimView) (logs_then : TurnView LogItem LogHead)
+    (claims_now : ClaimView) (logs_now : TurnView LogItem LogHead) → place < length lines → kept ≡ get_or lines place kept → line ≡ f kept
+    → all ≡ answers ++ answer ∷ [] → Calls issuer (map f (take place lines)) answers claims logs claims_then logs_then
+    → Authorises issuer (reading issuer line) claims_then logs_then answer claims_now logs_now
+    → Calls issuer (map f (take (place + 1) lines)) all claims logs claims_now logs_now
+calls-line {X} f issuer lines place kept line answers all answer claims logs claims_then logs_then claims_now logs_now below at is grown calls call =
+    let lines_are : map f (take (place + 1) lines) ≡ map f (take place lines) ++ line ∷ [] =
+    ap (map f) (take_more lines place kept below) ∙ map-append f (take place lines) (get_or lines place kept ∷ [])
+    ∙ ap (λ (x : X). map f (take place lines) ++ f x ∷ []) (sym at) ∙ ap (λ (line : List ℕ). map f (take place lines) ++ line ∷ []) (sym is) in
+    subst (λ (lines : List (List ℕ)). Calls issuer lines all claims logs claims_now logs_now) (sym lines_are)
+    (subst (λ (answers : List Answer). Calls issuer (map f (take place lines) ++ line ∷ []) answers claims logs claims_now logs_now) (sym grown)
+    (calls-more issuer (map f (take place lines)) answers claims logs claims_then logs_then line answer claims_now logs_now calls call))
 
 -- a caller that answered more
 served-more : (issuer : Setup) (opening : List (Log LogItem LogHead)) (old new : Pass) (lines more : List (List ℕ)) (answers told : List Answer)
@@ -179,3 +200,52 @@ served-answered host opening old new lines waiting answers more answered waits d
     ap (λ count. every count number answers ++ due_answers lane) (sym answered.count_is) ∙ sym (dues number lane is) in
     subst (λ (lines : List (List ℕ)). IsServed host.issuer opening lane.pass lines (every (length new) number (answers ++ more))) all_lines
     (subst (IsServed host.issuer opening lane.pass (every (length old) number lines ++ waiting_lines before)) all_answers all)
+
+-- ---- lanes that were lent to threads
+
+-- a list that was lent whole comes back
+back-whole : {X : Type 0} (count : ℕ) (old new : List X) → length old ≡ count → length new ≡ count → take count (new ++ drop (length new) old) ≡ new
+back-whole count old new long also = lent_whole count new old also long
+
+module _ {S : Type 0} {G : Ghosts S} (host : Host S G) (old lent new : List Lane) (count : ℕ) (is : lent ≡ old) (long : length old ≡ count)
+    (answered : HaveAnswered host lent new) where
+  all-answered : HaveAnswered host old new
+  all-answered = subst (λ (lanes : List Lane). HaveAnswered host lanes new) is answered
+
+  back : take count (new ++ drop (length new) old) ≡ new
+  back = back-whole count old new long (all-answered.count_is ∙ long)
+
+  each-done : (number : ℕ) (lane other : Lane) → slice_get old number ≡ Some lane → slice_get new number ≡ Some other
+      → (waiting_lines other ≡ []) × (length (due_answers other) ≡ length (waiting_lines lane))
+  each-done number lane other lane_is other_is =
+      let its = all-answered.each number lane other lane_is other_is in (
+        its.none_wait,
+        calls-length host.issuer (waiting_lines lane) (due_answers other) (claims_of lane.pass) (logs_of lane.pass) (claims_of other.pass) (logs_of other.pass)
+            its.calls,
+      )
+
+  pub lent-answered : HaveAnswered host old (take count (new ++ drop (length new) old))
+  lent-answered = subst (HaveAnswered host old) (sym back) all-answered
+
+  pub lent-rooms : (room : ℕ) → All (λ (lane : Lane). count * lane.room ≡ room) old
+      → All (λ (lane : Lane). count * lane.room ≡ room) (take count (new ++ drop (length new) old))
+  lent-rooms room all =
+      subst (All (λ (lane : Lane). count * lane.room ≡ room)) (sym back) (all-at (λ (lane : Lane). count * lane.room ≡ room) new (λ number lane lane_is.
+      let within = slice_get_within new number lane lane_is in
+      let before : Lane = get_or old number lane in
+      let before_is : slice_get old number ≡ Some before = slice_get-get_or old number lane (omega (arith, within, all-answered.count_is)) in
+      ap (λ room. count * room) (all-answered.each number before lane before_is lane_is).room
+      ∙ at-all (λ (lane : Lane). count * lane.room ≡ room) old number before all before_is))
+
+  module _ (progress after : Progress) (some : 0 < length old) (none : after.waiting ≡ 0) (every_one : after.due ≡ progress.waiting)
+      (next : after.next ≡ progress.next) (from : after.from ≡ progress.from) where
+    pub lent-turns : (lines : List (List ℕ)) (answers : List Answer) (waiting : List (List ℕ)) → AreInTurns old progress lines answers [] waiting
+        → (more : List Answer) × AreInTurns (take count (new ++ drop (length new) old)) after (lines ++ waiting) answers more []
+    lent-turns lines answers waiting are =
+        let done = in-turns-answered old new progress after lines answers waiting some all-answered.count_is none every_one next from each-done are in
+        (done.0, subst (λ (lanes : List Lane). AreInTurns lanes after (lines ++ waiting) answers done.0 []) (sym back) done.1)
+
+    pub lent-still : progress.due ≡ 0 → ∥ IsInTurn old progress ∥₁ → ∥ IsInTurn (take count (new ++ drop (length new) old)) after ∥₁
+    lent-still taken there =
+        subst (λ (lanes : List Lane). ∥ IsInTurn lanes after ∥₁) (sym back)
+        (still-answered old new progress after some all-answered.count_is taken none every_one next from each-done there)

@@ -1,10 +1,14 @@
 -- Which lines and answers the lanes have, where all are dealt in turns.
-use Rattle.std.specs.Prelude.{◌≡◌, ℕ, ◌%◌, List, ◌++◌, length}
+use Rattle.std.specs.Prelude.{◌≡◌, ℕ, ◌+◌, ◌%◌, ◌<◌, List, ◌++◌, length}
 use Rattle.issuer_base.specs.declared.answer.Answer.{Answer}
 use Rattle.caller_lanes.specs.Dealing.{HaveTurns}
 use Rattle.caller_lanes.specs.OneLane.{waiting_lines, due_answers}
 use Rattle.caller_lanes.specs.declared.lane.Lane.{Lane}
 use Rattle.caller_lanes.specs.declared.dealer.Progress.{Progress}
+
+-- the turn that comes behind this one, of so many
+abbrev pub IsBehind : ℕ → ℕ → ℕ → Type 0
+IsBehind count turn next = (turn + 1 < count → next ≡ turn + 1) × (turn + 1 ≡ count → next ≡ 0)
 
 -- these lines were answered, and their answers are taken or due; these lines wait: each lane has its turns of what waits and of what is due
 pub record AreInTurns (lanes : List Lane) (progress : Progress) (lines : List (List ℕ)) (taken due : List Answer) (waiting : List (List ℕ)) : Type 0 where

@@ -1,10 +1,10 @@
 //! The lanes, and whose turn it is.
-ghost use Rattle.std.specs.Prelude.{◌≡◌, ℕ, ◌<◌, ◌≤◌, ◌+◌, ◌*◌, ⊤, List, [], ◌∷◌, ◌++◌, length, vec_len, All, MatchOption, map};
+ghost use Rattle.std.specs.Prelude.{◌≡◌, ℕ, ◌<◌, ◌≤◌, ◌+◌, ◌*◌, List, [], ◌∷◌, ◌++◌, length, vec_len, All, map};
 ghost use Rattle.issuer_base.specs.declared.answer.Answer.{Answer};
 ghost use Rattle.issuer_base.specs.declared.limits.TheConstants.{KEPT_BYTES};
 ghost use Rattle.host_calls.specs.Passes.{IsFree};
 ghost use Rattle.caller_lanes.specs.OneLane.{HaveAnswered};
-ghost use Rattle.caller_lanes.specs.Turns.{AreInTurns, IsInTurn};
+ghost use Rattle.caller_lanes.specs.Turns.{AreInTurns, IsInTurn, IsBehind};
 
 use crate::lane::Lane;
 use host_calls::Host;
@@ -36,13 +36,13 @@ pub(crate) struct Dealer {
     pub(crate) room: usize,
     ghost some: { 0 < vec_len lanes },
     ghost each_room: { All (λ lane. vec_len lanes * lane.room ≡ room) lanes.items },
+    ghost within: { (progress.next < vec_len lanes) × (progress.from < vec_len lanes) },
     ghost waiting_fit: { progress.waiting ≤ room },
     ghost due_fit: { progress.due ≤ room },
-    ghost in_turn: { IsInTurn lanes.items progress },
+    ghost in_turn: { ∥ IsInTurn lanes.items progress ∥₁ },
 }
 
 impl Dealer {
-
     /// Deals the next line to the lane whose turn it is.
     pub(crate) fn deal(&mut self, line: &[u8])
         requires room { self.old.progress.waiting < self.old.room }
@@ -54,42 +54,32 @@ impl Dealer {
         ensures counts { (self.new.progress.waiting ≡ self.old.progress.waiting + 1) × (self.new.progress.due ≡ self.old.progress.due) }
         ensures room { self.new.room ≡ self.old.room }
     {
-        self.lanes[self.progress.next].add(line);
-        self.progress.next = self.behind(self.progress.next);
+        let next = self.progress.next;
+        self.lanes[next].add(line);
+        self.progress.next = behind(next, self.lanes.len());
         self.progress.waiting += 1;
     }
 
-    /// The lane whose turn comes behind that of this one.
-    fn behind(&self, lane: usize) -> usize
-        requires { lane < vec_len self.now.lanes }
-        ensures { (lane + 1 < vec_len self.now.lanes → result ≡ lane + 1) × (lane + 1 ≡ vec_len self.now.lanes → result ≡ 0) }
-    {
-        if lane + 1 < self.lanes.len() {
-            lane + 1
-        } else {
-            0
-        }
-    }
-
     /// Takes the next answer in the order of lines.
-    pub(crate) fn next_answer(&mut self) -> Option<Answer>
+    pub(crate) fn take_next(&mut self) -> Answer
+        requires { 0 < self.old.progress.due }
         ensures turns { (lines : List (List ℕ)) (taken due : List Answer) (waiting : List (List ℕ))
             → AreInTurns self.old.lanes.items self.old.progress lines taken due waiting
-            → MatchOption result (due ≡ []) (λ answer. (rest : List Answer) × (due ≡ answer ∷ rest)
-            × AreInTurns self.new.lanes.items self.new.progress lines (taken ++ answer ∷ []) rest waiting) }
+            → (rest : List Answer) × (due ≡ result ∷ rest)
+            × AreInTurns self.new.lanes.items self.new.progress lines (taken ++ result ∷ []) rest waiting }
         ensures passes { map (λ lane. lane.pass) self.new.lanes.items ≡ map (λ lane. lane.pass) self.old.lanes.items }
-        ensures counts { (self.new.progress.waiting ≡ self.old.progress.waiting) × MatchOption result (self.old.progress.due ≡ 0) (λ _. self.new.progress.due + 1 ≡ self.old.progress.due) }
-        ensures none { MatchOption result (self.new ≡ self.old) (λ _. ⊤) }
+        ensures counts { (self.new.progress.due + 1 ≡ self.old.progress.due) × (self.new.progress.waiting ≡ self.old.progress.waiting) }
         ensures room { self.new.room ≡ self.old.room }
     {
-        let answer = self.lanes[self.progress.from].answers.pop_front()?;
-        self.progress.from = self.behind(self.progress.from);
+        let from = self.progress.from;
+        let answer = self.lanes[from].take();
+        self.progress.from = behind(from, self.lanes.len());
         self.progress.due -= 1;
-        Some(answer)
+        answer
     }
 
     /// Lets all callers answer the lines that wait, each in a thread of its own.
-    pub(crate) fn answer<S: Store, R: Threads + Wait + Sync, G: Gate + Sync>(
+    pub(crate) fn answer<S: Store + Send, R: Threads + Wait + Sync, G: Gate + Sync>(
         &mut self,
         rt: &R,
         host: &Host<S>,
@@ -111,7 +101,7 @@ impl Dealer {
 }
 
 /// Lets all callers answer the lines that wait, each in a thread of its own.
-fn answer_at_once<S: Store, R: Threads + Wait + Sync, G: Gate + Sync>(
+fn answer_at_once<S: Store + Send, R: Threads + Wait + Sync, G: Gate + Sync>(
     rt: &R,
     host: &Host<S>,
     gate: &G,
@@ -124,4 +114,12 @@ fn answer_at_once<S: Store, R: Threads + Wait + Sync, G: Gate + Sync>(
 {
     let count = lanes.len();
     thread::for_each_mut(rt, lanes, count, &|_, lane| lane.answer(rt, host, gate));
+}
+
+/// The lane whose turn comes behind that of this one, of so many.
+fn behind(lane: usize, count: usize) -> usize
+    requires { lane < count }
+    ensures { IsBehind count lane result }
+{
+    if lane + 1 < count { lane + 1 } else { 0 }
 }

@@ -1,5 +1,6 @@
 //! A caller with its pass, the lines that wait for it, and its answers.
-ghost use Rattle.std.specs.Prelude.{◌≡◌, ◌<◌, ◌≤◌, [], ◌∷◌, ◌++◌, length, vec_len, vec_capacity, deque_capacity, IfOk};
+ghost use Rattle.std.specs.Prelude.{◌≡◌, ◌<◌, ◌≤◌, [], ◌∷◌, ◌++◌, length, vec_len, vec_capacity, IfOk};
+ghost use Rattle.std.specs.VecDeque.{deque_capacity};
 ghost use Rattle.line_checks.specs.Reading.{reading};
 ghost use Rattle.host_calls.specs.Authorising.{Authorises};
 ghost use Rattle.host_calls.specs.Passes.{claims_of, logs_of, IsFree};
@@ -55,7 +56,7 @@ pub(crate) struct Lane {
 }
 
 impl Lane {
-    ghost use Rattle.caller_lanes.specs.OneLane.{waiting_lines, HasAnswered};
+    ghost use Rattle.caller_lanes.specs.OneLane.{waiting_lines, due_answers, HasAnswered};
 
     /// A caller with this pass, whose first line has this number in the run.
     pub(crate) fn new(pass: Pass, room: LaneRoom, number: u64, step: u64) -> Lane
@@ -88,6 +89,15 @@ impl Lane {
         let mut kept = ArrayVec::new();
         kept.try_extend_from_slice(line).unwrap();
         self.lines.push_reserved(kept);
+    }
+
+    /// Takes the first answer that is due.
+    pub(crate) fn take(&mut self) -> Answer
+        requires { 0 < length (due_answers self.old) }
+        ensures answers { due_answers self.old ≡ result ∷ due_answers self.new }
+        ensures same { (self.new.pass ≡ self.old.pass) × (self.new.lines ≡ self.old.lines) × (self.new.room ≡ self.old.room) }
+    {
+        self.answers.pop_front().unwrap()
     }
 
     /// The pass, once no more lines are answered.

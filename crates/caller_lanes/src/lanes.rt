@@ -65,6 +65,8 @@ impl<S: Store> Lanes<S> {
     ///
     /// The gate is told of each line by its number in the run: once it was checked, and again once it was answered.
     pub fn answer<R: Threads + Wait + Sync, G: Gate + Sync>(&mut self, rt: &R, gate: &G)
+    where
+        S: Send,
         requires { due_in self.old ≡ 0 }
         ensures served { (lines : List (List ℕ)) (answers : List Answer) (waiting : List (List ℕ)) → HasServed self.old lines answers [] waiting
             → (more : List Answer) × HasServed self.new (lines ++ waiting) (answers ++ more) more [] }
@@ -84,6 +86,9 @@ impl<S: Store> Lanes<S> {
             (λ _. (due_in self.new + 1 ≡ due_in self.old) × (waiting_in self.new ≡ waiting_in self.old)) }
         ensures host { HasSameHost self.old self.new }
     {
-        self.dealer.next_answer()
+        if self.dealer.progress.due == 0 {
+            return None;
+        }
+        Some(self.dealer.take_next())
     }
 }

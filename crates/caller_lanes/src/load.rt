@@ -112,7 +112,8 @@ fn seat_all<S: Store>(
     while let Some(room) = rooms.pop() {
         number += 1;
         let pass = host.split(first);
-        lanes.push_reserved(Lane::new(pass, room, number, step));
+        let lane = Lane::new(pass, room, number, step);
+        lanes.push_reserved(lane);
     }
     lanes
 }

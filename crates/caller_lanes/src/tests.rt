@@ -149,7 +149,7 @@ fn answers_come_in_the_order_of_lines(rt: HostRuntime) -> Result<(), Fail> {
     }
     answer(&rt, &mut lanes, &mut letters);
     lanes.close();
-    assert!(rt; letters.as_slice() == b"BSUSUB");
+    assert!(rt; matches!(letters.as_slice(), b"BSUSUB"));
     Ok(())
 }
 
@@ -163,6 +163,6 @@ fn full_lanes_are_answered(rt: HostRuntime) -> Result<(), Fail> {
     let count = answer(&rt, &mut lanes, &mut letters);
     lanes.close();
     assert_eq!(rt; count, BLOCK_LINES / 3 * 3);
-    assert!(rt; letters.as_slice() == b"SSSSSSSSSSSSSSSS");
+    assert!(rt; matches!(letters.as_slice(), b"SSSSSSSSSSSSSSSS"));
     Ok(())
 }

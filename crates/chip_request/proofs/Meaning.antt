@@ -1,14 +1,17 @@
 -- What the slots hold after all objects, and which refusal comes.
-use Rattle.std.proofs.Common.{◌≡◌, ℕ, Bool, true, false, cond, List, [], ◌∷◌, map, ◌==◌, Option, Some, None, Result, Ok, Err, is_some, refl, sym, ap, ◌∙◌}
+use Rattle.std.proofs.Common.{◌≡◌, ℕ, Bool, true, false, not, cond, List, [], ◌∷◌, map, ◌==◌, Option, Some, None, Result, Ok, Err, is_some, refl, sym, ap, ◌∙◌}
 use Rattle.std.proofs.Math.Bool.{and-true, and-false}
+use Rattle.std.specs.List.{list_all}
+use Rattle.std.proofs.lemmas.Bool.{and_parts}
 use Rattle.tlv_objects.specs.Tlv.{TlvObject, Ahead, objects_of, objects_ahead}
+use Rattle.chip_request.specs.declared.reading.RequestFault.{RequestFault}
 use Rattle.chip_request.specs.declared.reading.RequestFault.TheVariants.{BadTlv, Missing, BadField, Repeated}
 use Rattle.chip_request.specs.declared.slots.Wrong.{Wrong}
 use Rattle.chip_request.specs.declared.slots.Wrong.TheVariants as wrongs
 use Rattle.chip_request.specs.Fields.{Field, fields}
-use Rattle.chip_request.specs.Reading.{values_of, is_missing, is_misformed, is_repeated, first_wrong, parts_of, request_of}
+use Rattle.chip_request.specs.Reading.{values_of, is_missing, is_misformed, is_repeated, first_wrong, parts_of, refused, request_of}
 use Rattle.chip_request.proofs.Found.{found_of, all_found}
-use Rattle.chip_request.specs.Slots.{Found, with_value, with_object, with_objects, unfound, is_wrong, first_wrong_found}
+use Rattle.chip_request.specs.Slots.{Found, with_value, with_object, with_objects, unfound, is_wrong, is_right, first_wrong_found, named, fault_among}
 
 -- what was found of a field after more values
 after : Found → List (List ℕ) → Found
@@ -185,3 +188,79 @@ looked_repeated objects founds tag found looked =
 -- what was made is what is to be answered
 pub answered : {A E : Type 0} (made said : A) (answer : Result A E) → Some made ≡ Some said → answer ≡ Ok said → Ok made ≡ answer
 answered made said answer same taken = let one : made ≡ said = cc in ap Ok one ∙ sym taken
+
+-- ---- all that is wrong at once
+
+not_true : (b : Bool) → not b ≡ true → b ≡ false
+not_true true h = absurd cc
+not_true false h = refl
+
+right_parts : (wrong : Wrong) (found : Found) → is_right found ≡ true → is_wrong wrong found ≡ false
+right_parts wrongs.Missing found right = not_true _ (and_parts _ _ (and_parts _ _ right).0).1
+right_parts wrongs.Misformed found right = not_true _ (and_parts _ _ right).1
+right_parts wrongs.Repeated found right = not_true _ (and_parts _ _ (and_parts _ _ right).0).0
+
+-- where nothing is wrong with any field, no look for something wrong finds one
+none_wrong : (wrong : Wrong) (founds : List Found) → list_all is_right founds ≡ true → first_wrong_found wrong founds ≡ None
+unfolding first_wrong_found
+none_wrong wrong [] right = refl
+none_wrong wrong (found ∷ founds) right =
+    let parts = and_parts _ _ right in
+    rw (right_parts wrong found parts.0) (none_wrong wrong founds parts.1)
+
+pub none_among : (founds : List Found) → list_all is_right founds ≡ true → fault_among founds ≡ None
+unfolding fault_among
+none_among founds right =
+    rw (none_wrong wrongs.Missing founds right, none_wrong wrongs.Misformed founds right, none_wrong wrongs.Repeated founds right) refl
+
+-- what is answered where this is wrong, or nothing
+with_fault : {A : Type 0} → Option RequestFault → Result A RequestFault → Result A RequestFault
+with_fault (Some fault) next = Err fault
+with_fault None next = next
+
+refused_named : {A : Type 0} (tag : Option ℕ) (fault : ℕ → RequestFault) (rest : Option RequestFault) (next : Result A RequestFault)
+    → refused tag fault (with_fault rest next) ≡ with_fault (named tag fault rest) next
+unfolding with_fault
+refused_named (Some tag) fault rest next = refl
+refused_named None fault rest next = refl
+
+-- the request of a whole text is refused for what is wrong with what was found
+request_among : (bytes : List ℕ) (founds : List Found) → (objects_of bytes).torn ≡ None → founds ≡ all_found (objects_of bytes).objects
+    → request_of bytes ≡ with_fault (fault_among founds) (Ok (parts_of (objects_of bytes).objects))
+unfolding request_of fault_among with_fault
+request_among bytes founds whole found =
+    let objects = (objects_of bytes).objects in
+    let missing = looked_missing objects founds _ found refl in
+    let misformed = looked_misformed objects founds _ found refl in
+    let repeated = looked_repeated objects founds _ found refl in
+    let answer = Ok (parts_of objects) in
+    rw (whole, missing, misformed, repeated)
+    (ap (λ next. refused (first_wrong_found wrongs.Missing founds) Missing (refused (first_wrong_found wrongs.Misformed founds) BadField next))
+    (refused_named (first_wrong_found wrongs.Repeated founds) Repeated None answer)
+    ∙ ap (λ next. refused (first_wrong_found wrongs.Missing founds) Missing next) (refused_named (first_wrong_found wrongs.Misformed founds) BadField _ answer)
+    ∙ refused_named (first_wrong_found wrongs.Missing founds) Missing _ answer)
+
+pub refuses_fault : (bytes : List ℕ) (founds : List Found) (fault : RequestFault) → (objects_of bytes).torn ≡ None
+    → founds ≡ all_found (objects_of bytes).objects → Some fault ≡ fault_among founds → request_of bytes ≡ Err fault
+unfolding with_fault
+refuses_fault bytes founds fault whole found named =
+    request_among bytes founds whole found ∙ ap (λ among. with_fault among (Ok (parts_of (objects_of bytes).objects))) (sym named)
+
+pub takes_without_fault : (bytes : List ℕ) (founds : List Found) → (objects_of bytes).torn ≡ None
+    → founds ≡ all_found (objects_of bytes).objects → None ≡ fault_among founds → request_of bytes ≡ Ok (parts_of (objects_of bytes).objects)
+unfolding with_fault
+takes_without_fault bytes founds whole found none =
+    request_among bytes founds whole found ∙ ap (λ among. with_fault among (Ok (parts_of (objects_of bytes).objects))) (sym none)
+
+-- where nothing is named, nothing is missing, misformed or repeated
+none_named : (tag : Option ℕ) (fault : ℕ → RequestFault) (rest : Option RequestFault) → named tag fault rest ≡ None → (tag ≡ None) × (rest ≡ None)
+none_named (Some tag) fault rest none = absurd cc
+none_named None fault rest none = (refl, none)
+
+pub right_objects : (objects : List TlvObject) (founds : List Found) → founds ≡ all_found objects → None ≡ fault_among founds
+    → (first_wrong is_missing objects fields ≡ None) × (first_wrong is_misformed objects fields ≡ None)
+unfolding fault_among
+right_objects objects founds found none =
+    let first = none_named (first_wrong_found wrongs.Missing founds) Missing _ (sym none) in
+    let second = none_named (first_wrong_found wrongs.Misformed founds) BadField _ first.1 in
+    (looked_missing objects founds _ found refl ∙ first.0, looked_misformed objects founds _ found refl ∙ second.0)

@@ -2,6 +2,7 @@
 use Rattle.std.proofs.Common.{◌≡◌, ℕ, zero, suc, ◌+◌, ◌<◌, ◌≤◌, ◌==◌, Bool, true, false, ◌&&◌, List, [], ◌∷◌, map, length, get_or, set, drop}
 use Rattle.std.proofs.Common.{Option, Some, None, is_none, cond, Bor, drop-cons, drop_of_length-le, refl, sym, ap, ◌∙◌, add-one, arith}
 use Rattle.std.specs.Option.{option_map}
+use Rattle.std.specs.List.{list_all}
 use Rattle.std.proofs.lemmas.Bool.{and_parts, eqb-true}
 use Rattle.std.proofs.lemmas.List.{map-set, length-map}
 use Rattle.chip_request.specs.declared.slots.Field as declared_field
@@ -9,7 +10,7 @@ use Rattle.chip_request.specs.SlotViews.{field_in}
 use Rattle.tlv_objects.specs.Tlv.{TlvObject}
 use Rattle.chip_request.specs.declared.slots.Wrong.{Wrong}
 use Rattle.chip_request.specs.Fields.{Field, fields}
-use Rattle.chip_request.specs.Slots.{Found, place_of, founds_of, with_object, first_with_tag, first_wrong_found, is_wrong}
+use Rattle.chip_request.specs.Slots.{Found, place_of, founds_of, with_object, first_with_tag, first_wrong_found, is_wrong, is_right}
 
 -- no two fields of a table have one tag
 unfoldable pub are_distinct : List Field → Bool
@@ -251,3 +252,46 @@ pub look_end : (wrong : Wrong) (firsts : List (Option (Bor (List ℕ)))) (are : 
 look_end wrong firsts are i past long many =
     let size = many_slots firsts are long many in
     wrong_end wrong (founds_of fields (map value_in firsts) are) i (omega (arith, size))
+
+-- nothing is wrong from a place on if nothing is with the field there, and nothing behind it
+rights_split : (founds : List Found) (i : ℕ) (d : Found) → i < length founds
+    → list_all is_right (drop i founds) ≡ (is_right (get_or founds i d) && list_all is_right (drop (i + 1) founds))
+rights_split founds i d below = rw (drop-cons founds i d, add-one) refl
+
+rights_at : (table : List declared_field.Field) (firsts : List (Option (Bor (List ℕ)))) (are : List Bool) (i : ℕ)
+    (d : declared_field.Field) (is : Bool) → i < 15 → length firsts ≡ 15 → length are ≡ 15 → map field_in table ≡ fields
+    → list_all is_right (drop i (founds_of fields (map value_in firsts) are))
+    ≡ (is_right (record { field = field_in (get_or table i d); first = value_in (get_or firsts i None); is_repeated = get_or are i is })
+    && list_all is_right (drop (i + 1) (founds_of fields (map value_in firsts) are)))
+rights_at table firsts are i d is below long many same =
+    let here = slots_at table firsts are i d no_found is below long many same in
+    let size = many_slots firsts are long many in
+    let founds = founds_of fields (map value_in firsts) are in
+    rights_split founds i no_found (omega (arith, size)) ∙ ap (λ found. is_right found && list_all is_right (drop (i + 1) founds)) here
+
+-- a walk over the slots goes on behind a field with which nothing is wrong
+pub rights_behind : (table : List declared_field.Field) (firsts : List (Option (Bor (List ℕ)))) (are : List Bool) (i : ℕ)
+    (d : declared_field.Field) (is : Bool) → i < 15 → length firsts ≡ 15 → length are ≡ 15 → map field_in table ≡ fields
+    → is_right (record { field = field_in (get_or table i d); first = value_in (get_or firsts i None); is_repeated = get_or are i is }) ≡ true
+    → list_all is_right (drop (i + 1) (founds_of fields (map value_in firsts) are))
+    ≡ list_all is_right (drop i (founds_of fields (map value_in firsts) are))
+rights_behind table firsts are i d is below long many same right =
+    let founds = founds_of fields (map value_in firsts) are in
+    sym (rights_at table firsts are i d is below long many same ∙ ap (λ b. b && list_all is_right (drop (i + 1) founds)) right)
+
+-- and ends at one with which something is
+pub rights_here : (table : List declared_field.Field) (firsts : List (Option (Bor (List ℕ)))) (are : List Bool) (i : ℕ)
+    (d : declared_field.Field) (is : Bool) → i < 15 → length firsts ≡ 15 → length are ≡ 15 → map field_in table ≡ fields
+    → is_right (record { field = field_in (get_or table i d); first = value_in (get_or firsts i None); is_repeated = get_or are i is }) ≡ false
+    → false ≡ list_all is_right (drop i (founds_of fields (map value_in firsts) are))
+rights_here table firsts are i d is below long many same wrong =
+    let founds = founds_of fields (map value_in firsts) are in
+    sym (rights_at table firsts are i d is below long many same ∙ ap (λ b. b && list_all is_right (drop (i + 1) founds)) wrong)
+
+-- or behind the last
+pub rights_end : (firsts : List (Option (Bor (List ℕ)))) (are : List Bool) (i : ℕ) → 15 ≤ i → length firsts ≡ 15 → length are ≡ 15
+    → list_all is_right (drop i (founds_of fields (map value_in firsts) are)) ≡ true
+rights_end firsts are i past long many =
+    let size = many_slots firsts are long many in
+    let past : length (founds_of fields (map value_in firsts) are) ≤ i = omega (arith, size) in
+    rw (drop_of_length-le (founds_of fields (map value_in firsts) are) past) refl

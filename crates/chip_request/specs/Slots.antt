@@ -6,6 +6,8 @@ use Rattle.chip_request.specs.Fields.{Field}
 use Rattle.issuer_base.specs.declared.request.Parts.{Parts}
 use Rattle.issuer_base.specs.ChipData.{request_from}
 use Rattle.chip_request.specs.Forms.{account_number_in}
+use Rattle.chip_request.specs.declared.reading.RequestFault.{RequestFault}
+use Rattle.chip_request.specs.declared.reading.RequestFault.TheVariants as faults
 use Rattle.chip_request.specs.declared.slots.Wrong.{Wrong}
 use Rattle.chip_request.specs.declared.slots.Wrong.TheVariants.{Missing, Misformed, Repeated}
 
@@ -38,11 +40,27 @@ is_wrong Missing found = found.field.is_required && is_none found.first
 is_wrong Misformed found = elim (found.first) [ None ↦ false | Some value ↦ not (found.field.has_form value) ]
 is_wrong Repeated found = found.is_repeated
 
+-- nothing is wrong with a field
+abbrev pub is_right : Found → Bool
+is_right found = not (is_wrong Repeated found) && not (is_wrong Missing found) && not (is_wrong Misformed found)
+
 -- the tag of the first field with which this is wrong
 unfoldable pub first_wrong_found : Wrong → List Found → Option ℕ
 first_wrong_found wrong [] = None
 first_wrong_found wrong (found ∷ others) =
     if is_wrong wrong found then Some found.field.tag else first_wrong_found wrong others
+
+-- the fault that names what was found, and else the next one
+abbrev pub named : Option ℕ → (ℕ → RequestFault) → Option RequestFault → Option RequestFault
+named (Some tag) fault next = Some (fault tag)
+named None fault next = next
+
+-- what is wrong with what was found: a missing field first, then a misformed one, and then a repeated one
+unfoldable pub fault_among : List Found → Option RequestFault
+fault_among founds =
+    named (first_wrong_found Missing founds) faults.Missing (
+    named (first_wrong_found Misformed founds) faults.BadField (
+    named (first_wrong_found Repeated founds) faults.Repeated None))
 
 -- the place in a table of the first field with a tag
 unfoldable pub place_of : ℕ → List Field → Option ℕ

@@ -78,6 +78,7 @@ pub fn read_line(line: &[u8]) -> Result<LineKind, u32>
 }
 
 /// As [`read_line`], with the line's data written in front of a buffer of the caller's, of which nothing else counts.
+#[inline(always)]
 pub fn read_line_into(line: &[u8], bytes: &mut [u8; MAX_CHIP_BYTES]) -> Result<LineForm, u32>
     ensures same { result_map_both (kind_in bytes.new) (λ column. column) result ≡ line_of line.now }
     ensures within { IfOk result (λ form. is_within form ≡ true) }
@@ -113,6 +114,7 @@ fn vector_of<const N: usize>(bytes: &[u8]) -> ArrayVec<u8, N>
 
 // What a line asks for, or what is left of it from the first byte on that no line has there.
 #[tactic(auto, unfolding(crate::specs::LineParts::kind_at))]
+#[inline(always)]
 fn form_of<'a>(line: &'a [u8], bytes: &mut [u8; MAX_CHIP_BYTES]) -> Result<LineForm, &'a [u8]>
     ensures same { result_map_both (kind_in bytes.new) (λ rest. rest.now) result ≡ kind_at line.now }
     ensures within { IfOk result (λ form. is_within form ≡ true) }

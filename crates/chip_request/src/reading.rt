@@ -3,7 +3,7 @@ ghost use Rattle.std.specs.Prelude.{◌≡◌, ◌≤◌, ◌<◌, ◌+◌, ◌^
 ghost use Rattle.tlv_objects.specs.Tlv.{objects_of, objects_ahead};
 ghost use Rattle.chip_request.specs.Fields.{fields};
 ghost use Rattle.chip_request.specs.Reading.{request_of};
-ghost use Rattle.chip_request.specs.Slots.{request_in, unfound, with_objects};
+ghost use Rattle.chip_request.specs.Slots.{fault_among, request_in, unfound, with_objects};
 ghost use Rattle.chip_request.specs.SlotViews.{founds_in};
 
 use crate::form::account_number;
@@ -27,22 +27,37 @@ pub enum RequestFault {
 /// The request that chip data say, which are BER-TLV objects in any order. Objects of other tags are passed over.
 /// A torn text is refused first, then a missing field, a misformed one and a repeated one, each time the first in the
 /// order of the table.
+#[inline(always)]
 pub fn read_request(bytes: &[u8]) -> Result<Request, RequestFault>
     requires { length bytes.now ≤ MAX_CHIP_BYTES }
     ensures { result ≡ request_of bytes.now }
 {
     let mut slots = Slots::unfound();
     note_all(&mut slots, Objects::new(bytes))?;
-    if let Some(tag) = slots.first_wrong(Wrong::Missing) {
-        return Err(RequestFault::Missing(tag));
-    }
-    if let Some(tag) = slots.first_wrong(Wrong::Misformed) {
-        return Err(RequestFault::BadField(tag));
-    }
-    if let Some(tag) = slots.first_wrong(Wrong::Repeated) {
-        return Err(RequestFault::Repeated(tag));
+    if let Some(fault) = first_fault(&slots) {
+        return Err(fault);
     }
     Ok(request_in(&slots).unwrap())
+}
+
+/// The first thing that is wrong with what was found. Mostly nothing is, which is looked at first.
+#[tactic(auto, unfolding(crate::specs::Slots::fault_among))]
+fn first_fault(slots: &Slots<'_>) -> Option<RequestFault>
+    ensures { result ≡ fault_among (founds_in slots.now) }
+{
+    if slots.are_right() {
+        return None;
+    }
+    if let Some(tag) = slots.first_wrong(Wrong::Missing) {
+        return Some(RequestFault::Missing(tag));
+    }
+    if let Some(tag) = slots.first_wrong(Wrong::Misformed) {
+        return Some(RequestFault::BadField(tag));
+    }
+    if let Some(tag) = slots.first_wrong(Wrong::Repeated) {
+        return Some(RequestFault::Repeated(tag));
+    }
+    None
 }
 
 // Notes the objects ahead of a cursor, up to the end of its text.
@@ -64,6 +79,7 @@ fn note_all<'a>(slots: &mut Slots<'a>, objects: Objects<'a>) -> Result<(), Reque
 
 // The request that was found, where each field that is there has its form.
 #[tactic(auto, unfolding(crate::specs::Slots::request_in))]
+#[inline(always)]
 fn request_in(slots: &Slots<'_>) -> Option<Request>
     ensures { result ≡ request_in (founds_in slots.now) }
 {

@@ -1,8 +1,9 @@
 //! The fields of a request, and what a walk over the objects keeps of each.
 ghost use Rattle.std.specs.Prelude.{◌≡◌, ◌<◌, map, option_map, IfSome};
+ghost use Rattle.std.specs.List.{list_all};
 ghost use Rattle.tlv_objects.specs.Seen.{seen as object_seen};
 ghost use Rattle.chip_request.specs.Fields.{fields};
-ghost use Rattle.chip_request.specs.Slots.{founds_of, place_of, with_object, unfound, is_wrong, first_wrong_found, first_with_tag, sized};
+ghost use Rattle.chip_request.specs.Slots.{founds_of, place_of, with_object, unfound, is_wrong, is_right, first_wrong_found, first_with_tag, sized};
 ghost use Rattle.chip_request.specs.SlotViews.{field_in, founds_in};
 
 use crate::form::Form;
@@ -117,6 +118,13 @@ impl<'a> Slots<'a> {
         }
     }
 
+    /// Whether nothing is wrong with any field, which one walk over them tells.
+    pub(crate) fn are_right(&self) -> bool
+        ensures { result ≡ list_all is_right (founds_in self.now) }
+    {
+        are_right(&self.firsts, &self.are_repeated)
+    }
+
     /// The tag of the first field with which this is wrong.
     pub(crate) fn first_wrong(&self, wrong: Wrong) -> Option<u32>
         ensures { result ≡ first_wrong_found wrong (founds_in self.now) }
@@ -159,6 +167,20 @@ impl Field {
             Wrong::Repeated => is_repeated,
         }
     }
+
+    /// Whether nothing is wrong with the field.
+    fn is_right(&self, first: Option<&[u8]>, is_repeated: bool) -> bool
+        ensures { result ≡ is_right
+            (record { field = field_in self.now; first = option_map (λ value. value.now) first.entry; is_repeated = is_repeated }) }
+    {
+        if is_repeated {
+            return false;
+        }
+        match first {
+            None => !self.is_required,
+            Some(value) => self.form.fits(value),
+        }
+    }
 }
 
 // The arrays are passed alone, since a proof knows the length of an array that is a parameter.
@@ -175,6 +197,17 @@ fn first_wrong_among(
         }
     }
     None
+}
+
+fn are_right(firsts: &[Option<&[u8]>; 15], are_repeated: &[bool; 15]) -> bool
+    ensures { result ≡ list_all is_right (founds_of fields (map (option_map (λ value. value.now)) firsts.now) are_repeated.now) }
+{
+    for (place, field) in table().iter().enumerate() {
+        if !field.is_right(firsts[place], are_repeated[place]) {
+            return false;
+        }
+    }
+    true
 }
 
 // The repetitions are named by the contract alone.

@@ -1,10 +1,11 @@
 -- What a line asks that was read: its card is the issuer's, and what it asks may be recorded.
 use Rattle.std.proofs.Common.{◌≡◌, ◌≤◌, ℕ, List, Bool, true, false, Option, None, Some, Result, Ok, Err, if◌then◌else◌, refl, sym, ap, ap₂, subst, ◌∙◌, IsTrue}
+use Rattle.std.proofs.lemmas.Bool.{true≢false}
 use Rattle.issuer_base.specs.declared.command.Command.{Command}
 use Rattle.issuer_base.specs.declared.limits.TheConstants.{MAX_STATUS}
 use Rattle.issuer_base.specs.declared.request.Request.{Request}
 use Rattle.issuer_base.specs.declared.answer.Refusal.{Refusal}
-use Rattle.issuer_base.specs.declared.answer.Refusal.TheVariants.{StoreFault, NotArqc, BadCryptogram}
+use Rattle.issuer_base.specs.declared.answer.Refusal.TheVariants.{StoreFault, Pending, NotArqc, BadCryptogram}
 use Rattle.issuer_base.specs.ScriptCommand.{is_command}
 use Rattle.issuer_base.specs.ChipData.{is_arqc}
 use Rattle.card_history.specs.declared.decision.Asked.{Asked}
@@ -184,46 +185,54 @@ asks-status issuer line pan psn status read = said-status issuer line (line_of l
 
 -- ---- refusals
 
-right-refusal : (right : Bool) (request : Request) → (let says : Result Asked Refusal = if right then Ok (Decide request) else Err BadCryptogram in
-    says) ≡ Err StoreFault → ⊥
-right-refusal true request passes = cc
-right-refusal false request passes = cc
+-- whether it is a refusal for what other callers or a store do
+abbrev is_at_turn : Result Asked Refusal → Bool
+is_at_turn (Err Pending) = true
+is_at_turn (Err StoreFault) = true
+is_at_turn _ = false
 
-keys-refusal : (keys : Option CardKeys) (request : Request) → under_keys keys request ≡ Err StoreFault → ⊥
-keys-refusal None request passes = cc
-keys-refusal (Some keys) request passes = right-refusal (is_right keys request) request passes
+right-read : (right : Bool) (request : Request) → is_at_turn (if right then Ok (Decide request) else Err BadCryptogram) ≡ false
+right-read true request = refl
+right-read false request = refl
 
-arqc-refusal : (arqc : Bool) (keys : Option CardKeys) (request : Request) → (if arqc then under_keys keys request else Err NotArqc) ≡ Err StoreFault → ⊥
-arqc-refusal false keys request passes = cc
-arqc-refusal true keys request passes = keys-refusal keys request passes
+keys-read : (keys : Option CardKeys) (request : Request) → is_at_turn (under_keys keys request) ≡ false
+keys-read None request = refl
+keys-read (Some keys) request = right-read (is_right keys request) request
 
-card-refusal : (issuer : Setup) (found : Option ℕ) (request : Request) → of_card issuer found request ≡ Err StoreFault → ⊥
-card-refusal issuer None request passes = cc
-card-refusal issuer (Some number) request passes = arqc-refusal (is_arqc request) (keys_of issuer number request) request passes
+arqc-read : (arqc : Bool) (keys : Option CardKeys) (request : Request) → is_at_turn (if arqc then under_keys keys request else Err NotArqc) ≡ false
+arqc-read false keys request = refl
+arqc-read true keys request = keys-read keys request
 
-data-refusal : (issuer : Setup) (says : Result Request RequestFault) → checked_data issuer says ≡ Err StoreFault → ⊥
-data-refusal issuer (Err (BadTlv place)) passes = cc
-data-refusal issuer (Err (Missing tag)) passes = cc
-data-refusal issuer (Err (BadField tag)) passes = cc
-data-refusal issuer (Err (Repeated tag)) passes = cc
-data-refusal issuer (Ok request) passes = card-refusal issuer (number_of (card_of request) issuer.cards) request passes
+card-read : (issuer : Setup) (found : Option ℕ) (request : Request) → is_at_turn (of_card issuer found request) ≡ false
+card-read issuer None request = refl
+card-read issuer (Some number) request = arqc-read (is_arqc request) (keys_of issuer number request) request
 
-command-refusal : (name : CardName) (found : Option ℕ) (given : Option Command) → command_for name found given ≡ Err StoreFault → ⊥
-command-refusal name None given passes = cc
-command-refusal name (Some card) None passes = cc
-command-refusal name (Some card) (Some command) passes = cc
+data-read : (issuer : Setup) (says : Result Request RequestFault) → is_at_turn (checked_data issuer says) ≡ false
+data-read issuer (Err (BadTlv place)) = refl
+data-read issuer (Err (Missing tag)) = refl
+data-read issuer (Err (BadField tag)) = refl
+data-read issuer (Err (Repeated tag)) = refl
+data-read issuer (Ok request) = card-read issuer (number_of (card_of request) issuer.cards) request
 
-status-refusal : (name : CardName) (found : Option ℕ) (status : ℕ) → status_for name found status ≡ Err StoreFault → ⊥
-status-refusal name None status passes = cc
-status-refusal name (Some card) status passes = cc
+command-read : (name : CardName) (found : Option ℕ) (given : Option Command) → is_at_turn (command_for name found given) ≡ false
+command-read name None given = refl
+command-read name (Some card) None = refl
+command-read name (Some card) (Some command) = refl
 
-said-refusal : (issuer : Setup) (says : Result LineKind ℕ) → said_by issuer says ≡ Err StoreFault → ⊥
-said-refusal issuer (Err column) passes = cc
-said-refusal issuer (Ok (Ask bytes)) passes = data-refusal issuer (request_of bytes.items) passes
-said-refusal issuer (Ok (IsQueue pan psn bytes)) passes =
-    command-refusal (named pan psn) (number_of (named pan psn) issuer.cards) (command_of bytes.items) passes
-said-refusal issuer (Ok (IsSet pan psn status)) passes = status-refusal (named pan psn) (number_of (named pan psn) issuer.cards) status passes
+status-read : (name : CardName) (found : Option ℕ) (status : ℕ) → is_at_turn (status_for name found status) ≡ false
+status-read name None status = refl
+status-read name (Some card) status = refl
+
+said-read : (issuer : Setup) (says : Result LineKind ℕ) → is_at_turn (said_by issuer says) ≡ false
+said-read issuer (Err column) = refl
+said-read issuer (Ok (Ask bytes)) = data-read issuer (request_of bytes.items)
+said-read issuer (Ok (IsQueue pan psn bytes)) = command-read (named pan psn) (number_of (named pan psn) issuer.cards) (command_of bytes.items)
+said-read issuer (Ok (IsSet pan psn status)) = status-read (named pan psn) (number_of (named pan psn) issuer.cards) status
 
 -- no line is refused for a fault of a store as it is read
 pub asks-no_store : (issuer : Setup) (line : List ℕ) → reading issuer line ≡ Err StoreFault → ⊥
-asks-no_store issuer line read = said-refusal issuer (line_of line) read
+asks-no_store issuer line read = true≢false (sym (ap is_at_turn read) ∙ said-read issuer (line_of line))
+
+-- nor for a counter that is pending
+pub asks-no_pending : (issuer : Setup) (line : List ℕ) → reading issuer line ≡ Err Pending → ⊥
+asks-no_pending issuer line read = true≢false (sym (ap is_at_turn read) ∙ said-read issuer (line_of line))

@@ -1,8 +1,7 @@
 -- What the last pass knows when a host is closed, and what the stores hold.
-use Rattle.std.proofs.Common.{◌≡◌, ℕ, ◌+◌, ◌<◌, ◌≤◌, List, [], ◌∷◌, ◌++◌, length, drop, map, Option, None, Some, IfSome, All}
+use Rattle.std.proofs.Common.{◌≡◌, ℕ, ◌+◌, ◌<◌, ◌≤◌, List, [], ◌∷◌, ◌++◌, length, drop, map, Option, None, Some, IfSome}
 use Rattle.std.proofs.Common.{refl, sym, ap, ◌∙◌, subst, arith}
 use Rattle.std.proofs.lemmas.List.{take-append-drop, length-map}
-use Rattle.std.proofs.lemmas.List.Elements.{All-cons}
 use Rattle.std.proofs.lemmas.Option.{same_Some, slice_get_within}
 use Rattle.std.specs.List.{slice_get}
 use Rattle.issuer_base.specs.Stores.{Disk, MayLeave}
@@ -26,7 +25,7 @@ use Rattle.shard_turns.specs.declared.logs.LogItem.{LogItem}
 use Rattle.shard_turns.specs.declared.logs.LogItem.TheVariants.{Record, Fault}
 use Rattle.shard_turns.specs.declared.logs.LogHead.{LogHead}
 use Rattle.shard_turns.specs.Opening.{head_with}
-use Rattle.shard_turns.specs.ShardLogs.{records_of, faults_of, RiseTo, StandsForLog}
+use Rattle.shard_turns.specs.ShardLogs.{records_of, StandsForLog}
 use Rattle.shard_turns.specs.ShardSeats.{StandForLogs}
 use Rattle.host_calls.specs.Closing.{IsClosed, AreClosed, AreSettled}
 use Rattle.host_calls.specs.OneHistory.{GoesOn}
@@ -46,26 +45,17 @@ records-go_on first last front =
     let parts : first ++ rest ≡ last = ap (λ (front : List LogItem). front ++ rest) (sym front) ∙ take-append-drop (length first) last in
     (records_of rest, ap records_of (sym parts) ∙ records-append first rest)
 
--- counts that rise to one are none of them above it
-rise-below : (first : ℕ) (counts : List ℕ) (now : ℕ) → RiseTo first counts now → first ≤ now
-rise-below first [] now rises = rises
-rise-below first (count ∷ counts) now rises = let rest = rise-below count counts now rises.2 in let here = rises.0 in omega arith
-
-rise-all : (first : ℕ) (counts : List ℕ) (now : ℕ) → RiseTo first counts now → All (λ count. count ≤ now) counts
-rise-all first [] now rises = λ i d below. absurd (omega arith)
-rise-all first (count ∷ counts) now rises =
-    All-cons (λ (count : ℕ). count ≤ now) count counts (rise-below count counts now rises.2) (rise-all count counts now rises.2)
-
 if-some : {X : Type 0} (P Q : X → Type 0) (found : Option X) → ((x : X) → P x → Q x) → IfSome found P → IfSome found Q
 if-some P Q None then is = tt
 if-some P Q (Some x) then is = then x is
 
 module _ {S : Type 0} {G : Ghosts S} where
   -- the store of one shard
-  closed-shard : (issuer : Setup) (number faults records : ℕ) (first last : Log LogItem LogHead) (shard : Shard S G)
-      → records ≡ length (records_of first.items) → IsFront first.items last.items → StandsForLog shard (head_with issuer number faults records) last.items
+  closed-shard : (issuer : Setup) (number records : ℕ) (first last : Log LogItem LogHead) (shard : Shard S G)
+      → records ≡ length (records_of first.items) → IsFront first.items last.items
+      → StandsForLog shard (head_with issuer number first.head.faults records) last.items
       → IsClosed G.bytes G.disk G.faults issuer number first last (store_in shard)
-  closed-shard issuer number faults records first last shard counted front stands =
+  closed-shard issuer number records first last shard counted front stands =
       let journal = stands.stands.journal_holds in
       let history : List Entry = records_of last.items in
       let tail_is =
@@ -76,6 +66,7 @@ module _ {S : Type 0} {G : Ghosts S} where
           legal = stands.legal;
           by_table = λ place entry past is. stands.by_table place entry (omega (arith, counted, past)) is;
         };
+        records = journal.records;
         holds = record {
           tail = journal.tail;
           tail_is = tail_is;
@@ -85,7 +76,7 @@ module _ {S : Type 0} {G : Ghosts S} where
         leaves = if-some (λ (disk : Disk). HasSafeText (texts_of history) journal.tail disk.now)
             (λ (disk : Disk). (image : List ℕ) → MayLeave disk.now image → IsImageOf (grounds_now issuer) number history image) (G.disk (store_in shard))
             (λ disk safe image left. (journal.tail, tail_is, leaves-image (texts_of history) journal.tail disk.now image safe left)) journal.holds.disk_is;
-        counts = rise-all faults (faults_of last.items) (G.faults (store_in shard)) stands.counts;
+        rise = stands.counts;
       }
 
   pub closed-all : (issuer : Setup) (opening seen : List (Log LogItem LogHead)) (shards : List (Shard S G)) → heads_of seen ≡ heads_of opening
@@ -114,7 +105,7 @@ module _ {S : Type 0} {G : Ghosts S} where
             subst (λ (items : List LogItem). IsFront items last.items) (items-there opening number first first_is)
             (subst (IsFront (items_at opening number)) (items-there seen number last last_is) (fronts number)) in
             subst (λ (store : S). IsClosed G.bytes G.disk G.faults issuer number first last store) its
-            (closed-shard issuer number first.head.faults first.head.records first last shard.0 (counted number first first_is) front stands);
+            (closed-shard issuer number first.head.records first last shard.0 (counted number first first_is) front stands);
       }
 
 -- what became of the claims, by the opening logs

@@ -60,6 +60,7 @@ module _ {S : Type 0} {G : Ghosts S} (issuer : Setup) where
     rest = from.loaded.rest;
     text_is = from.loaded.text_is;
     unbroken = from.loaded.unbroken;
+    records = from.loaded.records;
     legal = from.loaded.legal;
     cut = cut-text (G.bytes (store_in shard)) (texts_of from.loaded.history) from.loaded.settled.bytes_are;
     leaves =
@@ -180,6 +181,7 @@ none-loaded {S} G issuer stores some = record {
         still = reads-none (G.disk store);
         leaves = crash-read (G.disk store) (G.disk store) (reads-none (G.disk store));
         counts = record { below = λ below. below; never_falls = omega arith; counted = refl };
+        untouched = λ wanting. refl;
       });
   behind = λ number past. refl;
 }

@@ -1,6 +1,6 @@
 -- Places in lists: what is read after a write, in front of a list, and behind one.
 use Rattle.std.proofs.Common.{◌≡◌, ◌≢◌, ℕ, zero, suc, ◌+◌, ◌<◌, List, [], ◌∷◌, ◌++◌, length, set, map, Some}
-use Rattle.std.proofs.Common.{refl, ap, subst, ◌∙◌, arith}
+use Rattle.std.proofs.Common.{refl, ap, subst, sym, ◌∙◌, arith}
 use Rattle.std.specs.List.{slice_get}
 
 module _ {X : Type 0} where
@@ -9,6 +9,12 @@ module _ {X : Type 0} where
   read-written [] place new within = absurd (omega arith)
   read-written (x ∷ xs) zero new within = refl
   read-written (x ∷ xs) (suc place) new within = read-written xs place new (omega arith)
+
+  -- a place written with what stood there
+  pub write-same : (xs : List X) (place : ℕ) (old new : X) → slice_get xs place ≡ Some old → new ≡ old → set xs place new ≡ xs
+  write-same [] place old new is same = refl
+  write-same (x ∷ xs) zero old new is same = let here : x ≡ old = (let e : Some x ≡ Some old = is in cc) in ap (λ (y : X). y ∷ xs) (same ∙ sym here)
+  write-same (x ∷ xs) (suc place) old new is same = ap (λ (ys : List X). x ∷ ys) (write-same xs place old new is same)
 
   -- and each other place as it was
   pub read-other : (xs : List X) (place : ℕ) (new : X) (other : ℕ) → other ≢ place → slice_get (set xs place new) other ≡ slice_get xs other

@@ -2,6 +2,7 @@
 use Rattle.std.specs.Prelude.{◌≡◌, ℕ, ◌+◌, ◌<◌, ◌≤◌, List, length, slice_get, Option, Some, IfSome, All}
 use Rattle.issuer_base.specs.Stores.{Disk, MayLeave}
 use Rattle.issuer_setup.specs.IssuerSetup.{Setup}
+use Rattle.journal_rec.specs.Record.{IsRecord}
 use Rattle.claim_words.specs.declared.layout.TheConstants.{COUNTERS}
 use Rattle.claim_words.specs.declared.view.ClaimView.{ClaimView}
 use Rattle.claim_words.specs.ClaimViews.{claims_on, times, is_live, is_kept, is_any}
@@ -13,7 +14,7 @@ use Rattle.turn_book.specs.TurnViews.{times as times_placed}
 use Rattle.shard_book.specs.Grounds.{grounds_now, IsImageOf}
 use Rattle.shard_turns.specs.declared.logs.LogItem.{LogItem}
 use Rattle.shard_turns.specs.declared.logs.LogHead.{LogHead}
-use Rattle.shard_turns.specs.ShardLogs.{records_of, faults_of}
+use Rattle.shard_turns.specs.ShardLogs.{records_of, faults_of, RiseTo}
 use Rattle.host_calls.specs.Books.{Book}
 use Rattle.host_calls.specs.OneHistory.{LegallyGoesOn}
 use Rattle.host_calls.specs.OpeningLogs.{opened_on}
@@ -26,13 +27,14 @@ book_of log faults = record { history = records_of log.items; faults = faults; t
 -- by what stores tell of their bytes and disks, and by their counts of faults
 module _ {S : Type 0} (bytes : S → Option (List ℕ)) (disk : S → Option Disk) (faults : S → ℕ) where
   -- a shard's store, where the log was the first one when the host was loaded, and the last one when it is closed: the history went on legally,
-  -- each new decision is the table's; the store holds its journal, with nothing behind it where no answer told a fault, and a crash leaves
-  -- an image of it; no fault that was told is above the store's count
+  -- each new decision is the table's, and each entry is a record; the store holds its journal, with nothing behind it where no answer told a
+  -- fault, and a crash leaves an image of it; the counts of the faults that were told rise from the first one to the store's
   pub record IsClosed (issuer : Setup) (number : ℕ) (first last : Log LogItem LogHead) (store : S) : Type 0 where
     pub goes_on : LegallyGoesOn issuer number (records_of first.items) (records_of last.items)
+    pub records : All IsRecord (records_of last.items)
     pub holds : HoldsJournal issuer number (book_of last (faults store)) (bytes store)
     pub leaves : IfSome (disk store) (λ disk. (image : List ℕ) → MayLeave disk.now image → IsImageOf (grounds_now issuer) number (records_of last.items) image)
-    pub counts : All (λ count. count ≤ faults store) (faults_of last.items)
+    pub rise : RiseTo first.head.faults (faults_of last.items) (faults store)
 
   -- so it is with each shard, in order
   pub record AreClosed (issuer : Setup) (opening seen : List (Log LogItem LogHead)) (stores : List S) : Type 0 where

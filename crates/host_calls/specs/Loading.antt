@@ -1,5 +1,5 @@
 -- What loading the shards of a host makes of their stores.
-use Rattle.std.specs.Prelude.{◌≡◌, ℕ, ◌<◌, false, List, ◌++◌, length, slice_get, Option, Some}
+use Rattle.std.specs.Prelude.{◌≡◌, ℕ, ◌<◌, false, List, ◌++◌, length, slice_get, Option, Some, All}
 use Rattle.issuer_base.specs.OutsideFaults.{CountsFaults}
 use Rattle.issuer_base.specs.Stores.{BothTold, Disk, LeavesOnly}
 use Rattle.issuer_base.specs.Tells.{Tells}
@@ -7,13 +7,15 @@ use Rattle.issuer_base.specs.declared.entry.Entry.{Entry}
 use Rattle.issuer_base.specs.declared.outside.store.Store.{Ghosts}
 use Rattle.card_history.specs.LegalRecords.{IsLegalHistory}
 use Rattle.issuer_setup.specs.IssuerSetup.{Setup}
+use Rattle.journal_rec.specs.Record.{IsRecord}
 use Rattle.journal_rec.specs.RecordText.{texts_of, IsUnbroken}
 use Rattle.record_store.specs.Images.{IsCutImage}
 use Rattle.shard_book.specs.declared.replay.LoadFault.{LoadFault}
+use Rattle.shard_book.specs.declared.replay.LoadFault.TheVariants.{NoMemory}
 use Rattle.shard_book.specs.declared.shard.Shard.{Shard}
 use Rattle.shard_book.specs.Loading.{StopsText, is_store_failure}
 use Rattle.shard_book.specs.Grounds.{grounds_of}
-use Rattle.shard_book.specs.Shards.{IsUnder, sure_in, disk_in, faults_in, told_in, IsUndoubted, IsLoaded, IsSomeCutImage, LeavesBytes, LeavesDisk}
+use Rattle.shard_book.specs.Shards.{IsUnder, sure_in, disk_in, faults_in, told_in, IsUndoubted, IsLoaded, IsLoadImage, LeavesBytes, LeavesDisk}
 
 module _ {S : Type 0} {G : Ghosts S} where
   -- the shard with this number was loaded from the store: it stands for the history that the store held, and meanwhile a crash leaves what
@@ -41,19 +43,21 @@ module _ {S : Type 0} (bytes : S → Option (List ℕ)) (disk : S → Option Dis
     pub rest : List ℕ
     pub text_is : Tells (bytes store) (texts_of history ++ rest)
     pub unbroken : IsUnbroken rest
+    pub records : All IsRecord history
     pub legal : IsLegalHistory (grounds_of issuer) number history
     pub cut : Tells (bytes back) (texts_of history)
     pub leaves : BothTold (λ old new. LeavesOnly (IsCutImage (length (texts_of history)) old.now) old new) (disk store) (disk back)
     pub counts : CountsFaults (faults store) (faults back) false
 
   -- the shard with this number can't be loaded from the store for this reason, and this is the store afterwards: it has the bytes that it had,
-  -- or where it failed maybe those of the records alone
+  -- or where it failed maybe those of the records alone; so does what a crash meanwhile leaves, or it is what it might leave before
   pub record IsNotLoaded (issuer : Setup) (number : ℕ) (store : S) (fault : LoadFault) (back : S) : Type 0 where
     pub stops : StopsText issuer number (bytes store) fault
     pub kept : LeavesBytes fault (bytes store) (bytes back)
     pub still : LeavesDisk fault (disk store) (disk back)
-    pub leaves : BothTold (λ old new. LeavesOnly (IsSomeCutImage old.now) old new) (disk store) (disk back)
+    pub leaves : BothTold (λ old new. LeavesOnly (IsLoadImage old.now) old new) (disk store) (disk back)
     pub counts : CountsFaults (faults store) (faults back) (is_store_failure fault)
+    pub untouched : fault ≡ NoMemory → back ≡ store
 
   -- the stores come back in order: those before the one that failed as they were loaded, those behind it as they were
   pub record ComeBack (issuer : Setup) (stores : List S) (failed : ℕ) (fault : LoadFault) (back : List S) : Type 0 where

@@ -1,5 +1,5 @@
 -- What checking a line before its turn makes of a pass's claims.
-use Rattle.std.specs.Prelude.{◌≡◌, ℕ, Option, Some, Result, Ok, Err, IsOk}
+use Rattle.std.specs.Prelude.{◌≡◌, ℕ, ◌<◌, Option, Some, Result, Ok, Err, IsOk}
 use Rattle.issuer_base.specs.declared.answer.Refusal.{Refusal}
 use Rattle.issuer_base.specs.declared.answer.Refusal.TheVariants.{Below}
 use Rattle.card_history.specs.Records.{card_of, IsBelow}
@@ -9,6 +9,7 @@ use Rattle.issuer_setup.specs.CardList.{number_of}
 use Rattle.issuer_setup.specs.IssuerSetup.{Setup}
 use Rattle.line_checks.specs.AtHand.{IsRequestAtHand, IsCommandAtHand, IsStatusAtHand}
 use Rattle.line_checks.specs.Reading.{checked}
+use Rattle.claim_words.specs.declared.layout.TheConstants.{COUNTERS}
 use Rattle.claim_words.specs.declared.view.ClaimView.{ClaimView}
 use Rattle.claim_words.specs.declared.claim_words.Claim.TheVariants.{Won}
 use Rattle.claim_words.specs.ClaimViews.{IsNew, after_claim, after_top}
@@ -28,11 +29,10 @@ HasPassed issuer (Decide found claim) = IsRequestAtHand issuer found × (checked
 HasPassed issuer (Queue found) = IsCommandAtHand issuer found
 HasPassed issuer (Status found) = IsStatusAtHand issuer found
 
--- the card's top is read once, and told this
--- where the counter is below the window of what it told, the request is refused; otherwise its counter is claimed once
+-- where the counter is below the window of what the card's top told, which is a counter too, the request is refused; otherwise it is claimed once
 abbrev pub Claims : ℕ → ℕ → Option ℕ → ClaimView → Result Checked Refusal → ClaimView → Type 0
 Claims card counter top seen (Err refusal) after =
-    (told : ℕ) × (top ≡ Some told) × IsBelow top counter × (refusal ≡ Below told) × (after ≡ seen)
+    (told : ℕ) × (top ≡ Some told) × (told < COUNTERS) × IsBelow top counter × (refusal ≡ Below told) × (after ≡ seen)
 Claims card counter top seen (Ok (Decide found claim)) after =
     (IsBelow top counter → ⊥) × (found.card ≡ card) × (after ≡ after_claim claim card counter seen) × (claim ≡ Won → IsNew card counter seen)
 Claims card counter top seen (Ok _) after = ⊥

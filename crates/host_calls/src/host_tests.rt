@@ -16,10 +16,13 @@ use std::thread;
 use std::thread::Threads;
 use store_edge::MemoryStore;
 
-/// Lines that set the status of the first card and of the second one.
-const STATUS: &str = "S 4000000000000002 00 3";
-
-const SECOND_STATUS: &str = "S 4000000000000010 00 3";
+/// A line for each card that sets its status.
+const STATUS: [&str; 4] = [
+    "S 4000000000000002 00 3",
+    "S 4000000000000010 00 3",
+    "S 4000000000000028 00 3",
+    "S 4000000000000036 00 3",
+];
 
 /// The same card's request on its counter 9, and that on its counter 6.
 const NINTH: &str =
@@ -52,7 +55,7 @@ fn load(
 /// An empty store that fails at the listed calls.
 fn empty(alloc: Global, fails: Vec<u64>) -> Result<MemoryStore, Fail> {
     let text = Vec::new(alloc);
-    Ok(MemoryStore::new(alloc, text, 65_536, fails).map_err(|_| "a store")?)
+    Ok(MemoryStore::new(alloc, text, 262_144, fails).map_err(|_| "a store")?)
 }
 
 /// A host of one shard over an empty store, which fails at the listed calls, and its first pass, where it can be loaded.
@@ -65,12 +68,14 @@ fn open(alloc: Global, fails: Vec<u64>) -> Result<Option<(Host<MemoryStore>, Pas
     load(alloc, stores, issuer)
 }
 
-/// A host of two shards over empty stores, and its first pass, where it can be loaded.
-fn open_two(alloc: Global) -> Result<Option<(Host<MemoryStore>, Pass)>, Fail>
+/// A host of four shards over empty stores, and its first pass, where it can be loaded.
+fn open_four(alloc: Global) -> Result<Option<(Host<MemoryStore>, Pass)>, Fail>
     ensures { IfOk result (λ made. IfSome made (λ pair. IsFree pair.0 pair.1 × ((claims_of pair.1).names ≡ first_names))) }
 {
-    let issuer = issuer(alloc, 2)?;
+    let issuer = issuer(alloc, 4)?;
     let mut stores = Vec::new(alloc);
+    stores.push(empty(alloc, Vec::new(alloc))?)?;
+    stores.push(empty(alloc, Vec::new(alloc))?)?;
     stores.push(empty(alloc, Vec::new(alloc))?)?;
     stores.push(empty(alloc, Vec::new(alloc))?)?;
     load(alloc, stores, issuer)
@@ -215,7 +220,7 @@ struct Caller {
 }
 
 /// How many statuses each caller sets.
-const STATUSES: u64 = 250;
+const STATUSES: u64 = 1_000;
 
 /// Splits off a pass for each of so many callers.
 fn seat_all(host: &Host<MemoryStore>, pass: &mut Pass, count: usize, callers: &mut Vec<Caller>)
@@ -235,18 +240,20 @@ fn seat_all(host: &Host<MemoryStore>, pass: &mut Pass, count: usize, callers: &m
     }
 }
 
-/// Answers a request, and then so many statuses.
+/// Answers three requests, and then so many statuses.
 fn answer_all<R: Wait>(rt: &R, host: &Host<MemoryStore>, caller: &mut Caller)
     requires free { IsFree host.now caller.old.pass }
     ensures free { IsFree host.now caller.new.pass }
     ensures names { (claims_of caller.new.pass).names ≡ (claims_of caller.old.pass).names }
 {
-    let answer = host.authorise(rt, &mut caller.pass, REQUEST.as_bytes());
-    if matches!(answer, Answer::Fresh { .. }) {
-        caller.fresh = 1;
+    for line in [REQUEST, NINTH, SIXTH] {
+        let answer = host.authorise(rt, &mut caller.pass, line.as_bytes());
+        if matches!(answer, Answer::Fresh { .. }) {
+            caller.fresh = caller.fresh.saturating_add(1);
+        }
     }
     for _ in 0..STATUSES {
-        let answer = host.authorise(rt, &mut caller.pass, STATUS.as_bytes());
+        let answer = host.authorise(rt, &mut caller.pass, STATUS[0].as_bytes());
         if matches!(answer, Answer::Set { .. }) {
             caller.set = caller.set.saturating_add(1);
         }
@@ -298,7 +305,7 @@ fn join_all(host: &Host<MemoryStore>, pass: &mut Pass, mut callers: Vec<Caller>)
     (fresh, set)
 }
 
-/// Callers at once: one of them decides the request that all of them ask, and each status is set.
+/// Callers at once: each of the requests that all of them ask is decided by one of them, and each status is set.
 fn contest<R: Threads + Wait + Sync>(
     rt: &R,
     alloc: Global,
@@ -326,24 +333,24 @@ fn contest<R: Threads + Wait + Sync>(
 }
 
 #[test]
-fn callers_at_once_decide_a_request_once(rt: HostRuntime) -> Result<(), Fail> {
+fn callers_at_once_decide_each_request_once(rt: HostRuntime) -> Result<(), Fail> {
     let (fresh, set) = contest(&rt, rt.alloc(), 4)?;
-    assert!(rt; fresh == 1 && set == 4 * STATUSES);
+    assert!(rt; fresh == 3 && set == 4 * STATUSES);
     Ok(())
 }
 
 /// How many statuses a caller sets of the card of its own shard.
-const LINES: u64 = 100;
+const LINES: u64 = 1_000;
 
 /// Sets so many statuses of a shard's card, and counts those whose records stand next in that shard.
 fn fill<R: Wait>(rt: &R, host: &Host<MemoryStore>, shard: usize, caller: &mut Caller)
+    requires card { shard < 4 }
     requires free { IsFree host.now caller.old.pass }
     ensures free { IsFree host.now caller.new.pass }
     ensures names { (claims_of caller.new.pass).names ≡ (claims_of caller.old.pass).names }
 {
-    let line = if shard == 0 { STATUS } else { SECOND_STATUS };
     for next in 0..LINES {
-        let answer = host.authorise(rt, &mut caller.pass, line.as_bytes());
+        let answer = host.authorise(rt, &mut caller.pass, STATUS[shard].as_bytes());
         if matches!(answer, Answer::Set { shard: at, place } if usize::from(at) == shard && place == next)
         {
             caller.set = caller.set.saturating_add(1);
@@ -354,7 +361,7 @@ fn fill<R: Wait>(rt: &R, host: &Host<MemoryStore>, shard: usize, caller: &mut Ca
 /// Lets each caller fill a shard, all at once, each in a thread of its own.
 fn fill_at_once<R: Threads + Wait + Sync>(rt: &R, host: &Host<MemoryStore>, callers: &mut [Caller])
     requires ready { All (λ caller. IsFree host.now caller.pass) callers.old }
-    requires some { 0 < length callers.old }
+    requires some { (0 < length callers.old) × (length callers.old ≤ 4) }
     ensures names { (i : ℕ) (d : _) → i < length callers.old
         → (claims_of (slice_index_or callers.new i d).pass).names ≡ (claims_of (slice_index_or callers.old i d).pass).names }
     ensures done { All (λ caller. IsFree host.now caller.pass) callers.new }
@@ -368,10 +375,10 @@ fn fill_at_once<R: Threads + Wait + Sync>(rt: &R, host: &Host<MemoryStore>, call
     );
 }
 
-/// Two callers at once, over a shard each: how many of their records stand at the places that were next in their shard.
-fn fill_both<R: Threads + Wait + Sync>(rt: &R, alloc: Global) -> Result<u64, Fail> {
-    let mut callers = Vec::with_capacity(alloc, 2)?;
-    let (host, mut pass) = match open_two(alloc) {
+/// Four callers at once, over a shard each: how many of their records stand at the places that were next in their shard.
+fn fill_all<R: Threads + Wait + Sync>(rt: &R, alloc: Global) -> Result<u64, Fail> {
+    let mut callers = Vec::with_capacity(alloc, 4)?;
+    let (host, mut pass) = match open_four(alloc) {
         Ok(Some(made)) => made,
         Ok(None) => {
             callers.destroy_empty();
@@ -382,7 +389,7 @@ fn fill_both<R: Threads + Wait + Sync>(rt: &R, alloc: Global) -> Result<u64, Fai
             return Err(fail);
         }
     };
-    seat_all(&host, &mut pass, 2, &mut callers);
+    seat_all(&host, &mut pass, 4, &mut callers);
     fill_at_once(rt, &host, callers.as_mut_slice());
     let answered = join_all(&host, &mut pass, callers);
     host.close(pass);
@@ -391,7 +398,7 @@ fn fill_both<R: Threads + Wait + Sync>(rt: &R, alloc: Global) -> Result<u64, Fai
 
 #[test]
 fn callers_over_a_shard_each_fill_its_places(rt: HostRuntime) -> Result<(), Fail> {
-    let filled = fill_both(&rt, rt.alloc())?;
-    assert_eq!(rt; filled, 2 * LINES);
+    let filled = fill_all(&rt, rt.alloc())?;
+    assert_eq!(rt; filled, 4 * LINES);
     Ok(())
 }

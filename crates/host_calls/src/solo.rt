@@ -1,5 +1,5 @@
 //! The host of one caller.
-ghost use Rattle.std.specs.Prelude.{◌≡◌, ◌<◌, ◌≤◌, ◌%◌, ℕ, List, [], ◌∷◌, ◌++◌, length, map, reverse, vec_capacity, slice_get, Some, Ok, IfOk, IfErr};
+ghost use Rattle.std.specs.Prelude.{◌≡◌, ◌<◌, ◌≤◌, ◌%◌, ℕ, List, [], ◌∷◌, ◌++◌, length, map, reverse, vec_capacity, slice_get, Some, Ok, IfOk, IfErr, false};
 ghost use Rattle.card_history.specs.declared.decision.Asked.TheVariants.{Decide, Queue, Status};
 ghost use Rattle.card_history.specs.Records.{CardName};
 ghost use Rattle.issuer_setup.specs.CardList.{name_of, number_of};
@@ -7,6 +7,7 @@ ghost use Rattle.issuer_setup.specs.IssuerSetup.{shard_of};
 ghost use Rattle.issuer_setup.specs.declared.card.CardInfo.{CardInfo};
 ghost use Rattle.line_checks.specs.AtHand.{IsRequestAtHand, IsCommandAtHand, IsStatusAtHand};
 ghost use Rattle.line_checks.specs.Reading.{checked, reading};
+ghost use Rattle.shard_book.specs.Answering.{tells_change};
 ghost use Rattle.shard_book.specs.Shards.{store_in};
 ghost use Rattle.host_calls.specs.Books.{Book};
 ghost use Rattle.host_calls.specs.Hosts.{AreShards, Stand};
@@ -16,9 +17,9 @@ ghost use Rattle.host_calls.specs.Turns.{Turn};
 ghost use Rattle.host_calls.specs.Views.{view_of};
 
 use crate::loading::{HostBack, Lists, load_all, take_lists, take_stores};
-use issuer_base::{Answer, Store};
+use issuer_base::{Answer, MAX_CHIP_BYTES, Store};
 use issuer_setup::Issuer;
-use line_checks::{Checked, CheckedCommand, CheckedRequest, CheckedStatus, check_line};
+use line_checks::{Checked, CheckedCommand, CheckedRequest, CheckedStatus, check_line_in};
 use shard_book::{LoadFault, Shard};
 use shard_turns::row_shown;
 use show_text::CardView;
@@ -33,6 +34,9 @@ pub struct Solo<S: Store> {
 
     /// Room for their stores.
     back: Vec<S>,
+
+    /// Room for the data of a line.
+    data: [u8; MAX_CHIP_BYTES],
     ghost are_shards: { AreShards issuer shards.items },
     ghost empty: { back.items ≡ [] },
     ghost room: { length shards.items ≤ vec_capacity back },
@@ -61,6 +65,7 @@ impl<S: Store> Solo<S> {
                 issuer,
                 shards,
                 back,
+                data: [0; MAX_CHIP_BYTES],
             }),
             Err(back) => Err(back),
         }
@@ -72,12 +77,15 @@ impl<S: Store> Solo<S> {
             → (after : List Book) × Stand self.new.issuer self.new.shards.items after
             × Turn self.old.issuer books (reading self.old.issuer line.now) result after }
 
+        // An answer that tells neither a new record nor that a store failed leaves all shards as they were.
+        ensures unchanged { tells_change result ≡ false → self.new.shards.items ≡ self.old.shards.items }
+
         // Whatever a crash since the start of the call may leave of a store is the text of its shard's history before it, and a torn record behind it.
         ensures crash { (books : List Book) → Stand self.old.issuer self.old.shards.items books
             → LeaveBetween self.old.issuer books books self.old.shards.items self.new.shards.items }
         ensures issuer { self.new.issuer ≡ self.old.issuer }
     {
-        match check_line(&self.issuer, line) {
+        match check_line_in(&self.issuer, line, &mut self.data) {
             Ok(Checked::Decide(found)) => self.decide(&found),
             Ok(Checked::Queue(found)) => self.queue(found),
             Ok(Checked::Status(found)) => self.set_status(found),
@@ -112,6 +120,7 @@ impl<S: Store> Solo<S> {
             issuer: _,
             shards,
             back,
+            data: _,
         } = self;
         take_stores(shards, back)
     }
@@ -134,6 +143,7 @@ impl<S: Store> Solo<S> {
             × Turn self.old.issuer books (Ok (Decide found.now.request)) result after }
         ensures crash { (books : List Book) → Stand self.old.issuer self.old.shards.items books
             → LeaveBetween self.old.issuer books books self.old.shards.items self.new.shards.items }
+        ensures unchanged { tells_change result ≡ false → self.new.shards.items ≡ self.old.shards.items }
         ensures issuer { self.new.issuer ≡ self.old.issuer }
     {
         let shard = self.home(found.card);
@@ -148,6 +158,7 @@ impl<S: Store> Solo<S> {
             × Turn self.old.issuer books (Ok (Queue found.pan found.psn found.command)) result after }
         ensures crash { (books : List Book) → Stand self.old.issuer self.old.shards.items books
             → LeaveBetween self.old.issuer books books self.old.shards.items self.new.shards.items }
+        ensures unchanged { tells_change result ≡ false → self.new.shards.items ≡ self.old.shards.items }
         ensures issuer { self.new.issuer ≡ self.old.issuer }
     {
         let shard = self.home(found.card);
@@ -162,6 +173,7 @@ impl<S: Store> Solo<S> {
             × Turn self.old.issuer books (Ok (Status found.pan found.psn found.status)) result after }
         ensures crash { (books : List Book) → Stand self.old.issuer self.old.shards.items books
             → LeaveBetween self.old.issuer books books self.old.shards.items self.new.shards.items }
+        ensures unchanged { tells_change result ≡ false → self.new.shards.items ≡ self.old.shards.items }
         ensures issuer { self.new.issuer ≡ self.old.issuer }
     {
         let shard = self.home(found.card);

@@ -19,16 +19,19 @@ const FIRST: &str = "s 4000000000000002ffff 00 3\n";
 pub(crate) const REQUEST: &str =
     "A 5A0840000000000000029F26086317DE17856BF19A9F2701809F10200FA501A00000000000000000000000000F0000000000000000000000000000009F37041A2B3C4D9F36020007950500000080009A032601159C01009F02060000000123455F2A020978820239009F1A020276";
 
-/// A card with this number, and 0 as its sequence number.
-fn card(number: &[u8]) -> Result<CardInfo, Fail> {
+/// A card whose number ends with these digits, and 0 as its sequence number.
+fn card(last: [u8; 2]) -> Result<CardInfo, Fail> {
+    let mut number = [0; 16];
+    number[0] = 4;
+    [number[14], number[15]] = last;
     Ok(CardInfo {
-        pan: Pan::new(number).ok_or("a number")?,
+        pan: Pan::new(&number).ok_or("a number")?,
         psn: 0x00,
         method: Method::One,
     })
 }
 
-/// An issuer of so many shards and two cards, whose table declines every request.
+/// An issuer of so many shards and four cards, whose table declines every request.
 pub(crate) fn issuer(alloc: Global, shards: u8) -> Result<Issuer, Fail>
     ensures { IfOk result (λ issuer. issuer.shards ≡ shards) }
 {
@@ -47,8 +50,9 @@ pub(crate) fn issuer(alloc: Global, shards: u8) -> Result<Issuer, Fail>
         smi: Key16(0x10111213_14151617_18191A1B_1C1D1E1F_u128.to_be_bytes()),
     });
     let mut cards = Vec::new(alloc);
-    cards.push(card(&[4, 0, 0, 0, 0, 0, 0, 0, 0, 0, 0, 0, 0, 0, 0, 2])?)?;
-    cards.push(card(&[4, 0, 0, 0, 0, 0, 0, 0, 0, 0, 0, 0, 0, 0, 1, 0])?)?;
+    for last in [[0, 2], [1, 0], [2, 8], [3, 6]] {
+        cards.push(card(last)?)?;
+    }
     match Issuer::new(alloc, shards, keys, cards, table) {
         Ok(issuer) => Ok(issuer),
         Err(_) => Err("an issuer".into()),

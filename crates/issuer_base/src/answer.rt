@@ -22,7 +22,16 @@ impl Reply {
     pub fn copy(&self) -> Reply
         ensures { result ≡ self.now }
     {
-        self.clone().unwrap()
+        let mut reply = Reply {
+            arc: self.arc,
+            approve: self.approve,
+            bytes: ArrayVec::new(),
+        };
+        reply
+            .bytes
+            .try_extend_from_slice(self.bytes.as_slice())
+            .unwrap();
+        reply
     }
 
     /// Whether the two are the same, as `==` is.

@@ -1,5 +1,5 @@
 //! The traits of what lies outside the host: inputs, the output, and the desk that opens inputs and journals by name.
-ghost use Rattle.std.specs.Prelude.{◌≡◌, ℕ, ◌<◌, List, [], length, Option, None, Some, is_err, IfOk, IfSome, IsErr};
+ghost use Rattle.std.specs.Prelude.{◌≡◌, ℕ, ◌<◌, List, [], length, Option, None, Some, is_err, IfOk, IfSome, IsErr, OnErr};
 ghost use Rattle.std.specs.Io.{ReadsAtMost, WritesAtMost};
 ghost use Rattle.std.specs.Io.KnownBytes.{ReadConsumes, WriteAppends};
 ghost use Rattle.issuer_base.specs.OutsideFaults.{CountsFaults};
@@ -126,13 +126,14 @@ pub trait Desk {
     /// Opens the journal under a name, with no fault counted and nothing done to it since. A journal that isn't there yet is
     /// an empty one.
     ///
-    /// What the other names hold stays as it was.
+    /// What the other names hold stays as it was, and where it gives no journal, so does what this name holds.
     fn log(&mut self, name: &str) -> Result<Self::Journal, DeskFault>
         ensures journal { IfOk result (λ journal. IfSome (logs self.old name.now) (λ held. Self.Journal.bytes journal ≡ Some held)) }
         ensures untouched { IfOk result (λ journal. IfSome (Self.Journal.disk journal) (λ disk. disk.past ≡ [])) }
         ensures new { IfOk result (λ journal. Self.Journal.faults journal ≡ 0) }
         ensures kept { holds self.new ≡ holds self.old }
         ensures others { (other : List ℕ) → (other ≡ name.now → ⊥) → logs self.new other ≡ logs self.old other }
+        ensures refused { OnErr result (logs self.new ≡ logs self.old) }
         ensures count { CountsFaults (faults self.old) (faults self.new) (is_fault result) }
         ensures last { last_fault self.new ≡ last_after Log name.now (is_fault result) (last_fault self.old) };
 }

@@ -61,7 +61,9 @@ impl Pan {
     pub fn copy(&self) -> Pan
         ensures { result ≡ self.now }
     {
-        self.clone().unwrap()
+        Pan {
+            kept: ArrayVec::try_from(self.kept.as_slice()).unwrap(),
+        }
     }
 }
 

@@ -61,7 +61,23 @@ impl Parts {
     pub fn copy(&self) -> Parts
         ensures { result ≡ self.now }
     {
-        self.clone().unwrap()
+        Parts {
+            pan: self.pan.copy(),
+            psn: self.psn,
+            aip: self.aip,
+            atc: self.atc,
+            tvr: self.tvr,
+            date: self.date,
+            kind: self.kind,
+            amount: self.amount,
+            other: self.other,
+            country: self.country,
+            currency: self.currency,
+            un: self.un,
+            cid: self.cid,
+            iad: self.iad,
+            ac: self.ac,
+        }
     }
 
     /// Whether all fields are the same, as `==` is.
@@ -128,7 +144,9 @@ impl Request {
     pub fn copy(&self) -> Request
         ensures { result ≡ self.now }
     {
-        self.clone().unwrap()
+        Request {
+            fields: self.fields.copy(),
+        }
     }
 
     /// Whether the cryptogram is an ARQC, a request to go online, and the first of its transaction:

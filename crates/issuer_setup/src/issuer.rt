@@ -15,7 +15,7 @@ use crate::shard_count::ShardCount;
 use arrayvec::ArrayVec;
 use decision_table::Table;
 use issuer_base::{MAX_KEY_SETS, NoMemory, Pan, Request};
-use key_derive::{CardKeys, KeySet};
+use key_derive::{CardKeys, KeySet, LazyKeys};
 use std::alloc::Global;
 use std::marker::Model;
 
@@ -174,13 +174,21 @@ impl Issuer {
     }
 
     /// The master keys of this card from the key set that the request's derivation key index names; `None`
-    /// where no key set has that index. They were derived with the issuer, and are kept.
+    /// where no key set has that index. The one for cryptograms was derived with the issuer, and the other is derived now.
     pub fn keys_of(&self, card: u32, request: &Request) -> Option<CardKeys>
         requires { card < length self.now.cards }
         ensures { result ≡ keys_of self.now card request.now }
     {
+        Some(self.lazy_keys_of(card, request)?.pair())
+    }
+
+    /// The same keys, of which the one for secure messages is derived when it is asked for.
+    pub fn lazy_keys_of(&self, card: u32, request: &Request) -> Option<LazyKeys>
+        requires { card < length self.now.cards }
+        ensures { result ≡ keys_of self.now card request.now }
+    {
         let place = self.keys.place_of(request.dki())?;
-        Some(self.kept.keys_of(card, place))
+        Some(self.kept.keys_of(card, place).copy())
     }
 
     /// The number of the card with this account and sequence number; `None` where no card has them.

@@ -1,33 +1,30 @@
 -- What is left of journals that were opened, and maybe loaded.
-use Rattle.std.proofs.Common.{◌≡◌, ℕ, ◌<◌, zero, suc, List, [], ◌∷◌, ◌++◌, length, take, Option, None, Some}
-use Rattle.std.proofs.Common.{refl, sym, ap, ◌∙◌, subst, arith, inl, inr, ⊎_elim, append-nil}
+use Rattle.std.proofs.Common.{◌≡◌, ℕ, ◌<◌, zero, suc, List, [], ◌∷◌, ◌++◌, length, Option, None, Some}
+use Rattle.std.proofs.Common.{refl, sym, ap, ◌∙◌, subst, arith, ⊎_elim, append-nil}
 use Rattle.std.specs.Prelude.{slice_get, map, IfSome, ◌⊎◌}
-use Rattle.std.proofs.Math.Seq.{take-append_seam}
 use Rattle.std.proofs.lemmas.List.Elements.{All-nil}
 use Rattle.std.proofs.lemmas.Bool.{cases_order}
 use Rattle.std.proofs.lemmas.Option.{slice_get_within}
-use Rattle.issuer_base.specs.OutsideFaults.{Rose}
 use Rattle.issuer_base.specs.Stores.{BothTold, Disk, Moment, LeavesOnly, LeavesSince, present}
 use Rattle.issuer_base.specs.Tells.{Tells}
 use Rattle.issuer_base.specs.declared.outside.store.Store.{Ghosts}
-use Rattle.issuer_base.proofs.ManyCalls.{Rose-from_none}
-use Rattle.issuer_base.proofs.Moments.{LeavesOnly-passes, LeavesOnly-weaker}
-use Rattle.issuer_base.proofs.ToldTwice.{BothTold-weaker, BothTold-given}
+use Rattle.issuer_base.proofs.Moments.{LeavesOnly-weaker}
+use Rattle.issuer_base.proofs.ToldTwice.{BothTold-given}
 use Rattle.issuer_setup.specs.IssuerSetup.{Setup}
 use Rattle.journal_rec.specs.RecordText.{texts_of, IsUnbroken}
-use Rattle.record_store.specs.Images.{IsCutImage, IsKept, OnlyReads}
+use Rattle.record_store.specs.Images.{IsCutImage, OnlyReads}
 use Rattle.record_store.proofs.ReadSoFar.{reads-none}
 use Rattle.shard_book.specs.declared.replay.LoadFault.{LoadFault}
 use Rattle.shard_book.specs.declared.replay.LoadFault.TheVariants.{BadLine, BadRecord, StoreFault, NoMemory}
 use Rattle.shard_book.specs.declared.shard.Shard.{Shard}
-use Rattle.shard_book.specs.Shards.{store_in, IsCutToText, IsSomeCutImage}
-use Rattle.shard_book.proofs.LoadCrash.{crash-read}
+use Rattle.shard_book.specs.Shards.{store_in, IsCutToText, IsLoadImage}
+use Rattle.shard_book.proofs.LoadCrash.{crash-read, load-image}
 use Rattle.host_calls.specs.Loading.{ComeBack, IsGivenBack, IsNotLoaded}
 use Rattle.host_calls.specs.OpeningLogs.{AllComeBack, HostComesBack}
 use Rattle.host_calls.proofs.Loads.{given-back}
 use Rattle.issuer_top.specs.Seen.{Logged, SeenStore, store_seen}
 use Rattle.issuer_top.specs.Journals.{journal_name, IsOpened, AreOpened, IsReady}
-use Rattle.issuer_top.specs.Left.{KeepsLines, IsLineImage, CrashSpares, LeavesJournal, LeaveJournals}
+use Rattle.issuer_top.specs.Left.{KeepsLines, CrashSpares, LeavesJournal, LeaveJournals}
 use Rattle.issuer_top.proofs.CrashSteps.{held-opened}
 use Rattle.issuer_top.proofs.KeptSteps.{at-place, held-told, seen-at}
 
@@ -67,52 +64,30 @@ lines-told (Some was) (Some is) left = record {
 
 -- ---- crashes
 
--- what reads leave, the first moment may leave
-reads-spare : (old new : Disk) → OnlyReads old new → LeavesOnly (IsLineImage old.now) old new
-reads-spare old new reads =
-    LeavesOnly-passes (IsKept old.now) (IsLineImage old.now) old new
-    (λ moment image kept left.
-    inl (record {
-      has_safe = let least = kept.at_least in let has = left.has_safe in omega (arith, least, has);
-      is_front = left.is_front ∙ ap (take (length image)) kept.holds;
-    }))
-    (record { holds = refl; at_least = omega arith }) reads
-
--- the first bytes, so many, are the whole lines where a rest stands behind them
-cut-spares : (before lines rest : List ℕ) (moment : Moment) (image : List ℕ) → moment.bytes ≡ before → before ≡ lines ++ rest → IsUnbroken rest
-    → IsCutImage (length lines) moment image → IsLineImage moment image
-cut-spares before lines rest moment image bytes parts unbroken =
-    ⊎_elim (λ left. inl left)
-    (λ cut.
-    let whole : moment.bytes ≡ lines ++ rest = bytes ∙ parts in
-    let front : image ≡ lines = cut ∙ ap (take (length lines)) whole ∙ take-append_seam lines rest in
-    inr (record { rest = rest; was_is = whole ∙ ap (λ text. text ++ rest) (sym front); unbroken = unbroken }))
-
 -- a disk that was opened has been through more moments since
-spared : (IsSpared : Moment → List ℕ → Type 0) (held bytes : Option (List ℕ)) (was now : Option Disk)
-    → BothTold (λ old new. LeavesOnly (IsSpared old.now) old new) was now → IfSome was (λ disk. disk.past ≡ [])
-    → IfSome was (λ disk. bytes ≡ Some disk.now.bytes) → IfSome held (λ told. bytes ≡ Some told)
-    → IfSome now (CrashSpares IsSpared held)
-spared IsSpared held bytes None None leaves untouched told same = tt
-spared IsSpared held bytes None (Some b) leaves untouched told same = absurd leaves
-spared IsSpared held bytes (Some a) None leaves untouched told same = tt
-spared IsSpared held bytes (Some a) (Some b) leaves untouched told same =
+spared : (held bytes : Option (List ℕ)) (was now : Option Disk) → BothTold (λ old new. LeavesOnly (IsLoadImage old.now) old new) was now
+    → IfSome was (λ disk. disk.past ≡ []) → IfSome was (λ disk. bytes ≡ Some disk.now.bytes) → IfSome held (λ told. bytes ≡ Some told)
+    → IfSome now (CrashSpares held)
+spared held bytes None None leaves untouched told same = tt
+spared held bytes None (Some b) leaves untouched told same = absurd leaves
+spared held bytes (Some a) None leaves untouched told same = tt
+spared held bytes (Some a) (Some b) leaves untouched told same =
     let none : present a ≡ 0 = ap length untouched in
     record {
       opened = a.now;
       later = leaves.goes_on.added;
       moments = leaves.goes_on.grown ∙ ap (λ (past : List Moment). (past ++ a.now ∷ []) ++ leaves.goes_on.added) untouched;
       opened_is = held-opened held bytes a.now.bytes same told;
-      leaves = subst (λ (n : ℕ). LeavesSince (IsSpared a.now) n b) none leaves.leaves;
+      leaves = subst (λ (n : ℕ). LeavesSince (IsLoadImage a.now) n b) none leaves.leaves;
     }
 
 -- ---- one store
 
 module _ {S : Type 0} {G : Ghosts S} (told : (store : S) → IfSome (G.disk store) (λ disk. G.bytes store ≡ Some disk.now.bytes)) (held : Option (List ℕ))
     (store : S) (opened : IsOpened G held store) where
-  crash-of : (IsSpared : Moment → List ℕ → Type 0) (back : S)
-      → BothTold (λ old new. LeavesOnly (IsSpared old.now) old new) (G.disk store) (G.disk back) → IfSome (G.disk back) (CrashSpares IsSpared held)
-  crash-of IsSpared back leaves = spared IsSpared held (G.bytes store) (G.disk store) (G.disk back) leaves opened.untouched (told store) opened.bytes_are
+  crash-of : (back : S) → BothTold (λ old new. LeavesOnly (IsLoadImage old.now) old new) (G.disk store) (G.disk back)
+      → IfSome (G.disk back) (CrashSpares held)
+  crash-of back leaves = spared held (G.bytes store) (G.disk store) (G.disk back) leaves opened.untouched (told store) opened.bytes_are
 
   -- it was only read
   read-left : (was is : List ℕ) (back : S) → Tells (G.bytes store) was → Tells (G.bytes back) is → KeepsLines was is
@@ -123,10 +98,7 @@ module _ {S : Type 0} {G : Ghosts S} (told : (store : S) → IfSome (G.disk stor
     held_is = held-told held (G.bytes store) was opened.bytes_are before;
     bytes_are = after;
     lines = lines;
-    crash = crash-of IsSomeCutImage back (crash-read (G.disk store) (G.disk back) reads);
-    spared = λ stood.
-        crash-of IsLineImage back
-        (BothTold-weaker OnlyReads (λ old new. LeavesOnly (IsLineImage old.now) old new) (G.disk store) (G.disk back) reads-spare reads);
+    crash = crash-of back (crash-read (G.disk store) (G.disk back) reads);
   }
 
   -- its bytes are told, or not
@@ -149,29 +121,21 @@ module _ {S : Type 0} {G : Ghosts S} (told : (store : S) → IfSome (G.disk stor
   given-left issuer number back given =
       let lines = texts_of given.history in
       let before = lines ++ given.rest in
-      let leaves = given.leaves in
       record {
         was = before;
         is = lines;
         held_is = held-told held (G.bytes store) before opened.bytes_are given.text_is;
         bytes_are = given.cut;
         lines = record { rest = given.rest; was_is = refl; unbroken = given.unbroken };
-        crash = crash-of IsSomeCutImage back
-            (BothTold-weaker (λ (old new : Disk). LeavesOnly (IsCutImage (length lines) old.now) old new)
-            (λ old new. LeavesOnly (IsSomeCutImage old.now) old new)
-            (G.disk store) (G.disk back)
-            (λ old new cuts. LeavesOnly-weaker (IsCutImage (length lines) old.now) (IsSomeCutImage old.now) old new (λ image cut. (length lines, cut)) cuts)
-            leaves);
-        spared = λ stood.
-            crash-of IsLineImage back
+        crash = crash-of back
             (BothTold-given (λ (disk : Disk). G.bytes store ≡ Some disk.now.bytes)
-            (λ (old new : Disk). LeavesOnly (IsCutImage (length lines) old.now) old new) (λ old new. LeavesOnly (IsLineImage old.now) old new)
+            (λ (old new : Disk). LeavesOnly (IsCutImage (length lines) old.now) old new) (λ old new. LeavesOnly (IsLoadImage old.now) old new)
             (G.disk store) (G.disk back)
             (λ old new has cuts.
-            LeavesOnly-weaker (IsCutImage (length lines) old.now) (IsLineImage old.now) old new
-            (λ image. cut-spares before lines given.rest old.now image (told-text (G.bytes store) old.now.bytes before has given.text_is) refl given.unbroken)
-            cuts)
-            (told store) leaves);
+            LeavesOnly-weaker (IsCutImage (length lines) old.now) (IsLoadImage old.now) old new
+            (λ image. load-image given.history given.rest (length lines) given.unbroken given.records refl old.now image
+            (told-text (G.bytes store) old.now.bytes before has given.text_is)) cuts)
+            (told store) given.leaves);
       }
 
   -- it wasn't loaded
@@ -185,11 +149,7 @@ module _ {S : Type 0} {G : Ghosts S} (told : (store : S) → IfSome (G.disk stor
         held_is = held-told held (G.bytes store) text.was opened.bytes_are text.before;
         bytes_are = text.after;
         lines = text.lines;
-        crash = crash-of IsSomeCutImage back failed.leaves;
-        spared = λ stood.
-            let rose : Rose 0 (G.faults back) = subst (λ (n : ℕ). Rose n (G.faults back)) opened.new failed.counts.counted in
-            let some : 0 < G.faults back = Rose-from_none (G.faults back) rose in
-            absurd (omega (arith, some, stood));
+        crash = crash-of back failed.leaves;
       }
   failed-left issuer number (BadLine line) back failed = same-left back failed.kept failed.still
   failed-left issuer number (BadRecord line) back failed = same-left back failed.kept failed.still

@@ -1,9 +1,9 @@
 -- What a run that comes to no host leaves of the journals that it opened.
-use Rattle.std.specs.Prelude.{◌≡◌, ◌⊎◌, ℕ, List, ◌∷◌, ◌++◌, slice_get, Option, Some, IfSome}
-use Rattle.issuer_base.specs.Stores.{Disk, Moment, MayLeave, LeavesSince, timeline}
+use Rattle.std.specs.Prelude.{◌≡◌, ℕ, List, ◌∷◌, ◌++◌, slice_get, Option, Some, IfSome}
+use Rattle.issuer_base.specs.Stores.{Disk, Moment, LeavesSince, timeline}
 use Rattle.issuer_base.specs.Tells.{Tells}
 use Rattle.journal_rec.specs.RecordText.{IsUnbroken}
-use Rattle.shard_book.specs.Shards.{IsSomeCutImage}
+use Rattle.shard_book.specs.Shards.{IsLoadImage}
 use Rattle.issuer_top.specs.Seen.{Logged, SeenStore}
 use Rattle.issuer_top.specs.Journals.{journal_name}
 
@@ -13,28 +13,23 @@ pub record KeepsLines (was is : List ℕ) : Type 0 where
   pub was_is : was ≡ is ++ rest
   pub unbroken : IsUnbroken rest
 
--- what this moment may leave, or its bytes but for a rest without a newline
-abbrev pub IsLineImage : Moment → List ℕ → Type 0
-IsLineImage moment image = MayLeave moment image ⊎ KeepsLines moment.bytes image
-
--- the disk has been as it was opened, and then maybe at more moments: whatever a crash at any of them may leave is such an image of the first
-pub record CrashSpares (IsSpared : Moment → List ℕ → Type 0) (held : Option (List ℕ)) (disk : Disk) : Type 0 where
+-- the disk has been as it was opened, and then maybe at more moments: whatever a crash at any of them may leave is what the first one may
+-- leave, or the text of its records alone
+pub record CrashSpares (held : Option (List ℕ)) (disk : Disk) : Type 0 where
   pub opened : Moment
   pub later : List Moment
   pub moments : timeline disk ≡ opened ∷ later
   pub opened_is : Tells held opened.bytes
-  pub leaves : LeavesSince (IsSpared opened) 0 disk
+  pub leaves : LeavesSince (IsLoadImage opened) 0 disk
 
--- all whole lines of the journal stay; a crash since it was opened leaves what it might leave then, or the whole lines, or of a store that
--- failed maybe other first bytes
+-- all whole lines of the journal stay; a crash since it was opened leaves what it might leave then, or the text of its records alone
 pub record LeavesJournal (held : Option (List ℕ)) (store : SeenStore) : Type 0 where
   pub was : List ℕ
   pub is : List ℕ
   pub held_is : Tells held was
   pub bytes_are : Tells store.bytes is
   pub lines : KeepsLines was is
-  pub crash : IfSome store.disk (CrashSpares IsSomeCutImage held)
-  pub spared : store.faults ≡ 0 → IfSome store.disk (CrashSpares IsLineImage held)
+  pub crash : IfSome store.disk (CrashSpares held)
 
 -- so it is with each journal that was opened, by the name that the words give
 abbrev pub LeaveJournals : List ℕ → Logged → List SeenStore → Type 0

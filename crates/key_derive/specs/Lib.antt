@@ -3,3 +3,4 @@ pub mod Digits
 pub mod MasterKey
 pub mod SessionKey
 pub mod CardKey
+pub mod LazyKey

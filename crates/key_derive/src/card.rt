@@ -3,6 +3,7 @@
 ghost use Rattle.std.specs.Prelude.{◌≡◌};
 ghost use Rattle.key_derive.specs.CardKey.{card_keys};
 
+use crate::lazy::LazyKeys;
 use crate::master::{block_of, diversified};
 use des_block::{Key16, Tdes};
 use issuer_base::{MasterOption, Pan};
@@ -97,6 +98,15 @@ impl MasterCiphers {
             ac: diversified(&self.ac, block),
             smi: diversified(&self.smi, block),
         }
+    }
+
+    /// The same keys, of which the one for secure messages is derived when it is asked for. Sets up no key, and enciphers
+    /// two blocks.
+    pub fn lazy_keys(&self, pan: &Pan, psn: u8) -> LazyKeys
+        ensures { result ≡ card_keys self.now pan.now psn }
+    {
+        let block = block_of(self.set.option, pan, psn);
+        LazyKeys::underived(diversified(&self.ac, block), self.set.smi, block)
     }
 }
 

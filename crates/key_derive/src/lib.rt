@@ -3,6 +3,7 @@
 
 mod card;
 mod digits;
+mod lazy;
 mod master;
 mod session;
 #[cfg(test)]
@@ -10,5 +11,6 @@ mod tests;
 
 pub use card::{CardKeys, KeySet, MasterCiphers, card_keys};
 pub use digits::decimal16;
+pub use lazy::LazyKeys;
 pub use master::{master_key, option_a, option_b};
 pub use session::{SessionKey, session_ac, session_sm};

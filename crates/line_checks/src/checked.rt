@@ -1,7 +1,7 @@
 //! What passed every check of a line, with what was found and derived on the way.
 
 use issuer_base::{Command, Pan, Request};
-use key_derive::{CardKeys, SessionKey};
+use key_derive::{LazyKeys, SessionKey};
 
 /// What a line asks of a card that the issuer has.
 #[derive(Drop)]
@@ -24,8 +24,8 @@ pub struct CheckedRequest {
     /// The number of its card.
     pub card: u32,
 
-    /// The card's master keys from the key set that the request names.
-    pub keys: CardKeys,
+    /// The card's master keys from the key set that the request names. The one for secure messages is derived when it is asked for.
+    pub keys: LazyKeys,
 
     /// The session key of the request's counter for cryptograms, set up once for the check and for the reply.
     pub session: SessionKey,

@@ -7,7 +7,7 @@ mod line;
 mod request;
 
 pub use checked::{Checked, CheckedCommand, CheckedRequest, CheckedStatus};
-pub use line::check_line;
+pub use line::{check_line, check_line_in};
 pub use request::check_request;
 
 #[cfg(test)]

@@ -16,10 +16,22 @@ pub fn check_line(issuer: &Issuer, line: &[u8]) -> Result<Checked, Refusal>
     ensures asked { result_map_both asked_of (λ refusal. refusal) result ≡ reading issuer.now line.now }
     ensures at_hand { IfOk result (IsAtHand issuer.now) }
 {
-    let mut bytes = [0; MAX_CHIP_BYTES];
-    match read_line_into(line, &mut bytes).map_err(Refusal::BadLine)? {
-        LineForm::Ask { count } => check_data(issuer, &bytes[..count]),
-        LineForm::Queue { pan, psn, count } => check_command(issuer, pan, psn, &bytes[..count]),
+    check_line_in(issuer, line, &mut [0; MAX_CHIP_BYTES])
+}
+
+/// As [`check_line`], with room of the caller's for the line's data, of which nothing counts before or after.
+#[inline(always)]
+pub fn check_line_in(
+    issuer: &Issuer,
+    line: &[u8],
+    data: &mut [u8; MAX_CHIP_BYTES],
+) -> Result<Checked, Refusal>
+    ensures asked { result_map_both asked_of (λ refusal. refusal) result ≡ reading issuer.now line.now }
+    ensures at_hand { IfOk result (IsAtHand issuer.now) }
+{
+    match read_line_into(line, data).map_err(Refusal::BadLine)? {
+        LineForm::Ask { count } => check_data(issuer, &data[..count]),
+        LineForm::Queue { pan, psn, count } => check_command(issuer, pan, psn, &data[..count]),
         LineForm::Set { pan, psn, status } => check_status(issuer, pan, psn, status),
     }
 }

@@ -14,6 +14,7 @@ use issuer_setup::Issuer;
 use key_derive::SessionKey;
 
 /// The request that these chip data say, checked by the issuer's cards and keys.
+#[inline(always)]
 pub(crate) fn check_data(issuer: &Issuer, bytes: &[u8]) -> Result<Checked, Refusal>
     requires { length bytes.now ≤ MAX_CHIP_BYTES }
     ensures request { result_map_both asked_of (λ refusal. refusal) result ≡ checked_data issuer.now (request_of bytes.now) }
@@ -38,6 +39,7 @@ fn refusal_of(fault: RequestFault) -> Refusal
 /// The request, checked by the issuer's cards and keys: the card is known, it asks to go online, its key set is known, and its
 /// cryptogram is right. Its session key is set up once.
 #[tactic(auto, unfolding(cryptogram_in::specs::Cryptogram::application_cryptogram))]
+#[inline(always)]
 pub fn check_request(issuer: &Issuer, request: Request) -> Result<CheckedRequest, Refusal>
     ensures request { result_map_both (λ found. Decide found.request) (λ refusal. refusal) result ≡ checked issuer.now request }
     ensures at_hand { IfOk result (IsRequestAtHand issuer.now) }
@@ -49,10 +51,10 @@ pub fn check_request(issuer: &Issuer, request: Request) -> Result<CheckedRequest
     if !request.is_arqc() {
         return Err(Refusal::NotArqc);
     }
-    let Some(keys) = issuer.keys_of(card, &request) else {
+    let Some(keys) = issuer.lazy_keys_of(card, &request) else {
         return Err(Refusal::UnknownKey(request.dki()));
     };
-    let session = SessionKey::for_cryptograms(&keys.ac, request.parts().atc);
+    let session = SessionKey::for_cryptograms(keys.ac(), request.parts().atc);
     if !holds_under(&session, &request) {
         return Err(Refusal::BadCryptogram);
     }

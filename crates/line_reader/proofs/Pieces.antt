@@ -1,10 +1,13 @@
 -- Parts of a buffer: where the first newline stands, and how the line in hand grows.
-use Rattle.std.proofs.Common.{◌≡◌, ◌≢◌, ℕ, suc, ◌+◌, ◌-◌, ◌<◌, ◌≤◌, min, List, [], ◌∷◌, ◌++◌, length, get_or, take, drop, Option, None, Some, MatchOption}
-use Rattle.std.proofs.Common.{sym, ap, subst, ◌∙◌, ⊎_elim, arith, eq-eqb, append-nil}
+use Rattle.std.proofs.Common.{◌≡◌, ◌≢◌, ℕ, zero, suc, ◌+◌, ◌-◌, ◌<◌, ◌≤◌, min, Bool, true, false, nat_lt, List, [], ◌∷◌, ◌++◌, length, get_or, take, drop}
+use Rattle.std.proofs.Common.{Option, None, Some, MatchBool, MatchOption}
+use Rattle.std.proofs.Common.{sym, ap, subst, ◌∙◌, ⊎_elim, arith, eq-eqb, eqb, refl, append-nil}
 use Rattle.std.proofs.lemmas.List.{length-take, length-drop, length-append, length-take-le, drop-drop, take-take, take_all, take-append-le, take-append-drop}
 use Rattle.std.proofs.lemmas.List.{drop_more, get_or-take}
+use Rattle.std.proofs.lemmas.List.Edits.{get_or-between}
 use Rattle.std.proofs.lemmas.Slice.{between_is}
-use Rattle.std.proofs.lemmas.Bool.{cases_lt, eqb-true}
+use Rattle.std.proofs.lemmas.Bool.{cases_lt, eqb-true, eqb-false, ltb-true}
+use Rattle.std.proofs.lemmas.Bool.Decides.{nat_tests}
 use Rattle.std.proofs.Math.Seq.{take-add, take-append-add}
 use Rattle.std.specs.List.{between}
 use Rattle.memchr.specs.Find.{IsFirstByte, is_byte}
@@ -134,3 +137,54 @@ FoundNewline-from_front bytes room place first =
       unbroken = subst IsUnbroken (take-take place room bytes (omega arith)) first.unbroken;
       split = sym (take-append-drop place bytes) ∙ ap (λ l. take place bytes ++ l) (drop_more bytes place 0 within ∙ ap (λ n. n ∷ drop (place + 1) bytes) at);
     }
+
+-- ---- the last newline
+
+-- where a newline stands, a first one does
+pub first_before : (bytes : List ℕ) (k : ℕ) → k < length bytes → get_or bytes k 0 ≡ 10 → (place : ℕ) × IsFirstNewline bytes place
+first_before [] k within is = absurd (omega arith)
+first_before (byte ∷ bytes) zero within is = (0, record { within = omega arith; unbroken = tt; ends = is })
+first_before (byte ∷ bytes) (suc k) within is = first_by (eqb byte 10) refl (first_before bytes k (omega arith) is)
+  where
+    first_by : (test : Bool) → eqb byte 10 ≡ test → (place : ℕ) × IsFirstNewline bytes place → (place : ℕ) × IsFirstNewline (byte ∷ bytes) place
+    first_by true here later = (0, record { within = omega arith; unbroken = tt; ends = eqb-true byte 10 here })
+    first_by false other later =
+        let h = later.1 in
+        (suc later.0, record { within = omega (arith, h.within); unbroken = (eqb-false byte 10 other, h.unbroken); ends = h.ends })
+
+-- a newline stands ahead where the last one ends behind what was passed
+pub first_ahead : (bytes : List ℕ) (start end last : ℕ) → last ≤ end → end ≤ length bytes → (start < last → get_or bytes (last - 1) 0 ≡ 10)
+    → ((place : ℕ) → last ≤ place → place < end → get_or bytes place 0 ≢ 10)
+    → MatchBool (nat_lt start last) ((place : ℕ) × IsFirstNewline (between start end bytes) place) (IsUnbroken (between start end bytes))
+first_ahead bytes start end last order bound newline none = by_test (nat_lt start last)
+    (λ is.
+    let less : start < last = ltb-true start last is in
+    first_before (between start end bytes) (last - 1 - start) (omega (arith, length-between bytes start end bound))
+    (get_or-between bytes start end (last - 1 - start) 0 (omega arith)
+    ∙ ap (λ n. get_or bytes n 0) (omega arith) ∙ newline less))
+    (λ is.
+    let past : last ≤ start = grind (arith, nat_tests, is) in
+    IsUnbroken-from_places (between start end bytes) (λ k within at.
+    let below : start + k < end = omega (arith, length-between bytes start end bound) in
+    none (start + k) (omega arith) below (sym (get_or-between bytes start end k 0 below) ∙ at)))
+  where
+    by_test : {A B : Type 0} (b : Bool) → (b ≡ true → A) → (b ≡ false → B) → MatchBool b A B
+    by_test true left right = left refl
+    by_test false left right = right refl
+
+-- where the last newline of a part ends
+pub newline_within : (xs ys : List ℕ) (start end r : ℕ) → ys ≡ xs → r ≤ length (between start end ys) → (0 < r → get_or (between start end ys) (r - 1) 0 ≡ 10)
+    → start < start + r → get_or xs (start + r - 1) 0 ≡ 10
+newline_within xs ys start end r same within newline some =
+    let short : r ≤ end - start = omega (arith, within, length-take (end - start) (drop start ys)) in
+    let at : start + r - 1 ≡ start + (r - 1) = omega arith in
+    ap (λ n. get_or xs n 0) at ∙ ap (λ l. get_or l (start + (r - 1)) 0) (sym same) ∙ sym (get_or-between ys start end (r - 1) 0 (omega arith))
+    ∙ newline (omega arith)
+
+pub none_within : (xs ys : List ℕ) (start end r : ℕ) → ys ≡ xs → end ≤ length ys
+    → ((k : ℕ) → r ≤ k → k < length (between start end ys) → get_or (between start end ys) k 0 ≢ 10)
+    → (place : ℕ) → start + r ≤ place → place < end → get_or xs place 0 ≢ 10
+none_within xs ys start end r same bound none place behind below is =
+    let back : start + (place - start) ≡ place = omega arith in
+    none (place - start) (omega arith) (omega (arith, length-between ys start end bound))
+    (get_or-between ys start end (place - start) 0 (omega arith) ∙ ap (λ n. get_or ys n 0) back ∙ ap (λ l. get_or l place 0) same ∙ is)

@@ -1,5 +1,6 @@
 //! The part of an input that is in memory: the line in hand, and the bytes ahead of it.
-ghost use Rattle.std.specs.Prelude.{◌≡◌, ℕ, ◌+◌, ◌-◌, ◌<◌, ◌≤◌, List, [], ◌∷◌, ◌++◌, length, take, drop, vec_len, is_err, IfOk, MatchBool, MatchOption, MatchResult};
+ghost use Rattle.std.specs.Prelude.{◌≡◌, ◌≢◌, ℕ, ◌+◌, ◌-◌, ◌<◌, ◌≤◌, List, [], ◌∷◌, ◌++◌, length, take, drop, vec_len, slice_index};
+ghost use Rattle.std.specs.Prelude.{is_err, IfOk, MatchBool, MatchOption, MatchResult};
 ghost use Rattle.std.specs.Io.KnownBytes.{Keeps};
 ghost use Rattle.issuer_base.specs.OutsideFaults.{CountsFaults};
 ghost use Rattle.issuer_base.specs.declared.limits.TheConstants.{KEPT_BYTES};
@@ -8,7 +9,7 @@ ghost use Rattle.line_reader.specs.Lines.{IsUnbroken, IsFirstNewline};
 
 use crate::limits::{BUFFER_BYTES, NEWLINE};
 use issuer_base::{KEPT_BYTES, ReadFault, Source};
-use memchr::memchr;
+use memchr::{memchr, memrchr};
 use std::alloc::{AllocError, Global};
 
 /// What the bytes ahead say of the line in hand.
@@ -31,12 +32,17 @@ pub(crate) struct Window {
     // The bytes ahead.
     start: usize,
     end: usize,
+    // Where the last newline of what was read ends, or before what is ahead where that has none.
+    last_end: usize,
     ghost sized: { vec_len bytes ≡ BUFFER_BYTES },
     ghost line_in_order: { line_start ≤ line_end },
     ghost line_kept: { line_end - line_start ≤ KEPT_BYTES },
     ghost line_passed: { line_end ≤ start },
     ghost ahead_in_order: { start ≤ end },
     ghost in_bounds: { end ≤ BUFFER_BYTES },
+    ghost last_within: { last_end ≤ end },
+    ghost last_newline: { start < last_end → slice_index bytes.items (last_end - 1) ≡ NEWLINE },
+    ghost none_behind: { (place : ℕ) → last_end ≤ place → place < end → slice_index bytes.items place ≢ NEWLINE },
 }
 
 impl Window {
@@ -52,6 +58,7 @@ impl Window {
             line_end: 0,
             start: 0,
             end: 0,
+            last_end: 0,
         })
     }
 
@@ -106,8 +113,7 @@ impl Window {
     pub(crate) fn has_newline(&self) -> bool
         ensures { MatchBool result ((place : ℕ) × IsFirstNewline (ahead_of self.now) place) (IsUnbroken (ahead_of self.now)) }
     {
-        let ahead = &self.bytes[self.start..self.end];
-        first_newline(ahead, ahead.len() as u64).is_some()
+        self.start < self.last_end
     }
 
     /// Reads on where nothing is ahead: the line in hand goes to the front, and what is read stands after it.
@@ -121,6 +127,7 @@ impl Window {
         self.move_to_front();
         let count = source.read(&mut self.bytes[self.start..])?;
         self.end += count;
+        self.last_end = self.start + last_end(&self.bytes[self.start..self.end]);
         Ok(count)
     }
 
@@ -139,6 +146,19 @@ impl Window {
         self.line_end = kept;
         self.start = kept;
         self.end = kept;
+        self.last_end = kept;
+    }
+}
+
+/// Where the last newline of these bytes ends, or 0.
+fn last_end(bytes: &[u8]) -> usize
+    ensures within { result ≤ length bytes.now }
+    ensures newline { 0 < result → slice_index bytes.now (result - 1) ≡ NEWLINE }
+    ensures none_behind { (place : ℕ) → result ≤ place → place < length bytes.now → slice_index bytes.now place ≢ NEWLINE }
+{
+    match memrchr(NEWLINE, bytes) {
+        Some(place) => place + 1,
+        None => 0,
     }
 }
 

@@ -128,8 +128,8 @@ module _ (issuer : Setup) (says : Result Asked Refusal) (claims : ClaimView)
 why-refused : (issuer : Setup) (says : Result Asked Refusal) (claims : ClaimView) (refusal : Refusal) (between : ClaimView)
     → PreChecks issuer says claims (Err refusal) between → (says ≡ Err refusal) ⊎ ((told : ℕ) × (refusal ≡ Below told))
 why-refused issuer (Err first) claims refusal between (same, kept) = inl (sym (let e : Err refusal ≡ Err first = same in cc))
-why-refused issuer (Ok (AsksDecision request)) claims refusal between (card, number_is, checks) = let (told, top_is, below, refusal_is, kept) = checks.claims in
-    inr (told, refusal_is)
+why-refused issuer (Ok (AsksDecision request)) claims refusal between (card, number_is, checks) =
+    let (told, top_is, bounded, below, refusal_is, kept) = checks.claims in inr (told, refusal_is)
 why-refused issuer (Ok (AsksQueue pan psn command)) claims refusal between (ok, kept) = absurd (cc)
 why-refused issuer (Ok (AsksStatus pan psn status)) claims refusal between (ok, kept) = absurd (cc)
 

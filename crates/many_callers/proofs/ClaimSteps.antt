@@ -127,7 +127,7 @@ module _ (issuer : Setup) (before : ClaimView) (logs : ShardView) (answer : Answ
       → PreChecks issuer says before (Err refusal) after → ClaimStep issuer says before answer after
   refused-step (Err first) refusal (same, kept) = same-step issuer (Err first) before answer after kept
   refused-step (Ok (AsksDecision request)) refusal (card, number_is, checks) =
-      let (told, top_is, below, refusal_is, kept) = checks.claims in top-step (Ok (AsksDecision request)) card checks.top kept
+      let (told, top_is, bounded, below, refusal_is, kept) = checks.claims in top-step (Ok (AsksDecision request)) card checks.top kept
   refused-step (Ok (AsksQueue pan psn command)) refusal (ok, kept) = same-step issuer (Ok (AsksQueue pan psn command)) before answer after kept
   refused-step (Ok (AsksStatus pan psn status)) refusal (ok, kept) = same-step issuer (Ok (AsksStatus pan psn status)) before answer after kept
 

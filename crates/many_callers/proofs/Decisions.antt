@@ -1,7 +1,7 @@
 -- Decisions on a card's counter among the records of its shard, by what claims and tops tell of them.
 use Rattle.std.proofs.Common.{◌≡◌, ◌⊎◌, ◌<◌, ℕ, zero, suc, max, List, [], ◌∷◌, Bool, true, false, ◌&&◌, eqb, ◌||◌}
 use Rattle.std.proofs.Common.{Contains, Option, None, Some, refl, sym, ap, ◌∙◌, inl, inr, arith}
-use Rattle.std.proofs.lemmas.Bool.{cases_lt, cases_Bool, and_parts, eqb-true}
+use Rattle.std.proofs.lemmas.Bool.{cases_lt, cases_Bool, and_parts, and_from, eqb-true, eq-eqb}
 use Rattle.std.proofs.lemmas.Option.{same_Some}
 use Rattle.std.specs.List.{slice_get}
 use Rattle.std.specs.Option.{option_map_or}
@@ -21,7 +21,7 @@ use Rattle.seat_names.specs.Totals.{one_if}
 use Rattle.shard_turns.specs.declared.logs.LogItem.{LogItem}
 use Rattle.shard_turns.specs.declared.logs.LogItem.TheVariants.{Record, Fault}
 use Rattle.shard_turns.specs.ShardLogs.{records_of}
-use Rattle.host_calls.specs.Decisions.{is_number}
+use Rattle.host_calls.specs.Decisions.{is_number, decides}
 use Rattle.host_calls.specs.OneHistory.{GoesOn}
 use Rattle.host_calls.specs.OpeningLogs.{is_decided}
 use Rattle.host_calls.proofs.LegalBooks.{goes-stays}
@@ -49,7 +49,7 @@ numbered-stays issuer card counter first last on its = record {
 }
 
 -- two names with one number are one name
-one-name : (cards : List CardInfo) (first second : CardName) (number : ℕ) → number_of first cards ≡ Some number → number_of second cards ≡ Some number
+pub one-name : (cards : List CardInfo) (first second : CardName) (number : ℕ) → number_of first cards ≡ Some number → number_of second cards ≡ Some number
     → first ≡ second
 one-name cards first second number first_is second_is =
     let one = number_of-found first cards number first_is in
@@ -111,6 +111,28 @@ decided-numbered issuer card counter (Record (IsQueued pan psn command) ∷ item
 decided-numbered issuer card counter (Record (IsStatus pan psn status) ∷ items) is =
     numbered-later issuer card counter (IsStatus pan psn status) (records_of items) (decided-numbered issuer card counter items is)
 decided-numbered issuer card counter (Fault count ∷ items) is = decided-numbered issuer card counter items is
+
+-- and it tells each decision
+pub numbered-tells : (issuer : Setup) (card counter : ℕ) (items : List LogItem) (place : ℕ) (request : Request) (reply : Reply)
+    → slice_get (records_of items) place ≡ Some (Decided request reply) → number_of (card_of request) issuer.cards ≡ Some card → request.atc ≡ counter
+    → is_decided issuer items card counter ≡ true
+numbered-tells issuer card counter [] place request reply is number_is on_counter = absurd (cc)
+numbered-tells issuer card counter (Fault count ∷ items) place request reply is number_is on_counter =
+    numbered-tells issuer card counter items place request reply is number_is on_counter
+numbered-tells issuer card counter (Record entry ∷ items) zero request reply is number_is on_counter =
+    let same : entry ≡ Decided request reply = same_Some entry (Decided request reply) is in
+    let here : decides issuer card counter (Some (Record (Decided request reply))) ≡ true =
+    and_from (is_number card (number_of (card_of request) issuer.cards)) (eqb request.atc counter)
+    (ap (is_number card) number_is ∙ eq-eqb card card refl) (eq-eqb request.atc counter on_counter) in
+    ap (λ test. test || is_decided issuer items card counter)
+    (ap (λ (entry : Entry). decides issuer card counter (Some (Record entry))) same ∙ here)
+numbered-tells issuer card counter (Record entry ∷ items) (suc place) request reply is number_is on_counter =
+    or-right (decides issuer card counter (Some (Record entry))) (is_decided issuer items card counter)
+    (numbered-tells issuer card counter items place request reply is number_is on_counter)
+  where
+    or-right : (first rest : Bool) → rest ≡ true → (first || rest) ≡ true
+    or-right true rest is = refl
+    or-right false rest is = is
 
 pub one-true : (test : Bool) → 0 < one_if test → test ≡ true
 one-true true some = refl

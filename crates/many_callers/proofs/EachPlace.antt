@@ -12,8 +12,8 @@ use Rattle.shard_turns.specs.declared.logs.LogItem.{LogItem}
 use Rattle.shard_turns.specs.declared.logs.LogHead.{LogHead}
 use Rattle.shard_turns.specs.ShardLogs.{records_of, faults_of}
 use Rattle.many_callers.specs.Callers.{Caller, AreCallers}
-use Rattle.many_callers.specs.OwnPlaces.{is_record_at, answers_at, faults_told}
-use Rattle.many_callers.proofs.CallerTotals.{total-each, total-below}
+use Rattle.many_callers.specs.OwnPlaces.{is_record_at, answers_at, faults_told, all_faults_told}
+use Rattle.many_callers.proofs.Lists.{total-each, total-below}
 use Rattle.many_callers.proofs.FaultPlaces.{own_faults, weigh, weigh-own, weigh-total, weigh-between}
 use Rattle.many_callers.proofs.OwnRecords.{calls-count}
 use Rattle.many_callers.proofs.RecordSpots.{spot, spot-between}
@@ -59,7 +59,7 @@ module _ (issuer : Setup) (opening logs : List (Log LogItem LogHead)) (callers :
       weighed items i = weigh items (λ place. are.own shard place below i)
 
   -- each fault of the log is told
-  pub faults-told : length (faults_of (items_at logs shard)) ≤ total (λ caller. faults_told issuer shard caller.lines caller.answers) callers
+  pub faults-told : length (faults_of (items_at logs shard)) ≤ all_faults_told issuer shard callers
   faults-told =
       let items : List LogItem = items_at logs shard in
       let all = total-below (λ (caller : Caller). own_faults shard items caller.logs_now.mine)
@@ -75,7 +75,7 @@ module _ (issuer : Setup) (opening logs : List (Log LogItem LogHead)) (callers :
 
   -- and told once, while the log hasn't as many as it may have
   pub each-fault : length (faults_of (items_at logs shard)) < MAX_FAULTS_TOLD
-      → total (λ caller. faults_told issuer shard caller.lines caller.answers) callers ≡ length (faults_of (items_at logs shard))
+      → all_faults_told issuer shard callers ≡ length (faults_of (items_at logs shard))
   each-fault few =
       let items : List LogItem = items_at logs shard in
       total-each (λ (caller : Caller). faults_told issuer shard caller.lines caller.answers)

@@ -1,5 +1,5 @@
 -- Each answer is explained by the histories before and after the run.
-use Rattle.std.proofs.Common.{◌≡◌, ◌≤◌, ◌<◌, ◌+◌, ℕ, zero, suc, List, [], ◌∷◌, ◌++◌, length, Bool}
+use Rattle.std.proofs.Common.{◌≡◌, ◌≤◌, ◌<◌, ◌+◌, ℕ, List, [], ◌∷◌, ◌++◌, length, Bool}
 use Rattle.std.proofs.Common.{Option, Some, Result, Ok, Err, sym, ap, subst, ◌∙◌, arith}
 use Rattle.std.proofs.lemmas.List.{length-append}
 use Rattle.std.specs.List.{slice_get}
@@ -23,7 +23,6 @@ use Rattle.card_history.proofs.RecordPlaces.{decided-recorded}
 use Rattle.issuer_setup.specs.CardList.{number_of}
 use Rattle.issuer_setup.specs.IssuerSetup.{Setup, shard_of}
 use Rattle.row_core.specs.Replying.{reply_to}
-use Rattle.line_checks.specs.Reading.{reading}
 use Rattle.claim_words.specs.declared.layout.TheConstants.{COUNTERS}
 use Rattle.claim_words.specs.declared.view.ClaimView.{ClaimView}
 use Rattle.claim_words.specs.ClaimViews.{times, after_top}
@@ -38,12 +37,10 @@ use Rattle.host_calls.specs.OneHistory.{GoesOn}
 use Rattle.host_calls.specs.PreChecks.{asked_of, PreChecks}
 use Rattle.host_calls.specs.declared.pass.Checked.{Checked}
 use Rattle.host_calls.specs.declared.pass.Checked.TheVariants.{Decide as Decides, Queue as Queues, Status as Sets}
-use Rattle.host_calls.proofs.LegalBooks.{goes-none, goes-then, goes-stays}
-use Rattle.many_callers.specs.Callers.{Calls}
+use Rattle.host_calls.proofs.LegalBooks.{goes-then, goes-stays}
 use Rattle.many_callers.specs.Explained.{history_at, IsDecidedOn, ExplainsRequest, ExplainsCommand, ExplainsStatus, Explains}
 use Rattle.many_callers.proofs.Decisions.{greatest-decided, decided-stays}
-use Rattle.many_callers.proofs.Seen.{goes-same, IsWhole, turn-sees, home-there, line-sees, sees-goes_on}
-use Rattle.many_callers.proofs.KeptClaims.{calls-go_on, calls-keep}
+use Rattle.many_callers.proofs.Seen.{goes-same, IsWhole, turn-sees, home-there}
 
 -- ---- by a turn
 
@@ -75,7 +72,7 @@ module _ (first between after last : List Entry) (from : GoesOn first between) (
       (at_is, goes-stays between last (stood-there after_is) place (Decided request reply) stands.0)
   request-explained shard reply_to won request (Refused (Below top)) (too_old, after_is) = (
     too_old.below,
-    λ bounded. decided-stays (card_of request) top between last (stood-there after_is) (greatest-decided (card_of request) between top too_old.greatest_is),
+    decided-stays (card_of request) top between last (stood-there after_is) (greatest-decided (card_of request) between top too_old.greatest_is),
   )
   request-explained shard reply_to won request (Refused (Taken at place)) ((decision, used, place_is, apart), at_is, after_is) =
       let stands = decided-recorded (card_of request) between decision used.recorded in
@@ -165,10 +162,10 @@ module _ (issuer : Setup) (some : 0 < issuer.shards) (first last : ℕ → List 
   ends-explained (Ok (Decide request)) (Err other) claims between claims_now known (card, number_is, check) ends =
       let told = check.claims in
       let shard : ℕ = shard_of issuer (card_of request) in
-      let below : request.atc + WINDOW ≤ told.0 = subst (λ (top : Option ℕ). IsBelow top request.atc) told.1 told.2 in
-      let answer_is : answer ≡ Refused (Below told.0) = ends.0 ∙ ap (λ (refusal : Refusal). Refused refusal) told.3 in
-      let stands = told-top card told.0 check.top claims claims_now told.1 (ends.1 ∙ told.4) in
-      subst (ExplainsRequest shard (first shard) (last shard) request) (sym answer_is) (below, known request card told.0 number_is stands)
+      let below : request.atc + WINDOW ≤ told.0 = subst (λ (top : Option ℕ). IsBelow top request.atc) told.1 told.3 in
+      let answer_is : answer ≡ Refused (Below told.0) = ends.0 ∙ ap (λ (refusal : Refusal). Refused refusal) told.4 in
+      let stands = told-top card told.0 check.top claims claims_now told.1 (ends.1 ∙ told.5) in
+      subst (ExplainsRequest shard (first shard) (last shard) request) (sym answer_is) (below, known request card told.0 number_is stands told.2)
   ends-explained (Ok (Queue pan psn command)) (Err other) claims between claims_now known checks ends = absurd (let never = checks.0 in cc)
   ends-explained (Ok (Status pan psn status)) (Err other) claims between claims_now known checks ends = absurd (let never = checks.0 in cc)
 
@@ -176,58 +173,3 @@ module _ (issuer : Setup) (some : 0 < issuer.shards) (first last : ℕ → List 
       → Authorises issuer says claims logs answer claims_now logs_now → Explains issuer first last says answer
   line-explained says claims claims_now known line =
       ends-explained says line.checked claims line.between claims_now known line.checks line.ends
-
--- ---- by its place among the calls
-
--- the line that says this was answered so by one of a caller's calls
-pub record IsCall (issuer : Setup) (says : Result Asked Refusal) (answer : Answer) (logs : TurnView LogItem LogHead) (claims_now : ClaimView)
-    (logs_now : TurnView LogItem LogHead) : Type 0 where
-  pub claims_before : ClaimView
-  pub claims_after : ClaimView
-  pub logs_before : TurnView LogItem LogHead
-  pub logs_after : TurnView LogItem LogHead
-  pub call : Authorises issuer says claims_before logs_before answer claims_after logs_after
-  pub whole : IsWhole issuer logs_before
-  pub from : (shard : ℕ) → GoesOn (history_at logs.seen shard) (history_at logs_before.seen shard)
-  pub to : (shard : ℕ) → GoesOn (history_at logs_after.seen shard) (history_at logs_now.seen shard)
-  pub tops : (card counter : ℕ) → times card counter claims_after.tops ≤ times card counter claims_now.tops
-
-module _ (issuer : Setup) (some : 0 < issuer.shards) where
-  pub call-at : (lines : List (List ℕ)) (answers : List Answer) (claims : ClaimView) (logs : TurnView LogItem LogHead) (claims_now : ClaimView)
-      (logs_now : TurnView LogItem LogHead) → Calls issuer lines answers claims logs claims_now logs_now → IsWhole issuer logs
-      → (place : ℕ) (line : List ℕ) (answer : Answer) → slice_get lines place ≡ Some line → slice_get answers place ≡ Some answer
-      → IsCall issuer (reading issuer line) answer logs claims_now logs_now
-  call-at [] answers claims logs claims_now logs_now calls whole place line answer is given = absurd (cc)
-  call-at (first ∷ lines) [] claims logs claims_now logs_now calls whole place line answer is given = absurd calls
-  call-at (first ∷ lines) (told ∷ answers) claims logs claims_now logs_now (claims_then, logs_then, call, calls) whole zero line answer is given =
-      let same_line : first ≡ line = let e : Some first ≡ Some line = is in cc in
-      let same_answer : told ≡ answer = let e : Some told ≡ Some answer = given in cc in
-      let sees = line-sees issuer some told logs logs_then whole (reading issuer first) claims claims_then call in
-      subst (λ (line : List ℕ). IsCall issuer (reading issuer line) answer logs claims_now logs_now) same_line
-      (subst (λ (answer : Answer). IsCall issuer (reading issuer first) answer logs claims_now logs_now) same_answer (record {
-        claims_before = claims;
-        claims_after = claims_then;
-        logs_before = logs;
-        logs_after = logs_then;
-        call = call;
-        whole = whole;
-        from = λ shard. goes-none (history_at logs.seen shard);
-        to = calls-go_on issuer some lines answers claims_then logs_then claims_now logs_now calls sees.1;
-        tops = (calls-keep issuer some lines answers claims_then logs_then claims_now logs_now calls sees.1).tops;
-      }))
-  call-at (first ∷ lines) (told ∷ answers) claims logs claims_now logs_now (claims_then, logs_then, call, calls) whole (suc place) line answer is given =
-      let sees = line-sees issuer some told logs logs_then whole (reading issuer first) claims claims_then call in
-      let its = call-at lines answers claims_then logs_then claims_now logs_now calls sees.1 place line answer is given in
-      let on = sees-goes_on issuer (reading issuer first) (history_at logs.seen) told (history_at logs_then.seen) sees.0 in
-      record {
-        claims_before = its.claims_before;
-        claims_after = its.claims_after;
-        logs_before = its.logs_before;
-        logs_after = its.logs_after;
-        call = its.call;
-        whole = its.whole;
-        from = λ shard. goes-then (history_at logs.seen shard) (history_at logs_then.seen shard) (history_at its.logs_before.seen shard) (on shard)
-            (its.from shard);
-        to = its.to;
-        tops = its.tops;
-      }

@@ -84,7 +84,7 @@ checked-same before after same = record {
 
 claims-checked : (card counter : ℕ) (top : Option ℕ) (before : ClaimView) (result : Result Checked Refusal) (after : ClaimView)
     → Claims card counter top (after_top card top before) result after → IsChecked before after
-claims-checked card counter top before (Err refusal) after (told, top_is, below, refusal_is, after_is) =
+claims-checked card counter top before (Err refusal) after (told, top_is, bounded, below, refusal_is, after_is) =
     let seen : ClaimView = after_top card top before in record {
       kept = λ other_card other. ap (λ (view : ClaimView). claims_on is_kept other_card other view.claims) after_is
           ∙ ap (claims_on is_kept other_card other) (top-claims card top before);

@@ -7,15 +7,15 @@ pub mod KeptClaims
 pub mod Explaining
 pub mod TooOld
 pub mod OneRun
-mod CallerTotals
 mod RecordSpots
 mod CallTurns
 mod OwnRecords
 mod FaultPlaces
 mod ToldFaults
 mod EachPlace
-mod ReadRefusals
 pub mod CounterRange
 mod ClaimSteps
 mod PendingLines
 mod RightlyPending
+mod CountersSettled
+mod RisingFaults

@@ -22,3 +22,13 @@ module _ {A : Type 0} (f : A → ℕ) where
         | suc n ↦ λ some. (zero, x, refl, omega (arith, some))
       ] in
       goes (f x) refl
+
+-- two sums are the same where the parts are
+pub total-each : {X : Type 0} (f g : X → ℕ) (xs : List X) → ((place : ℕ) (x : X) → slice_get xs place ≡ Some x → f x ≡ g x) → total f xs ≡ total g xs
+total-each f g [] each = refl
+total-each f g (x ∷ xs) each = omega (arith, each zero x refl, total-each f g xs (λ place. each (suc place)))
+
+-- and one is no more than another where the parts are
+pub total-below : {X : Type 0} (f g : X → ℕ) (xs : List X) → ((place : ℕ) (x : X) → slice_get xs place ≡ Some x → f x ≤ g x) → total f xs ≤ total g xs
+total-below f g [] each = omega arith
+total-below f g (x ∷ xs) each = omega (arith, each zero x refl, total-below f g xs (λ place. each (suc place)))

@@ -1,5 +1,5 @@
 -- The run of several callers: what is sure of all their answers.
-use Rattle.std.proofs.Common.{◌≡◌, ◌<◌, ℕ, zero, suc, ◌%◌, List, [], ◌∷◌, length, map, Some, Ok, refl, sym, ap, subst, ◌∙◌, inl, inr, arith}
+use Rattle.std.proofs.Common.{◌≡◌, ◌<◌, ℕ, zero, suc, ◌%◌, List, [], ◌∷◌, length, map, take, drop, Some, Ok, refl, sym, ap, subst, ◌∙◌, inl, inr, arith}
 use Rattle.std.proofs.lemmas.Bool.{cases_lt}
 use Rattle.std.proofs.lemmas.Option.{same_Some, slice_get_within}
 use Rattle.std.specs.List.{slice_get, slice_index_or}
@@ -35,10 +35,12 @@ use Rattle.many_callers.specs.Callers.{Calls, Caller, IsCaller, AreCallers}
 use Rattle.many_callers.specs.Explained.{history_at, histories_in, IsDecidedOn, Explains, AreAnsweredInOrder, AreExplained}
 use Rattle.many_callers.proofs.Lists.{part-within, some-part}
 use Rattle.many_callers.proofs.Decisions.{IsNumbered, numbered-stays, numbered-decided, decided-numbered, one-true}
-use Rattle.many_callers.proofs.Seen.{records-go_on, IsWhole, lines-in_order}
-use Rattle.many_callers.proofs.KeptClaims.{calls-keep}
+use Rattle.many_callers.proofs.Seen.{records-go_on, IsWhole, line-sees, lines-in_order}
+use Rattle.many_callers.proofs.KeptClaims.{calls-go_on, calls-keep}
 use Rattle.many_callers.proofs.TooOld.{below-first}
-use Rattle.many_callers.proofs.Explaining.{AreKnown, line-explained, call-at}
+use Rattle.many_callers.proofs.Explaining.{AreKnown, line-explained}
+use Rattle.many_callers.proofs.MoreLines.{call-at}
+use Rattle.many_callers.proofs.CallTurns.{calls-see}
 
 -- each line of a caller was answered
 answered-all : (issuer : Setup) (lines : List (List ℕ)) (answers : List Answer) (claims : ClaimView) (logs : TurnView LogItem LogHead)
@@ -66,8 +68,7 @@ books-histories : (logs : List (Log LogItem LogHead)) → histories_of (map (λ 
 books-histories [] = refl
 books-histories (log ∷ logs) = λ i. records_of log.items ∷ books-histories logs i
 
-module _ (issuer : Setup) (some : 0 < issuer.shards) (opening logs : List (Log LogItem LogHead)) (callers : List Caller)
-    (are : AreCallers issuer opening logs callers) where
+module _ (issuer : Setup) (opening logs : List (Log LogItem LogHead)) (callers : List Caller) (are : AreCallers issuer opening logs callers) where
   -- no counter of a card is decided twice
   once : IsOncePerCounter (histories_in logs)
   once =
@@ -95,7 +96,7 @@ module _ (issuer : Setup) (some : 0 < issuer.shards) (opening logs : List (Log L
     kept-stands : (card counter : ℕ) → 0 < claims_on is_kept card counter caller.claims_now.claims
         → IsNumbered issuer card counter (history_at logs (card % issuer.shards))
     kept-stands card counter more =
-        let keeps = calls-keep issuer some caller.lines caller.answers caller.claims caller.logs caller.claims_now caller.logs_now its.calls whole in
+        let keeps = calls-keep issuer are.some caller.lines caller.answers caller.claims caller.logs caller.claims_now caller.logs_now its.calls whole in
         elim (keeps.kept card counter more) [
           | inl before ↦ absurd (omega (arith, before, ap (λ (claims : List Claimed). claims_on is_kept card counter claims) its.no_claims))
           | inr stands ↦ numbered-stays issuer card counter _ _ (to-last (card % issuer.shards)) stands
@@ -128,24 +129,36 @@ module _ (issuer : Setup) (some : 0 < issuer.shards) (opening logs : List (Log L
         → Explains issuer (history_at opening) (history_at logs) (reading issuer line) answer
     explained place line answer line_is answer_is =
         let caller_has = its index caller caller_is in
-        let call = call-at issuer some caller.lines caller.answers caller.claims caller.logs caller.claims_now caller.logs_now caller_has.calls
-        (whole index caller caller_is) place line answer line_is answer_is in
+        let begins = whole index caller caller_is in
+        let call = call-at issuer caller.lines caller.answers caller.claims caller.logs caller.claims_now caller.logs_now caller_has.calls place answer
+        answer_is in
+        let same_line : call.line ≡ line = same_Some call.line line (sym call.line_is ∙ line_is) in
+        let first = calls-see issuer (take place caller.lines) (take place caller.answers) caller.claims caller.logs call.claims_before call.logs_before
+        call.before in
+        let before : IsWhole issuer call.logs_before = first.count_is ∙ begins in
+        let sees = line-sees issuer are.some answer call.logs_before call.logs_after before (reading issuer call.line) call.claims_before call.claims_after
+        call.call in
+        let after : IsWhole issuer call.logs_after = sees.1 in
+        let later = calls-keep issuer are.some (drop (suc place) caller.lines) (drop (suc place) caller.answers) call.claims_after call.logs_after
+        caller.claims_now caller.logs_now call.after after in
         let now : (shard : ℕ) → GoesOn (history_at call.logs_after.seen shard) (history_at logs shard) = λ shard.
-        goes-then (history_at call.logs_after.seen shard) (history_at caller.logs_now.seen shard) (history_at logs shard) (call.to shard)
-        (to-last index caller caller_is shard) in
+        goes-then (history_at call.logs_after.seen shard) (history_at caller.logs_now.seen shard) (history_at logs shard)
+        (calls-go_on issuer are.some (drop (suc place) caller.lines) (drop (suc place) caller.answers) call.claims_after call.logs_after caller.claims_now
+        caller.logs_now call.after after shard) (to-last index caller caller_is shard) in
         let from : (shard : ℕ) → GoesOn (history_at opening shard) (history_at call.logs_before.seen shard) = λ shard.
-        subst (λ (seen : List (Log LogItem LogHead)). GoesOn (history_at seen shard) (history_at call.logs_before.seen shard))
-        caller_has.opened (call.from shard) in
-        line-explained issuer some (history_at opening) (history_at logs) answer call.logs_before call.logs_after call.whole from now
-        (reading issuer line) call.claims_before call.claims_after
-        (λ request card top number_is told bounded.
-        known request card top number_is (omega (arith, told, call.tops card top)) bounded) call.call
+        subst (λ (seen : List (Log LogItem LogHead)). GoesOn (history_at seen shard) (history_at call.logs_before.seen shard)) caller_has.opened
+        (calls-go_on issuer are.some (take place caller.lines) (take place caller.answers) caller.claims caller.logs call.claims_before call.logs_before
+        call.before begins shard) in
+        subst (λ (line : List ℕ). Explains issuer (history_at opening) (history_at logs) (reading issuer line) answer) same_line
+        (line-explained issuer are.some (history_at opening) (history_at logs) answer call.logs_before call.logs_after before from now
+        (reading issuer call.line) call.claims_before call.claims_after
+        (λ request card top number_is told bounded. known request card top number_is (omega (arith, told, later.tops card top)) bounded) call.call)
 
     -- the callers' answers are in order
     in_order : AreAnsweredInOrder issuer (history_at opening) (history_at logs) caller.lines caller.answers
     in_order =
         let caller_has = its index caller caller_is in
-        let order = lines-in_order issuer some caller.lines caller.answers caller.claims caller.logs caller.claims_now caller.logs_now caller_has.calls
+        let order = lines-in_order issuer are.some caller.lines caller.answers caller.claims caller.logs caller.claims_now caller.logs_now caller_has.calls
         (whole index caller caller_is) in
         record {
           seen = order.seen;
@@ -182,7 +195,7 @@ module _ (issuer : Setup) (some : 0 < issuer.shards) (opening logs : List (Log L
     in_order = in_order;
     below_first = λ index place later caller request other top shard at reply caller_is before first second card counter.
         let caller_has = its index caller caller_is in
-        below-first issuer some caller.lines caller.answers caller.claims caller.logs caller.claims_now caller.logs_now caller_has.calls
+        below-first issuer are.some caller.lines caller.answers caller.claims caller.logs caller.claims_now caller.logs_now caller_has.calls
         (whole index caller caller_is) place later request other top shard at reply before first second card counter;
     once = once;
     recorded = λ index place caller request answer caller_is. recorded index caller caller_is place request answer;

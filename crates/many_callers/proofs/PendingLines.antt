@@ -1,9 +1,7 @@
 -- A line that is told that its counter is pending: what its caller had seen, and whose claim it was.
-use Rattle.std.proofs.Common.{◌≡◌, ◌≢◌, ℕ, zero, suc, ◌<◌, List, [], ◌∷◌, ◌++◌, length, take, drop, Bool, true, false, Some, Contains}
+use Rattle.std.proofs.Common.{◌≡◌, ◌≢◌, ℕ, ◌<◌, List, length, Bool, true, false, Some, Contains}
 use Rattle.std.proofs.Common.{Result, Ok, Err, refl, sym, ap, ◌∙◌, subst, arith}
 use Rattle.std.proofs.lemmas.List.Elements.{All-contains}
-use Rattle.std.proofs.lemmas.Option.{same_Some, none-some}
-use Rattle.std.specs.List.{slice_get}
 use Rattle.issuer_base.specs.declared.answer.Answer.{Answer}
 use Rattle.issuer_base.specs.declared.answer.Answer.TheVariants.{Fresh, Kept, Queued, Set, Refused}
 use Rattle.issuer_base.specs.declared.answer.Refusal.{Refusal}
@@ -22,7 +20,6 @@ use Rattle.card_history.proofs.LongerHistories.{slice_get-push}
 use Rattle.card_history.proofs.RecordPlaces.{decided-recorded, recorded-decided}
 use Rattle.issuer_setup.specs.CardList.{number_of}
 use Rattle.issuer_setup.specs.IssuerSetup.{Setup, shard_of}
-use Rattle.line_checks.specs.Reading.{reading}
 use Rattle.row_core.specs.Replying.{reply_to}
 use Rattle.claim_words.specs.declared.view.ClaimView.{ClaimView}
 use Rattle.claim_words.specs.declared.claim_words.Claim.TheVariants.{Won, Lost}
@@ -31,7 +28,6 @@ use Rattle.claim_words.proofs.ClaimCounts.{times-cons}
 use Rattle.shard_book.specs.Answering.{AnswersClaimed}
 use Rattle.turn_book.specs.Logs.{items_at, IsFront}
 use Rattle.shard_turns.specs.declared.logs.LogItem.{LogItem}
-use Rattle.shard_turns.specs.declared.logs.LogItem.TheVariants.{Record, Fault}
 use Rattle.shard_turns.specs.ShardLogs.{records_of}
 use Rattle.shard_turns.specs.Turned.{log_after}
 use Rattle.turn_book.proofs.LogLemmas.{items-with_same}
@@ -39,36 +35,20 @@ use Rattle.host_calls.specs.declared.pass.Checked.{Checked}
 use Rattle.host_calls.specs.declared.pass.Checked.TheVariants.{Decide, Queue, Status}
 use Rattle.host_calls.specs.Authorising.{EndsIn, Authorises}
 use Rattle.host_calls.specs.PreChecks.{asked_of, PreChecks}
-use Rattle.host_calls.proofs.Places.{read-front}
-use Rattle.many_callers.specs.Callers.{Calls}
 use Rattle.many_callers.specs.Explained.{IsDecidedOn}
 use Rattle.many_callers.specs.OwnPlaces.{shows_record}
 use Rattle.many_callers.proofs.CallTurns.{ShardView}
 use Rattle.many_callers.proofs.ClaimSteps.{won-answers}
-use Rattle.many_callers.proofs.RecordSpots.{front-rest}
+use Rattle.many_callers.proofs.Decisions.{decided-stays}
+use Rattle.many_callers.proofs.Seen.{records-go_on}
 
 -- ---- a decision in a history
 
-records-append : (items more : List LogItem) → records_of (items ++ more) ≡ records_of items ++ records_of more
-records-append [] more = refl
-records-append (Record entry ∷ items) more = λ i. entry ∷ records-append items more i
-records-append (Fault count ∷ items) more = records-append items more
-
--- it has it still where more items were added
+-- a decision stays where more items are added
 pub decision-later : (card : CardName) (counter : ℕ) (items later : List LogItem) → IsFront items later → IsDecidedOn card counter (records_of items)
     → IsDecidedOn card counter (records_of later)
 decision-later card counter items later front has =
-    let rest = front-rest items later front in
-    let both : records_of later ≡ records_of items ++ records_of rest.0 = ap records_of rest.1 ∙ records-append items rest.0 in
-    record {
-      place = has.place;
-      request = has.request;
-      reply = has.reply;
-      record_is = ap (λ (history : List Entry). slice_get history has.place) both
-          ∙ read-front (records_of items) (records_of rest.0) has.place (Decided has.request has.reply) has.record_is;
-      card_is = has.card_is;
-      counter_is = has.counter_is;
-    }
+    decided-stays card counter (records_of items) (records_of later) (records-go_on items later front) has
 
 -- where a request's counter is unused, no decision is on it
 pub unused-none : (history : List Entry) (request : Request) → IsUnused (decided_for request history) request
@@ -138,7 +118,7 @@ module _ (issuer : Setup) (before : ClaimView) (logs : ShardView) (answer : Answ
       → shows_record answer ≡ true → EndsIn issuer (Ok (AsksDecision request)) checked between logs answer after logs_now
       → IsDecidedOn (card_of request) request.atc (records_of (items_at logs_now.seen (shard_of issuer (card_of request))))
   ended-shown (Err refusal) between request (card, number_is, checks) below shows (answer_is, claims_are, logs_are) =
-      let (told, top_is, lower, refusal_is, kept) = checks.claims in
+      let (told, top_is, bounded, lower, refusal_is, kept) = checks.claims in
       let away : shows_record answer ≡ false = ap shows_record (answer_is ∙ ap (λ (refusal : Refusal). Refused refusal) refusal_is) in
       absurd (cc)
   ended-shown (Ok checked) between request checks below shows ends = finished-shown checked between request below shows ends
@@ -188,7 +168,7 @@ refused-lost : (issuer : Setup) (says : Result Asked Refusal) (before : ClaimVie
     → PreChecks issuer says before (Err Pending) between → ⊥
 refused-lost issuer (Err first) before between never (same, kept) = never (sym (let e : Err Pending ≡ Err first = same in cc))
 refused-lost issuer (Ok (AsksDecision request)) before between never (card, number_is, checks) =
-    let (told, top_is, lower, refusal_is, kept) = checks.claims in let other : Pending ≡ Below told = refusal_is in cc
+    let (told, top_is, bounded, lower, refusal_is, kept) = checks.claims in let other : Pending ≡ Below told = refusal_is in cc
 refused-lost issuer (Ok (AsksQueue pan psn command)) before between never (ok, kept) = cc
 refused-lost issuer (Ok (AsksStatus pan psn status)) before between never (ok, kept) = cc
 
@@ -210,52 +190,3 @@ pub call-lost : (issuer : Setup) (says : Result Asked Refusal) (before : ClaimVi
     → (says ≡ Err Pending → ⊥) → Authorises issuer says before logs (Refused Pending) after logs_now → IsLost issuer says logs after
 call-lost issuer says before logs after logs_now never call =
     ended-lost issuer says before logs after logs_now call.checked call.between never call.checks call.ends
-
--- ---- the call with a number
-
--- the line with this number was answered so, behind the calls before it and in front of the calls after it
-pub record CallAt (issuer : Setup) (lines : List (List ℕ)) (answers : List Answer) (claims : ClaimView) (logs : ShardView) (claims_now : ClaimView)
-    (logs_now : ShardView) (index : ℕ) (answer : Answer) : Type 0 where
-  pub line : List ℕ
-  pub line_is : slice_get lines index ≡ Some line
-  pub claims_before : ClaimView
-  pub logs_before : ShardView
-  pub claims_after : ClaimView
-  pub logs_after : ShardView
-  pub before : Calls issuer (take index lines) (take index answers) claims logs claims_before logs_before
-  pub call : Authorises issuer (reading issuer line) claims_before logs_before answer claims_after logs_after
-  pub after : Calls issuer (drop (suc index) lines) (drop (suc index) answers) claims_after logs_after claims_now logs_now
-
-pub call-at : (issuer : Setup) (lines : List (List ℕ)) (answers : List Answer)
-    (claims : ClaimView) (logs : ShardView) (claims_now : ClaimView) (logs_now : ShardView)
-    → Calls issuer lines answers claims logs claims_now logs_now → (index : ℕ) (answer : Answer) → slice_get answers index ≡ Some answer
-    → CallAt issuer lines answers claims logs claims_now logs_now index answer
-call-at issuer [] [] claims logs claims_now logs_now calls index answer is = absurd (none-some answer is)
-call-at issuer [] (first ∷ answers) claims logs claims_now logs_now calls index answer is = absurd calls
-call-at issuer (line ∷ lines) [] claims logs claims_now logs_now calls index answer is = absurd calls
-call-at issuer (line ∷ lines) (first ∷ answers) claims logs claims_now logs_now (next_claims, next_logs, call, rest) zero answer is =
-    let same : first ≡ answer = same_Some first answer is in
-    record {
-      line = line;
-      line_is = refl;
-      claims_before = claims;
-      logs_before = logs;
-      claims_after = next_claims;
-      logs_after = next_logs;
-      before = (refl, refl);
-      call = subst (λ (answer : Answer). Authorises issuer (reading issuer line) claims logs answer next_claims next_logs) same call;
-      after = rest;
-    }
-call-at issuer (line ∷ lines) (first ∷ answers) claims logs claims_now logs_now (next_claims, next_logs, call, rest) (suc index) answer is =
-    let at = call-at issuer lines answers next_claims next_logs claims_now logs_now rest index answer is in
-    record {
-      line = at.line;
-      line_is = at.line_is;
-      claims_before = at.claims_before;
-      logs_before = at.logs_before;
-      claims_after = at.claims_after;
-      logs_after = at.logs_after;
-      before = (next_claims, next_logs, call, at.before);
-      call = at.call;
-      after = at.after;
-    }

@@ -1,7 +1,7 @@
 -- A line is told rightly that its counter is pending, and a store's fault is told of lines that pass.
-use Rattle.std.proofs.Common.{◌≡◌, ◌⊎◌, ℕ, zero, suc, ◌%◌, ◌<◌, ◌≤◌, List, [], ◌∷◌, length, take, drop, Bool, true, false, ◌&&◌, ◌||◌, eqb, Option, None, Some}
+use Rattle.std.proofs.Common.{◌≡◌, ◌≢◌, ◌⊎◌, ℕ, zero, suc, ◌%◌, ◌<◌, ◌≤◌, List, [], ◌∷◌, length, take, drop, true, false, Some}
 use Rattle.std.proofs.Common.{Result, Ok, Err, refl, sym, ap, ◌∙◌, subst, inl, inr, arith}
-use Rattle.std.proofs.lemmas.Bool.{cases_Bool, cases_lt, and_parts, eqb-true, eq-eqb}
+use Rattle.std.proofs.lemmas.Bool.{cases_Bool, cases_lt, eq-eqb}
 use Rattle.std.proofs.lemmas.Nat.{mod_below}
 use Rattle.std.proofs.lemmas.Option.{same_Some, none-some}
 use Rattle.std.specs.List.{slice_get}
@@ -9,88 +9,36 @@ use Rattle.issuer_base.specs.declared.answer.Answer.{Answer}
 use Rattle.issuer_base.specs.declared.answer.Answer.TheVariants.{Refused}
 use Rattle.issuer_base.specs.declared.answer.Refusal.{Refusal}
 use Rattle.issuer_base.specs.declared.answer.Refusal.TheVariants.{Below, Pending, StoreFault}
-use Rattle.issuer_base.specs.declared.entry.Entry.{Entry}
-use Rattle.issuer_base.specs.declared.entry.Entry.TheVariants.{Decided, Queued as IsQueued, Status as IsStatus}
+use Rattle.issuer_base.specs.declared.entry.Entry.TheVariants.{Decided}
 use Rattle.issuer_base.specs.declared.request.Request.{Request}
 use Rattle.card_history.specs.declared.decision.Asked.{Asked}
 use Rattle.card_history.specs.declared.decision.Asked.TheVariants.{Decide as AsksDecision}
 use Rattle.card_history.specs.Records.{CardName, card_of}
 use Rattle.issuer_setup.specs.CardList.{number_of}
 use Rattle.issuer_setup.specs.IssuerSetup.{Setup, shard_of}
-use Rattle.issuer_setup.proofs.CardListLemmas.{number_of-found}
 use Rattle.issuer_setup.proofs.Shards.{shard_of-known}
-use Rattle.issuer_setup.specs.CardList.{name_of}
 use Rattle.line_checks.specs.Reading.{reading}
 use Rattle.seat_names.specs.Totals.{total, one_if}
 use Rattle.claim_words.specs.ClaimViews.{claims_on, times, is_any}
 use Rattle.turn_book.specs.declared.logs.Log.{Log}
 use Rattle.turn_book.specs.Logs.{items_at}
 use Rattle.shard_turns.specs.declared.logs.LogItem.{LogItem}
-use Rattle.shard_turns.specs.declared.logs.LogItem.TheVariants.{Record, Fault}
 use Rattle.shard_turns.specs.declared.logs.LogHead.{LogHead}
 use Rattle.shard_turns.specs.ShardLogs.{records_of}
 use Rattle.host_calls.specs.Authorising.{Authorises}
-use Rattle.host_calls.specs.Decisions.{is_number}
 use Rattle.host_calls.specs.OneHistory.{IsAnswered}
 use Rattle.host_calls.specs.OpeningLogs.{is_decided}
-use Rattle.host_calls.proofs.Asked.{asks-no_store}
-use Rattle.many_callers.specs.Callers.{Caller, IsCaller, AreCallers}
+use Rattle.host_calls.proofs.Asked.{asks-no_store, asks-no_pending}
+use Rattle.many_callers.specs.Callers.{Caller, IsCaller, IsAnsweredOn, AreCallers}
 use Rattle.many_callers.specs.Explained.{IsDecidedOn}
-use Rattle.many_callers.specs.OwnPlaces.{shows_record, IsAnsweredElse, IsPending, Passes}
+use Rattle.many_callers.specs.OwnPlaces.{shows_record, IsPending, Passes}
 use Rattle.many_callers.proofs.CallTurns.{ShardView, SeesMore, IsTurnedAway, TakesTurn, call-turn, call-sees, calls-see}
-use Rattle.many_callers.proofs.CallerTotals.{part-below, some-part}
+use Rattle.many_callers.proofs.Lists.{part-within, some-part}
 use Rattle.many_callers.proofs.ClaimSteps.{calls-found, calls-claims}
 use Rattle.many_callers.proofs.CounterRange.{counter-within}
-use Rattle.many_callers.proofs.PendingLines.{decision-later, unused-none, call-shown, IsLost, call-lost, CallAt, call-at}
-use Rattle.many_callers.proofs.ReadRefusals.{never-pending}
-
--- cards of one number have one name
-one-name : (issuer : Setup) (name other : CardName) (number : ℕ) → number_of name issuer.cards ≡ Some number → number_of other issuer.cards ≡ Some number
-    → name ≡ other
-one-name issuer name other number first second =
-    let one = number_of-found name issuer.cards number first in
-    let two = number_of-found other issuer.cards number second in
-    sym one.2 ∙ ap name_of (same_Some one.0 two.0 (sym one.1 ∙ two.1)) ∙ two.2
-
-is_number-true : (number : ℕ) (found : Option ℕ) → is_number number found ≡ true → found ≡ Some number
-is_number-true number None is = absurd (cc)
-is_number-true number (Some found) is = ap Some (eqb-true found number is)
-
-or-cases : (first rest : Bool) → (first || rest) ≡ true → (first ≡ true) ⊎ (rest ≡ true)
-or-cases true rest is = inl refl
-or-cases false rest is = inr is
-
--- items with a decision on a counter of the card have its record
-module _ (issuer : Setup) (name : CardName) (card counter : ℕ) (known : number_of name issuer.cards ≡ Some card) where
-  behind : (entry : Entry) (history : List Entry) → IsDecidedOn name counter history → IsDecidedOn name counter (entry ∷ history)
-  behind entry history has = record {
-    place = suc has.place;
-    request = has.request;
-    reply = has.reply;
-    record_is = has.record_is;
-    card_is = has.card_is;
-    counter_is = has.counter_is;
-  }
-
-  pub decided-has : (items : List LogItem) → is_decided issuer items card counter ≡ true → IsDecidedOn name counter (records_of items)
-  decided-has [] is = absurd (cc)
-  decided-has (Fault count ∷ items) is = decided-has items is
-  decided-has (Record (IsQueued pan psn command) ∷ items) is = behind (IsQueued pan psn command) (records_of items) (decided-has items is)
-  decided-has (Record (IsStatus pan psn status) ∷ items) is = behind (IsStatus pan psn status) (records_of items) (decided-has items is)
-  decided-has (Record (Decided request reply) ∷ items) is =
-      elim (or-cases (is_number card (number_of (card_of request) issuer.cards) && eqb request.atc counter) (is_decided issuer items card counter) is) [
-        | inl here ↦
-            let both = and_parts (is_number card (number_of (card_of request) issuer.cards)) (eqb request.atc counter) here in
-            record {
-              place = 0;
-              request = request;
-              reply = reply;
-              record_is = refl;
-              card_is = one-name issuer (card_of request) name card (is_number-true card (number_of (card_of request) issuer.cards) both.0) known;
-              counter_is = eqb-true request.atc counter both.1;
-            }
-        | inr later ↦ behind (Decided request reply) (records_of items) (decided-has items later)
-      ]
+use Rattle.many_callers.proofs.Decisions.{one-name, numbered-decided, decided-numbered}
+use Rattle.many_callers.proofs.MoreLines.{CallAt, call-at}
+use Rattle.many_callers.proofs.PendingLines.{decision-later, unused-none, call-shown, IsLost, call-lost}
 
 items-past : (logs : List (Log LogItem LogHead)) (shard : ℕ) → length logs ≤ shard → items_at logs shard ≡ []
 items-past [] shard past = refl
@@ -113,24 +61,25 @@ taken-within (y ∷ xs) (suc count) (suc place) x is = taken-within xs count pla
 module _ (issuer : Setup) (opening logs : List (Log LogItem LogHead)) (callers : List Caller) (are : AreCallers issuer opening logs callers) where
   -- what some caller claimed is a line's that isn't told that its counter is pending
   claimed-elsewhere : (request : Request) (card : ℕ) → number_of (card_of request) issuer.cards ≡ Some card
-      → 0 < total (λ caller. claims_on is_any card request.atc caller.claims_now.claims) callers → IsAnsweredElse issuer callers request
+      → 0 < total (λ caller. claims_on is_any card request.atc caller.claims_now.claims) callers
+      → (answer : Answer) × IsAnsweredOn issuer callers (card_of request) request.atc answer × (answer ≢ Refused Pending)
   claimed-elsewhere request card number_is some =
       let (number, caller, caller_is, here) = some-part (λ (caller : Caller). claims_on is_any card request.atc caller.claims_now.claims) callers some in
       let one = are.each number caller caller_is in
       elim (calls-claims issuer caller.lines caller.answers caller.claims caller.logs caller.claims_now caller.logs_now one.calls card request.atc) [
         | inl same ↦ let none = ap (claims_on is_any card request.atc) one.no_claims in absurd (omega (arith, here, same, none))
-        | inr has ↦ record {
-          number = number;
-          caller = caller;
-          caller_is = caller_is;
-          index = has.index;
-          other = has.request;
-          answer = has.answer;
-          answered = has.answered;
-          same_card = one-name issuer (card_of has.request) (card_of request) card has.number_is number_is;
-          same_counter = has.on_counter;
-          not_pending = has.not_pending;
-        }
+        | inr has ↦
+            let on : IsAnsweredOn issuer callers (card_of request) request.atc has.answer = record {
+              number = number;
+              caller = caller;
+              caller_is = caller_is;
+              index = has.index;
+              request = has.request;
+              answered = has.answered;
+              card_is = one-name issuer.cards (card_of has.request) (card_of request) card has.number_is number_is;
+              counter_is = has.on_counter;
+            } in
+            (has.answer, on, has.not_pending)
       ]
 
   module _ (number : ℕ) (caller : Caller) (caller_is : slice_get callers number ≡ Some caller) (index : ℕ)
@@ -142,7 +91,7 @@ module _ (issuer : Setup) (opening logs : List (Log LogItem LogHead)) (callers :
     at = call-at issuer caller.lines caller.answers caller.claims caller.logs caller.claims_now caller.logs_now one.calls index (Refused Pending) is
 
     lost : IsLost issuer (reading issuer at.line) at.logs_before at.claims_after
-    lost = call-lost issuer (reading issuer at.line) at.claims_before at.logs_before at.claims_after at.logs_after (never-pending issuer at.line) at.call
+    lost = call-lost issuer (reading issuer at.line) at.claims_before at.logs_before at.claims_after at.logs_after (asks-no_pending issuer at.line) at.call
 
     home : ℕ
     home = shard_of issuer (card_of lost.request)
@@ -173,19 +122,20 @@ module _ (issuer : Setup) (opening logs : List (Log LogItem LogHead)) (callers :
               none-some (Decided has.request has.reply) (sym none ∙ has.record_is)
         ]
 
-    elsewhere : IsAnsweredElse issuer callers lost.request
+    elsewhere : (answer : Answer) × IsAnsweredOn issuer callers (card_of lost.request) lost.request.atc answer × (answer ≢ Refused Pending)
     unfolding home
     elsewhere =
         let within = counter-within issuer at.line lost.request lost.says_is in
         let later = calls-found issuer (drop (suc index) caller.lines) (drop (suc index) caller.answers) at.claims_after at.logs_after caller.claims_now
         caller.logs_now at.after lost.card lost.request.atc in
-        let part = part-below (λ (caller : Caller). times lost.card lost.request.atc caller.claims_now.found) callers number caller caller_is in
+        let part = part-within (λ (caller : Caller). times lost.card lost.request.atc caller.claims_now.found) callers number caller caller_is in
         let here = lost.found in
         let some = are.found lost.card lost.request.atc within (omega (arith, later, part, here)) in
         elim (cases_Bool (is_decided issuer (items_at opening (lost.card % issuer.shards)) lost.card lost.request.atc)) [
           | inl recorded ↦
-              let has = decided-has issuer (card_of lost.request) lost.card lost.request.atc lost.number_is
-              (items_at opening (lost.card % issuer.shards)) recorded in
+              let opened : List LogItem = items_at opening (lost.card % issuer.shards) in
+              let has = numbered-decided issuer lost.card lost.request.atc (card_of lost.request) (records_of opened) lost.number_is
+              (decided-numbered issuer lost.card lost.request.atc opened recorded) in
               let at_home = shard_of-known issuer (card_of lost.request) lost.card lost.number_is in
               absurd (unopened (subst (λ (shard : ℕ). IsDecidedOn (card_of lost.request) lost.request.atc (records_of (items_at opening shard)))
               (sym at_home) has))
@@ -194,11 +144,11 @@ module _ (issuer : Setup) (opening logs : List (Log LogItem LogHead)) (callers :
               claimed-elsewhere lost.request lost.card lost.number_is (omega (arith, some, nothing))
         ]
 
-    unshown : (earlier : ℕ) (other : Request) (answer : Answer) → 0 < issuer.shards → earlier < index
+    unshown : (earlier : ℕ) (other : Request) (answer : Answer) → earlier < index
         → IsAnswered issuer caller.lines caller.answers earlier other answer → card_of other ≡ card_of lost.request → other.atc ≡ lost.request.atc
         → shows_record answer ≡ false
     unfolding home
-    unshown earlier other answer shards before answered same_card same_counter =
+    unshown earlier other answer before answered same_card same_counter =
         elim (cases_Bool (shows_record answer)) [
           | inl shows ↦
               let first = call-at issuer (take index caller.lines) (take index caller.answers) caller.claims caller.logs at.claims_before at.logs_before
@@ -209,7 +159,7 @@ module _ (issuer : Setup) (opening logs : List (Log LogItem LogHead)) (callers :
               let sees = calls-see issuer (take earlier (take index caller.lines)) (take earlier (take index caller.answers)) caller.claims caller.logs
               first.claims_before first.logs_before first.before in
               let home_is = shard_of-known issuer (card_of lost.request) lost.card lost.number_is in
-              let below = mod_below lost.card issuer.shards shards in
+              let below = mod_below lost.card issuer.shards are.some in
               let count = are.count_is in
               let opened = ap (λ (logs : List (Log LogItem LogHead)). length logs) one.opened in
               let seen_count = sees.count_is in

@@ -142,7 +142,7 @@ module _ (issuer : Setup) (shard : ℕ) (Changes : List Entry → List Entry →
 -- ---- what is seen by a line
 
 -- a card's shard is one of the issuer's
-home-below : (shards : ℕ) (found : Option ℕ) → 0 < shards → option_map_or (λ number. number % shards) found 0 < shards
+pub home-below : (shards : ℕ) (found : Option ℕ) → 0 < shards → option_map_or (λ number. number % shards) found 0 < shards
 home-below shards None some = some
 home-below shards (Some number) some = mod-lt number some
 
@@ -187,8 +187,8 @@ module _ (issuer : Setup) (some : 0 < issuer.shards) (answer : Answer) (logs log
       let told = check.claims in (
         inl (record {
           top = told.0;
-          answer_is = ends.0 ∙ ap (λ (refusal : Refusal). Refused refusal) told.3;
-          below = subst (λ (top : Option ℕ). IsBelow top request.atc) told.1 told.2;
+          answer_is = ends.0 ∙ ap (λ (refusal : Refusal). Refused refusal) told.4;
+          below = subst (λ (top : Option ℕ). IsBelow top request.atc) told.1 told.3;
           same = unseen ends.2;
         }),
         ap (λ (view : TurnView LogItem LogHead). length view.seen) ends.2 ∙ whole,

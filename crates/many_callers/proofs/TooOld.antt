@@ -77,9 +77,9 @@ module _ (issuer : Setup) (some : 0 < issuer.shards) (logs logs_now : TurnView L
   ends-show (Err other) request top claims between claims_now (card, number_is, check) ends =
       let told = check.claims in
       let same : told.0 ≡ top =
-      let e : Refused (Below top) ≡ Refused (Below told.0) = ends.0 ∙ ap (λ (refusal : Refusal). Refused refusal) told.3 in cc in
+      let e : Refused (Below top) ≡ Refused (Below told.0) = ends.0 ∙ ap (λ (refusal : Refusal). Refused refusal) told.4 in cc in
       let stands : 0 < times card told.0 claims_now.tops =
-      told-top card told.0 check.top claims claims_now told.1 (ends.1 ∙ told.4) in
+      told-top card told.0 check.top claims claims_now told.1 (ends.1 ∙ told.5) in
       inl (card, number_is, subst (λ top. 0 < times card top claims_now.tops) same stands)
 
   -- ---- a request on a counter that was shown isn't decided

@@ -1,6 +1,8 @@
 -- A run of several callers at one host: what each was answered, and how their passes join into the logs that the closed host leaves.
 use Rattle.std.specs.Prelude.{◌≡◌, ℕ, ◌+◌, ◌<◌, ◌≤◌, List, [], ◌∷◌, length, slice_get, Some}
 use Rattle.issuer_base.specs.declared.answer.Answer.{Answer}
+use Rattle.issuer_base.specs.declared.request.Request.{Request}
+use Rattle.card_history.specs.Records.{CardName, card_of}
 use Rattle.issuer_setup.specs.IssuerSetup.{Setup}
 use Rattle.line_checks.specs.Reading.{reading}
 use Rattle.seat_names.specs.Totals.{total}
@@ -16,7 +18,7 @@ use Rattle.shard_turns.specs.declared.logs.LogItem.{LogItem}
 use Rattle.shard_turns.specs.declared.logs.LogHead.{LogHead}
 use Rattle.shard_turns.specs.ShardLogs.{records_of, faults_of}
 use Rattle.host_calls.specs.Authorising.{Authorises}
-use Rattle.host_calls.specs.OneHistory.{LegallyGoesOn}
+use Rattle.host_calls.specs.OneHistory.{LegallyGoesOn, IsAnswered}
 use Rattle.host_calls.specs.OpeningLogs.{opened_on}
 
 -- these lines were answered so, one after another, by a pass that had these claims and had seen these logs
@@ -47,8 +49,20 @@ pub record IsCaller (issuer : Setup) (opening : List (Log LogItem LogHead)) (cal
   pub opened : caller.logs.seen ≡ opening
   pub calls : Calls issuer caller.lines caller.answers caller.claims caller.logs caller.claims_now caller.logs_now
 
+-- some line of some caller is a request on this counter of the card, and is answered so
+pub record IsAnsweredOn (issuer : Setup) (callers : List Caller) (card : CardName) (counter : ℕ) (answer : Answer) : Type 0 where
+  pub number : ℕ
+  pub caller : Caller
+  pub caller_is : slice_get callers number ≡ Some caller
+  pub index : ℕ
+  pub request : Request
+  pub answered : IsAnswered issuer caller.lines caller.answers index request answer
+  pub card_is : card_of request ≡ card
+  pub counter_is : request.atc ≡ counter
+
 -- these callers shared a host: it began with the opening logs, and these are its logs once all passes are joined and it is closed
 pub record AreCallers (issuer : Setup) (opening logs : List (Log LogItem LogHead)) (callers : List Caller) : Type 0 where
+  pub some : 0 < issuer.shards
   pub count_is : length opening ≡ issuer.shards
   pub same_count : length logs ≡ length opening
   pub heads : heads_of logs ≡ heads_of opening

@@ -19,7 +19,6 @@ use Rattle.script_queue.specs.CommandQueue.{TakesOneMore}
 use Rattle.issuer_setup.specs.IssuerSetup.{Setup, shard_of}
 use Rattle.row_core.specs.Replying.{reply_to}
 use Rattle.line_checks.specs.Reading.{reading}
-use Rattle.claim_words.specs.declared.layout.TheConstants.{COUNTERS}
 use Rattle.turn_book.specs.declared.logs.Log.{Log}
 use Rattle.turn_book.specs.Logs.{items_at}
 use Rattle.shard_book.specs.Answering.{AnswersClaimed, AnswersQueueing, AnswersSetting}
@@ -71,8 +70,7 @@ ExplainsRequest shard first last request (Fresh at place reply) =
     (at ≡ shard) × (length first ≤ place) × (slice_get last place ≡ Some (Decided request reply))
 ExplainsRequest shard first last request (Kept at place reply) = (at ≡ shard) × (slice_get last place ≡ Some (Decided request reply))
 -- the counter that was told is recorded, and shows that the request's is below the window
-ExplainsRequest shard first last request (Refused (Below top)) =
-    (request.atc + WINDOW ≤ top) × (top < COUNTERS → IsDecidedOn (card_of request) top last)
+ExplainsRequest shard first last request (Refused (Below top)) = (request.atc + WINDOW ≤ top) × IsDecidedOn (card_of request) top last
 ExplainsRequest shard first last request (Refused (Taken at place)) = (at ≡ shard) × IsTakenAt request last place
 -- another caller has claimed the counter, or the store failed: the histories needn't tell
 ExplainsRequest shard first last request (Refused Pending) = Unit {0}

@@ -2,3 +2,5 @@
 pub mod Callers
 pub mod Explained
 pub mod OwnPlaces
+pub mod Settled
+pub mod FaultCounts

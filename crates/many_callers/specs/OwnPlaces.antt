@@ -20,7 +20,7 @@ use Rattle.shard_turns.specs.declared.logs.LogItem.{LogItem}
 use Rattle.shard_turns.specs.declared.logs.LogHead.{LogHead}
 use Rattle.shard_turns.specs.ShardLogs.{faults_of}
 use Rattle.host_calls.specs.OneHistory.{IsAnswered}
-use Rattle.many_callers.specs.Callers.{Caller}
+use Rattle.many_callers.specs.Callers.{Caller, IsAnsweredOn}
 use Rattle.many_callers.specs.Explained.{IsDecidedOn, history_at}
 
 -- whether the answer tells of a new record at this place of this shard
@@ -47,6 +47,10 @@ faults_told issuer shard (line ∷ lines) (answer ∷ answers) =
     one_if (is_for issuer shard (reading issuer line) && is_store_fault answer) + faults_told issuer shard lines answers
 faults_told issuer shard _ _ = 0
 
+-- how many of all callers' answers do
+abbrev pub all_faults_told : Setup → ℕ → List Caller → ℕ
+all_faults_told issuer shard callers = total (λ caller. faults_told issuer shard caller.lines caller.answers) callers
+
 -- whether the answer to a request shows a record of its counter
 abbrev pub shows_record : Answer → Bool
 shows_record (Fresh shard place reply) = true
@@ -54,27 +58,14 @@ shows_record (Kept shard place reply) = true
 shows_record (Refused (Taken shard place)) = true
 shows_record _ = false
 
--- some line of some caller says a request of the same card and counter, and its answer isn't that it is pending
-pub record IsAnsweredElse (issuer : Setup) (callers : List Caller) (request : Request) : Type 0 where
-  pub number : ℕ
-  pub caller : Caller
-  pub caller_is : slice_get callers number ≡ Some caller
-  pub index : ℕ
-  pub other : Request
-  pub answer : Answer
-  pub answered : IsAnswered issuer caller.lines caller.answers index other answer
-  pub same_card : card_of other ≡ card_of request
-  pub same_counter : other.atc ≡ request.atc
-  pub not_pending : answer ≢ Refused Pending
-
 -- the line with this number of a caller is a request that passes, and is rightly told that its counter is pending: some line on the same card
 -- and counter has another answer, the opening log has no decision on them, and no earlier line of the caller's showed one
 pub record IsPending (issuer : Setup) (opening : List (Log LogItem LogHead)) (callers : List Caller) (caller : Caller) (index : ℕ) : Type 0 where
   pub request : Request
   pub answered : IsAnswered issuer caller.lines caller.answers index request (Refused Pending)
-  pub elsewhere : IsAnsweredElse issuer callers request
+  pub elsewhere : (answer : Answer) × IsAnsweredOn issuer callers (card_of request) request.atc answer × (answer ≢ Refused Pending)
   pub unopened : IsDecidedOn (card_of request) request.atc (history_at opening (shard_of issuer (card_of request))) → ⊥
-  pub unshown : (earlier : ℕ) (other : Request) (answer : Answer) → 0 < issuer.shards → earlier < index
+  pub unshown : (earlier : ℕ) (other : Request) (answer : Answer) → earlier < index
       → IsAnswered issuer caller.lines caller.answers earlier other answer → card_of other ≡ card_of request → other.atc ≡ request.atc
       → shows_record answer ≡ false
 
@@ -98,7 +89,6 @@ pub record AreOwnPlaces (issuer : Setup) (opening logs : List (Log LogItem LogHe
   pub passes : (number index : ℕ) (caller : Caller) → slice_get callers number ≡ Some caller → slice_get caller.answers index ≡ Some (Refused StoreFault)
       → Passes issuer caller index
   -- each fault in a shard's log is told, and by just one answer while the log has fewer of them than it may have
-  pub told : (shard : ℕ) → shard < issuer.shards
-      → length (faults_of (items_at logs shard)) ≤ total (λ caller. faults_told issuer shard caller.lines caller.answers) callers
+  pub told : (shard : ℕ) → shard < issuer.shards → length (faults_of (items_at logs shard)) ≤ all_faults_told issuer shard callers
   pub told_once : (shard : ℕ) → shard < issuer.shards → length (faults_of (items_at logs shard)) < MAX_FAULTS_TOLD
-      → total (λ caller. faults_told issuer shard caller.lines caller.answers) callers ≡ length (faults_of (items_at logs shard))
+      → all_faults_told issuer shard callers ≡ length (faults_of (items_at logs shard))

@@ -1,5 +1,5 @@
 //! The law of every answer to several callers.
-ghost use Rattle.std.specs.Prelude.{ℕ, ◌<◌, List};
+ghost use Rattle.std.specs.Prelude.{List};
 ghost use Rattle.issuer_setup.specs.IssuerSetup.{Setup};
 ghost use Rattle.turn_book.specs.declared.logs.Log.{Log};
 ghost use Rattle.shard_turns.specs.declared.logs.LogItem.{LogItem};
@@ -10,8 +10,8 @@ ghost use Rattle.many_callers.specs.Explained.{AreExplained};
 /// Whatever several callers ask of one host, and in whatever order their turns come: each answer is explained by the histories of the shards as they
 /// stand at opening and at close; each caller was answered by histories that only go on, one for each of its lines; and each request has one reply.
 ///
-/// The contract is a theorem on every run of an issuer that has a shard; the function does nothing.
+/// The contract is a theorem on every run; the function does nothing.
 pub fn every_answer_is_explained()
     ensures { (issuer : Setup) (opening logs : List (Log LogItem LogHead)) (callers : List Caller)
-        → 0 < issuer.shards → AreCallers issuer opening logs callers → AreExplained issuer opening logs callers }
+        → AreCallers issuer opening logs callers → AreExplained issuer opening logs callers }
 {}

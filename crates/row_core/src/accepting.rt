@@ -12,9 +12,10 @@ ghost use Rattle.row_core.specs.CardRow.{KeepsWindow, KeepsScripts, StandsFor};
 ghost use Rattle.row_core.specs.Accepting.{told_update, says_approval, IsMade, MayFollow, IsAccepted};
 
 use crate::row::{Row, Step};
+use arrayvec::ArrayVec;
 use cryptogram_in::holds_under;
 use issuer_base::{Method, Reply, Request};
-use key_derive::{CardKeys, SessionKey};
+use key_derive::{CardKeys, LazyKeys, SessionKey};
 use reply_keep::KeptEntry;
 
 impl Row {
@@ -28,14 +29,15 @@ impl Row {
             → (IsTrue result ↔ IsAccepted card.method keys.now history request.now reply.now) }
     {
         let session = SessionKey::for_cryptograms(&keys.ac, request.parts().atc);
-        holds_under(&session, request) && self.accepts_under(&session, keys, request, reply)
+        let keys = LazyKeys::from(*keys);
+        holds_under(&session, request) && self.accepts_under(&session, &keys, request, reply)
     }
 
     /// As `accepts`, of a request whose cryptogram was checked, under the session key for cryptograms of its transaction.
     pub fn accepts_under(
         &self,
         session: &SessionKey,
-        keys: &CardKeys,
+        keys: &LazyKeys,
         request: &Request,
         reply: &Reply,
     ) -> bool
@@ -59,14 +61,15 @@ impl Row {
         ensures unchanged { result ≡ false → self.new ≡ self.old }
     {
         let session = SessionKey::for_cryptograms(&keys.ac, request.parts().atc);
-        holds_under(&session, &request) && self.adopt_under(&session, keys, request, reply, place)
+        let keys = LazyKeys::from(*keys);
+        holds_under(&session, &request) && self.adopt_under(&session, &keys, request, reply, place)
     }
 
     /// As `adopt`, of a request whose cryptogram was checked, under the session key for cryptograms of its transaction.
     pub fn adopt_under(
         &mut self,
         session: &SessionKey,
-        keys: &CardKeys,
+        keys: &LazyKeys,
         request: Request,
         reply: Reply,
         place: u64,
@@ -105,7 +108,7 @@ impl Row {
     fn is_made(
         &self,
         session: &SessionKey,
-        keys: &CardKeys,
+        keys: &LazyKeys,
         request: &Request,
         reply: &Reply,
     ) -> bool
@@ -117,7 +120,9 @@ impl Row {
         if !agrees(self.method, update, reply.approve) {
             return false;
         }
-        self.reply_bytes(session, keys, request, reply.arc, update) == reply.bytes
+        let mut bytes = ArrayVec::new();
+        self.write_reply(&mut bytes, session, keys, request, reply.arc, update);
+        bytes == reply.bytes
     }
 }
 

@@ -1,5 +1,5 @@
 //! The bytes that go to the card: the response code, the issuer's cryptogram, and the batch of the card's script commands.
-ghost use Rattle.std.specs.Prelude.{◌≡◌, ◌+◌, ◌≤◌, ◌++◌, length, All, IsTrue};
+ghost use Rattle.std.specs.Prelude.{◌≡◌, ◌+◌, ◌≤◌, [], ◌++◌, length, All, IsTrue};
 ghost use Rattle.issuer_base.specs.ScriptCommand.{is_command};
 ghost use Rattle.issuer_base.specs.ScriptTemplate.{template_size};
 ghost use Rattle.tlv_objects.specs.Writing.{is_tag_number, object_text};
@@ -7,9 +7,8 @@ ghost use Rattle.row_core.specs.Replying.{answer_bytes, script_bytes};
 
 use arpc_methods::value91_under;
 use arrayvec::ArrayVec;
-use des_block::Key16;
 use issuer_base::{Command, MAX_TEMPLATE_BYTES, Method, Request};
-use key_derive::{SessionKey, session_sm};
+use key_derive::{LazyKeys, SessionKey, session_sm};
 use secure_msg::template_of;
 use tlv_objects::{ROOM, put};
 
@@ -19,25 +18,25 @@ const RESPONSE_CODE: u32 = 0x8A;
 /// The tag of the issuer authentication data.
 const AUTHENTICATION_DATA: u32 = 0x91;
 
-/// The response code and the issuer's cryptogram, by method 2 that of the card status update, under the session key for cryptograms
-/// of the request's transaction.
-pub(crate) fn answer_bytes(
+/// Writes the response code and the issuer's cryptogram, by method 2 that of the card status update, under the session key for
+/// cryptograms of the request's transaction, where nothing is written yet.
+pub(crate) fn write_answer(
+    bytes: &mut ArrayVec<u8, ROOM>,
     method: Method,
     session: &SessionKey,
     request: &Request,
     arc: [u8; 2],
     csu: [u8; 4],
-) -> ArrayVec<u8, ROOM>
-    ensures exact { result.items ≡ answer_bytes method session.now request.now arc csu }
-    ensures room { length result.items + MAX_TEMPLATE_BYTES ≤ ROOM }
-    ensures some { 1 ≤ length result.items }
+)
+    requires { bytes.old.items ≡ [] }
+    ensures exact { bytes.new.items ≡ answer_bytes method session.now request.now arc csu }
+    ensures room { length bytes.new.items + MAX_TEMPLATE_BYTES ≤ ROOM }
+    ensures some { 1 ≤ length bytes.new.items }
 {
     let application_cryptogram = &request.parts().ac;
     let value = value91_under(method, session.cipher(), application_cryptogram, arc, csu);
-    let mut bytes = ArrayVec::new();
-    write(&mut bytes, RESPONSE_CODE, &arc);
-    write(&mut bytes, AUTHENTICATION_DATA, value.as_slice());
-    bytes
+    write(bytes, RESPONSE_CODE, &arc);
+    write(bytes, AUTHENTICATION_DATA, value.as_slice());
 }
 
 /// Writes an object behind bytes that leave room for it.
@@ -50,10 +49,11 @@ fn write(bytes: &mut ArrayVec<u8, ROOM>, tag: u32, value: &[u8])
 }
 
 /// Writes the script template of a batch, which lies in two parts, behind the bytes of a reply: nothing where the batch is empty.
-/// `master_key` is the card's master key for secure messaging, and `first` the number of the batch's first command.
+/// `keys` are the card's master keys, of which the one for secure messages is asked for where there is a batch, and `first` is the number of
+/// the batch's first command.
 pub(crate) fn write_scripts(
     bytes: &mut ArrayVec<u8, ROOM>,
-    master_key: &Key16,
+    keys: &LazyKeys,
     application_cryptogram: &[u8; 8],
     first: u32,
     front: &[Command],
@@ -62,12 +62,12 @@ pub(crate) fn write_scripts(
     requires form { All (λ command. IsTrue (is_command command)) (front.now ++ back.now) }
     requires fit { template_size (front.now ++ back.now) ≤ MAX_TEMPLATE_BYTES }
     requires room { length bytes.old.items + MAX_TEMPLATE_BYTES ≤ ROOM }
-    ensures { bytes.new.items ≡ bytes.old.items ++ script_bytes master_key.now.0 application_cryptogram.now first (front.now ++ back.now) }
+    ensures { bytes.new.items ≡ bytes.old.items ++ script_bytes keys.now.smi.0 application_cryptogram.now first (front.now ++ back.now) }
 {
     if front.is_empty() && back.is_empty() {
         return;
     }
-    let key = session_sm(master_key, application_cryptogram);
+    let key = session_sm(&keys.smi(), application_cryptogram);
     let template = template_of(&key, application_cryptogram, first, front, back);
     bytes.try_extend_from_slice(template.as_slice()).unwrap();
 }

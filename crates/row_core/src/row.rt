@@ -15,7 +15,7 @@ ghost use Rattle.row_core.specs.Launching.{TakesOff};
 ghost use Rattle.row_core.specs.Replying.{script_bytes, reply_bytes, decided_reply};
 ghost use Rattle.row_core.specs.Plan.{IsPlan, IsForRequest, IsNext, with_record, with_command_for, with_status_for};
 
-use crate::reply::{answer_bytes, write_scripts};
+use crate::reply::{write_answer, write_scripts};
 use crate::scripts::CardScripts;
 use arrayvec::ArrayVec;
 use cvr_settle::Flight;
@@ -24,7 +24,7 @@ use issuer_base::{
     Command, MAX_REPLY_BYTES, MAX_STATUS, MAX_TEMPLATE_BYTES, Method, NoMemory, QueueFull, Reply,
     Request, WINDOW,
 };
-use key_derive::{CardKeys, SessionKey};
+use key_derive::{CardKeys, LazyKeys, SessionKey};
 use reply_keep::{Kept, KeptEntry};
 use script_queue::Queue;
 use std::alloc::Global;
@@ -164,14 +164,16 @@ impl Row {
             return outcome;
         }
         let session = SessionKey::for_cryptograms(&keys.ac, request.parts().atc);
-        self.decide(&session, keys, table, request, place)
+        self.decide(&session, &LazyKeys::from(*keys), table, request, place)
     }
 
-    /// As `plan`, under the session key for the cryptograms of the request's transaction, which is set up already.
+    /// As `plan`, under the session key for the cryptograms of the request's transaction, which is set up already. The card's key
+    /// for secure messages is asked for only where the reply carries a command.
+    #[inline(always)]
     pub fn plan_under(
         &self,
         session: &SessionKey,
-        keys: &CardKeys,
+        keys: &LazyKeys,
         table: &Table,
         request: &Request,
         place: u64,
@@ -233,10 +235,11 @@ impl Row {
     }
 
     /// The plan for a request on an unused counter.
+    #[inline(always)]
     fn decide(
         &self,
         session: &SessionKey,
-        keys: &CardKeys,
+        keys: &LazyKeys,
         table: &Table,
         request: &Request,
         place: u64,
@@ -248,11 +251,12 @@ impl Row {
         ensures some { IsForRequest request.now place result }
     {
         let row = decide(table, self.status, request);
-        let reply = Reply {
+        let mut reply = Reply {
             arc: row.arc,
             approve: row.approve,
-            bytes: self.reply_bytes(session, keys, request, row.arc, row.csu),
+            bytes: ArrayVec::new(),
         };
+        self.write_reply(&mut reply.bytes, session, keys, request, row.arc, row.csu);
         let decision = KeptEntry {
             request: request.copy(),
             reply: reply.copy(),
@@ -261,32 +265,33 @@ impl Row {
         Outcome::Fresh(reply, Step { decision })
     }
 
-    /// What goes to the card with this response code and, by method 2, this card status update.
-    pub(crate) fn reply_bytes(
+    /// Writes what goes to the card with this response code and, by method 2, this card status update, where nothing is written yet.
+    pub(crate) fn write_reply(
         &self,
+        bytes: &mut ArrayVec<u8, MAX_REPLY_BYTES>,
         session: &SessionKey,
-        keys: &CardKeys,
+        keys: &LazyKeys,
         request: &Request,
         arc: [u8; 2],
         csu: [u8; 4],
-    ) -> ArrayVec<u8, MAX_REPLY_BYTES>
-        requires { session.now ≡ session_ac keys.now.ac.0 request.now.atc }
+    )
+        requires empty { bytes.old.items ≡ [] }
+        requires session { session.now ≡ session_ac keys.now.ac.0 request.now.atc }
         ensures bytes { (scripts : Scripts) → KeepsScripts self.now scripts
-            → result.items ≡ reply_bytes self.now.method keys.now scripts request.now arc csu }
-        ensures some { 1 ≤ length result.items }
+            → bytes.new.items ≡ reply_bytes self.now.method keys.now scripts request.now arc csu }
+        ensures some { 1 ≤ length bytes.new.items }
     {
-        let mut bytes = answer_bytes(self.method, session, request, arc, csu);
+        write_answer(bytes, self.method, session, request, arc, csu);
         if is_newest(request.parts().atc, self.hi) {
-            self.write_batch(&mut bytes, keys, request);
+            self.write_batch(bytes, keys, request);
         }
-        bytes
     }
 
     /// Writes the batch that goes with the reply to a request on the newest counter behind the bytes of the reply.
     fn write_batch(
         &self,
         bytes: &mut ArrayVec<u8, MAX_REPLY_BYTES>,
-        keys: &CardKeys,
+        keys: &LazyKeys,
         request: &Request,
     )
         requires { length bytes.old.items + MAX_TEMPLATE_BYTES ≤ MAX_REPLY_BYTES }
@@ -298,10 +303,11 @@ impl Row {
         let launch = self.scripts.launch(request);
         let first = self.scripts.first_number(launch);
         let (front, back) = self.scripts.batch(launch);
-        write_scripts(bytes, &keys.smi, &request.parts().ac, first, front, back);
+        write_scripts(bytes, keys, &request.parts().ac, first, front, back);
     }
 
     /// What the decisions of the window say of a request; `None` where its counter is in the window and unused.
+    #[inline(always)]
     pub(crate) fn known(&self, request: &Request) -> Option<Outcome>
         ensures known { (decisions : List Decision) → self.now.hi ≡ greatest decisions → KeepsWindow self.now.slots decisions
             → MatchOption result (IsUnused decisions request.now) (IsKnown decisions request.now) }

@@ -7,7 +7,7 @@ use cvr_settle::Flight;
 use decision_table::{Table, TableRow};
 use des_block::Key16;
 use issuer_base::{MasterOption, Method, Pan, Parts, Reply, Request};
-use key_derive::{CardKeys, KeySet, SessionKey, card_keys};
+use key_derive::{CardKeys, KeySet, LazyKeys, SessionKey, card_keys};
 use secure_msg::read_command;
 use std::alloc::{AllocError, Global};
 use std::test::Fail;
@@ -187,7 +187,13 @@ fn decides_by_the_first_row_that_fits(rt: HostRuntime) -> Result<(), Fail> {
         let asked = request_for(amount).ok_or("a request")?;
         let keys = keys();
         let session = SessionKey::for_cryptograms(&keys.ac, asked.parts().atc);
-        let Outcome::Fresh(reply, _) = row.plan_under(&session, &keys, &table, &asked, 0) else {
+        let Outcome::Fresh(reply, _) = row.plan_under(
+            &session,
+            &LazyKeys::from(keys),
+            &table,
+            &asked,
+            0,
+        ) else {
             return Err(Fail::from(name));
         };
         let decided = shown(rt.alloc(), &reply)?;

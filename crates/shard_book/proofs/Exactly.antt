@@ -1,8 +1,9 @@
 -- A text of records has one reading: which history a text loads to, and that a legal one is loaded.
 use Rattle.std.proofs.Common.{◌≡◌, ◌≢◌, ◌⊎◌, ◌<◌, ◌≤◌, ℕ, List, [], ◌∷◌, ◌++◌, length, take, refl, sym, ap, ap₂, subst, ◌∙◌, inl, inr, ⊎_elim, arith}
-use Rattle.std.proofs.Common.{true, Option, None, Some, Result, Ok, Err, IfOk, IfErr, IfSome, MatchResult, IsTrue, All, append_assoc, append-nil, length-append}
+use Rattle.std.proofs.Common.{true, false, Option, None, Some, Result, Ok, Err, IfOk, IfErr, IfSome, MatchResult, IsTrue, All}
+use Rattle.std.proofs.Common.{append_assoc, append-nil, length-append}
 use Rattle.std.proofs.lemmas.Bool.{cases_lt}
-use Rattle.std.proofs.lemmas.List.{take_all, take-append-le, take_at}
+use Rattle.std.proofs.lemmas.List.{take_all, take-append-le}
 use Rattle.std.proofs.lemmas.List.Elements.{All-nil, All-head, All-tail, All-take, All-push}
 use Rattle.std.specs.List.{slice_get}
 use Rattle.issuer_base.specs.Stores.{BothTold, CutsBytes, Disk}
@@ -24,10 +25,11 @@ use Rattle.shard_book.specs.declared.replay.Taken.{Taken}
 use Rattle.shard_book.specs.declared.shard.Shard.{Shard}
 use Rattle.shard_book.specs.declared.shard.LoadBack.{LoadBack}
 use Rattle.shard_book.specs.Grounds.{HasTable, grounds_now, grounds_of}
-use Rattle.shard_book.specs.Loading.{IsOutside, StopsAt, StopsText, ReadsText}
+use Rattle.shard_book.specs.Loading.{IsOutside, StopsAt, StopsText, ReadsText, is_store_failure}
 use Rattle.shard_book.specs.ShardRows.{ShardRows, StandsFor as RowsStandFor}
 use Rattle.shard_book.specs.Shards.{IsCutToText, IsImageLeft, IsLoaded, IsSettled, IsTextOf, LeavesBytes, LeavesDisk, StandsFor, StandsForLeft}
 use Rattle.shard_book.proofs.Lines.{legal-more}
+use Rattle.shard_book.proofs.LoadCrash.{cut-to_text}
 use Rattle.shard_book.proofs.OwnDecisions.{legal-then}
 use Rattle.shard_book.proofs.ShardSteps.{texts-more}
 
@@ -281,14 +283,9 @@ module _ (issuer : Setup) (shard : ℕ) (rows : ShardRows) (taken : Taken) where
   cut-told (Some before) (Some held) None reads same cuts = absurd cuts
   cut-told (Some before) (Some held) (Some after) reads same cuts =
       let is : held ≡ before = cc in
-      ⊎_elim (λ (kept : after ≡ held). inl (kept ∙ is)) (λ (cut : after ≡ take taken.bytes held). inr (record {
-        history = reads.history;
-        rest = reads.rest;
-        text_is = reads.text_is;
-        unbroken = reads.unbroken;
-        records = reads.records;
-        cut = cut ∙ ap (take taken.bytes) (is ∙ reads.text_is) ∙ take_at (texts_of reads.history) reads.rest taken.bytes (sym reads.sure_is);
-      })) cuts
+      ⊎_elim (λ (kept : after ≡ held). inl (kept ∙ is)) (λ (cut : after ≡ take taken.bytes held). inr
+      (cut-to_text reads.history reads.rest taken.bytes reads.unbroken reads.records reads.sure_is before after reads.text_is (cut ∙ ap (take taken.bytes) is)))
+      cuts
 
   -- the store failed while it was cut to the records
   pub leaves-cut : {S : Type 0} {G : Ghosts S} (old mid : Option (List ℕ)) (result : Result (Shard S G) (LoadBack S)) → ReadsText issuer shard old rows taken
@@ -299,10 +296,18 @@ module _ (issuer : Setup) (shard : ℕ) (rows : ShardRows) (taken : Taken) where
   leaves-cut {S} {G} old mid (Err back) reads same fault cuts =
       subst (λ (fault : LoadFault). LeavesBytes fault old (G.bytes back.store)) (sym fault) (cut-told old mid (G.bytes back.store) reads same cuts)
 
-pub leaves-failed : {S : Type 0} {G : Ghosts S} (old : Option Disk) (result : Result (Shard S G) (LoadBack S)) → IfErr result (λ back. back.fault ≡ StoreFault)
-    → IfErr result (λ back. LeavesDisk back.fault old (G.disk back.store))
-leaves-failed {S} {G} old (Ok loaded) fault = tt
-leaves-failed {S} {G} old (Err back) fault = subst (λ (fault : LoadFault). LeavesDisk fault old (G.disk back.store)) (sym fault) tt
+-- what holds where the store failed
+pub where-failed : {S : Type 0} {G : Ghosts S} (P : LoadFault → LoadBack S → Type 0) (result : Result (Shard S G) (LoadBack S))
+    → ((back : LoadBack S) → P StoreFault back) → IfErr result (λ back. back.fault ≡ StoreFault) → IfErr result (λ back. P back.fault back)
+where-failed P (Ok loaded) holds fault = tt
+where-failed P (Err back) holds fault = subst (λ (fault : LoadFault). P fault back) (sym fault) (holds back)
+
+-- no other fault is the store's
+pub own-apart : {X : Type 0} → is_store_failure StoreFault ≡ false → X
+own-apart own = absurd (cc)
+
+pub memory-apart : {X : Type 0} → StoreFault ≡ NoMemory → X
+memory-apart same = absurd (cc)
 
 -- ---- what is opened
 

@@ -1,6 +1,6 @@
 -- A record that is put into the journal of a shard: what is held then, and what a crash may leave.
 use Rattle.std.proofs.Common.{◌≡◌, ◌⊎◌, ℕ, ◌+◌, List, [], ◌∷◌, ◌++◌, length, append-nil, refl, sym, ap, subst, ◌∙◌, inl, inr, ⊎_elim, Bool, true, false}
-use Rattle.std.proofs.Common.{Option, None, Some, Result, Ok, Err, IfOk, IfSome, OnOk, is_err, zero, suc, arith}
+use Rattle.std.proofs.Common.{Option, None, Some, Result, Ok, Err, IfOk, IfSome, IsErr, MatchResult, OnOk, is_err, zero, suc, arith}
 use Rattle.std.proofs.lemmas.List.{length_push}
 use Rattle.std.proofs.lemmas.List.Elements.{All-push}
 use Rattle.std.proofs.lemmas.List.Concat.{flat_map-append}
@@ -36,6 +36,24 @@ pub texts-more : (history : List Entry) (entry : Entry) → texts_of history ++ 
 texts-more history entry =
     ap (λ l. texts_of history ++ l) (sym (append-nil (text_of entry))) ∙ sym (flat_map-append text_of history (entry ∷ []))
 
+module _ {S : Type 0} {G : Ghosts S} (history : List Entry) (entry : Entry) (new : Journal S G) (piece : List ℕ) (its : piece ≡ text_of entry) where
+  -- the text of a record that was put is that of the history with it
+  holds-more : Holds new (length history + 1) (texts_of history ++ piece) [] → Holds new (length (history ++ entry ∷ [])) (texts_of (history ++ entry ∷ [])) []
+  holds-more holds =
+      subst (λ (n : ℕ). Holds new n (texts_of (history ++ entry ∷ [])) []) (sym (length_push history entry))
+      (subst (λ (text : List ℕ). Holds new (length history + 1) text []) (ap (λ l. texts_of history ++ l) its ∙ texts-more history entry) holds)
+
+  -- nothing stands behind the text with the record; or what stood there, or a front of the record's
+  pub put-tail : {E : Type 0} (tail : List ℕ) (result : Result ℕ E)
+      → IfOk result (λ place. (place ≡ length history) × Holds new (length history + 1) (texts_of history ++ piece) [])
+      → (IsErr result → Holds new (length history) (texts_of history) tail ⊎ Holds new (length history) (texts_of history) piece)
+      → MatchResult result (λ _. Holds new (length (history ++ entry ∷ [])) (texts_of (history ++ entry ∷ [])) [])
+      (λ _. Holds new (length history) (texts_of history) tail ⊎ Holds new (length history) (texts_of history) (text_of entry))
+  put-tail tail (Ok place) done failed = holds-more done.1
+  put-tail tail (Err error) done failed = ⊎_elim (λ (same : Holds new (length history) (texts_of history) tail). inl same)
+      (λ (torn : Holds new (length history) (texts_of history) piece). inr (subst (Holds new (length history) (texts_of history)) its torn))
+      (failed refl)
+
 module _ {S : Type 0} {G : Ghosts S} (grounds : Grounds) (number : ℕ) (history : List Entry) (entry : Entry) (old new : Journal S G)
     (h : HoldsHistory grounds number old history) (piece : List ℕ) (its : piece ≡ text_of entry) (valid : IsRecord entry) where
   -- a record that was put is one of the history's
@@ -49,9 +67,7 @@ module _ {S : Type 0} {G : Ghosts S} (grounds : Grounds) (number : ℕ) (history
       tail = [];
       tail_is = inl refl;
       records = All-push IsRecord history entry h.records valid;
-      holds =
-          subst (λ (n : ℕ). Holds new n (texts_of (history ++ entry ∷ [])) []) (sym (length_push history entry))
-          (subst (λ (text : List ℕ). Holds new (length history + 1) text []) (ap (λ l. texts_of history ++ l) its ∙ texts-more history entry) done.1);
+      holds = holds-more history entry new piece its done.1;
     },
   )
 

@@ -1,22 +1,33 @@
 -- What a shard over a store may answer, and its history afterwards: a turn's answer, or that its store failed.
-use Rattle.std.specs.Prelude.{◌≡◌, ℕ, ◌+◌, nat_lt, if◌then◌else◌, Bool, true, false, List}
+use Rattle.std.specs.Prelude.{◌≡◌, ◌⊎◌, ℕ, ◌+◌, nat_lt, if◌then◌else◌, Bool, true, false, List, [], ◌∷◌, ◌++◌}
 use Rattle.issuer_base.specs.declared.command.Command.{Command}
 use Rattle.issuer_base.specs.declared.request.Request.{Request}
 use Rattle.issuer_base.specs.declared.answer.Reply.{Reply}
 use Rattle.issuer_base.specs.declared.answer.Answer.{Answer}
-use Rattle.issuer_base.specs.declared.answer.Answer.TheVariants.{Fresh, Refused}
+use Rattle.issuer_base.specs.declared.answer.Answer.TheVariants.{Fresh, Kept, Refused}
 use Rattle.issuer_base.specs.declared.answer.Refusal.TheVariants.{Pending, StoreFault}
 use Rattle.issuer_base.specs.declared.entry.Entry.{Entry}
 use Rattle.issuer_base.specs.declared.limits.TheConstants.{MAX_FAULTS_TOLD}
+use Rattle.issuer_base.specs.declared.outside.store.Store.{Ghosts}
 use Rattle.card_history.specs.Records.{CardName}
 use Rattle.card_history.specs.Scripts.{waiting, scripts_of}
 use Rattle.card_history.specs.Turns.{IsUnused, decided_for, Answers, AnswersCommand, AnswersStatus}
 use Rattle.script_queue.specs.CommandQueue.{TakesOneMore}
+use Rattle.journal_rec.specs.RecordText.{text_of}
+use Rattle.shard_book.specs.declared.shard.Shard.{Shard}
+use Rattle.shard_book.specs.Shards.{HasTail}
 
 -- whether the answer is that the store failed
 abbrev pub is_store_fault : Answer → Bool
 is_store_fault (Refused StoreFault) = true
 is_store_fault _ = false
+
+-- whether the answer tells of a new record, or that the store failed: with any other the shard is as it was
+abbrev pub tells_change : Answer → Bool
+tells_change (Refused StoreFault) = true
+tells_change (Refused refusal) = false
+tells_change (Kept at place reply) = false
+tells_change _ = true
 
 -- how many answers told that the store failed, after one more answer: they are counted up to a limit and no further
 abbrev pub told_after : ℕ → Bool → ℕ
@@ -46,3 +57,11 @@ AnswersQueueing shard before card command answer after = AnswersCommand shard be
 abbrev pub AnswersSetting : ℕ → List Entry → CardName → ℕ → Answer → List Entry → Type 0
 AnswersSetting shard before card status (Refused StoreFault) after = after ≡ before
 AnswersSetting shard before card status answer after = AnswersStatus shard before card status answer after
+
+-- what stands behind the text after an answer: nothing where the record that was asked for is added; where the store failed what stood there
+-- before, or a front of the text of this record
+abbrev pub LeavesTail : {S : Type 0} {G : Ghosts S} → Entry → List Entry → List ℕ → Answer → Shard S G → Type 0
+LeavesTail asked before tail (Refused StoreFault) new = HasTail new before tail ⊎ HasTail new before (text_of asked)
+LeavesTail asked before tail (Refused refusal) new = HasTail new before tail
+LeavesTail asked before tail (Kept at place reply) new = HasTail new before tail
+LeavesTail asked before tail _ new = HasTail new (before ++ asked ∷ []) []

@@ -1,8 +1,8 @@
 -- The history that a shard over a store stands for.
 use Rattle.std.specs.Prelude.{◌≡◌, ◌⊎◌, ℕ, false, List, [], ◌∷◌, ◌++◌, length, Option, Some, All}
-use Rattle.issuer_base.specs.Stores.{Disk, Moment, BothTold}
+use Rattle.issuer_base.specs.Stores.{Disk, Moment, MayLeave, BothTold}
 use Rattle.issuer_base.specs.Tells.{Tells}
-use Rattle.record_store.specs.Images.{IsCutImage, OnlyReads}
+use Rattle.record_store.specs.Images.{OnlyReads}
 use Rattle.issuer_base.specs.declared.outside.store.Store.{Ghosts}
 use Rattle.issuer_base.specs.declared.answer.Answer.{Answer}
 use Rattle.issuer_base.specs.declared.answer.Answer.TheVariants.{Refused}
@@ -56,6 +56,10 @@ module _ {S : Type 0} {G : Ghosts S} where
   abbrev pub told_in : Shard S G → ℕ
   told_in shard = shard.told
 
+  -- its store has the text of the history, all safe, and behind it maybe a front of this tail, but nothing else
+  abbrev pub HasTail : Shard S G → List Entry → List ℕ → Type 0
+  HasTail shard history tail = Holds shard.journal (length history) (texts_of history) tail
+
   -- where none of its answers told that its store failed, nothing is in doubt
   abbrev pub IsUndoubted : Shard S G → Type 0
   IsUndoubted shard = shard.told ≡ 0 → shard.journal.in_doubt ≡ false
@@ -88,11 +92,7 @@ pub record IsLoaded {S : Type 0} {G : Ghosts S} (issuer : Setup) (number : ℕ) 
   pub legal : IsLegalHistory (grounds_of issuer) number history
   pub number_is : number_in shard ≡ number
   pub stands : StandsFor issuer shard history
-  pub settled : Holds shard.journal (length history) (texts_of history) []
-
--- what the moment may leave, or some of its first bytes
-abbrev pub IsSomeCutImage : Moment → List ℕ → Type 0
-IsSomeCutImage moment image = (sure : ℕ) × IsCutImage sure moment image
+  pub settled : HasTail shard history []
 
 -- the bytes are told, and are the text of this legal history, and a rest without a newline
 pub record IsTextOf (grounds : Grounds) (shard : ℕ) (bytes : Option (List ℕ)) (history : List Entry) : Type 0 where
@@ -113,7 +113,7 @@ pub record IsImageLeft (issuer : Setup) (shard : ℕ) (bytes : Option (List ℕ)
 -- the shard stands for the history, and its journal has just the history's text, all of it safe
 pub record IsSettled {S : Type 0} {G : Ghosts S} (issuer : Setup) (shard : Shard S G) (history : List Entry) : Type 0 where
   pub stands : StandsFor issuer shard history
-  pub settled : Holds shard.journal (length history) (texts_of history) []
+  pub settled : HasTail shard history []
 
 -- the shard stands for the history, or for the history and the one record whose text is whole in the bytes
 abbrev pub StandsForLeft : {S : Type 0} {G : Ghosts S} → Setup → ℕ → Option (List ℕ) → List Entry → Shard S G → Type 0
@@ -130,6 +130,10 @@ pub record IsCutToText (before after : List ℕ) : Type 0 where
   pub unbroken : IsUnbroken rest
   pub records : All IsRecord history
   pub cut : after ≡ texts_of history
+
+-- what a crash leaves of a store that is loaded: what it might leave before, or the text of the records alone
+abbrev pub IsLoadImage : Moment → List ℕ → Type 0
+IsLoadImage moment image = MayLeave moment image ⊎ IsCutToText moment.bytes image
 
 -- what a load that failed leaves of the bytes: the store's own fault leaves them as they were or cut to the records, any other as they were
 abbrev pub LeavesBytes : LoadFault → Option (List ℕ) → Option (List ℕ) → Type 0

@@ -1,5 +1,5 @@
 //! Reading the text of a journal from its store, a part at a time.
-ghost use Rattle.std.specs.Prelude.{◌≡◌, ℕ, ◌^◌, ◌<◌, ◌≤◌, [], length, take, drop, MatchBool, IfOk, IfErr, IfSome, OnOk, is_err};
+ghost use Rattle.std.specs.Prelude.{◌≡◌, ◌≢◌, ℕ, ◌^◌, ◌<◌, ◌≤◌, [], length, take, drop, MatchBool, IfOk, IfErr, IfSome, OnOk, is_err};
 ghost use Rattle.issuer_base.specs.OutsideFaults.{CountsFaults};
 ghost use Rattle.issuer_base.specs.Stores.{BothTold};
 ghost use Rattle.issuer_setup.specs.IssuerSetup.{Setup};
@@ -38,6 +38,7 @@ pub(crate) fn take_over<S: Store>(
     ensures bytes { S.bytes store.new ≡ S.bytes store.old }
     ensures disk { BothTold OnlyReads (S.disk store.old) (S.disk store.new) }
     ensures count { CountsFaults (S.faults store.old) (S.faults store.new) (is_by_store result) }
+    ensures untouched { IfErr result (λ fault. fault ≡ LoadFault.NoMemory → store.new ≡ store.old) }
 {
     let Ok(rows) = Rows::new(alloc, issuer, shard) else {
         return Err(LoadFault::NoMemory);
@@ -67,6 +68,7 @@ fn take_text<S: Store>(
     ensures bytes { S.bytes store.new ≡ S.bytes store.old }
     ensures disk { BothTold OnlyReads (S.disk store.old) (S.disk store.new) }
     ensures count { CountsFaults (S.faults store.old) (S.faults store.new) (is_by_store result) }
+    ensures memory { IfErr result (λ fault. fault ≢ LoadFault.NoMemory) }
 {
     let mut rows = rows;
     let taken = match rows.adopt_parts(issuer, store, buffer) {
@@ -98,6 +100,7 @@ impl Rows {
         ensures bytes { S.bytes store.new ≡ S.bytes store.old }
         ensures disk { BothTold OnlyReads (S.disk store.old) (S.disk store.new) }
         ensures count { CountsFaults (S.faults store.old) (S.faults store.new) (is_by_store result) }
+        ensures memory { IfErr result (λ fault. fault ≢ LoadFault.NoMemory) }
     {
         let mut taken = Taken {
             records: 0,
@@ -143,6 +146,7 @@ impl Rows {
         ensures bytes { S.bytes store.new ≡ S.bytes store.old }
         ensures disk { BothTold OnlyReads (S.disk store.old) (S.disk store.new) }
         ensures count { CountsFaults (S.faults store.old) (S.faults store.new) (is_by_store result) }
+        ensures memory { IfErr result (λ fault. fault ≢ LoadFault.NoMemory) }
     {
         let Ok(count) = read_from(store, taken.bytes as u64, buffer) else {
             return Err(LoadFault::StoreFault);
@@ -172,6 +176,7 @@ fn check_rest<S: Store>(store: &mut S, taken: Taken, buffer: &mut [u8]) -> Resul
     ensures bytes { S.bytes store.new ≡ S.bytes store.old }
     ensures disk { BothTold OnlyReads (S.disk store.old) (S.disk store.new) }
     ensures count { CountsFaults (S.faults store.old) (S.faults store.new) (is_by_store result) }
+    ensures memory { IfErr result (λ fault. fault ≢ LoadFault.NoMemory) }
 {
     let room = buffer.len() as u64;
     let from = taken.bytes as u64;

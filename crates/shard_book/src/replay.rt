@@ -1,5 +1,5 @@
 //! Taking over the records of a text, line by line.
-ghost use Rattle.std.specs.Prelude.{◌≡◌, ℕ, ◌+◌, ◌^◌, ◌<◌, ◌≤◌, List, length, drop, MatchOption, IfOk, IfErr, OnOk, false};
+ghost use Rattle.std.specs.Prelude.{◌≡◌, ◌≢◌, ℕ, ◌+◌, ◌^◌, ◌<◌, ◌≤◌, List, length, drop, MatchOption, IfOk, IfErr, OnOk, false};
 ghost use Rattle.issuer_base.specs.declared.entry.Entry.{Entry};
 ghost use Rattle.shard_book.specs.Loading.{IsBad, StopsAt, TakesLine, TakesLines, is_store_failure};
 ghost use Rattle.card_history.specs.LegalRecords.{IsLegalHistory};
@@ -63,6 +63,7 @@ impl Rows {
             → IsLegalHistory (grounds_of issuer.now) self.old.shard history
             → IfErr result (StopsAt issuer.now self.old.shard history text.now) }
         ensures own { IfErr result (λ fault. is_store_failure fault ≡ false) }
+        ensures memory { IfErr result (λ fault. fault ≢ LoadFault.NoMemory) }
         ensures same { AreSame self.old self.new }
     {
         let mut taken = Taken {
@@ -91,6 +92,7 @@ impl Rows {
         ensures bad { (history : List Entry) → StandsFor issuer.now self.old history → place ≡ length history
             → IfErr result (IsBad (grounds_of issuer.now) self.old.shard history line.now) }
         ensures own { IfErr result (λ fault. is_store_failure fault ≡ false) }
+        ensures memory { IfErr result (λ fault. fault ≢ LoadFault.NoMemory) }
         ensures same { AreSame self.old self.new }
     {
         let Ok(entry) = read_entry(line) else {

@@ -83,6 +83,7 @@ impl Rows {
     }
 
     /// What is to be done with a request of a card of this shard, whose record would stand at this place.
+    #[inline(always)]
     pub(crate) fn plan(&self, issuer: &Issuer, found: &CheckedRequest, place: u64) -> Outcome
         requires rows { AreRowsOf issuer.now self.now }
         requires home { IsHome self.now found.now.card }

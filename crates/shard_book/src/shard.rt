@@ -1,5 +1,5 @@
 //! A shard over a store: what it answers, and what it writes before that.
-ghost use Rattle.std.specs.Prelude.{◌≡◌, ℕ, ◌^◌, ◌≤◌, ◌/◌, slice_get, Some, min, if◌then◌else◌, List, [], ◌∷◌, ◌++◌, length, ◌<◌, Ok, IfOk, IfErr, IsErr, MatchResult, All, false, true, IsTrue, is_err};
+ghost use Rattle.std.specs.Prelude.{◌≡◌, ◌⊎◌, ℕ, ◌^◌, ◌≤◌, ◌/◌, slice_get, Some, min, if◌then◌else◌, List, [], ◌∷◌, ◌++◌, length, ◌<◌, Ok, IfOk, IfErr, IsErr, MatchResult, All, false, true, IsTrue, is_err};
 ghost use Rattle.issuer_base.specs.OutsideFaults.{CountsFaults};
 ghost use Rattle.issuer_base.specs.Stores.{BothTold, CutsBytes, LeavesOnly};
 ghost use Rattle.issuer_base.specs.declared.entry.Entry.{Entry};
@@ -21,9 +21,9 @@ ghost use Rattle.record_store.specs.Images.{IsCutImage};
 ghost use Rattle.shard_book.specs.Loading.{StopsText, IsOutside, is_store_failure};
 ghost use Rattle.shard_book.specs.Grounds.{grounds_now, grounds_of, HasTable, IsImageOf};
 ghost use Rattle.shard_book.specs.Steps.{IsCardOf};
-ghost use Rattle.shard_book.specs.Shards.{number_in, IsUnder, HasCard, store_in, sure_in, disk_in, faults_in, places_in, told_in, IsUndoubted, HoldsHistory, StandsFor, Adds, IsLoaded, IsSomeCutImage, IsTextOf, IsImageLeft, IsSettled, StandsForLeft, LeavesBytes, LeavesDisk};
+ghost use Rattle.shard_book.specs.Shards.{number_in, IsUnder, HasCard, store_in, sure_in, disk_in, faults_in, places_in, told_in, IsUndoubted, HoldsHistory, StandsFor, HasTail, Adds, IsLoaded, IsLoadImage, IsTextOf, IsImageLeft, IsSettled, StandsForLeft, LeavesBytes, LeavesDisk};
 ghost use Rattle.shard_book.specs.Recorded.{AddsRecorded};
-ghost use Rattle.shard_book.specs.Answering.{is_store_fault, told_after, AnswersClaimed, AnswersQueueing, AnswersSetting};
+ghost use Rattle.shard_book.specs.Answering.{is_store_fault, tells_change, LeavesTail, told_after, AnswersClaimed, AnswersQueueing, AnswersSetting};
 
 use crate::reading::take_over;
 use crate::replay::{LoadFault, Taken, TakenOver};
@@ -87,10 +87,12 @@ impl<S: Store> Shard<S> {
         // A load that failed leaves the bytes, or where the store failed maybe those of the records alone.
         ensures kept { IfErr result (λ back. LeavesBytes back.fault (S.bytes store) (S.bytes back.store)) }
         ensures still { IfErr result (λ back. LeavesDisk back.fault (S.disk store) (S.disk back.store)) }
+        ensures size { IfErr result (λ back. is_store_failure back.fault ≡ false → S.size back.store ≡ S.size store) }
+        ensures untouched { IfErr result (λ back. back.fault ≡ LoadFault.NoMemory → back.store ≡ store) }
 
-        // While it is loaded a crash leaves what it might leave before, or the text of the records.
+        // While it is loaded a crash leaves what it might leave before, or the text of the records alone.
         ensures opened { IfOk result (λ loaded. BothTold (λ old new. LeavesOnly (IsCutImage (sure_in loaded) old.now) old new) (S.disk store) (disk_in loaded)) }
-        ensures crash { IfErr result (λ back. BothTold (λ old new. LeavesOnly (IsSomeCutImage old.now) old new) (S.disk store) (S.disk back.store)) }
+        ensures crash { IfErr result (λ back. BothTold (λ old new. LeavesOnly (IsLoadImage old.now) old new) (S.disk store) (S.disk back.store)) }
         ensures count { IfOk result (λ loaded. CountsFaults (S.faults store) (faults_in loaded) false) }
         ensures failed { IfErr result (λ back. CountsFaults (S.faults store) (S.faults back.store) (is_store_failure back.fault)) }
     {
@@ -113,6 +115,11 @@ impl<S: Store> Shard<S> {
         ensures answer { (history : List Entry) → StandsFor issuer.now self.old history
             → (after : List Entry) × StandsFor issuer.now self.new after
             × AnswersClaimed (number_in self.old) (reply_to issuer.now) won history found.now.request result after }
+
+        // Nothing is in doubt behind a new record; after a fault this very record may be, or what was before. Else all is as it was.
+        ensures tail { (history : List Entry) (tail : List ℕ) → StandsFor issuer.now self.old history → HasTail self.old history tail
+            → LeavesTail (Entry.Decided found.now.request (reply_to issuer.now history found.now.request)) history tail result self.new }
+        ensures unchanged { tells_change result ≡ false → self.new ≡ self.old }
 
         // Whatever a crash since the start of the call may leave is the text of the history before it, and a torn record behind it.
         ensures crash { (history : List Entry) → StandsFor issuer.now self.old history
@@ -149,6 +156,9 @@ impl<S: Store> Shard<S> {
         ensures answer { (history : List Entry) → StandsFor issuer.now self.old history
             → (after : List Entry) × StandsFor issuer.now self.new after
             × AnswersQueueing (number_in self.old) history (named found.pan found.psn) found.command result after }
+        ensures tail { (history : List Entry) (tail : List ℕ) → HasTail self.old history tail
+            → LeavesTail (Entry.Queued found.pan found.psn found.command) history tail result self.new }
+        ensures unchanged { tells_change result ≡ false → self.new ≡ self.old }
         ensures crash { (history : List Entry) → StandsFor issuer.now self.old history
             → BothTold (LeavesOnly (IsImageOf (grounds_now issuer.now) (number_in self.old) history)) (disk_in self.old) (disk_in self.new) }
         ensures count { CountsFaults (faults_in self.old) (faults_in self.new) (is_store_fault result) }
@@ -189,6 +199,9 @@ impl<S: Store> Shard<S> {
         ensures answer { (history : List Entry) → StandsFor issuer.now self.old history
             → (after : List Entry) × StandsFor issuer.now self.new after
             × AnswersSetting (number_in self.old) history (named found.pan found.psn) found.status result after }
+        ensures tail { (history : List Entry) (tail : List ℕ) → HasTail self.old history tail
+            → LeavesTail (Entry.Status found.pan found.psn found.status) history tail result self.new }
+        ensures unchanged { tells_change result ≡ false → self.new ≡ self.old }
         ensures crash { (history : List Entry) → StandsFor issuer.now self.old history
             → BothTold (LeavesOnly (IsImageOf (grounds_now issuer.now) (number_in self.old) history)) (disk_in self.old) (disk_in self.new) }
         ensures count { CountsFaults (faults_in self.old) (faults_in self.new) (is_store_fault result) }
@@ -273,6 +286,9 @@ impl<S: Store> Shard<S> {
             → step ≡ record { request = found.now.request; reply = reply; place = length history }
             → IsLegal (grounds_now issuer) (number_in self.old) history (Entry.Decided found.now.request reply)
             → Adds issuer self.new history (Entry.Decided found.now.request reply) (Answer.Fresh (number_in self.old) (length history) reply) result }
+        ensures tail { (history : List Entry) (tail : List ℕ) → HasTail self.old history tail
+            → LeavesTail (Entry.Decided found.now.request reply) history tail result self.new }
+        ensures changed { tells_change result ≡ true }
         ensures crash { (issuer : Setup) (history : List Entry) → StandsFor issuer self.old history
             → IsLegal (grounds_now issuer) (number_in self.old) history (Entry.Decided found.now.request reply)
             → BothTold (LeavesOnly (IsImageOf (grounds_now issuer) (number_in self.old) history)) (disk_in self.old) (disk_in self.new) }
@@ -303,6 +319,9 @@ impl<S: Store> Shard<S> {
             × HoldsHistory (grounds_now issuer) (number_in self.old) self.new.journal (history ++ entry.now ∷ [])) }
         ensures failed { (issuer : Setup) (history : List Entry) → StandsFor issuer self.old history
             → IsLegal (grounds_now issuer) (number_in self.old) history entry.now → IsErr result → StandsFor issuer self.new history }
+        ensures tail { (history : List Entry) (tail : List ℕ) → HasTail self.old history tail
+            → MatchResult result (λ _. HasTail self.new (history ++ entry.now ∷ []) [])
+            (λ _. HasTail self.new history tail ⊎ HasTail self.new history (text_of entry.now)) }
         ensures rows { self.new.rows ≡ self.old.rows }
         ensures crash { (issuer : Setup) (history : List Entry) → StandsFor issuer self.old history
             → IsLegal (grounds_now issuer) (number_in self.old) history entry.now
@@ -322,6 +341,9 @@ impl<S: Store> Shard<S> {
             × HoldsHistory (grounds_now issuer) (number_in self.old) self.new.journal (history ++ entry ∷ [])) }
         ensures failed { (issuer : Setup) (history : List Entry) (entry : Entry) → IsRecord entry → text.now ≡ text_of entry → StandsFor issuer self.old history
             → IsLegal (grounds_now issuer) (number_in self.old) history entry → IsErr result → StandsFor issuer self.new history }
+        ensures tail { (history : List Entry) (tail : List ℕ) (entry : Entry) → text.now ≡ text_of entry → HasTail self.old history tail
+            → MatchResult result (λ _. HasTail self.new (history ++ entry ∷ []) [])
+            (λ _. HasTail self.new history tail ⊎ HasTail self.new history (text_of entry)) }
         ensures rows { self.new.rows ≡ self.old.rows }
         ensures crash { (issuer : Setup) (history : List Entry) (entry : Entry) → IsRecord entry → text.now ≡ text_of entry → StandsFor issuer self.old history
             → IsLegal (grounds_now issuer) (number_in self.old) history entry

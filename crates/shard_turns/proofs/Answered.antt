@@ -34,9 +34,9 @@ use Rattle.shard_book.proofs.OwnDecisions.{legal-then}
 use Rattle.shard_turns.specs.declared.logs.LogItem.{LogItem}
 use Rattle.shard_turns.specs.declared.logs.LogItem.TheVariants.{Record, Fault}
 use Rattle.shard_turns.specs.Opening.{head_with}
-use Rattle.shard_turns.specs.ShardLogs.{records_of, faults_of, RiseTo, StandsForLog}
+use Rattle.shard_turns.specs.ShardLogs.{records_of, faults_of, RiseTo, last_count, StandsForLog}
 use Rattle.shard_turns.specs.Turned.{log_after, AddsFault, IsAdded, decided_by, recorded_by, added_by}
-use Rattle.shard_turns.proofs.LogSteps.{records-record, records-fault, faults-record, faults-fault, rise-later, rise-more}
+use Rattle.shard_turns.proofs.LogSteps.{records-record, records-fault, faults-record, faults-fault, rise-later, rise-more, last-more}
 
 -- ---- what an answer adds
 
@@ -184,6 +184,10 @@ own-more issuer shard first history entry own next place other past is =
 
 -- ---- the log after a call
 
+-- below the limit of counts that are told, the count now is the last of these
+abbrev IsLast : ℕ → ℕ → List ℕ → Type 0
+IsLast first now counts = length counts < MAX_FAULTS_TOLD → now ≡ last_count first counts
+
 -- a call of the shard answered so
 pub record IsCalled {S : Type 0} {G : Ghosts S} (issuer : Setup) (old new : Shard S G) (answer : Answer) : Type 0 where
   pub counts : CountsFaults (faults_in old) (faults_in new) (is_store_fault answer)
@@ -224,13 +228,14 @@ module _ {S : Type 0} {G : Ghosts S} (issuer : Setup) (shard first faults : ℕ)
         undoubted = called.undoubted stands.undoubted;
         counts = subst (λ (counts : List ℕ). RiseTo faults counts (faults_in new)) (sym faults_same)
             (rise-later faults (faults_of items) (faults_in old) (faults_in new) stands.counts counts.never_falls);
+        last_is = subst (IsLast faults (faults_in new)) (sym faults_same) (λ fewer. counts.counted ∙ stands.last_is fewer);
       }
 
   -- no record was added
   other-step : (more : List LogItem) → records_of more ≡ records_of items → after ≡ records_of items → told_in new ≡ length (faults_of more)
-      → length (faults_of more) ≤ MAX_FAULTS_TOLD → RiseTo faults (faults_of more) (faults_in new)
+      → length (faults_of more) ≤ MAX_FAULTS_TOLD → RiseTo faults (faults_of more) (faults_in new) → IsLast faults (faults_in new) (faults_of more)
       → StandsForLog new (head_with issuer shard faults first) more
-  other-step more same after_is told few counts = record {
+  other-step more same after_is told few counts last_is = record {
     number_is = called.number_is ∙ stands.number_is;
     under = called.under;
     table = stands.table;
@@ -242,6 +247,7 @@ module _ {S : Type 0} {G : Ghosts S} (issuer : Setup) (shard first faults : ℕ)
     few = few;
     undoubted = called.undoubted stands.undoubted;
     counts = counts;
+    last_is = last_is;
   }
 
   none-step : (failed less : Bool) → is_store_fault answer ≡ failed → ltb (told_in old) MAX_FAULTS_TOLD ≡ less → after ≡ records_of items
@@ -251,12 +257,14 @@ module _ {S : Type 0} {G : Ghosts S} (issuer : Setup) (shard first faults : ℕ)
       subst (λ failed. CountsFaults (faults_in old) (faults_in new) failed) failed_is called.counts in
       other-step items refl after_is (called.told_is ∙ ap (told_after (told_in old)) failed_is ∙ stands.told_is) stands.few
       (rise-later faults (faults_of items) (faults_in old) (faults_in new) stands.counts counts.never_falls)
+      (λ fewer. counts.counted ∙ stands.last_is fewer)
   none-step true false failed_is less_is after_is =
       let counts = called.counts.never_falls in
       let told : told_in new ≡ told_in old = called.told_is ∙ ap (told_after (told_in old)) failed_is
       ∙ ap (λ (less : Bool). if less then told_in old + 1 else told_in old) less_is in
       other-step items refl after_is (told ∙ stands.told_is) stands.few
       (rise-later faults (faults_of items) (faults_in old) (faults_in new) stands.counts counts)
+      (λ fewer. let most = ltb-false (told_in old) MAX_FAULTS_TOLD less_is in let told_was = stands.told_is in absurd (omega arith))
   none-step true true failed_is less_is after_is =
       let counts : CountsFaults (faults_in old) (faults_in new) true =
       subst (λ failed. CountsFaults (faults_in old) (faults_in new) failed) failed_is called.counts in
@@ -271,6 +279,7 @@ module _ {S : Type 0} {G : Ghosts S} (issuer : Setup) (shard first faults : ℕ)
       (subst (λ (counts : List ℕ). length counts ≤ MAX_FAULTS_TOLD) (sym more) (omega (arith, below, told_was, long)))
       (subst (λ (counts : List ℕ). RiseTo faults counts (faults_in new)) (sym more)
       (rise-more faults (faults_of items) (faults_in old) (faults_in new) stands.counts counts.never_falls counts.counted))
+      (subst (IsLast faults (faults_in new)) (sym more) (λ fewer. sym (last-more faults (faults_of items) (faults_in new))))
 
   -- so the shard stands for the log with what the answer adds
   pub log-step : (entry : Option Entry) → IsAnsweredBy issuer shard (records_of items) after answer entry

@@ -20,7 +20,7 @@ use Rattle.shard_turns.specs.declared.logs.LogItem.{LogItem}
 use Rattle.shard_turns.specs.declared.logs.LogItem.TheVariants.{Record}
 use Rattle.shard_turns.specs.declared.turns.ShardTurns.{ShardTurns}
 use Rattle.shard_turns.specs.Opening.{head_with, IsJustLoaded, AreJustLoaded, IsOpeningLog, AreOpeningLogs}
-use Rattle.shard_turns.specs.ShardLogs.{RiseTo, StandsForLog}
+use Rattle.shard_turns.specs.ShardLogs.{RiseTo, last_count, StandsForLog}
 use Rattle.shard_turns.specs.ShardSeats.{opening_in, AreTurnsOf, StandForLogs}
 use Rattle.shard_turns.proofs.LogSteps.{records-alone, faults-alone}
 
@@ -86,6 +86,8 @@ module _ {S : Type 0} {G : Ghosts S} where
         undoubted = just.undoubted;
         counts = subst (λ (counts : List ℕ). RiseTo (faults_in shard) counts (faults_in shard)) (sym none)
             (let least : faults_in shard ≤ faults_in shard = omega arith in least);
+        last_is = subst (λ (counts : List ℕ). length counts < MAX_FAULTS_TOLD → faults_in shard ≡ last_count (faults_in shard) counts) (sym none)
+            (λ fewer. refl);
       }
 
   pub opening-stands : (issuer : Setup) (stores : List S) (number : ℕ) (shard : Shard S G) (log : Log LogItem LogHead)

@@ -9,7 +9,7 @@ use Rattle.journal_rec.specs.declared.limits.TheConstants.{LEAST_RECORD_BYTES}
 use Rattle.journal_rec.proofs.TextLaws.{length-text_of}
 use Rattle.shard_turns.specs.declared.logs.LogItem.{LogItem}
 use Rattle.shard_turns.specs.declared.logs.LogItem.TheVariants.{Record, Fault}
-use Rattle.shard_turns.specs.ShardLogs.{records_of, faults_of, RiseTo}
+use Rattle.shard_turns.specs.ShardLogs.{records_of, faults_of, RiseTo, last_count}
 
 -- ---- records and faults
 
@@ -55,6 +55,11 @@ rise-later first (count ∷ counts) old new rise later = (rise.0, rise.1, rise-l
 pub rise-more : (first : ℕ) (counts : List ℕ) (old new : ℕ) → RiseTo first counts old → old ≤ new → Rose old new → RiseTo first (counts ++ new ∷ []) new
 rise-more first [] old new rise later rose = let same : new ≤ new = omega arith in (omega arith, rose-later first old new rise rose, same)
 rise-more first (count ∷ counts) old new rise later rose = (rise.0, rise.1, rise-more count counts old new rise.2 later rose)
+
+-- the last one is the one that was put behind them
+pub last-more : (first : ℕ) (counts : List ℕ) (new : ℕ) → last_count first (counts ++ new ∷ []) ≡ new
+last-more first [] new = refl
+last-more first (count ∷ counts) new = last-more count counts new
 
 -- none of the counts is above the last
 pub rise-first : (first : ℕ) (counts : List ℕ) (last : ℕ) → RiseTo first counts last → first ≤ last

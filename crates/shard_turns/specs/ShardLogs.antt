@@ -1,5 +1,5 @@
 -- The log of a shard: its records, and the faults that answers told; and when a shard stands for it.
-use Rattle.std.specs.Prelude.{◌≡◌, ℕ, ◌≤◌, List, [], ◌∷◌, length, take, slice_get, Some}
+use Rattle.std.specs.Prelude.{◌≡◌, ℕ, ◌<◌, ◌≤◌, List, [], ◌∷◌, length, take, slice_get, Some}
 use Rattle.issuer_base.specs.OutsideFaults.{Rose}
 use Rattle.issuer_base.specs.declared.entry.Entry.{Entry}
 use Rattle.issuer_base.specs.declared.limits.TheConstants.{MAX_FAULTS_TOLD}
@@ -29,6 +29,11 @@ abbrev pub RiseTo : ℕ → List ℕ → ℕ → Type 0
 RiseTo first [] now = first ≤ now
 RiseTo first (count ∷ counts) now = (first ≤ count) × Rose first count × RiseTo count counts now
 
+-- the last of these counts, or where there is none the first one
+abbrev pub last_count : ℕ → List ℕ → ℕ
+last_count first [] = first
+last_count first (count ∷ counts) = last_count count counts
+
 -- the shard stands for the log with this head and these items
 pub record StandsForLog {S : Type 0} {G : Ghosts S} (shard : Shard S G) (head : LogHead) (items : List LogItem) : Type 0 where
   pub number_is : number_in shard ≡ head.shard
@@ -45,3 +50,5 @@ pub record StandsForLog {S : Type 0} {G : Ghosts S} (shard : Shard S G) (head : 
   pub few : length (faults_of items) ≤ MAX_FAULTS_TOLD
   pub undoubted : IsUndoubted shard
   pub counts : RiseTo head.faults (faults_of items) (faults_in shard)
+  -- below the limit the store's count is the last one that is told, so that each such answer tells the count after it
+  pub last_is : length (faults_of items) < MAX_FAULTS_TOLD → faults_in shard ≡ last_count head.faults (faults_of items)

@@ -1,5 +1,5 @@
 //! A desk whose inputs and journals are files.
-ghost use Rattle.std.specs.Prelude.{◌≡◌, true, Some, IfOk, string_bytes};
+ghost use Rattle.std.specs.Prelude.{◌≡◌, true, None, Some, IfOk, string_bytes};
 ghost use Rattle.issuer_base.specs.OutsideFaults.{CountsFaults};
 ghost use Rattle.issuer_base.specs.declared.outside.DeskFault.TheVariants.{Fault};
 
@@ -20,8 +20,10 @@ pub struct FileDesk {
 }
 
 impl FileDesk {
-    /// A desk over the system's files.
-    pub fn new(rt: HostRuntime) -> FileDesk {
+    /// A desk over the system's files, at which no call failed yet.
+    pub fn new(rt: HostRuntime) -> FileDesk
+        ensures { (result.faults ≡ 0) × (result.last_fault ≡ None) }
+    {
         FileDesk {
             rt,
             faults: 0,

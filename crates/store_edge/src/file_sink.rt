@@ -1,4 +1,5 @@
 //! The standard output as a sink.
+ghost use Rattle.std.specs.Prelude.{◌≡◌};
 ghost use Rattle.std.specs.Io.{WritesAtMost};
 
 use issuer_base::{Sink, WriteFault};
@@ -13,8 +14,10 @@ pub struct FileSink {
 }
 
 impl FileSink {
-    /// A sink over the standard output.
-    pub fn new(rt: HostRuntime) -> FileSink {
+    /// A sink over the standard output, at which no call failed yet.
+    pub fn new(rt: HostRuntime) -> FileSink
+        ensures { result.faults ≡ 0 }
+    {
         FileSink { rt, faults: 0 }
     }
 }

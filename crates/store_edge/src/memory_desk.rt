@@ -233,6 +233,7 @@ impl Desk for MemoryDesk {
         ensures new { IfOk result (λ journal. journal.calls.faults ≡ 0) }
         ensures kept { bytes_under self.new.inputs ≡ bytes_under self.old.inputs }
         ensures others { (other : List ℕ) → (other ≡ name.now → ⊥) → logs_under self.new.journals other ≡ logs_under self.old.journals other }
+        ensures refused { OnErr result (logs_under self.new.journals ≡ logs_under self.old.journals) }
         ensures count { CountsFaults self.old.calls.faults self.new.calls.faults (is_fault result) }
         ensures last { self.new.last_fault ≡ last_after Log name.now (is_fault result) self.old.last_fault }
         ensures ok { OnOk result (is_next_listed self.old.calls ≡ false) }

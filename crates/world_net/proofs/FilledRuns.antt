@@ -1,12 +1,11 @@
 -- Each list of legal histories is that of a run: each decided record is a claim and a write of its own bytes, each other record a queue or
 -- a status.
 use Rattle.std.proofs.Common.{◌≡◌, ◌≢◌, ℕ, zero, suc, ◌%◌, ◌<◌, ◌≤◌, true, List, [], ◌∷◌, ◌++◌, length, take, map, replicate, get_or, set, None, Some}
-use Rattle.std.proofs.Common.{All, Ok, refl, ap, sym, ◌∙◌, subst, inl, inr, arith, append-nil, append_assoc, Contains}
+use Rattle.std.proofs.Common.{All, Ok, refl, ap, sym, ◌∙◌, subst, inl, inr, arith, append-nil, append_assoc}
 use Rattle.std.proofs.lemmas.Bool.{cases_eq}
 use Rattle.std.proofs.lemmas.List.{get_or-set_same, get_or-set_other, take_at, length-map}
 use Rattle.std.proofs.lemmas.List.Elements.{All-append, All-cons, All-nil}
-use Rattle.std.proofs.lemmas.Option.{get_or_from_slice_get, slice_get-map, slice_get_within}
-use Rattle.std.specs.Option.{option_map}
+use Rattle.std.proofs.lemmas.Option.{get_or_from_slice_get, slice_get_within}
 use Rattle.std.specs.List.{slice_get}
 use Rattle.issuer_base.specs.declared.limits.TheConstants.{MAX_CHIP_BYTES}
 use Rattle.issuer_base.specs.declared.request.Request.{Request}
@@ -15,14 +14,11 @@ use Rattle.issuer_base.specs.declared.entry.Entry.{Entry}
 use Rattle.issuer_base.specs.declared.entry.Entry.TheVariants.{Decided, Queued as IsQueued, Status as IsStatus}
 use Rattle.card_history.specs.LegalRecords.{IsLegal, IsLegalDecision, IsLegalCommand, IsLegalStatus, IsLegalHistory}
 use Rattle.card_history.specs.Records.{CardName, named}
-use Rattle.issuer_setup.specs.declared.card.CardInfo.{CardInfo}
 use Rattle.issuer_setup.specs.IssuerSetup.{Setup}
 use Rattle.issuer_setup.proofs.CardListLemmas.{number_of-found}
 use Rattle.issuer_setup.specs.KeyList.{AreKeys}
 use Rattle.key_derive.specs.declared.card.KeySet.{KeySet}
-use Rattle.key_derive.specs.CardKey.{card_keys}
 use Rattle.card_model.specs.Application.{CardState}
-use Rattle.card_model.specs.CardSteps.{new_card}
 use Rattle.chip_request.specs.Reading.{request_of}
 use Rattle.journal_rec.specs.Record.{IsEntry}
 use Rattle.request_text.specs.ChipText.{chip_data}
@@ -32,8 +28,7 @@ use Rattle.world_net.specs.declared.event.Event.{Event}
 use Rattle.world_net.specs.declared.event.Event.TheVariants.{Claim, Write, Queue, Status}
 use Rattle.world_net.specs.declared.parts.OpenClaim.{OpenClaim}
 use Rattle.world_net.specs.WorldState.{WorldState, ShardState, no_shard, home_of, history_for, histories_of}
-use Rattle.world_net.specs.WorldRuns.{IsIssuer, IsRunFrom}
-use Rattle.world_net.specs.NewWorld.{AreNew}
+use Rattle.world_net.specs.WorldRuns.{IsIssuer, IsRunFrom, card_under}
 use Rattle.world_net.specs.Histories.{AreLegal, AreHeld, HasRoom, HasRun}
 use Rattle.world_net.proofs.Hosts.{at, recorded, AreLawful, lawful-record, home-within, legal-home, histories-at, none-at, none-lawful}
 use Rattle.world_net.proofs.NetWrites.{home-shard}
@@ -279,32 +274,16 @@ module _ (issuer : Setup) (cards : List CardState) (valid : IsIssuer issuer) whe
       same-lists (map (λ (s : ShardState). s.history) to.after) histories long
       (λ k below. histories-at to.after k ∙ to.done k (omega arith))
 
--- the new cards of an issuer, under one of its key sets
-cards_under : Setup → KeySet → List CardState
-cards_under issuer keys = map (λ info. new_card info.pan info.psn keys.dki info.method (card_keys keys info.pan info.psn)) issuer.cards
-
-cards_under-new : (issuer : Setup) (keys : KeySet) → Contains issuer.keys keys → AreNew issuer (length issuer.cards) (cards_under issuer keys)
-unfolding cards_under
-cards_under-new issuer keys known = record {
-  count_is = length-map issuer.cards _;
-  each = λ number info below info_is. (
-    new_card info.pan info.psn keys.dki info.method (card_keys keys info.pan info.psn),
-    slice_get-map (λ (info : CardInfo). new_card info.pan info.psn keys.dki info.method (card_keys keys info.pan info.psn)) issuer.cards number
-        ∙ ap (option_map (λ (info : CardInfo). new_card info.pan info.psn keys.dki info.method (card_keys keys info.pan info.psn))) info_is,
-    record { keys = keys; known = known; card_is = refl },
-  );
-}
-
-first-key : (keys : List KeySet) → 1 ≤ length keys → (set : KeySet) × Contains keys set
+first-key : (keys : List KeySet) → 1 ≤ length keys → (set : KeySet) × (slice_get keys 0 ≡ Some set)
 first-key [] some = absurd (omega arith)
-first-key (set ∷ keys) some = (set, (0, omega arith, refl))
+first-key (set ∷ keys) some = (set, refl)
 
 -- so there is a run with these histories
 pub histories-run : (issuer : Setup) (histories : List (List Entry)) → IsIssuer issuer → AreKeys issuer.keys → AreLegal issuer histories → AreHeld histories
     → HasRun issuer histories
 histories-run issuer histories valid keys legal held =
     let set = first-key issuer.keys keys.some in
-    let cards = cards_under issuer set.0 in
+    let cards = map (card_under set.0) issuer.cards in
     let to = fill-to issuer cards valid histories legal held issuer.shards in
     record {
       events = to.fills.events;
@@ -312,7 +291,7 @@ histories-run issuer histories valid keys legal held =
       world = filled issuer cards valid to.after;
       run = (
         filled issuer cards valid (replicate issuer.shards no_shard),
-        new-world issuer cards (replicate issuer.shards no_shard) [] [] [] (cards_under-new issuer set.0 set.1) refl refl refl refl,
+        new-world issuer cards (replicate issuer.shards no_shard) [] [] [] (record { keys = set.0; first = set.1; cards_are = refl }) refl refl refl refl,
         to.fills.run,
       );
       histories_are = filled-histories issuer cards valid histories legal to;

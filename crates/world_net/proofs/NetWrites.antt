@@ -24,16 +24,17 @@ use Rattle.line_checks.specs.Reading.{checked}
 use Rattle.line_checks.specs.declared.checked.CheckedRequest.{CheckedRequest}
 use Rattle.row_core.specs.Accepting.{MayFollow}
 use Rattle.row_core.specs.CardRow.{CardRow, StandsFor}
+use Rattle.row_core.specs.Replying.{reply_to}
 use Rattle.shard_book.specs.Grounds.{IsCardOfShard, grounds_of}
 use Rattle.shard_book.proofs.Adopted.{decision-follows}
 use Rattle.world_net.specs.declared.parts.Exchange.{Exchange}
 use Rattle.world_net.specs.declared.parts.OpenClaim.{OpenClaim}
 use Rattle.world_net.specs.Allowed.{CanWrite, IsAllowed}
-use Rattle.world_net.specs.WorldState.{WorldState, ShardState, no_shard, shard_at, home_of, history_for, claim_of, with_record}
+use Rattle.world_net.specs.WorldState.{WorldState, ShardState, no_shard, shard_at, home_of, history_for, claim_of, without, with_record, with_doubt}
 use Rattle.world_net.specs.WorldSteps.{Writes, written, settled_at, IsStep}
 use Rattle.world_net.specs.declared.event.Event.{Event}
 use Rattle.world_net.specs.declared.net.Net.{Net}
-use Rattle.world_net.specs.Stepping.{RowsStand, Stands, IsReached, IsHeld, IsTaken, world_of}
+use Rattle.world_net.specs.Stepping.{RowsStand, Stands, IsReached, IsHeld, IsTaken, world_of, own_decision, WritesOwn}
 use Rattle.world_net.specs.WorldRuns.{IsIssuer, IsNewWorld, IsRunFrom}
 use Rattle.world_net.specs.Safety.{IsSafe}
 use Rattle.world_net.proofs.Hosts.{at, recorded, doubted}
@@ -146,13 +147,55 @@ pub claim-genuine : (world : WorldState) → IsSound world → (caller : ℕ) (c
 claim-genuine world sound caller claim is =
     found-all (λ claim. claim.caller == caller) (λ claim. checked world.issuer claim.request ≡ Ok (Decide claim.request)) world.claims claim is sound.claims
 
+-- the issuer's own decision of a request whose card is of this shard
+pub own-exchange : (world : WorldState) (request said : Request) (reply : Reply) (place : ℕ) → said ≡ request → home_of world request ≡ place
+    → reply ≡ reply_to world.issuer (at world.shards place).history request
+    → (record { request = said; reply = reply }) ≡ own_decision world request
+own-exchange world request said reply place same home own =
+    let reply_is : reply ≡ reply_to world.issuer (history_for world request) request =
+    own ∙ ap (λ shard. reply_to world.issuer (at world.shards shard).history request) (sym home) in
+    λ i. record { request = same i; reply = reply_is i }
+
+-- a write that is not stored leaves the decision in doubt
+pub doubt-written : (world : WorldState) (caller : ℕ) (stored : Bool) (request : Request) (exchange : Exchange) (home : ℕ) (shards : List ShardState)
+    → stored ≡ false → shards ≡ doubted world.shards home (Some exchange) → home ≡ home_of world request
+    → record world { shards = shards } ≡ written stored world caller (home_of world request) exchange
+doubt-written world caller stored request exchange home shards not_stored shards_are at_home =
+    ap (λ (shards : List ShardState). record world { shards = shards }) shards_are
+    ∙ ap (λ home. with_doubt world home (Some exchange)) at_home
+    ∙ sym (ap (λ (s : Bool). written s world caller (home_of world request) exchange) not_stored)
+
+-- one that is stored records it, and ends the claim
+pub record-written : (world joined : WorldState) (caller : ℕ) (stored : Bool) (request : Request) (exchange : Exchange) (claims : List OpenClaim)
+    → stored ≡ true → joined ≡ with_record world (home_of world exchange.request) (Decided exchange.request exchange.reply)
+    → exchange.request ≡ request → claims ≡ without caller joined.claims
+    → record joined { claims = claims } ≡ written stored world caller (home_of world request) exchange
+record-written world joined caller stored request exchange claims is_stored joined_is same claims_are =
+    ap (λ (claims : List OpenClaim). record joined { claims = claims }) claims_are
+    ∙ ap (λ (w : WorldState). record w { claims = without caller w.claims }) joined_is
+    ∙ ap (λ (q : Request). record (with_record world (home_of world q) (Decided exchange.request exchange.reply)) { claims = without caller world.claims }) same
+    ∙ sym (ap (λ (s : Bool). written s world caller (home_of world request) exchange) is_stored)
+
+-- a write of the issuer's own decision of the request that was claimed
+pub writes-own : (world after : WorldState) (caller : ℕ) (stored : Bool) (claim : OpenClaim) (request : Request) (exchange : Exchange)
+    → claim_of caller world.claims ≡ Some claim → claim.request ≡ request → exchange ≡ own_decision world request
+    → after ≡ written stored world caller (home_of world request) exchange → WritesOwn world caller stored after
+writes-own world after caller stored claim request exchange claim_is same own after_is = record {
+  claim = claim;
+  claim_is = claim_is;
+  after_is = after_is
+      ∙ ap (written stored world caller (home_of world request)) own
+      ∙ ap (λ (q : Request). written stored world caller (home_of world q) (own_decision world q)) (sym same);
+}
+
 -- a write of a legal decision is one that is allowed
-pub writes-taken : (world after : WorldState) (caller : ℕ) (stored : Bool) (claim : OpenClaim) (request : Request) (reply : Reply)
-    → claim_of caller world.claims ≡ Some claim → claim.request ≡ request
-    → IsLegalDecision (grounds_of world.issuer) (home_of world request) (history_for world request) request reply
-    → after ≡ written stored world caller (home_of world request) (record { request = request; reply = reply })
+pub writes-taken : (world after : WorldState) (caller : ℕ) (stored : Bool) (claim : OpenClaim) (request : Request) (exchange : Exchange)
+    → claim_of caller world.claims ≡ Some claim → claim.request ≡ request → exchange.request ≡ request
+    → IsLegalDecision (grounds_of world.issuer) (home_of world request) (history_for world request) request exchange.reply
+    → after ≡ written stored world caller (home_of world request) exchange
     → CanWrite world caller × Writes world caller stored after
-writes-taken world after caller stored claim request reply claim_is same legal after_is =
+writes-taken world after caller stored claim request exchange claim_is same same_too legal after_is =
+    let reply = exchange.reply in
     let legal_here = subst (λ (q : Request). IsLegalDecision (grounds_of world.issuer) (home_of world q) (history_for world q) q reply) (sym same) legal in (
       record { claim = claim; claim_is = claim_is; unused = legal_here.unused },
       record {
@@ -160,7 +203,9 @@ writes-taken world after caller stored claim request reply claim_is same legal a
         reply = reply;
         claim_is = claim_is;
         legal = legal_here;
-        after_is = after_is ∙ ap (λ (q : Request). written stored world caller (home_of world q) (record { request = q; reply = reply })) (sym same);
+        after_is = after_is
+            ∙ ap (λ (q : Request). written stored world caller (home_of world request) (record { request = q; reply = reply })) same_too
+            ∙ ap (λ (q : Request). written stored world caller (home_of world q) (record { request = q; reply = reply })) (sym same);
       },
     )
 

@@ -1,8 +1,8 @@
 -- The rows of a world in which nothing happened.
-use Rattle.std.proofs.Common.{◌≡◌, ℕ, ◌+◌, ◌%◌, List, [], ◌∷◌, ◌++◌, length, replicate, refl, ap, sym, ◌∙◌, subst, inl, inr, Some, arith}
+use Rattle.std.proofs.Common.{◌≡◌, ℕ, ◌+◌, ◌%◌, List, [], ◌∷◌, ◌++◌, length, take, map, Contains, replicate, refl, ap, sym, ◌∙◌, subst, inl, inr, Some, arith}
 use Rattle.std.proofs.lemmas.Bool.{cases_eq}
-use Rattle.std.proofs.lemmas.List.{length_push, get_or_push, get_or_append_left}
-use Rattle.std.proofs.lemmas.Option.{same_Some, slice_get_within, slice_get-get_or, get_or_from_slice_get}
+use Rattle.std.proofs.lemmas.List.{length_push, length-map, map_more, get_or_push, get_or_append_left}
+use Rattle.std.proofs.lemmas.Option.{same_Some, slice_get_within, slice_get-get_or, slice_get-map, get_or_from_slice_get}
 use Rattle.std.specs.List.{slice_get}
 use Rattle.issuer_setup.specs.declared.card.CardInfo.{CardInfo}
 use Rattle.issuer_setup.specs.IssuerSetup.{Setup}
@@ -12,8 +12,10 @@ use Rattle.world_net.specs.declared.parts.MadeRequest.{MadeRequest}
 use Rattle.world_net.specs.declared.parts.OpenClaim.{OpenClaim}
 use Rattle.world_net.specs.declared.parts.Exchange.{Exchange}
 use Rattle.world_net.specs.WorldState.{ShardState, no_shard}
-use Rattle.world_net.specs.NewWorld.{AreNew, AreEmpty}
-use Rattle.world_net.specs.WorldRuns.{IsNewWorld}
+use Rattle.world_net.specs.NewWorld.{AreFirst, AreEmpty}
+use Rattle.world_net.specs.WorldRuns.{IsNewWorld, card_under}
+use Rattle.key_derive.specs.declared.card.KeySet.{KeySet}
+use Rattle.std.specs.Option.{option_map}
 use Rattle.world_net.specs.Stepping.{RowsStand}
 use Rattle.world_net.proofs.Hosts.{at, none-at}
 
@@ -57,14 +59,34 @@ empty-stand issuer rows shards empty none = record {
       (found.0, found.1, subst (λ (state : ShardState). StandsFor info found.0 state.history) (sym state) found.2);
 }
 
+-- the first of some is one of them
+first-known : {X : Type 0} (xs : List X) (x : X) → slice_get xs 0 ≡ Some x → Contains xs x
+first-known xs x is = (0, slice_get_within xs 0 x is, get_or_from_slice_get xs 0 x x is)
+
+-- one more card
+pub cards-more : (keys : KeySet) (infos : List CardInfo) (count : ℕ) (cards longer : List CardState) (info : CardInfo) (card : CardState)
+    → cards ≡ map (card_under keys) (take count infos) → slice_get infos count ≡ Some info → card ≡ card_under keys info → longer ≡ cards ++ card ∷ []
+    → longer ≡ map (card_under keys) (take (count + 1) infos)
+cards-more keys infos count cards longer info card cards_are info_is card_is longer_is =
+    longer_is
+    ∙ (λ i. cards_are i ++ card_is i ∷ [])
+    ∙ ap (λ (info : CardInfo). map (card_under keys) (take count infos) ++ card_under keys info ∷ [])
+    (sym (get_or_from_slice_get infos count info info info_is))
+    ∙ sym (map_more (card_under keys) infos count info (slice_get_within infos count info info_is))
+
 -- a world of new cards, without anything else
 pub new-world : (issuer : Setup) (cards : List CardState) (shards : List ShardState) (made : List MadeRequest) (claims : List OpenClaim)
-    (sent : List Exchange) → AreNew issuer (length issuer.cards) cards → shards ≡ replicate issuer.shards no_shard → made ≡ [] → claims ≡ []
+    (sent : List Exchange) → AreFirst issuer cards → shards ≡ replicate issuer.shards no_shard → made ≡ [] → claims ≡ []
     → sent ≡ [] → IsNewWorld issuer (record { issuer = issuer; cards = cards; made = made; shards = shards; claims = claims; sent = sent })
-new-world issuer cards shards made claims sent new none none_made none_claimed none_sent = record {
+new-world issuer cards shards made claims sent first none none_made none_claimed none_sent = record {
   issuer_is = refl;
-  count = new.count_is;
-  cards = λ number info info_is. new.each number info (slice_get_within issuer.cards number info info_is) info_is;
+  count = ap length first.cards_are ∙ length-map issuer.cards (card_under first.keys);
+  cards = λ number info info_is. (
+    card_under first.keys info,
+    ap (λ (cards : List CardState). slice_get cards number) first.cards_are ∙ slice_get-map (card_under first.keys) issuer.cards number
+        ∙ ap (option_map (card_under first.keys)) info_is,
+    record { keys = first.keys; known = first-known issuer.keys first.keys first.first; card_is = refl },
+  );
   made = none_made;
   shards = none;
   claims = none_claimed;

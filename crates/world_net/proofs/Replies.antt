@@ -33,7 +33,7 @@ use Rattle.line_checks.specs.declared.checked.CheckedRequest.{CheckedRequest}
 use Rattle.row_core.specs.Accepting.{told_update, says_approval, IsMade}
 use Rattle.row_core.specs.CardRow.{CardRow, StandsFor}
 use Rattle.row_core.specs.Plan.{IsPlan}
-use Rattle.row_core.specs.Replying.{reply_bytes, reply_by_row, script_bytes, no_reply}
+use Rattle.row_core.specs.Replying.{reply_bytes, reply_by_row, script_bytes, no_reply, reply_after, reply_by, reply_of_card, reply_to}
 use Rattle.row_core.specs.declared.row.Outcome.{Outcome}
 use Rattle.row_core.specs.declared.row.Outcome.TheVariants.{Fresh, Kept, Below, Taken}
 use Rattle.tlv_objects.specs.Writing.{object_text}
@@ -132,6 +132,15 @@ row-tells : (table : List TableRow) (status : ℕ) (request : Request) (row : Ta
 unfolding is_table
 row-tells table status request row valid is = found-passes (fits status request) tells_approval table row is (and_parts _ _ valid).0
 
+-- the issuer's own reply, by the card and the keys of the request
+own-reply : (issuer : Setup) (history : List Entry) (request : Request) (number : ℕ) (info : CardInfo) (keys : CardKeys)
+    → number_of (card_of request) issuer.cards ≡ Some number → slice_get issuer.cards number ≡ Some info
+    → keys_of issuer number request ≡ Some keys → reply_to issuer history request ≡ reply_after info.method keys issuer.table history request
+own-reply issuer history request number info keys number_is info_is keys_are =
+    ap (λ (known : Option ℕ). reply_of_card issuer known history request) number_is
+    ∙ ap (λ (card : Option CardInfo). reply_by card (keys_of issuer number request) issuer.table history request) info_is
+    ∙ ap (λ (set : Option CardKeys). reply_by (Some info) set issuer.table history request) keys_are
+
 module _ (issuer : Setup) (shard : ℕ) (history : List Entry) (request : Request) (found : CheckedRequest) (info : CardInfo) (row : CardRow) (place : ℕ)
     (at_hand : IsRequestAtHand issuer found) (same : found.request ≡ request) (genuine : checked issuer request ≡ Ok (Decide request))
     (info_is : slice_get issuer.cards found.card ≡ Some info) (named : card_of request ≡ name_of info) (stands : StandsFor info row history)
@@ -156,6 +165,16 @@ module _ (issuer : Setup) (shard : ℕ) (history : List Entry) (request : Reques
             (made-by_row info.method found.keys scripts request table_row code_is update_is
             (row-tells issuer.table row.status request table_row valid decides));
       })
+
+  -- by the issuer's own table
+  pub planned-own : (reply : Reply) (step : Decision) → IsPlan row found.keys issuer.table request place (Fresh reply step)
+      → reply ≡ reply_to issuer history request
+  planned-own reply step plan =
+      let number_is : number_of (card_of request) issuer.cards ≡ Some found.card =
+      ap (λ (q : Request). number_of (card_of q) issuer.cards) (sym same) ∙ at_hand.card_is.number_is in
+      let keys_are : keys_of issuer found.card request ≡ Some found.keys =
+      ap (λ (q : Request). keys_of issuer found.card q) (sym same) ∙ at_hand.keys_are in
+      (plan 0 info history stands named at_end).3 ∙ sym (own-reply issuer history request found.card info found.keys number_is info_is keys_are)
 
   -- any other plan says that the counter isn't unused
   pub planned-used : (outcome : Outcome) → ((reply : Reply) (step : Decision) → outcome ≡ Fresh reply step → ⊥)

@@ -1,16 +1,17 @@
 -- The parts of a world in which nothing happened, as far as they are made.
-use Rattle.std.specs.Prelude.{◌≡◌, ◌<◌, ℕ, List, [], length, slice_get, Some}
+use Rattle.std.specs.Prelude.{◌≡◌, ◌<◌, ℕ, List, [], length, map, slice_get, Some}
 use Rattle.issuer_setup.specs.declared.card.CardInfo.{CardInfo}
 use Rattle.issuer_setup.specs.IssuerSetup.{Setup}
 use Rattle.row_core.specs.CardRow.{CardRow, StandsFor}
 use Rattle.card_model.specs.Application.{CardState}
-use Rattle.world_net.specs.WorldRuns.{IsNewCard}
+use Rattle.key_derive.specs.declared.card.KeySet.{KeySet}
+use Rattle.world_net.specs.WorldRuns.{card_under}
 
--- a new card for each of the issuer's first cards
-pub record AreNew (issuer : Setup) (count : ℕ) (cards : List CardState) : Type 0 where
-  pub count_is : length cards ≡ count
-  pub each : (number : ℕ) (info : CardInfo) → number < count → slice_get issuer.cards number ≡ Some info
-      → (card : CardState) × (slice_get cards number ≡ Some card) × IsNewCard issuer info card
+-- the issuer's cards, each new under the issuer's first key set
+pub record AreFirst (issuer : Setup) (cards : List CardState) : Type 0 where
+  pub keys : KeySet
+  pub first : slice_get issuer.keys 0 ≡ Some keys
+  pub cards_are : cards ≡ map (card_under keys) issuer.cards
 
 -- a row without records for each of the first cards
 pub record AreEmpty (cards : List CardInfo) (count : ℕ) (rows : List CardRow) : Type 0 where

@@ -1,12 +1,18 @@
 -- What a call makes of a world: the parts that a world's code holds, and what it answers.
 use Rattle.std.specs.Prelude.{◌≡◌, ℕ, ◌%◌, Bool, true, false, List, slice_get, slice_index_or, Some, Result, Ok, Err}
+use Rattle.issuer_base.specs.declared.request.Request.{Request}
 use Rattle.issuer_setup.specs.declared.card.CardInfo.{CardInfo}
 use Rattle.issuer_setup.specs.IssuerSetup.{Setup}
 use Rattle.row_core.specs.CardRow.{CardRow, StandsFor}
+use Rattle.row_core.specs.Replying.{reply_to}
 use Rattle.world_net.specs.declared.net.Net.{Net}
-use Rattle.world_net.specs.WorldState.{WorldState, ShardState, no_shard}
+use Rattle.world_net.specs.WorldState.{WorldState, ShardState, no_shard, home_of, history_for, claim_of}
+use Rattle.world_net.specs.WorldSteps.{written}
+use Rattle.world_net.specs.declared.parts.Exchange.{Exchange}
+use Rattle.world_net.specs.declared.parts.OpenClaim.{OpenClaim}
 use Rattle.world_net.specs.WorldRuns.{IsIssuer, IsRun}
 use Rattle.world_net.specs.declared.event.Event.{Event}
+use Rattle.world_net.specs.declared.event.Event.TheVariants.{Write}
 
 -- the world of these parts
 abbrev pub world_of : Net → WorldState
@@ -45,3 +51,23 @@ abbrev pub IsTaken : {E : Type 0} → Type 0 → Type 0 → WorldState → World
 IsTaken Allowed Done before after (Ok true) = Allowed × Done
 IsTaken Allowed Done before after (Ok false) = (Allowed → ⊥) × (after ≡ before)
 IsTaken Allowed Done before after (Err fault) = after ≡ before
+
+-- the issuer's own decision of a request, by its table as it is, after the history of its card's shard
+abbrev pub own_decision : WorldState → Request → Exchange
+own_decision world request = record { request = request; reply = reply_to world.issuer (history_for world request) request }
+
+-- what was written for the caller is the issuer's own decision of the request that the caller claimed
+pub record WritesOwn (world : WorldState) (caller : ℕ) (stored : Bool) (after : WorldState) : Type 0 where
+  pub claim : OpenClaim
+  pub claim_is : claim_of caller world.claims ≡ Some claim
+  pub after_is : after ≡ written stored world caller (home_of world claim.request) (own_decision world claim.request)
+
+-- if the event is a write, it writes the issuer's own decision
+abbrev pub IsOwn : WorldState → Event → WorldState → Type 0
+IsOwn world (Write caller stored) after = WritesOwn world caller stored after
+IsOwn world _ after = Unit {0}
+
+-- if the call did something, this is what it did
+abbrev pub IfDone : {E : Type 0} → Type 0 → Result Bool E → Type 0
+IfDone Done (Ok true) = Done
+IfDone Done _ = Unit {0}

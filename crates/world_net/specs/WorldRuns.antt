@@ -27,11 +27,15 @@ pub record IsIssuer (issuer : Setup) : Type 0 where
   pub shards : are_shards issuer.shards ≡ true
   pub cards : AreCards issuer.cards
 
+-- a new card, whose keys come from this key set
+abbrev pub card_under : KeySet → CardInfo → CardState
+card_under keys info = new_card info.pan info.psn keys.dki info.method (card_keys keys info.pan info.psn)
+
 -- a new card of the issuer, under one of its key sets
 pub record IsNewCard (issuer : Setup) (info : CardInfo) (card : CardState) : Type 0 where
   pub keys : KeySet
   pub known : Contains issuer.keys keys
-  pub card_is : card ≡ new_card info.pan info.psn keys.dki info.method (card_keys keys info.pan info.psn)
+  pub card_is : card ≡ card_under keys info
 
 -- the world in which nothing happened yet: its cards are new, and all else is empty
 pub record IsNewWorld (issuer : Setup) (world : WorldState) : Type 0 where

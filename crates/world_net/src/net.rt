@@ -22,13 +22,11 @@ ghost use Rattle.shard_book.specs.Grounds.{grounds_of};
 ghost use Rattle.world_net.specs.WorldSteps.{Taps, Claims, Releases, Writes, Sends, Authenticates, Runs, Queues, Sets};
 ghost use Rattle.world_net.specs.WorldSteps.{first_doubtful, settled_at, restarted};
 ghost use Rattle.issuer_base.specs.ChipData.{is_bcd};
-ghost use Rattle.key_derive.specs.CardKey.{card_keys};
-ghost use Rattle.card_model.specs.CardSteps.{new_card};
 ghost use Rattle.world_net.specs.Allowed.{IsAllowed};
 ghost use Rattle.world_net.specs.WorldSteps.{IsStep};
-ghost use Rattle.world_net.specs.NewWorld.{AreNew, AreEmpty};
-ghost use Rattle.world_net.specs.WorldRuns.{IsIssuer, IsNewWorld};
-ghost use Rattle.world_net.specs.Stepping.{world_of, Stands, IsReached, IsHeld, IsTaken};
+ghost use Rattle.world_net.specs.NewWorld.{AreFirst, AreEmpty};
+ghost use Rattle.world_net.specs.WorldRuns.{IsIssuer, IsNewWorld, card_under};
+ghost use Rattle.world_net.specs.Stepping.{world_of, Stands, IsReached, IsHeld, IsTaken, own_decision, WritesOwn, IsOwn, IfDone};
 
 use crate::claims::{claim_of, end_claim, is_unclaimed, is_unrecorded};
 use crate::event::Event;
@@ -67,6 +65,7 @@ impl Net {
     pub(crate) fn new(alloc: Global, issuer: Issuer) -> Result<Net, NoMemory>
         ensures held { IfOk result IsHeld }
         ensures new { IfOk result (λ net. IsNewWorld issuer (world_of net)) }
+        ensures first { IfOk result (λ net. AreFirst issuer (world_of net).cards) }
     {
         let cards = new_cards(alloc, &issuer)?;
         let rows = empty_rows(alloc, &issuer)?;
@@ -87,6 +86,7 @@ impl Net {
         requires { IsHeld self.old }
         ensures taken { IsTaken (IsAllowed (world_of self.old) event.now) (IsStep (world_of self.old) event.now (world_of self.new))
             (world_of self.old) (world_of self.new) result }
+        ensures own { IfDone (IsOwn (world_of self.old) event.now (world_of self.new)) result }
         ensures held { IsHeld self.new }
     {
         self.take(event)
@@ -100,6 +100,7 @@ impl Net {
         requires rows { Stands self.old }
         ensures taken { IsTaken (IsAllowed (world_of self.old) event.now) (IsStep (world_of self.old) event.now (world_of self.new))
             (world_of self.old) (world_of self.new) result }
+        ensures own { IfDone (IsOwn (world_of self.old) event.now (world_of self.new)) result }
         ensures rows { Stands self.new }
     {
         match event {
@@ -277,6 +278,7 @@ impl Net {
         requires rows { Stands self.old }
         ensures taken { IsTaken (CanWrite (world_of self.old) caller) (Writes (world_of self.old) caller stored (world_of self.new))
             (world_of self.old) (world_of self.new) result }
+        ensures own { IfDone (WritesOwn (world_of self.old) caller stored (world_of self.new)) result }
         ensures rows { Stands self.new }
     {
         let Some(request) = self.claimed(caller) else {
@@ -340,14 +342,15 @@ impl Net {
         Some(claim.request.copy())
     }
 
-    /// The reply that the issuer makes to a request that it decides, where its counter is in the window and unused.
+    /// The issuer's own decision of a request that it decides, where its counter is in the window and unused.
     fn planned(&self, request: &Request) -> Option<Exchange>
         requires shards { length self.now.shards.items ≡ self.now.issuer.shards }
         requires rows { Stands self.now }
         requires genuine { checked self.now.issuer request.now ≡ Ok (Decide request.now) }
         ensures { MatchOption result
             (IsUnused (decided_for request.now (history_for (world_of self.now) request.now)) request.now → ⊥)
-            (λ exchange. (exchange.request ≡ request.now) × IsLegalDecision (grounds_of self.now.issuer) (home_of (world_of self.now) request.now)
+            (λ exchange. (exchange ≡ own_decision (world_of self.now) request.now)
+            × IsLegalDecision (grounds_of self.now.issuer) (home_of (world_of self.now) request.now)
             (history_for (world_of self.now) request.now) request.now exchange.reply) }
     {
         let Ok(found) = check_request(&self.issuer, request.copy()) else {
@@ -517,7 +520,7 @@ fn widths(row: &TableRow)
 
 /// A new card for each of the issuer's, under its first key set.
 fn new_cards(alloc: Global, issuer: &Issuer) -> Result<Vec<Card>, NoMemory>
-    ensures new { IfOk result (λ cards. AreNew issuer.now (length issuer.now.cards) cards.items) }
+    ensures first { IfOk result (λ cards. AreFirst issuer.now cards.items) }
     ensures valid { AreCards issuer.now.cards }
 {
     let keys = issuer.first_key();
@@ -531,7 +534,7 @@ fn new_cards(alloc: Global, issuer: &Issuer) -> Result<Vec<Card>, NoMemory>
 /// A new card under this key set.
 fn new_card(alloc: Global, info: &CardInfo, keys: &KeySet) -> Card
     requires { IsTrue (is_bcd info.now.psn) }
-    ensures { result ≡ new_card info.now.pan info.now.psn keys.now.dki info.now.method (card_keys keys.now info.now.pan info.now.psn) }
+    ensures { result ≡ card_under keys.now info.now }
 {
     Card::new(
         alloc,

@@ -4,7 +4,8 @@ ghost use Rattle.world_net.specs.Allowed.{IsAllowed};
 ghost use Rattle.world_net.specs.WorldSteps.{IsStep};
 ghost use Rattle.world_net.specs.WorldRuns.{IsNewWorld};
 ghost use Rattle.world_net.specs.Safety.{IsSafe};
-ghost use Rattle.world_net.specs.Stepping.{IsTaken, IsReached};
+ghost use Rattle.world_net.specs.NewWorld.{AreFirst};
+ghost use Rattle.world_net.specs.Stepping.{IsTaken, IsReached, IsOwn, IfDone};
 
 use crate::event::Event;
 use crate::net::Net;
@@ -39,6 +40,7 @@ impl World {
     /// The world of this issuer in which nothing happened: its cards are new, under the issuer's first key set.
     pub fn new(alloc: Global, issuer: Issuer) -> Result<World, NoMemory>
         ensures new { IfOk result (IsNewWorld issuer) }
+        ensures first { IfOk result (λ world. AreFirst issuer world.cards) }
         ensures run { IfOk result IsReached }
         ensures safe { IfOk result IsSafe }
     {
@@ -50,6 +52,9 @@ impl World {
     /// changes.
     pub fn step(&mut self, event: &Event) -> Result<bool, NoMemory>
         ensures taken { IsTaken (IsAllowed self.old event.now) (IsStep self.old event.now self.new) self.old self.new result }
+
+        // A write takes the reply of the issuer's own table.
+        ensures own { IfDone (IsOwn self.old event.now self.new) result }
 
         // At each moment it is the end of a run, and safe.
         ensures run { IsReached self.new }

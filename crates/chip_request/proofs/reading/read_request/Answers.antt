@@ -3,8 +3,7 @@ use Rattle.std.proofs.Common.{sym, ap, ◌∙◌, Err, is_some}
 use Rattle.std.proofs.lemmas.Result.{err_from_is_err_and}
 use Rattle.tlv_objects.specs.Tlv.{Ahead, objects_ahead, objects_of}
 use Rattle.chip_request.specs.Slots.{request_in}
-use Rattle.chip_request.proofs.Meaning.{walked, looked_missing, looked_misformed, looked_repeated, refuses_torn, refuses_missing, refuses_misformed}
-use Rattle.chip_request.proofs.Meaning.{refuses_repeated, takes_request, answered}
+use Rattle.chip_request.proofs.Meaning.{walked, refuses_torn, refuses_fault, right_objects, takes_without_fault, answered}
 use Rattle.chip_request.proofs.Good.{finds_request}
 use Rattle.chip_request.proofs.reading.read_request.Goals as goal
 
@@ -18,32 +17,18 @@ returns-in_err-note_all c =
 pub returns-in-Some : goal.returns-in-Some
 returns-in-Some c =
     let whole = walked c.args.bytes.now _ _ _ c.new.ensures c.unfound-slots.ensures c.in_ok-note_all.ensures.ok in
-    sym (refuses_missing c.args.bytes.now c.in-Some.tag whole.0 (looked_missing _ _ _ whole.1 c.in-Some.ensures))
-
-pub returns-in-Some-first_wrong : goal.returns-in-Some-first_wrong
-returns-in-Some-first_wrong c =
-    let whole = walked c.args.bytes.now _ _ _ c.new.ensures c.unfound-slots.ensures c.in_ok-note_all.ensures.ok in
-    sym (refuses_misformed c.args.bytes.now c.in-Some-first_wrong.tag whole.0 (looked_missing _ _ _ whole.1 c.in_default.ensures)
-    (looked_misformed _ _ _ whole.1 c.in-Some-first_wrong.ensures))
-
-pub returns-in-Some-first_wrong-2 : goal.returns-in-Some-first_wrong-2
-returns-in-Some-first_wrong-2 c =
-    let whole = walked c.args.bytes.now _ _ _ c.new.ensures c.unfound-slots.ensures c.in_ok-note_all.ensures.ok in
-    sym (refuses_repeated c.args.bytes.now c.in-Some-first_wrong-2.tag whole.0 (looked_missing _ _ _ whole.1 c.in_default.ensures)
-    (looked_misformed _ _ _ whole.1 c.in_default-first_wrong.ensures) (looked_repeated _ _ _ whole.1 c.in-Some-first_wrong-2.ensures))
+    sym (refuses_fault c.args.bytes.now _ c.in-Some.fault whole.0 whole.1 c.in-Some.ensures)
 
 pub unwrap-requires : goal.unwrap-requires
 unwrap-requires c =
     let whole = walked c.args.bytes.now _ _ _ c.new.ensures c.unfound-slots.ensures c.in_ok-note_all.ensures.ok in
-    let found = finds_request (objects_of c.args.bytes.now).objects (looked_missing _ _ _ whole.1 c.in_default.ensures)
-    (looked_misformed _ _ _ whole.1 c.in_default-first_wrong.ensures) in
-    ap is_some (c.request_in.ensures ∙ ap request_in whole.1 ∙ found)
+    let right = right_objects (objects_of c.args.bytes.now).objects _ whole.1 c.in_default.ensures in
+    ap is_some (c.request_in.ensures ∙ ap request_in whole.1 ∙ finds_request (objects_of c.args.bytes.now).objects right.0 right.1)
 
 pub returns : goal.returns
 returns c =
     let whole = walked c.args.bytes.now _ _ _ c.new.ensures c.unfound-slots.ensures c.in_ok-note_all.ensures.ok in
-    let present = looked_missing _ _ _ whole.1 c.in_default.ensures in
-    let formed = looked_misformed _ _ _ whole.1 c.in_default-first_wrong.ensures in
-    let found = finds_request (objects_of c.args.bytes.now).objects present formed in
+    let right = right_objects (objects_of c.args.bytes.now).objects _ whole.1 c.in_default.ensures in
+    let found = finds_request (objects_of c.args.bytes.now).objects right.0 right.1 in
     let same = sym c.unwrap.ensures ∙ c.request_in.ensures ∙ ap request_in whole.1 ∙ found in
-    answered _ _ _ same (takes_request c.args.bytes.now whole.0 present formed (looked_repeated _ _ _ whole.1 c.in_default-first_wrong-2.ensures))
+    answered _ _ _ same (takes_without_fault c.args.bytes.now _ whole.0 whole.1 c.in_default.ensures)

@@ -21,6 +21,7 @@ returns-in-Err-clause-stopped g c =
       still = c.in-Err.ensures.still;
       leaves = c.in-Err.ensures.crash;
       counts = c.in-Err.ensures.failed;
+      untouched = c.in-Err.ensures.untouched;
     } in
     let left : List _ = reverse c.pop.new.self.items in
     let after = c.in-Err.field-0.store in

@@ -3,4 +3,4 @@ use Rattle.many_callers.proofs.OneRun.{callers-explained}
 use Rattle.many_callers.proofs.law.every_answer_is_explained.Goals as goal
 
 pub returns : goal.returns
-returns c = λ issuer opening logs callers some are. callers-explained issuer some opening logs callers are
+returns c = λ issuer opening logs callers are. callers-explained issuer opening logs callers are

@@ -5,6 +5,7 @@ use Rattle.card_history.specs.Records.{CardName, card_of}
 use Rattle.row_core.specs.Replying.{reply_to}
 use Rattle.shard_book.specs.Answering.{AnswersClaimed}
 use Rattle.host_calls.proofs.OneShard.{is-called, shards-after, turn-after, crash-after}
+use Rattle.host_calls.proofs.Places.{write-same}
 use Rattle.host_calls.proofs.solo.Solo.decide.Goals as goal
 
 pub invariant_of-self-clause-are_shards : goal.invariant_of-self-clause-are_shards
@@ -46,3 +47,10 @@ invariant_of-self-clause-room g c =
     let kept = host.room in
     let long = length-set host.shards.items c.home-shard.result c.answer.new.self in
     subst (λ count. count ≤ vec_capacity host.back) (sym long) kept
+
+pub returns-clause-unchanged : goal.returns-clause-unchanged
+returns-clause-unchanged g c idle =
+    let host = c.args.self.now in
+    write-same host.shards.items c.home-shard.result c.index_mut.result.now c.answer.new.self
+    (slice_get_read host.shards.items _ c.home-shard.result c.index_mut.result.now refl c.home-shard.ensures.within c.index_mut.ensures.value)
+    (c.answer.ensures.unchanged idle)

@@ -5,6 +5,7 @@ use Rattle.card_history.specs.Records.{CardName, named}
 use Rattle.line_checks.proofs.Numbers.{number-within}
 use Rattle.shard_book.specs.Answering.{AnswersSetting}
 use Rattle.host_calls.proofs.OneShard.{card-at_home, is-called, shards-after, turn-after, crash-after}
+use Rattle.host_calls.proofs.Places.{write-same}
 use Rattle.host_calls.proofs.solo.Solo.set_status.Goals as goal
 
 pub set_status-requires-clause-home : goal.set_status-requires-clause-home
@@ -57,3 +58,10 @@ invariant_of-self-clause-room g c =
     let kept = host.room in
     let long = length-set host.shards.items c.home-shard.result c.set_status.new.self in
     subst (λ count. count ≤ vec_capacity host.back) (sym long) kept
+
+pub returns-clause-unchanged : goal.returns-clause-unchanged
+returns-clause-unchanged g c idle =
+    let host = c.args.self.now in
+    write-same host.shards.items c.home-shard.result c.index_mut.result.now c.set_status.new.self
+    (slice_get_read host.shards.items _ c.home-shard.result c.index_mut.result.now refl c.home-shard.ensures.within c.index_mut.ensures.value)
+    (c.set_status.ensures.unchanged idle)

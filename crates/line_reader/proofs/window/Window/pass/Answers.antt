@@ -28,6 +28,9 @@ invariant_of-self c =
       line_passed = omega arith;
       ahead_in_order = omega (arith, h.within);
       in_bounds = w.in_bounds;
+      last_within = w.last_within;
+      last_newline = λ less. w.last_newline (omega arith);
+      none_behind = w.none_behind;
     }
 
 pub returns-in-Some : goal.returns-in-Some

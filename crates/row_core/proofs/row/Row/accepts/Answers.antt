@@ -1,7 +1,9 @@
 -- Where the cryptogram holds, a reply is accepted where it may follow.
-use Rattle.std.proofs.Common.{ap, ◌∙◌}
+use Rattle.std.proofs.Common.{◌↔◌, IsTrue, ap, ◌∙◌, subst}
 use Rattle.issuer_base.specs.declared.request.Request.{Request}
+use Rattle.key_derive.specs.declared.card.CardKeys.{CardKeys}
 use Rattle.key_derive.specs.SessionKey.{session_ac}
+use Rattle.row_core.specs.Accepting.{MayFollow}
 use Rattle.row_core.proofs.AcceptLemmas.{accepts-following, accepts-none}
 use Rattle.row_core.proofs.row.Row.accepts.Goals as goal
 
@@ -12,7 +14,8 @@ returns-then-holds_under c = record {
       (c.for_cryptograms-session.ensures ∙ ap (λ (request : Request). session_ac c.args.keys.now.ac.0 request.atc) c.parts.ensures.same)
       c.holds_under.ensures
       c.if-holds_under.true
-      (c.accepts_under.ensures.exact card history stands named);
+      (subst (λ (keys : CardKeys). IsTrue c.accepts_under.result ↔ MayFollow card.method keys history c.args.request.now c.args.reply.now)
+      c.from-keys.ensures (c.accepts_under.ensures.exact card history stands named));
 }
 
 pub returns-else-holds_under : goal.returns-else-holds_under

@@ -1,5 +1,7 @@
 -- Each outcome of the plan is answered as the history says.
 use Rattle.std.proofs.Common.{◌≡◌, length, refl, ap, sym, subst, ◌∙◌}
+use Rattle.issuer_base.specs.declared.answer.Reply.{Reply}
+use Rattle.issuer_base.specs.declared.entry.Entry.TheVariants.{Decided}
 use Rattle.issuer_base.specs.declared.request.Request.{Request}
 use Rattle.card_history.specs.declared.decision.Decision.{Decision}
 use Rattle.card_history.specs.Records.{CardName, card_of, decided}
@@ -7,6 +9,7 @@ use Rattle.card_history.specs.Turns.{IsUnused}
 use Rattle.issuer_setup.specs.CardList.{name_of}
 use Rattle.row_core.specs.Plan.{IsNext}
 use Rattle.shard_book.proofs.LegalNext.{card-found, legal-decision}
+use Rattle.shard_book.specs.Answering.{LeavesTail}
 use Rattle.shard_book.specs.Grounds.{grounds_now}
 use Rattle.shard_book.proofs.ShardSteps.{crash-no_call, answer-added}
 use Rattle.shard_book.proofs.shard.Shard.answer.Goals as goal
@@ -45,3 +48,12 @@ returns-else-not-won-clause-answer g c history stands =
     refl c.requires.genuine plan.0 plan.3 in
     answer-added issuer c.decide.new.self c.args.self.now.rows.shard c.args.won history request reply c.decide.result c.if-not-won.false plan.0 plan.3
     (c.decide.ensures.added issuer card.card history stands card.known next step_is legal)
+
+pub returns-else-not-won-clause-tail : goal.returns-else-not-won-clause-tail
+returns-else-not-won-clause-tail g c history tail stands holds =
+    let issuer = c.args.issuer.now in
+    let request : Request = c.args.found.now.request in
+    let at_end : c.records.result ≡ length history = c.records.ensures ∙ stands.journal_holds.holds.count_is in
+    let plan = c.in-Fresh.ensures.plan history stands.rows_stand at_end in
+    subst (λ (reply : Reply). LeavesTail (Decided request reply) history tail c.decide.result c.decide.new.self) plan.3
+    (c.decide.ensures.tail history tail holds)

@@ -44,6 +44,14 @@ returns-in_default-clause-added g c issuer card history stands known next step_i
           (c.as_slice.ensures.value ∙ c.write_decided.ensures.text) stands legal refl,
     )
 
+pub returns-in_default-clause-tail : goal.returns-in_default-clause-tail
+returns-in_default-clause-tail g c history tail holds =
+    c.in_default.ensures.tail history tail (Decided c.args.found.now.request c.args.reply) (c.as_slice.ensures.value ∙ c.write_decided.ensures.text) holds
+
+pub returns-clause-tail : goal.returns-clause-tail
+returns-clause-tail g c history tail holds =
+    c.in-Ok.ensures.tail history tail (Decided c.args.found.now.request c.args.reply) (c.as_slice.ensures.value ∙ c.write_decided.ensures.text) holds
+
 pub returns-in_default-clause-crash : goal.returns-in_default-clause-crash
 returns-in_default-clause-crash g c issuer history stands legal =
     c.put_text.ensures.crash issuer history (Decided c.args.found.now.request c.args.reply) c.write_decided.ensures.record

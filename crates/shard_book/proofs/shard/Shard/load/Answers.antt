@@ -1,6 +1,10 @@
 -- What is loaded, what a load that failed leaves, and what a crash leaves meanwhile.
-use Rattle.shard_book.proofs.Exactly.{image-outside, leaves-bytes, leaves-cut, leaves-disk, leaves-failed, loads-exactly, loads-image}
-use Rattle.shard_book.proofs.Exactly.{opens-loaded, opens-stopped, stops-outside}
+use Rattle.std.proofs.Common.{◌≡◌, false}
+use Rattle.shard_book.specs.Loading.{is_store_failure}
+use Rattle.shard_book.specs.Shards.{LeavesDisk}
+use Rattle.shard_book.specs.declared.replay.LoadFault.TheVariants.{NoMemory}
+use Rattle.shard_book.proofs.Exactly.{image-outside, leaves-bytes, leaves-cut, leaves-disk, loads-exactly, loads-image}
+use Rattle.shard_book.proofs.Exactly.{memory-apart, opens-loaded, opens-stopped, own-apart, stops-outside, where-failed}
 use Rattle.shard_book.proofs.LoadCrash.{crash-read, crash-opened, crash-back}
 use Rattle.shard_book.proofs.shard.Shard.load.Goals as goal
 
@@ -37,13 +41,25 @@ returns-in-Ok-clause-kept g c =
     (g.S.Store.bytes c.take_over.new.store) c.open.result c.in-Ok.ensures.taken c.in-Ok.ensures.bytes c.open.ensures.fault c.open.ensures.kept
 
 pub returns-in-Ok-clause-still : goal.returns-in-Ok-clause-still
-returns-in-Ok-clause-still g c = leaves-failed (g.S.Store.disk c.args.store) c.open.result c.open.ensures.fault
+returns-in-Ok-clause-still g c =
+    where-failed (λ fault back. LeavesDisk fault (g.S.Store.disk c.args.store) (g.S.Store.disk back.store)) c.open.result (λ back. tt) c.open.ensures.fault
+
+pub returns-in-Ok-clause-size : goal.returns-in-Ok-clause-size
+returns-in-Ok-clause-size g c =
+    where-failed (λ fault back. is_store_failure fault ≡ false → g.S.Store.size back.store ≡ g.S.Store.size c.args.store) c.open.result
+    (λ back. own-apart) c.open.ensures.fault
+
+pub returns-in-Ok-clause-untouched : goal.returns-in-Ok-clause-untouched
+returns-in-Ok-clause-untouched g c =
+    where-failed (λ fault back. fault ≡ NoMemory → back.store ≡ c.args.store) c.open.result (λ back. memory-apart) c.open.ensures.fault
 
 pub returns-in-Ok-clause-opened : goal.returns-in-Ok-clause-opened
 returns-in-Ok-clause-opened g c = crash-opened c.in-Ok.field-0.taken.bytes _ _ c.in-Ok.ensures.disk c.open.result c.open.ensures.sure c.open.ensures.opened
 
 pub returns-in-Ok-clause-crash : goal.returns-in-Ok-clause-crash
-returns-in-Ok-clause-crash g c = crash-back c.in-Ok.field-0.taken.bytes _ _ c.in-Ok.ensures.disk c.open.result c.open.ensures.crash
+returns-in-Ok-clause-crash g c =
+    crash-back c.args.issuer.now c.args.shard (g.S.Store.bytes c.args.store) c.in-Ok.field-0.rows c.in-Ok.field-0.taken c.in-Ok.ensures.taken _ _
+    (g.met.S.Store.told_bytes c.args.store) c.in-Ok.ensures.disk c.open.result c.open.ensures.crash
 
 pub returns-in-Err-clause-exact : goal.returns-in-Err-clause-exact
 returns-in-Err-clause-exact g c history text =

@@ -19,6 +19,10 @@ returns-clause-failed g c issuer history stands legal failed =
     c.put_text.ensures.failed issuer history c.args.entry.now c.write_entry.ensures.record
     (c.as_slice.ensures.value ∙ c.write_entry.ensures.text) stands legal failed
 
+pub returns-clause-tail : goal.returns-clause-tail
+returns-clause-tail g c history tail holds =
+    c.put_text.ensures.tail history tail c.args.entry.now (c.as_slice.ensures.value ∙ c.write_entry.ensures.text) holds
+
 pub returns-clause-crash : goal.returns-clause-crash
 returns-clause-crash g c issuer history stands legal =
     c.put_text.ensures.crash issuer history c.args.entry.now c.write_entry.ensures.record (c.as_slice.ensures.value ∙ c.write_entry.ensures.text) stands legal

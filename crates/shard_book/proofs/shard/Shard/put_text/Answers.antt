@@ -1,9 +1,9 @@
 -- What is held once the text of a record was put into the journal, or not, and what a crash leaves meanwhile.
-use Rattle.std.proofs.Common.{length, ap, sym, arith, ◌∙◌}
+use Rattle.std.proofs.Common.{length, ap, sym, ◌∙◌}
 use Rattle.journal_rec.specs.RecordText.{texts_of}
 use Rattle.shard_book.specs.Answering.{told_after}
 use Rattle.shard_book.specs.Grounds.{grounds_now}
-use Rattle.shard_book.proofs.ShardSteps.{put-done, put-failed, put-crash, put-undoubted}
+use Rattle.shard_book.proofs.ShardSteps.{put-done, put-failed, put-tail, put-crash, put-undoubted}
 use Rattle.shard_book.proofs.shard.Shard.put_text.Goals as goal
 
 pub returns-clause-put : goal.returns-clause-put
@@ -21,6 +21,12 @@ returns-clause-failed g c issuer history entry is_record its stands legal failed
           put-failed (grounds_now issuer) c.args.self.now.rows.shard history entry c.args.self.now.journal c.put-written.new.self h c.args.text.now
           its is_record legal (c.put-written.ensures.failed (length history) (texts_of history) h.tail h.holds failed);
     }
+
+pub returns-clause-tail : goal.returns-clause-tail
+returns-clause-tail g c history tail entry its holds =
+    put-tail history entry c.put-written.new.self c.args.text.now its tail c.put-written.result
+    (c.put-written.ensures.put (length history) (texts_of history) tail holds)
+    (c.put-written.ensures.failed (length history) (texts_of history) tail holds)
 
 pub returns-clause-crash : goal.returns-clause-crash
 returns-clause-crash g c issuer history entry is_record its stands legal =

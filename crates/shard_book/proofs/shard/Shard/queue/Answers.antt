@@ -3,13 +3,16 @@ use Rattle.std.proofs.Common.{◌≡◌, ℕ, [], ◌∷◌, ◌++◌, refl, ap,
 use Rattle.std.proofs.lemmas.Bool.{false≢true}
 use Rattle.issuer_base.specs.ScriptCommand.{is_command}
 use Rattle.issuer_base.specs.declared.command.Command.{Command}
+use Rattle.issuer_base.specs.declared.answer.Answer.TheVariants.{Refused}
+use Rattle.issuer_base.specs.declared.answer.Refusal.TheVariants.{StoreFault}
 use Rattle.issuer_base.specs.declared.entry.Entry.TheVariants.{Queued}
 use Rattle.card_history.specs.Records.{CardName, named}
 use Rattle.card_history.specs.Scripts.{waiting, scripts_of}
 use Rattle.script_queue.specs.CommandQueue.{TakesOneMore}
+use Rattle.shard_book.specs.Answering.{LeavesTail}
 use Rattle.shard_book.specs.Grounds.{grounds_now}
 use Rattle.shard_book.specs.ShardRows.{ShardRows, StandsFor as RowsStandFor}
-use Rattle.shard_book.specs.Shards.{HoldsHistory}
+use Rattle.shard_book.specs.Shards.{HoldsHistory, HasTail}
 use Rattle.shard_book.proofs.LegalNext.{writable, card-found, legal-command}
 use Rattle.shard_book.proofs.ShardSteps.{crash-no_call, stands-with}
 use Rattle.shard_book.proofs.shard.Shard.queue.Goals as goal
@@ -51,6 +54,16 @@ returns-in_default-clause-answer g c history stands =
     legal-command issuer c.args.self.now.rows c.requires.under (named found.pan found.psn) found.card c.requires.at_hand.card_is c.requires.home history
     c.copy.result form room in
     (history, c.in_default.ensures.failed issuer history stands legal refl, (room, refl))
+
+pub returns-in_default-clause-tail : goal.returns-in_default-clause-tail
+returns-in_default-clause-tail g c history tail holds =
+    subst (λ (command : Command). LeavesTail (Queued c.args.found.pan c.args.found.psn command) history tail (Refused StoreFault) c.put.new.self)
+    c.copy.ensures (c.in_default.ensures.tail history tail holds)
+
+pub returns-clause-tail : goal.returns-clause-tail
+returns-clause-tail g c history tail holds =
+    subst (λ (command : Command). HasTail c.put.new.self (history ++ Queued c.args.found.pan c.args.found.psn command ∷ []) []) c.copy.ensures
+    (c.in-Ok.ensures.tail history tail holds)
 
 pub returns-in_default-clause-crash : goal.returns-in_default-clause-crash
 returns-in_default-clause-crash g c history stands =

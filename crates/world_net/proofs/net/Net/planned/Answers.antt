@@ -15,14 +15,15 @@ use Rattle.issuer_setup.proofs.CardListLemmas.{number_of-found}
 use Rattle.line_checks.specs.Reading.{checked}
 use Rattle.line_checks.proofs.Numbers.{number-within}
 use Rattle.row_core.specs.Plan.{IsPlan}
+use Rattle.row_core.specs.Replying.{reply_to}
 use Rattle.row_core.specs.declared.row.Outcome.TheVariants.{Fresh}
 use Rattle.shard_book.specs.Grounds.{grounds_of}
 use Rattle.world_net.specs.WorldState.{ShardState, no_shard, home_of}
 use Rattle.world_net.specs.Stepping.{world_of}
 use Rattle.world_net.proofs.Hosts.{at}
 use Rattle.world_net.proofs.NetRows.{row-there, row-stands}
-use Rattle.world_net.proofs.NetWrites.{home-card}
-use Rattle.world_net.proofs.Replies.{planned-legal, planned-used}
+use Rattle.world_net.proofs.NetWrites.{home-card, own-exchange}
+use Rattle.world_net.proofs.Replies.{planned-legal, planned-own, planned-used}
 use Rattle.world_net.proofs.net.Net.planned.Goals as goal
 
 pub index-row-requires : goal.index-row-requires
@@ -66,7 +67,13 @@ returns-in-Fresh c =
     c.in-Fresh.reply c.in-Fresh.field-1 c.deciding_row.result.now plan decides
     (subst (λ (table : List TableRow). IsTrue (is_table table)) c.table-table.ensures c.deciding_row.ensures.table)
     c.deciding_row.ensures.widths.0 c.deciding_row.ensures.widths.1 in
-    (same, subst (λ shard. IsLegalDecision (grounds_of world.issuer) shard (at world.shards shard).history request c.in-Fresh.reply) (sym home) legal)
+    let own : c.in-Fresh.reply ≡ reply_to world.issuer (at world.shards place).history request =
+    planned-own world.issuer place (at world.shards place).history request found info.0 c.index-row.result.now (length c.history.result.now)
+    at_hand same c.requires.genuine info.1 (sym info.2) stands (record { number = found.card; number_is = number_is; home = refl }) at_end
+    c.in-Fresh.reply c.in-Fresh.field-1 plan in (
+      own-exchange world request found.request c.in-Fresh.reply place same home own,
+      subst (λ shard. IsLegalDecision (grounds_of world.issuer) shard (at world.shards shard).history request c.in-Fresh.reply) (sym home) legal,
+    )
 
 pub returns-in_default-outcome : goal.returns-in_default-outcome
 returns-in_default-outcome c =

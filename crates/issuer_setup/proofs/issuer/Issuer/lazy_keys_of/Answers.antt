@@ -2,7 +2,7 @@
 use Rattle.std.proofs.Common.{◌<◌, length, sym, ◌∙◌}
 use Rattle.issuer_base.specs.ChipData.{dki}
 use Rattle.issuer_setup.proofs.KeptKeysLemmas.{kept-within, kept-keys, no-keys}
-use Rattle.issuer_setup.proofs.issuer.Issuer.keys_of.Goals as goal
+use Rattle.issuer_setup.proofs.issuer.Issuer.lazy_keys_of.Goals as goal
 
 pub returns-in_err-place : goal.returns-in_err-place
 returns-in_err-place c =
@@ -21,6 +21,6 @@ pub returns : goal.returns
 returns c =
     let searched = rw c.dki.ensures at c.place_of.ensures in
     let below : c.args.card < length c.self.inside.cards = rw (← c.self.view_is) at c.requires in
-    rw (← c.self.view_is)
-    (kept-keys c.self.inside.keys c.self.inside.cards c.self.inside.kept c.args.card (dki c.args.request.now) c.in_ok-place.place c.keys_of.result
+    rw (← c.self.view_is, c.copy.ensures)
+    (kept-keys c.self.inside.keys c.self.inside.cards c.self.inside.kept c.args.card (dki c.args.request.now) c.in_ok-place.place c.keys_of.result.now
     c.self.invariant below (sym searched ∙ c.in_ok-place.was) c.keys_of.ensures)

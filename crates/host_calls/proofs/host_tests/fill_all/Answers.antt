@@ -3,7 +3,7 @@ use Rattle.std.proofs.Common.{length, ap, arith}
 use Rattle.seat_names.proofs.ManySeats.{whole_lent}
 use Rattle.host_calls.specs.declared.host_tests.Caller.{Caller}
 use Rattle.host_calls.specs.Passes.{claims_of}
-use Rattle.host_calls.proofs.host_tests.fill_both.Goals as goal
+use Rattle.host_calls.proofs.host_tests.fill_all.Goals as goal
 
 pub join_all-answered-requires-clause-whole : goal.join_all-answered-requires-clause-whole
 join_all-answered-requires-clause-whole g c =

@@ -1,0 +1,11 @@
+-- So many rooms were taken, each for so many lines.
+use Rattle.std.proofs.Common.{◌≡◌, ◌≤◌, ◌/◌, All, vec_len, vec_capacity}
+use Rattle.caller_lanes.specs.declared.lanes.TheConstants.{BLOCK_LINES}
+use Rattle.caller_lanes.proofs.load.take_room.Given as goal
+
+abbrev pub invariant-loop : goal.invariant-loop
+invariant-loop l = record {
+  count : vec_len l.rooms ≡ l.counter;
+  room : l.count ≤ vec_capacity l.rooms;
+  each : All (λ room. room.count ≡ BLOCK_LINES / l.count) l.rooms.items;
+}

@@ -1,0 +1,6 @@
+-- The law of the faults that several callers are told.
+use Rattle.many_callers.proofs.RisingFaults.{faults-counted}
+use Rattle.many_callers.proofs.counts.faults_are_counted.Goals as goal
+
+pub returns : goal.returns
+returns c = λ issuer opening logs callers are. faults-counted issuer opening logs callers are
