@@ -231,7 +231,7 @@ module _ (extra : List ℕ) (options : List (List ℕ)) where
       let parts = pair-known (is_one_of (extra ∷ options) pair.option) (is_value pair.value) (are_pairs (extra ∷ options) pairs) all in
       let known : (bytes_eq pair.option extra || is_one_of options pair.option) ≡ true = parts.0 in
       elim (bytes_eq pair.option extra) as (λ here. (here || is_one_of options pair.option) ≡ true
-          → (if here then pair.value ∷ values_of extra pairs else values_of extra pairs) ≡ [] → are_pairs options (pair ∷ pairs) ≡ true) [
+      → (if here then pair.value ∷ values_of extra pairs else values_of extra pairs) ≡ [] → are_pairs options (pair ∷ pairs) ≡ true) [
         | true ↦ λ one some. absurd (cc)
         | false ↦ λ one rest. known-pair (is_one_of options pair.option) (is_value pair.value) (are_pairs options pairs) one parts.1
             (without pairs parts.2 rest)
@@ -281,13 +281,19 @@ pub serve-from : (words : List (List ℕ)) (config name journal : List ℕ) (cal
 serve-from words config name journal callers are a b c gives =
     ⊎_elim
     (λ absent.
-    inl (call-from (codes "serve") serve_options words (config ∷ name ∷ journal ∷ [])
-    (record { odd = are.odd; first = are.first; pairs = without callers_option serve_options (pairs_of (drop 1 words)) are.pairs absent.0 })
-    (three-values words (codes "--config") (codes "--requests") (codes "--journal") config name journal a b c), absent.1))
+    inl (
+      call-from (codes "serve") serve_options words (config ∷ name ∷ journal ∷ [])
+          (record { odd = are.odd; first = are.first; pairs = without callers_option serve_options (pairs_of (drop 1 words)) are.pairs absent.0 })
+          (three-values words (codes "--config") (codes "--requests") (codes "--journal") config name journal a b c),
+      absent.1,
+    ))
     (λ said.
-    inr (call-from (codes "serve") (callers_option ∷ serve_options) words (decimal callers ∷ config ∷ name ∷ journal ∷ []) are
-    (four-values words callers_option (codes "--config") (codes "--requests") (codes "--journal") (decimal callers) config name journal
-    (ap only said.0) a b c), said.1))
+    inr (
+      call-from (codes "serve") (callers_option ∷ serve_options) words (decimal callers ∷ config ∷ name ∷ journal ∷ []) are
+          (four-values words callers_option (codes "--config") (codes "--requests") (codes "--journal") (decimal callers) config name journal
+          (ap only said.0) a b c),
+      said.1,
+    ))
     gives
 
 pub show-from : (words : List (List ℕ)) (config journal : List ℕ) → AreWordsOf Show words

@@ -22,7 +22,7 @@ module _ {S : Type 0} {G : Ghosts S} (first : LineHost S G) where
       → TakesLine (λ lines text waiting. HasServed first lines text waiting (Alone new)) lines text waiting line was_due is_due
   takes_alone old new line was_due is_due takes lines text waiting =
       elim first as (λ first. HasServed first lines text waiting (Alone old)
-          → TakesLine (λ lines text waiting. HasServed first lines text waiting (Alone new)) lines text waiting line was_due is_due) [
+      → TakesLine (λ lines text waiting. HasServed first lines text waiting (Alone new)) lines text waiting line was_due is_due) [
         | Alone host ↦ λ so_far. takes host lines text waiting so_far
         | Together host ↦ λ so_far. absurd so_far
       ]
@@ -34,7 +34,7 @@ module _ {S : Type 0} {G : Ghosts S} (first : LineHost S G) where
       → TakesLine (λ lines text waiting. HasServed first lines text waiting (Together new)) lines text waiting line was_due is_due
   takes_together old new line was_due is_due takes lines text waiting =
       elim first as (λ first. HasServed first lines text waiting (Together old)
-          → TakesLine (λ lines text waiting. HasServed first lines text waiting (Together new)) lines text waiting line was_due is_due) [
+      → TakesLine (λ lines text waiting. HasServed first lines text waiting (Together new)) lines text waiting line was_due is_due) [
         | Alone host ↦ λ so_far. absurd so_far
         | Together host ↦ λ so_far. takes host lines text waiting so_far
       ]
@@ -45,7 +45,7 @@ module _ {S : Type 0} {G : Ghosts S} (first : LineHost S G) where
   settles_none now later host due same kept_same lines text waiting served =
       subst (λ (l : LineHost S G). Settles (λ lines text waiting. HasServed first lines text waiting l) lines text waiting due due) (sym kept_same)
       (elim first as (λ first. HasServed first lines text waiting (Alone host)
-          → Settles (λ lines text waiting. HasServed first lines text waiting (Alone host)) lines text waiting due due) [
+      → Settles (λ lines text waiting. HasServed first lines text waiting (Alone host)) lines text waiting due due) [
         | Alone begun ↦ λ so_far. settles-alone begun host due lines text waiting so_far
         | Together begun ↦ λ so_far. absurd so_far
       ] (subst (HasServed first lines text waiting) same served))
@@ -57,7 +57,7 @@ module _ {S : Type 0} {G : Ghosts S} (first : LineHost S G) where
       → Settles (λ lines text waiting. HasServed first lines text waiting (Together new)) lines text waiting was_due is_due
   settles_together old new was_due is_due settles lines text waiting =
       elim first as (λ first. HasServed first lines text waiting (Together old)
-          → Settles (λ lines text waiting. HasServed first lines text waiting (Together new)) lines text waiting was_due is_due) [
+      → Settles (λ lines text waiting. HasServed first lines text waiting (Together new)) lines text waiting was_due is_due) [
         | Alone host ↦ λ so_far. absurd so_far
         | Together host ↦ λ so_far. settles host lines text waiting so_far
       ]
@@ -72,7 +72,7 @@ module _ {S : Type 0} {G : Ghosts S} (first : LineHost S G) where
       → HasSoundParts issuer → HasServed first (map kept lines) text [] now → LeavesAnswered (callers_of first) issuer prefix logs stores lines text
   leaves_alone now host stores same leaves issuer prefix logs lines text ready sound served =
       elim first as (λ first. IsReady issuer prefix logs first → HasServed first (map kept lines) text [] (Alone host)
-          → LeavesAnswered (callers_of first) issuer prefix logs stores lines text) [
+      → LeavesAnswered (callers_of first) issuer prefix logs stores lines text) [
         | Alone begun ↦ λ ready so_far. leaves issuer prefix logs begun lines text ready sound so_far
         | Together begun ↦ λ ready so_far. absurd so_far
       ] ready (subst (HasServed first (map kept lines) text []) same served)
@@ -85,7 +85,7 @@ module _ {S : Type 0} {G : Ghosts S} (first : LineHost S G) where
       → HasSoundParts issuer → HasServed first (map kept lines) text [] now → LeavesAnswered (callers_of first) issuer prefix logs stores lines text
   leaves_together now host stores same leaves issuer prefix logs lines text ready sound served =
       elim first as (λ first. IsReady issuer prefix logs first → HasServed first (map kept lines) text [] (Together host)
-          → LeavesAnswered (callers_of first) issuer prefix logs stores lines text) [
+      → LeavesAnswered (callers_of first) issuer prefix logs stores lines text) [
         | Alone begun ↦ λ ready so_far. absurd so_far
         | Together begun ↦ λ ready so_far. leaves issuer prefix logs begun lines text ready sound so_far
       ] ready (subst (HasServed first (map kept lines) text []) same served)

@@ -247,10 +247,10 @@ module _ {S : Type 0} (faults : S → ℕ) where
     log,
     refl,
     (let e : Some (book_of log (faults here)) ≡ Some book = is in
-    let same : book_of log (faults here) ≡ book = cc in
-    let f : Some here ≡ Some store = at in
-    let one : here ≡ store = cc in
-    sym same ∙ ap (λ (s : S). book_of log (faults s)) one),
+        let same : book_of log (faults here) ≡ book = cc in
+        let f : Some here ≡ Some store = at in
+        let one : here ≡ store = cc in
+        sym same ∙ ap (λ (s : S). book_of log (faults s)) one),
   )
   closing-at (log ∷ logs) (here ∷ stores) (suc k) book store is at = closing-at logs stores k book store is at
 

@@ -49,9 +49,7 @@ pub(crate) fn load_host<D: Desk>(
     if callers == 1 {
         Ok(LineHost::Alone(load_alone(alloc, desk, prefix, issuer)?))
     } else {
-        Ok(LineHost::Together(load_together(
-            alloc, desk, prefix, issuer, callers,
-        )?))
+        Ok(LineHost::Together(load_together(alloc, desk, prefix, issuer, callers)?))
     }
 }
 

@@ -95,12 +95,7 @@ impl Server {
     }
 
     /// Lets the host take the line in hand.
-    fn take_line<R: Wait, T: Store, G: Gate>(
-        &mut self,
-        rt: &R,
-        gate: &G,
-        host: &mut LineHost<T>,
-    )
+    fn take_line<R: Wait, T: Store, G: Gate>(&mut self, rt: &R, gate: &G, host: &mut LineHost<T>)
         requires room { HasRoom host.old self.old.block.lines }
         requires kept { length self.old.reader.line ≤ KEPT_BYTES }
         ensures taken { (first : LineHost T T.Store) (lines : List (List ℕ)) (text : List ℕ) (waiting : List (List ℕ))

@@ -129,7 +129,9 @@ fn twenty_each(alloc: Global) -> Result<String, AllocError> {
 
 /// How many lines of a text begin so.
 fn count_lines(text: &str, beginning: &str) -> usize {
-    text.lines().filter(|line| line.starts_with(beginning)).count()
+    text.lines()
+        .filter(|line| line.starts_with(beginning))
+        .count()
 }
 
 #[test]

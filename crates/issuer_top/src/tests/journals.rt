@@ -120,7 +120,13 @@ fn answers_before_it_waits_for_more(rt: HostRuntime) -> Result<(), Fail> {
         alloc: rt.alloc(),
     };
     let mut out = MemorySink::new(rt.alloc(), 0, Vec::new(rt.alloc()))?;
-    let ended = issue(&rt, &words_of(rt.alloc(), &COMMAND)?, desk, &mut out, &OpenGate);
+    let ended = issue(
+        &rt,
+        &words_of(rt.alloc(), &COMMAND)?,
+        desk,
+        &mut out,
+        &OpenGate,
+    );
     let Ended {
         status,
         desk: _desk,
