@@ -67,6 +67,8 @@ impl<S: Store> LineHost<S> {
         gate: &G,
         block: &mut Block,
     )
+    where
+        S: Send,
         requires { MaySettle self.old block.old.lines }
         ensures answered { (first : LineHost S S.Store) (lines : List (List ℕ)) (text : List ℕ) (waiting : List (List ℕ))
             → HasServed first lines text waiting self.old

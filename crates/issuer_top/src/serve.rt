@@ -58,7 +58,7 @@ impl Server {
     ) -> Served
     where
         R: Threads + Wait + Sync,
-        T: Store,
+        T: Store + Send,
         I: Source,
         W: Sink,
         G: Gate + Sync,
@@ -119,7 +119,7 @@ impl Server {
     ) -> Result<(), WriteFault>
     where
         R: Threads + Wait + Sync,
-        T: Store,
+        T: Store + Send,
         W: Sink,
         G: Gate + Sync,
         requires open { MaySettle host.old self.old.block.lines }
@@ -157,7 +157,7 @@ impl Server {
     ) -> Result<(), WriteFault>
     where
         R: Threads + Wait + Sync,
-        T: Store,
+        T: Store + Send,
         W: Sink,
         G: Gate + Sync,
         requires open { MaySettle host.old self.old.block.lines }
@@ -186,7 +186,7 @@ impl Server {
     ) -> Served
     where
         R: Threads + Wait + Sync,
-        T: Store,
+        T: Store + Send,
         W: Sink,
         G: Gate + Sync,
         requires open { MaySettle host.old self.old.block.lines }

@@ -18,7 +18,7 @@ use std::sync::Wait;
 use std::thread::Threads;
 
 /// Lets all callers answer the lines that wait, and puts the answers into the block, in the order of the lines.
-pub(crate) fn settle_together<S: Store, R: Threads + Wait + Sync, G: Gate + Sync>(
+pub(crate) fn settle_together<S: Store + Send, R: Threads + Wait + Sync, G: Gate + Sync>(
     host: &mut Lanes<S>,
     rt: &R,
     gate: &G,

@@ -53,6 +53,7 @@ pub fn issue<R, D, W, G>(rt: &R, words: &Words, mut desk: D, out: &mut W, gate: 
 where
     R: AllocGlobal + Threads + Wait + Sync,
     D: Desk,
+    D::Journal: Send,
     W: Sink,
     G: Gate + Sync,
     ensures statuses { IsStatus result.status }
@@ -119,6 +120,7 @@ fn run<R, D, W, G>(
 where
     R: AllocGlobal + Threads + Wait + Sync,
     D: Desk,
+    D::Journal: Send,
     W: Sink,
     G: Gate + Sync,
     ensures { EndsBy (seen_of words.now (desk_seen D.Desk desk.old desk.new)
@@ -159,6 +161,7 @@ fn run_host<R, D, W, G>(
 where
     R: AllocGlobal + Threads + Wait + Sync,
     D: Desk,
+    D::Journal: Send,
     W: Sink,
     G: Gate + Sync,
     requires { IfSome names.requests (λ requests. IsGroup requests.callers) }
@@ -228,6 +231,7 @@ fn do_command<R, D, W, G>(
 where
     R: AllocGlobal + Threads + Wait + Sync,
     D: Desk,
+    D::Journal: Send,
     W: Sink,
     G: Gate + Sync,
     requires { IfSome names.requests (λ requests. IsGroup requests.callers) }
@@ -278,6 +282,7 @@ fn serve_requests<R, D, W, G>(
 where
     R: AllocGlobal + Threads + Wait + Sync,
     D: Desk,
+    D::Journal: Send,
     W: Sink,
     G: Gate + Sync,
     requires room { HasRoom host 0 × MaySettle host 0 × IsSettled host }
