@@ -2,6 +2,7 @@
 ghost use Rattle.std.specs.Prelude.{◌≡◌, [], None, IfOk};
 
 mod callers;
+mod devices;
 mod journals;
 mod scripts;
 mod worlds;

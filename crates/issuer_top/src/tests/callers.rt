@@ -44,7 +44,7 @@ fn looks_for(flag: &AtomicBool, most: u32) -> bool {
 }
 
 /// The words of a run with so many callers.
-fn words_for(callers: &'static str) -> [&'static str; 9] {
+pub(super) fn words_for(callers: &'static str) -> [&'static str; 9] {
     [
         "serve",
         "--config",

@@ -9,7 +9,17 @@ pub(super) fn run_over<R: AllocGlobal + Threads + Wait + Sync>(
     words: &[&str],
     desk: MemoryDesk,
 ) -> Result<(u8, String, Vec<u8>), Fail> {
-    let mut out = MemorySink::new(rt.alloc(), 65_536, Vec::new(rt.alloc()))?;
+    run_into(rt, words, desk, Vec::new(rt.alloc()))
+}
+
+/// The same, where these calls of the sink fail.
+pub(super) fn run_into<R: AllocGlobal + Threads + Wait + Sync>(
+    rt: &R,
+    words: &[&str],
+    desk: MemoryDesk,
+    fails: Vec<u64>,
+) -> Result<(u8, String, Vec<u8>), Fail> {
+    let mut out = MemorySink::new(rt.alloc(), 65_536, fails)?;
     let Ended {
         status,
         desk: _desk,
