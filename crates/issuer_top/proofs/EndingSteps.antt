@@ -205,7 +205,8 @@ no_host-since issuer journal logs other before mid after last stores cause told 
     subst (λ (n : ℕ). GivesNoHost issuer journal logs (record { before = n; after = after; last = last }) stores cause) stood
     (subst (λ (l : Logged). GivesNoHost issuer journal l (record { before = mid; after = after; last = last }) stores cause) told none)
 
-module _ (seen : Seen) (requests : Option RequestFile) (journal : List ℕ) (issuer : Setup) (ending : Ending) (set_up : IsSetUp seen requests journal issuer) where
+module _ (seen : Seen) (requests : Option RequestFile) (journal : List ℕ) (issuer : Setup) (ending : Ending)
+    (set_up : IsSetUp seen requests journal issuer) where
   -- no memory was left once the issuer was known
   pub ends_without_memory : HasOpened seen true false → LeaveJournals journal seen.desk.logs seen.stores → StopsAtOnce seen NoMemory ending
       → EndsBy seen ending

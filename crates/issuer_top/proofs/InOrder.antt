@@ -196,7 +196,8 @@ serves-in_order seen status ending is ends order =
     same-names seen.words order.config l.set_up.config (Some order.requests) (Some l.requests) order.journal l.journal order.serve l.set_up.command in
     let name : l.requests.name ≡ order.requests.name = (let e : Some order.requests.name ≡ Some l.requests.name = same.file_is in cc) in
     let content = same-content seen.desk.tells order.requests.name l.requests.name l.file order.file name order.requests_held l.held in
-    not-past (AreAnsweredBy l.requests.callers l.issuer l.first l.last) l.file order.file l.read passed.1.answers passed.1.number l.input.left content order.within l.was_read l.answered)
+    not-past (AreAnsweredBy l.requests.callers l.issuer l.first l.last) l.file order.file l.read passed.1.answers passed.1.number l.input.left content
+    order.within l.was_read l.answered)
 
 pub shows-in_order : (seen : Seen) (status : ℕ) (ending : Ending) → status ≡ status_of ending → EndsBy seen ending → ShowsInOrder seen
     → (status ≡ 0) ⊎ (status ≡ 7)

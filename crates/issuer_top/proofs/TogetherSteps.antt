@@ -323,7 +323,8 @@ module _ {S : Type 0} {G : Ghosts S} (count : ℕ) (issuer : Setup) (prefix : Li
 
   kept-at : (shard : ℕ) (was is : Book) → slice_get first_books shard ≡ Some was → slice_get last_books shard ≡ Some is → IsKeptAt shard was is
   kept-at shard was is was_at is_at =
-      let within : shard < issuer.shards = (let inside = slice_get_within first_books shard was was_at in let long = count-first in omega (arith, inside, long)) in
+      let within : shard < issuer.shards =
+      (let inside = slice_get_within first_books shard was was_at in let long = count-first in omega (arith, inside, long)) in
       let before = at-place stores shard (omega (arith, within, stores_are)) in
       let after = at-place back shard (let long = closed.count_is in omega (arith, within, long)) in
       let first = mapped-at opening_book opening shard was was_at in
@@ -431,7 +432,8 @@ module _ {S : Type 0} {G : Ghosts S} (count : ℕ) (issuer : Setup) (prefix : Li
     count_is = length-closing G.faults logs back;
     each = λ shard log book log_at book_at.
         let within : shard < length back =
-        (let inside = slice_get_within last_books shard book book_at in let long = count-last in let many = closed.count_is in omega (arith, inside, long, many)) in
+        (let inside = slice_get_within last_books shard book book_at in let long = count-last in let many = closed.count_is in
+        omega (arith, inside, long, many)) in
         let store = at-place back shard within in
         let here = closing-at G.faults logs back shard book store.0 book_at store.1 in
         let same : here.0 ≡ log = (let both : Some here.0 ≡ Some log = sym here.1 ∙ log_at in cc) in

@@ -4,6 +4,7 @@ ghost use Rattle.std.specs.Prelude.{◌≡◌, [], None, IfOk};
 mod callers;
 mod devices;
 mod journals;
+mod meeting;
 mod scripts;
 mod worlds;
 

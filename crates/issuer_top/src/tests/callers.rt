@@ -1,14 +1,13 @@
 //! Lines that several callers answer at once.
-ghost use Rattle.std.specs.Prelude.{List, length};
 
-use super::journals::desk_over;
+use super::journals::{bytes_of, run_over};
 use super::*;
-use issuer_base::{Gate, Store, StoreFail};
+use issuer_base::Gate;
+use std::sync::Wait;
 use std::sync::atomic::{AtomicBool, Ordering};
-use std::sync::{Arc, Wait};
-use store_edge::RoomStore;
 
 /// A gate that keeps one line until another was answered, or until it has looked for that so often.
+#[derive(Drop)]
 struct Holding {
     held: u64,
     other: u64,
@@ -34,7 +33,7 @@ impl Gate for Holding {
 }
 
 /// Whether the flag is raised at one of so many looks.
-fn looks_for(flag: &AtomicBool, most: u32) -> bool {
+pub(super) fn looks_for(flag: &AtomicBool, most: u32) -> bool {
     for _ in 0..most {
         if flag.load(Ordering::SeqCst) {
             return true;
@@ -59,21 +58,26 @@ pub(super) fn words_for(callers: &'static str) -> [&'static str; 9] {
 }
 
 /// The configuration with a shard for each card.
-fn two_shards(alloc: Global) -> Result<String, AllocError> {
+pub(super) fn two_shards(alloc: Global) -> Result<String, AllocError> {
     CONFIG.replace(alloc, r#""shards":1"#, r#""shards":2"#)
 }
 
 /// The answers to a request of each card on counter 7.
-const SEVENTH: &str =
+pub(super) const SEVENTH: &str =
     "fresh 0 0 yes 3030 8a023030910a02369be26b4161bc3030\nfresh 1 0 yes 3030 8a02303091087095934c00800000\n";
+
+/// A request of each card on counter 7.
+pub(super) fn seventh_each(alloc: Global) -> Result<String, AllocError> {
+    let first = line(alloc, 7, AC)?;
+    let second = request(alloc, "4000000000000010", 7, "1A2B3C4D", "1DE2D48E1E32FA1B")?;
+    format!(in alloc; "{first}{second}")
+}
 
 /// Each of the two lines is kept in turn until the other one was answered, which only callers at once can do.
 #[test]
 fn answers_one_line_while_another_is_kept(rt: HostRuntime) -> Result<(), Fail> {
     let alloc = rt.alloc();
-    let first = line(alloc, 7, AC)?;
-    let second = request(alloc, "4000000000000010", 7, "1A2B3C4D", "1DE2D48E1E32FA1B")?;
-    let lines = format!(in alloc; "{first}{second}")?;
+    let lines = seventh_each(alloc)?;
     let config = two_shards(alloc)?;
     for (held, other) in [(1, 2), (2, 1)] {
         let gate = Holding {
@@ -134,13 +138,49 @@ fn count_lines(text: &str, beginning: &str) -> usize {
         .count()
 }
 
+/// What is shown of the cards over the journals that a run left.
+fn shown_after<R: AllocGlobal + Threads + Wait + Sync>(
+    rt: &R,
+    config: &str,
+    stores: &[MemoryStore],
+) -> Result<String, Fail> {
+    let alloc = rt.alloc();
+    let mut desk = desk_of(alloc, config, "")?;
+    let mut shard = 0u8;
+    for store in stores {
+        let name = format!(in alloc; "journal.0{shard}")?;
+        desk.journal(name, bytes_of(alloc, store), 65_536, Vec::new(alloc))?;
+        shard = shard.saturating_add(1);
+    }
+    let (_status, text, _journal) = run_over(rt, &SHOW, desk)?;
+    Ok(text)
+}
+
+/// What is shown of two cards with twenty decisions each.
+const TWENTY_SHOWN: &str =
+    "4000000000000002 00 hi 20 status 0 queued 0 done 0 flight 20 0 ok\n4000000000000010 00 hi 20 status 0 queued 0 done 0 flight 20 0 ok\n";
+
 #[test]
 fn four_callers_record_each_line_once(rt: HostRuntime) -> Result<(), Fail> {
     let alloc = rt.alloc();
-    let lines = twenty_each(alloc)?;
     let config = two_shards(alloc)?;
-    let (status, text) = run(&rt, &words_for("4"), config.as_str(), lines.as_str())?;
+    let desk = desk_of(alloc, config.as_str(), twenty_each(alloc)?.as_str())?;
+    let mut out = MemorySink::new(alloc, 65_536, Vec::new(alloc))?;
+    let Ended {
+        status,
+        desk: _desk,
+        config: _config,
+        requests: _requests,
+        stores,
+    } = issue(
+        &rt,
+        &words_of(alloc, &words_for("4"))?,
+        desk,
+        &mut out,
+        &OpenGate,
+    );
     assert_eq!(rt; status, 0);
+    let text = String::from_utf8(out.bytes().to_vec(alloc)?)?;
     assert_eq!(rt; text.as_str().lines().count(), 40);
     for place in 0..20u32 {
         let first = format!(in alloc; "fresh 0 {place} ")?;
@@ -148,6 +188,8 @@ fn four_callers_record_each_line_once(rt: HostRuntime) -> Result<(), Fail> {
         let second = format!(in alloc; "fresh 1 {place} ")?;
         assert_eq!(rt; count_lines(text.as_str(), second.as_str()), 1);
     }
+    let shown = shown_after(&rt, config.as_str(), &stores)?;
+    assert_eq!(rt; shown.as_str(), TWENTY_SHOWN);
     Ok(())
 }
 

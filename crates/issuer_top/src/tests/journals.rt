@@ -33,9 +33,14 @@ pub(super) fn run_into<R: AllocGlobal + Threads + Wait + Sync>(
 
 /// The bytes of the first store, all of which are safe; none where there is no store.
 fn first_bytes(alloc: Global, stores: &[MemoryStore]) -> Vec<u8> {
-    let Some(store) = stores.first() else {
-        return Vec::new(alloc);
-    };
+    match stores.first() {
+        Some(store) => bytes_of(alloc, store),
+        None => Vec::new(alloc),
+    }
+}
+
+/// The bytes of a store, all of which are safe.
+pub(super) fn bytes_of(alloc: Global, store: &MemoryStore) -> Vec<u8> {
     match store.image(store.len()) {
         Ok(Some(bytes)) => bytes,
         _ => Vec::new(alloc),

@@ -19,7 +19,8 @@ returns g c = λ words desk config journal issuer set_up ready stood.
     (g.met.D.Journal.Store g.world.𝓛 g.world.𝓜 g.world.𝓡 (λ s h. h, λ h. h, λ h. h, λ h. h)).told_bytes
     (ap (map (store_seen g.D.Journal.Store)) c.close.ensures) first.books first.has_run.stand first.has_run.leave in
     let shown = subst (λ (i : Setup). Stand i c.args.host.shards.items first.books
-    → WritesAll (g.W.Sink.held c.args.out.now) (g.W.Sink.held c.show.new.out) c.show.result (shown_text i first.books i.cards)) ready.issuer_is (c.show.ensures.shown first.books) in
+    → WritesAll (g.W.Sink.held c.args.out.now) (g.W.Sink.held c.show.new.out) c.show.result
+    (shown_text i first.books i.cards)) ready.issuer_is (c.show.ensures.shown first.books) in
     subst (EndsBy _) (sym c.end_writing-ending.ensures)
     (ends_showing _ journal issuer first.books _ (record { config_is = refl; requests_is = refl; desk_stood = stood }) set_up kept
     (shown first.has_run.stand) c.show.ensures.count)
