@@ -10,8 +10,8 @@ use Rattle.issuer_top.proofs.together.settle_together.Given as goal
 abbrev pub invariant-loop-answer : goal.invariant-loop-answer
 invariant-loop-answer g l = record {
   taking : (first : Lanes g.row.S.Denot g.S.Store) (lines : List (List ℕ)) (text : List ℕ) (waiting : List (List ℕ))
-      → (so_far : HaveAnswered first lines text waiting l.initial.host)
-      → AreBeingTaken l.initial.host l.host l.initial.block.text.items l.block.text.items lines so_far.answers waiting;
+      → (so_far : HaveAnswered first lines text waiting l.fn.host)
+      → AreBeingTaken l.fn.host l.host l.fn.block.text.items l.block.text.items lines so_far.answers waiting;
   none_waits : waiting_in l.host ≡ 0;
   fits : l.block.lines + due_in l.host ≤ BLOCK_LINES;
 }
