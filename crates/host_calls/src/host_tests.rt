@@ -240,18 +240,27 @@ fn seat_all(host: &Host<MemoryStore>, pass: &mut Pass, count: usize, callers: &m
     }
 }
 
+/// Answers a request, and counts it where it was decided now.
+fn ask<R: Wait>(rt: &R, host: &Host<MemoryStore>, caller: &mut Caller, line: &str)
+    requires free { IsFree host.now caller.old.pass }
+    ensures free { IsFree host.now caller.new.pass }
+    ensures names { (claims_of caller.new.pass).names ≡ (claims_of caller.old.pass).names }
+{
+    let answer = host.authorise(rt, &mut caller.pass, line.as_bytes());
+    if matches!(answer, Answer::Fresh { .. }) {
+        caller.fresh = caller.fresh.saturating_add(1);
+    }
+}
+
 /// Answers three requests, and then so many statuses.
 fn answer_all<R: Wait>(rt: &R, host: &Host<MemoryStore>, caller: &mut Caller)
     requires free { IsFree host.now caller.old.pass }
     ensures free { IsFree host.now caller.new.pass }
     ensures names { (claims_of caller.new.pass).names ≡ (claims_of caller.old.pass).names }
 {
-    for line in [REQUEST, NINTH, SIXTH] {
-        let answer = host.authorise(rt, &mut caller.pass, line.as_bytes());
-        if matches!(answer, Answer::Fresh { .. }) {
-            caller.fresh = caller.fresh.saturating_add(1);
-        }
-    }
+    ask(rt, host, caller, REQUEST);
+    ask(rt, host, caller, NINTH);
+    ask(rt, host, caller, SIXTH);
     for _ in 0..STATUSES {
         let answer = host.authorise(rt, &mut caller.pass, STATUS[0].as_bytes());
         if matches!(answer, Answer::Set { .. }) {
