@@ -1,0 +1,12 @@
+-- Fewer answers are due after each, and no line waits.
+use Rattle.std.proofs.Common.{◌≡◌, ℕ}
+use Rattle.caller_lanes.specs.Lanes.{waiting_in, due_in}
+use Rattle.caller_lanes.proofs.tests.answer.Given as goal
+
+abbrev pub invariant-loop-answer : goal.invariant-loop-answer
+invariant-loop-answer g l = record {
+  none_waits : waiting_in l.lanes ≡ 0;
+}
+
+abbrev pub decreases-loop-answer : goal.decreases-loop-answer
+decreases-loop-answer g l = due_in l.lanes
