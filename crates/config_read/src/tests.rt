@@ -259,81 +259,85 @@ fn names_broken_cards(rt: HostRuntime) -> Result<(), Fail> {
     breaks(rt, 4, &rows)
 }
 
+/// How the list of rows begins.
+const TABLE: &str = r#""table":["#;
+
+/// What is wrong, a part of the whole text, what stands there in its place, and the place that is named.
+const BROKEN_ROWS: [(&str, &str, &str, u32); 24] = [
+    ("another name", TABLE, r#""tables":["#, 0),
+    ("a number", TABLE, r#""table":1,"rows":["#, 0),
+    ("an empty list", TABLE, r#""table":[],"rows":["#, 0),
+    ("an element that is no object", TABLE, r#""table":[null,"#, 1),
+    ("no mask", r#""tvr_mask":"#, r#""mask":"#, 1),
+    (
+        "a mask of 8 digits",
+        r#""tvr_mask":"00"#,
+        r#""tvr_mask":""#,
+        1,
+    ),
+    (
+        "a value of 9 digits",
+        r#""tvr_value":"0"#,
+        r#""tvr_value":""#,
+        1,
+    ),
+    (
+        "a mask of 12 digits",
+        r#""cvr_mask":""#,
+        r#""cvr_mask":"00"#,
+        1,
+    ),
+    (
+        "a value of a letter G",
+        r#""cvr_value":"0"#,
+        r#""cvr_value":"G"#,
+        1,
+    ),
+    ("no least amount", r#""least":0,"#, "", 1),
+    (
+        "a least amount of 13 digits",
+        r#""least":0"#,
+        r#""least":1000000000000"#,
+        1,
+    ),
+    (
+        "a greatest amount of 13 digits",
+        "500000",
+        "1000000000000",
+        2,
+    ),
+    ("a greatest amount with a point", "500000", "500000.0", 2),
+    ("no status", r#""status":1,"#, "", 1),
+    ("status 10", r#""status":1"#, r#""status":10"#, 1),
+    ("status -1", r#""status":1"#, r#""status":-1"#, 1),
+    ("status as a text", r#""status":1"#, r#""status":"1""#, 1),
+    ("status as a list", r#""status":1"#, r#""status":[]"#, 1),
+    ("a response code of two digits", "3036", "30", 1),
+    (
+        "approval as a number",
+        r#""approve":true"#,
+        r#""approve":1"#,
+        2,
+    ),
+    ("approval that isn't said", "00800000", "80008080", 2),
+    (
+        "a status update that says approval",
+        "00000000\"}]",
+        "00800000\"}]",
+        3,
+    ),
+    ("a status update of six digits", "00800000", "008000", 2),
+    (
+        "a broken row after the last row's",
+        "00000000\"}]",
+        "00000000\"},{}]",
+        4,
+    ),
+];
+
 #[test]
 fn names_broken_rows(rt: HostRuntime) -> Result<(), Fail> {
-    let list = r#""table":["#;
-    let rows: [(&str, &str, &str, u32); 24] = [
-        ("another name", list, r#""tables":["#, 0),
-        ("a number", list, r#""table":1,"rows":["#, 0),
-        ("an empty list", list, r#""table":[],"rows":["#, 0),
-        ("an element that is no object", list, r#""table":[null,"#, 1),
-        ("no mask", r#""tvr_mask":"#, r#""mask":"#, 1),
-        (
-            "a mask of 8 digits",
-            r#""tvr_mask":"00"#,
-            r#""tvr_mask":""#,
-            1,
-        ),
-        (
-            "a value of 9 digits",
-            r#""tvr_value":"0"#,
-            r#""tvr_value":""#,
-            1,
-        ),
-        (
-            "a mask of 12 digits",
-            r#""cvr_mask":""#,
-            r#""cvr_mask":"00"#,
-            1,
-        ),
-        (
-            "a value of a letter G",
-            r#""cvr_value":"0"#,
-            r#""cvr_value":"G"#,
-            1,
-        ),
-        ("no least amount", r#""least":0,"#, "", 1),
-        (
-            "a least amount of 13 digits",
-            r#""least":0"#,
-            r#""least":1000000000000"#,
-            1,
-        ),
-        (
-            "a greatest amount of 13 digits",
-            "500000",
-            "1000000000000",
-            2,
-        ),
-        ("a greatest amount with a point", "500000", "500000.0", 2),
-        ("no status", r#""status":1,"#, "", 1),
-        ("status 10", r#""status":1"#, r#""status":10"#, 1),
-        ("status -1", r#""status":1"#, r#""status":-1"#, 1),
-        ("status as a text", r#""status":1"#, r#""status":"1""#, 1),
-        ("status as a list", r#""status":1"#, r#""status":[]"#, 1),
-        ("a response code of two digits", "3036", "30", 1),
-        (
-            "approval as a number",
-            r#""approve":true"#,
-            r#""approve":1"#,
-            2,
-        ),
-        ("approval that isn't said", "00800000", "80008080", 2),
-        (
-            "a status update that says approval",
-            "00000000\"}]",
-            "00800000\"}]",
-            3,
-        ),
-        ("a status update of six digits", "00800000", "008000", 2),
-        (
-            "a broken row after the last row's",
-            "00000000\"}]",
-            "00000000\"},{}]",
-            4,
-        ),
-    ];
-    breaks(rt, 5, &rows)
+    breaks(rt, 5, &BROKEN_ROWS)
 }
 
 #[test]

@@ -1,7 +1,7 @@
 //! The issuer's authorisation host, over files and the standard output.
 #![tactic(auto)]
 
-use issuer_base::{NoMemory, Words};
+use issuer_base::{NoMemory, OpenGate, Words};
 use issuer_top::{Ended, issue};
 use std::env;
 use std::io::ErrorKind;
@@ -17,7 +17,7 @@ fn main(rt: HostRuntime) -> ExitCode {
         Err(NoMemory) => return ExitCode::from(NO_MEMORY),
     };
     let mut out = FileSink::new(rt);
-    let ended = issue(&rt, &words, FileDesk::new(rt), &mut out);
+    let ended = issue(&rt, &words, FileDesk::new(rt), &mut out, &OpenGate);
     let Ended {
         status,
         desk: _desk,

@@ -1,21 +1,24 @@
 -- The words of a command: their pairs, and what each option is given.
 use Rattle.std.proofs.Common.{◌≡◌, ℕ, ◌+◌, ◌-◌, ◌*◌, ◌<◌, ◌≤◌, zero, suc, Bool, true, false, List, [], ◌∷◌, length, drop, get_or, Option}
-use Rattle.std.proofs.Common.{refl, sym, ap, ◌∙◌, subst, arith, add-one}
+use Rattle.std.proofs.Common.{refl, sym, ap, ◌∙◌, subst, arith, add-one, inl, inr, ⊎_elim}
 use Rattle.std.proofs.Common.{drop-cons}
-use Rattle.std.specs.Prelude.{◌&&◌, ◌==◌, ◌%◌, ◌/◌, not, if◌then◌else◌, map, slice_get, Some, None, IsTrue, codes}
+use Rattle.std.specs.Prelude.{◌&&◌, ◌||◌, ◌==◌, ◌%◌, ◌/◌, not, if◌then◌else◌, map, slice_get, Some, None, IsTrue, MatchOption, codes}
 use Rattle.std.specs.Prelude.{◌^◌}
 use Rattle.std.specs.Fmt.{decimal}
 use Rattle.std.specs.Str.{bytes_eq}
 use Rattle.std.specs.List.{AllByRecursion}
 use Rattle.std.proofs.lemmas.Bool.{eq-eqb, eqb-true, false_from_ne_true}
 use Rattle.std.proofs.lemmas.Fmt.{decimal_injective}
+use Rattle.std.proofs.lemmas.Slice.Eq.{bytes_eq-Decides}
 use Rattle.std.proofs.lemmas.Option.{slice_get_within, get_or_from_slice_get}
 use Rattle.std.proofs.lemmas.List.{drop_all}
 use Rattle.std.proofs.lemmas.List.Elements.{All-from_recursion, recursion_from_All}
 use Rattle.issuer_top.specs.declared.words.Command.{Command}
 use Rattle.issuer_top.specs.declared.words.Command.TheVariants.{Serve, Show, World}
-use Rattle.issuer_top.specs.Command.{IsValue, Pair, words_of, values_of, is_one_of, IsCall, IsSize, IsServe, IsShow, IsWorld, IsCommand, IsNoCommand}
-use Rattle.issuer_top.specs.Pairs.{is_value, first_word, options_of, pairs_of, is_pair, are_pairs, only, value_in, AreWordsOf, Asks, is_within}
+use Rattle.issuer_top.specs.Command.{IsValue, Pair, words_of, values_of, is_one_of, IsCall, IsSize, serve_options, callers_option, show_options, world_options}
+use Rattle.issuer_top.specs.Command.{RequestFile, IsGroup, IsServe, IsShow, IsWorld, IsCommand, IsNoCommand}
+use Rattle.issuer_top.specs.Pairs.{is_value, first_word, options_of, pairs_of, is_pair, are_pairs, only, values_in, value_in}
+use Rattle.issuer_top.specs.Pairs.{AreWordsWith, AreWordsOf, GivesCallers, Asks, is_within}
 
 -- ---- the pairs of words
 
@@ -116,6 +119,18 @@ only-by_count [] found times first count = (λ one. absurd (omega (arith, one, c
 only-by_count (value ∷ []) found times first count = (λ one. sym first, λ other. absurd (other count))
 only-by_count (value ∷ next ∷ values) found times first count = (λ one. absurd (omega (arith, one, count)), λ other. refl)
 
+-- where there is no first value there is none
+none-first : (values : List (List ℕ)) → slice_get values 0 ≡ None → values ≡ []
+none-first [] none = refl
+none-first (value ∷ values) none = absurd (cc)
+
+-- where there is a first value and it is the only one
+pub one-first : (values : List (List ℕ)) (word : List ℕ) (times : ℕ) → Some word ≡ slice_get values 0 → times ≡ length values → times ≡ 1
+    → values ≡ word ∷ []
+one-first [] word times first count one = absurd (cc)
+one-first (value ∷ []) word times first count one = cc
+one-first (value ∷ next ∷ values) word times first count one = absurd (omega (arith, one, count))
+
 -- ---- known pairs
 
 pair-known : (known named rest : Bool) → (if known && named then rest else false) ≡ true → (known ≡ true) × (named ≡ true) × (rest ≡ true)
@@ -157,49 +172,84 @@ known-pairs options (pair ∷ pairs) known named =
 -- ---- a call
 
 -- words that are so are a call, with the values that its options are given
-call-from : (command : Command) (words values : List (List ℕ)) → AreWordsOf command words
-    → map (λ option. values_of option (pairs_of (drop 1 words))) (options_of command) ≡ map (λ (value : List ℕ). value ∷ []) values
-    → IsCall (first_word command) (options_of command) words values
-call-from command [] values are once = absurd (let odd = are.odd in omega arith)
-call-from command (word ∷ words) values are once =
-    let all = pairs-known (options_of command) (pairs_of words) are.pairs in
-    let first : Some word ≡ Some (first_word command) = are.first in
-    let same : word ≡ first_word command = cc in
+call-from : (command : List ℕ) (options words values : List (List ℕ)) → AreWordsWith command options words
+    → map (values_in words) options ≡ map (λ (value : List ℕ). value ∷ []) values → IsCall command options words values
+call-from command options [] values are once = absurd (let odd = are.odd in omega arith)
+call-from command options (word ∷ words) values are once =
+    let all = pairs-known options (pairs_of words) are.pairs in
+    let first : Some word ≡ Some command = are.first in
+    let same : word ≡ command = cc in
     let half : length words ≡ 2 * (length words / 2) = (let odd = are.odd in omega arith) in
     record {
       pairs = pairs_of words;
-      words_are = ap (λ w. w ∷ words) same ∙ ap (λ ws. first_word command ∷ ws) (sym (words-pairs (length words / 2) words half));
+      words_are = ap (λ w. w ∷ words) same ∙ ap (λ ws. command ∷ ws) (sym (words-pairs (length words / 2) words half));
       once = once;
-      known = All-from_recursion (λ (pair : Pair). IsTrue (is_one_of (options_of command) pair.option)) (pairs_of words) all.0;
+      known = All-from_recursion (λ (pair : Pair). IsTrue (is_one_of options pair.option)) (pairs_of words) all.0;
       named = All-from_recursion (λ (pair : Pair). IsValue pair.value) (pairs_of words) all.1;
     }
 
 -- the words of a call are so
-record IsParted (command : Command) (words values : List (List ℕ)) : Type 0 where
-  are : AreWordsOf command words
-  once : map (λ option. values_of option (pairs_of (drop 1 words))) (options_of command) ≡ map (λ (value : List ℕ). value ∷ []) values
+record IsParted (command : List ℕ) (options words values : List (List ℕ)) : Type 0 where
+  are : AreWordsWith command options words
+  once : map (values_in words) options ≡ map (λ (value : List ℕ). value ∷ []) values
 
-parted : (command : Command) (words values : List (List ℕ)) → IsCall (first_word command) (options_of command) words values
-    → IsParted command words values
-parted command words values call =
+parted : (command : List ℕ) (options words values : List (List ℕ)) → IsCall command options words values → IsParted command options words values
+parted command options words values call =
     let long = length-words call.pairs in
-    let odd : length (first_word command ∷ words_of call.pairs) % 2 ≡ 1 = omega (arith, long) in
-    let known = recursion_from_All (λ (pair : Pair). IsTrue (is_one_of (options_of command) pair.option)) call.pairs call.known in
+    let odd : length (command ∷ words_of call.pairs) % 2 ≡ 1 = omega (arith, long) in
+    let known = recursion_from_All (λ (pair : Pair). IsTrue (is_one_of options pair.option)) call.pairs call.known in
     let named = recursion_from_All (λ (pair : Pair). IsValue pair.value) call.pairs call.named in
-    let all : are_pairs (options_of command) call.pairs ≡ true = known-pairs (options_of command) call.pairs known named in
-    subst (λ (ws : List (List ℕ)). IsParted command ws values) (sym call.words_are)
+    let all : are_pairs options call.pairs ≡ true = known-pairs options call.pairs known named in
+    subst (λ (ws : List (List ℕ)). IsParted command options ws values) (sym call.words_are)
     (record {
       are = record {
         odd = odd;
         first = refl;
-        pairs = ap (are_pairs (options_of command)) (pairs-words call.pairs) ∙ all;
+        pairs = ap (are_pairs options) (pairs-words call.pairs) ∙ all;
       };
-      once = ap (λ ps. map (λ option. values_of option ps) (options_of command)) (pairs-words call.pairs) ∙ call.once;
+      once = ap (λ ps. map (λ option. values_of option ps) options) (pairs-words call.pairs) ∙ call.once;
     })
+
+-- ---- an option that may be there
+
+module _ (extra : List ℕ) (options : List (List ℕ)) where
+  or-right : (a b : Bool) → b ≡ true → (a || b) ≡ true
+  or-right true b is = refl
+  or-right false b is = is
+
+  -- pairs of the options are pairs of them and one more
+  with-more : (pairs : List Pair) → are_pairs options pairs ≡ true → are_pairs (extra ∷ options) pairs ≡ true
+  with-more [] all = refl
+  with-more (pair ∷ pairs) all =
+      let parts = pair-known (is_one_of options pair.option) (is_value pair.value) (are_pairs options pairs) all in
+      known-pair (is_one_of (extra ∷ options) pair.option) (is_value pair.value) (are_pairs (extra ∷ options) pairs)
+      (or-right (bytes_eq pair.option extra) (is_one_of options pair.option) parts.0) parts.1 (with-more pairs parts.2)
+
+  -- pairs that give one of them no value are pairs of the others
+  without : (pairs : List Pair) → are_pairs (extra ∷ options) pairs ≡ true → values_of extra pairs ≡ [] → are_pairs options pairs ≡ true
+  without [] all none = refl
+  without (pair ∷ pairs) all none =
+      let parts = pair-known (is_one_of (extra ∷ options) pair.option) (is_value pair.value) (are_pairs (extra ∷ options) pairs) all in
+      let known : (bytes_eq pair.option extra || is_one_of options pair.option) ≡ true = parts.0 in
+      elim (bytes_eq pair.option extra) as (λ here. (here || is_one_of options pair.option) ≡ true
+      → (if here then pair.value ∷ values_of extra pairs else values_of extra pairs) ≡ [] → are_pairs options (pair ∷ pairs) ≡ true) [
+        | true ↦ λ one some. absurd (cc)
+        | false ↦ λ one rest. known-pair (is_one_of options pair.option) (is_value pair.value) (are_pairs options pairs) one parts.1
+            (without pairs parts.2 rest)
+      ] known none
+
+  -- pairs of options among which it isn't give it no value
+  none-given : ((word : List ℕ) → is_one_of options word ≡ true → bytes_eq word extra ≡ false) → (pairs : List Pair)
+      → are_pairs options pairs ≡ true → values_of extra pairs ≡ []
+  none-given apart [] all = refl
+  none-given apart (pair ∷ pairs) all =
+      let parts = pair-known (is_one_of options pair.option) (is_value pair.value) (are_pairs options pairs) all in
+      ap (λ here. if here then pair.value ∷ values_of extra pairs else values_of extra pairs) (apart pair.option parts.0)
+      ∙ none-given apart pairs parts.2
 
 -- ---- the three commands
 
--- what each of two options or of three is given
+-- what each of two options, of three or of four is given
 two-values : (words : List (List ℕ)) (one two first second : List ℕ) → value_in words one ≡ Some first → value_in words two ≡ Some second
     → map (λ option. values_of option (pairs_of (drop 1 words))) (one ∷ two ∷ []) ≡ map (λ (value : List ℕ). value ∷ []) (first ∷ second ∷ [])
 two-values words one two first second a b =
@@ -217,17 +267,40 @@ three-values words one two three first second third a b c =
     ap (λ (vs : List (List ℕ)). vs ∷ map (λ option. values_of option (pairs_of (drop 1 words))) (two ∷ three ∷ [])) x
     ∙ ap (λ (rest : List (List (List ℕ))). (first ∷ []) ∷ rest) (two-values words two three second third b c)
 
-pub serve-from : (words : List (List ℕ)) (config requests journal : List ℕ) → AreWordsOf Serve words
-    → value_in words (codes "--config") ≡ Some config → value_in words (codes "--requests") ≡ Some requests
-    → value_in words (codes "--journal") ≡ Some journal → IsServe words config requests journal
-serve-from words config requests journal are a b c =
-    call-from Serve words (config ∷ requests ∷ journal ∷ []) are
-    (three-values words (codes "--config") (codes "--requests") (codes "--journal") config requests journal a b c)
+four-values : (words : List (List ℕ)) (one two three four first second third fourth : List ℕ) → value_in words one ≡ Some first
+    → value_in words two ≡ Some second → value_in words three ≡ Some third → value_in words four ≡ Some fourth
+    → map (values_in words) (one ∷ two ∷ three ∷ four ∷ []) ≡ map (λ (value : List ℕ). value ∷ []) (first ∷ second ∷ third ∷ fourth ∷ [])
+four-values words one two three four first second third fourth a b c d =
+    let x = only-one (values_in words one) first a in
+    ap (λ (vs : List (List ℕ)). vs ∷ map (values_in words) (two ∷ three ∷ four ∷ [])) x
+    ∙ ap (λ (rest : List (List (List ℕ))). (first ∷ []) ∷ rest) (three-values words two three four second third fourth b c d)
+
+pub serve-from : (words : List (List ℕ)) (config name journal : List ℕ) (callers : ℕ) → AreWordsOf Serve words
+    → value_in words (codes "--config") ≡ Some config → value_in words (codes "--requests") ≡ Some name
+    → value_in words (codes "--journal") ≡ Some journal → GivesCallers words callers
+    → IsServe words config (record { name = name; callers = callers }) journal
+serve-from words config name journal callers are a b c gives =
+    ⊎_elim
+    (λ absent.
+    inl (
+      call-from (codes "serve") serve_options words (config ∷ name ∷ journal ∷ [])
+          (record { odd = are.odd; first = are.first; pairs = without callers_option serve_options (pairs_of (drop 1 words)) are.pairs absent.0 })
+          (three-values words (codes "--config") (codes "--requests") (codes "--journal") config name journal a b c),
+      absent.1,
+    ))
+    (λ said.
+    inr (
+      call-from (codes "serve") (callers_option ∷ serve_options) words (decimal callers ∷ config ∷ name ∷ journal ∷ []) are
+          (four-values words callers_option (codes "--config") (codes "--requests") (codes "--journal") (decimal callers) config name journal
+          (ap only said.0) a b c),
+      said.1,
+    ))
+    gives
 
 pub show-from : (words : List (List ℕ)) (config journal : List ℕ) → AreWordsOf Show words
     → value_in words (codes "--config") ≡ Some config → value_in words (codes "--journal") ≡ Some journal → IsShow words config journal
 show-from words config journal are a b =
-    call-from Show words (config ∷ journal ∷ []) are (two-values words (codes "--config") (codes "--journal") config journal a b)
+    call-from (codes "show") show_options words (config ∷ journal ∷ []) are (two-values words (codes "--config") (codes "--journal") config journal a b)
 
 -- the numbers are within the limits where the test says so
 size-true : (cards steps : ℕ) → is_within cards steps ≡ true → IsSize cards steps
@@ -242,7 +315,7 @@ module _ (words : List (List ℕ)) (cards steps seed : List ℕ) (a : value_in w
   pub world-from : (many long begins : ℕ) → AreWordsOf World words → cards ≡ decimal many → steps ≡ decimal long → seed ≡ decimal begins
       → begins < 2 ^ 32 → is_within many long ≡ true → IsWorld words many long begins
   world-from many long begins are x y z below within = record {
-    call = call-from World words (decimal many ∷ decimal long ∷ decimal begins ∷ []) are
+    call = call-from (codes "world") world_options words (decimal many ∷ decimal long ∷ decimal begins ∷ []) are
         (three-values words (codes "--cards") (codes "--steps") (codes "--seed") (decimal many) (decimal long) (decimal begins)
         (a ∙ ap Some x) (b ∙ ap Some y) (c ∙ ap Some z));
     size = size-true many long within;
@@ -251,22 +324,58 @@ module _ (words : List (List ℕ)) (cards steps seed : List ℕ) (a : value_in w
 
 -- ---- what the options of a call are given
 
-pub record ServeGives (words : List (List ℕ)) (config requests journal : List ℕ) : Type 0 where
+pub record ServeGives (words : List (List ℕ)) (config : List ℕ) (requests : RequestFile) (journal : List ℕ) : Type 0 where
+  pub are : AreWordsOf Serve words
   pub config_is : value_in words (codes "--config") ≡ Some config
-  pub requests_is : value_in words (codes "--requests") ≡ Some requests
+  pub requests_is : value_in words (codes "--requests") ≡ Some requests.name
   pub journal_is : value_in words (codes "--journal") ≡ Some journal
+  pub callers_are : GivesCallers words requests.callers
 
-pub serve-gives : (words : List (List ℕ)) (config requests journal : List ℕ) → IsServe words config requests journal
+-- the option for callers is none of the others
+callers-apart : (word : List ℕ) → is_one_of serve_options word ≡ true → bytes_eq word callers_option ≡ false
+callers-apart word one =
+    false_from_ne_true (bytes_eq word callers_option) (λ same.
+    let is : word ≡ callers_option = (bytes_eq-Decides word callers_option).0 same in
+    let none : is_one_of serve_options callers_option ≡ true = subst (λ w. is_one_of serve_options w ≡ true) is one in
+    absurd (cc))
+
+pub serve-gives : (words : List (List ℕ)) (config : List ℕ) (requests : RequestFile) (journal : List ℕ) → IsServe words config requests journal
     → ServeGives words config requests journal
-serve-gives words config requests journal call =
-    let parts = parted Serve words (config ∷ requests ∷ journal ∷ []) call in
+serve-gives words config requests journal serve =
     let pairs = pairs_of (drop 1 words) in
+    ⊎_elim
+    (λ alone.
+    let parts = parted (codes "serve") serve_options words (config ∷ requests.name ∷ journal ∷ []) alone.0 in
     let lists : values_of (codes "--config") pairs ∷ values_of (codes "--requests") pairs ∷ values_of (codes "--journal") pairs ∷ []
-    ≡ (config ∷ []) ∷ (requests ∷ []) ∷ (journal ∷ []) ∷ [] = parts.once in
+    ≡ (config ∷ []) ∷ (requests.name ∷ []) ∷ (journal ∷ []) ∷ [] = parts.once in
     let c : values_of (codes "--config") pairs ≡ config ∷ [] = cc in
-    let r : values_of (codes "--requests") pairs ≡ requests ∷ [] = cc in
+    let r : values_of (codes "--requests") pairs ≡ requests.name ∷ [] = cc in
     let j : values_of (codes "--journal") pairs ≡ journal ∷ [] = cc in
-    record { config_is = ap only c; requests_is = ap only r; journal_is = ap only j }
+    record {
+      are = record { odd = parts.are.odd; first = parts.are.first; pairs = with-more callers_option serve_options pairs parts.are.pairs };
+      config_is = ap only c;
+      requests_is = ap only r;
+      journal_is = ap only j;
+      callers_are = inl (none-given callers_option serve_options callers-apart pairs parts.are.pairs, alone.1);
+    })
+    (λ several.
+    let parts = parted (codes "serve") (callers_option ∷ serve_options) words (decimal requests.callers ∷ config ∷ requests.name ∷ journal ∷ [])
+    several.0 in
+    let lists : values_of callers_option pairs ∷ values_of (codes "--config") pairs ∷ values_of (codes "--requests") pairs
+    ∷ values_of (codes "--journal") pairs ∷ []
+    ≡ (decimal requests.callers ∷ []) ∷ (config ∷ []) ∷ (requests.name ∷ []) ∷ (journal ∷ []) ∷ [] = parts.once in
+    let n : values_of callers_option pairs ≡ decimal requests.callers ∷ [] = cc in
+    let c : values_of (codes "--config") pairs ≡ config ∷ [] = cc in
+    let r : values_of (codes "--requests") pairs ≡ requests.name ∷ [] = cc in
+    let j : values_of (codes "--journal") pairs ≡ journal ∷ [] = cc in
+    record {
+      are = parts.are;
+      config_is = ap only c;
+      requests_is = ap only r;
+      journal_is = ap only j;
+      callers_are = inr (n, several.1);
+    })
+    serve
 
 pub record ShowGives (words : List (List ℕ)) (config journal : List ℕ) : Type 0 where
   pub config_is : value_in words (codes "--config") ≡ Some config
@@ -274,7 +383,7 @@ pub record ShowGives (words : List (List ℕ)) (config journal : List ℕ) : Typ
 
 pub show-gives : (words : List (List ℕ)) (config journal : List ℕ) → IsShow words config journal → ShowGives words config journal
 show-gives words config journal call =
-    let parts = parted Show words (config ∷ journal ∷ []) call in
+    let parts = parted (codes "show") show_options words (config ∷ journal ∷ []) call in
     let pairs = pairs_of (drop 1 words) in
     let lists : values_of (codes "--config") pairs ∷ values_of (codes "--journal") pairs ∷ [] ≡ (config ∷ []) ∷ (journal ∷ []) ∷ [] = parts.once in
     let c : values_of (codes "--config") pairs ≡ config ∷ [] = cc in
@@ -292,7 +401,7 @@ pub record WorldGives (words : List (List ℕ)) (cards steps seed : ℕ) : Type 
 
 pub world-gives : (words : List (List ℕ)) (cards steps seed : ℕ) → IsWorld words cards steps seed → WorldGives words cards steps seed
 world-gives words cards steps seed world =
-    let parts = parted World words (decimal cards ∷ decimal steps ∷ decimal seed ∷ []) world.call in
+    let parts = parted (codes "world") world_options words (decimal cards ∷ decimal steps ∷ decimal seed ∷ []) world.call in
     let pairs = pairs_of (drop 1 words) in
     let lists : values_of (codes "--cards") pairs ∷ values_of (codes "--steps") pairs ∷ values_of (codes "--seed") pairs ∷ []
     ≡ (decimal cards ∷ []) ∷ (decimal steps ∷ []) ∷ (decimal seed ∷ []) ∷ [] = parts.once in
@@ -319,13 +428,34 @@ one-number value word number said given is below other other_below =
     let same : word ≡ decimal said = cc in
     decimal_injective number said (omega (arith, below)) (omega (arith, other_below)) (sym is ∙ same)
 
+-- a word says one number
+pub said-once : (word : List ℕ) (number said : ℕ) → number < 2 ^ 32 → said < 2 ^ 32 → word ≡ decimal number → word ≡ decimal said → number ≡ said
+said-once word number said below other_below is other =
+    decimal_injective number said (omega (arith, below)) (omega (arith, other_below)) (sym is ∙ other)
+
+-- how many callers the words give, by what they give the option
+pub gives-one : (words : List (List ℕ)) → slice_get (values_in words callers_option) 0 ≡ None → GivesCallers words 1
+gives-one words none = inl (none-first (values_in words callers_option) none, refl)
+
+pub gives-group : (words : List (List ℕ)) (word : List ℕ) (result : Option ℕ) → values_in words callers_option ≡ word ∷ []
+    → MatchOption result ((callers : ℕ) → IsGroup callers → word ≡ decimal callers → ⊥) (λ callers. (word ≡ decimal callers) × IsGroup callers)
+    → MatchOption result ((callers : ℕ) → GivesCallers words callers → ⊥) (GivesCallers words)
+gives-group words word None values none = λ callers gives.
+    ⊎_elim
+    (λ absent. absurd (let e : word ∷ [] ≡ [] = sym values ∙ absent.0 in cc))
+    (λ said.
+    let e : word ∷ [] ≡ decimal callers ∷ [] = sym values ∙ said.0 in
+    none callers said.1 (cc))
+    gives
+gives-group words word (Some callers) values said = inr (values ∙ ap (λ (w : List ℕ). w ∷ []) said.0, said.1)
+
 -- ---- one command
 
 -- the words of a command begin with it, and behind it are pairs of its options
 asks-words : (words : List (List ℕ)) (command : Command) → Asks command words → AreWordsOf command words
-asks-words words Serve asks = (parted Serve words (asks.0 ∷ asks.1 ∷ asks.2 ∷ []) asks.3).are
-asks-words words Show asks = (parted Show words (asks.0 ∷ asks.1 ∷ []) asks.2).are
-asks-words words World asks = (parted World words (decimal asks.0 ∷ decimal asks.1 ∷ decimal asks.2 ∷ []) asks.3.call).are
+asks-words words Serve asks = (serve-gives words asks.0 asks.1 asks.2 asks.3).are
+asks-words words Show asks = (parted (codes "show") show_options words (asks.0 ∷ asks.1 ∷ []) asks.2).are
+asks-words words World asks = (parted (codes "world") world_options words (decimal asks.0 ∷ decimal asks.1 ∷ decimal asks.2 ∷ []) asks.3.call).are
 
 -- no two commands begin alike
 same-command : (command other : Command) → first_word command ≡ first_word other → command ≡ other
@@ -364,14 +494,15 @@ no-values words command are none =
     none (subst (λ (c : Command). Asks c words) (sym (one-command words command other are (asks-words words other asks))) asks))
 
 -- a command is none of the others
-pub serve-no_show : (words : List (List ℕ)) (config requests journal other_config other_journal : List ℕ) → IsServe words config requests journal
+pub serve-no_show : (words : List (List ℕ)) (config : List ℕ) (requests : RequestFile) (journal other_config other_journal : List ℕ)
+    → IsServe words config requests journal
     → IsShow words other_config other_journal → ⊥
 serve-no_show words config requests journal other_config other_journal serve show =
     let same : Serve ≡ Show = one-command words Serve Show (asks-words words Serve (config, requests, journal, serve))
     (asks-words words Show (other_config, other_journal, show)) in
     absurd (cc)
 
-pub command-no_world : (words : List (List ℕ)) (config : List ℕ) (requests : Option (List ℕ)) (journal : List ℕ) (cards steps seed : ℕ)
+pub command-no_world : (words : List (List ℕ)) (config : List ℕ) (requests : Option RequestFile) (journal : List ℕ) (cards steps seed : ℕ)
     → IsCommand words config requests journal → IsWorld words cards steps seed → ⊥
 command-no_world words config None journal cards steps seed show world =
     let same : Show ≡ World = one-command words Show World (asks-words words Show (config, journal, show))

@@ -11,26 +11,24 @@ use Rattle.issuer_base.specs.declared.faults.WriteFault.{WriteFault as SinkFails
 use Rattle.issuer_base.specs.declared.outside.DeskFault.{DeskFault}
 use Rattle.issuer_base.specs.declared.outside.DeskFault.TheVariants.{Fault, NoMemory as NoRoom}
 use Rattle.issuer_base.specs.declared.outside.DeskCall.TheVariants.{Read}
-use Rattle.issuer_base.specs.declared.outside.store.Store.{Ghosts}
 use Rattle.issuer_base.specs.Desk.{FailedCall, is_fault, last_after}
 use Rattle.issuer_base.proofs.ManyCalls.{AppendsFront-after, Rose-from_none, Rose-since, Tells-from_left}
+use Rattle.line_reader.specs.Lines.{lines}
 use Rattle.answer_text.specs.StopText.{stop_text}
 use Rattle.answer_text.specs.declared.stop_line.Stop.{Stop}
 use Rattle.answer_text.specs.declared.stop_line.Stop.TheVariants.{Usage, Config, ReadFault, StoreFault, BadJournal, NoMemory, TooLong}
 use Rattle.issuer_setup.specs.IssuerSetup.{Setup}
-use Rattle.shard_book.specs.declared.shard.Shard.{Shard}
 use Rattle.host_calls.specs.Books.{Book}
-use Rattle.host_calls.specs.Hosts.{Stand}
-use Rattle.host_calls.specs.Runs.{LeaveBetween}
 use Rattle.issuer_top.specs.declared.ending.Ending.{Ending}
 use Rattle.issuer_top.specs.declared.serve.Served.{Served}
 use Rattle.issuer_top.specs.declared.serve.Served.TheVariants.{All, ReadFault as ReadStopped, WriteFault as SinkFault, TooLong as LongStopped}
 use Rattle.issuer_top.specs.Seen.{Seen, SeenInput, SeenStore, Logged}
 use Rattle.issuer_top.specs.Answered.{AllAnswered, WholeAnswered, FrontAnswered, PassedAnswered}
-use Rattle.issuer_top.specs.Configuration.{HasSoundParts, Says, GivesNoIssuer, is_read_stop}
+use Rattle.issuer_top.specs.Answers.{AreAnsweredBy}
+use Rattle.issuer_top.specs.Hosts.{LeavesAnswered, LeavesLoaded}
+use Rattle.issuer_top.specs.Configuration.{Says, GivesNoIssuer, is_read_stop}
 use Rattle.issuer_top.specs.Opening.{GivesInput, stop_of}
-use Rattle.issuer_top.specs.Command.{IsWorld, IsCommand, IsNoCommand}
-use Rattle.issuer_top.specs.Journals.{IsReady}
+use Rattle.issuer_top.specs.Command.{RequestFile, IsWorld, IsCommand, IsNoCommand}
 use Rattle.issuer_top.specs.Loading.{GivesNoHost}
 use Rattle.issuer_top.specs.Kept.{KeepJournals}
 use Rattle.issuer_top.specs.Left.{LeaveJournals}
@@ -96,7 +94,7 @@ pub ends_usage : (seen : Seen) (ending : Ending) → IsNoCommand seen.words → 
 ends_usage seen ending none opened no_stores stopping =
     ends_at_once seen Usage ending (record { no_command = none; opened = opened; no_stores = no_stores; last = refl }) stopping
 
-module _ (seen : Seen) (config : List ℕ) (requests : Option (List ℕ)) (journal : List ℕ) (ending : Ending)
+module _ (seen : Seen) (config : List ℕ) (requests : Option RequestFile) (journal : List ℕ) (ending : Ending)
     (command : IsCommand seen.words config requests journal) where
   -- no memory was left
   ends_no_memory : (config_opened : Bool) → HasOpened seen config_opened false → LeaveJournals journal seen.desk.logs seen.stores
@@ -180,7 +178,7 @@ module _ (seen : Seen) (config : List ℕ) (requests : Option (List ℕ)) (journ
   ends_no_issuer T first input left (TooLong line) opened input_is no_stores given none fresh count stopping = absurd none
 
 -- the words and the configuration are as they should be
-pub IsSetUp-from_said : (seen : Seen) (config : List ℕ) (requests : Option (List ℕ)) (journal : List ℕ) (left : Option (List ℕ)) (issuer : Setup)
+pub IsSetUp-from_said : (seen : Seen) (config : List ℕ) (requests : Option RequestFile) (journal : List ℕ) (left : Option (List ℕ)) (issuer : Setup)
     → IsCommand seen.words config requests journal → GivesInput (seen.desk.tells config) left → Says left issuer → IsSetUp seen requests journal issuer
 IsSetUp-from_said seen config requests journal left issuer command given said = record {
   config = config;
@@ -190,10 +188,13 @@ IsSetUp-from_said seen config requests journal left issuer command given said = 
   says = said.says;
 }
 
--- and so they are for an issuer that is this one
-pub set_up-under : (seen : Seen) (requests : Option (List ℕ)) (journal : List ℕ) (issuer other : Setup) → other ≡ issuer
-    → IsSetUp seen requests journal issuer → IsSetUp seen requests journal other
-set_up-under seen requests journal issuer other same set_up = subst (IsSetUp seen requests journal) (sym same) set_up
+-- and with the request file that they name, for as many callers as there are
+pub set_up-named : (seen : Seen) (requests : Option RequestFile) (file : RequestFile) (callers : ℕ) (journal : List ℕ) (issuer : Setup)
+    → requests ≡ Some file → callers ≡ file.callers → IsSetUp seen requests journal issuer
+    → IsSetUp seen (Some (record { name = file.name; callers = callers })) journal issuer
+set_up-named seen requests file callers journal issuer named same set_up =
+    subst (λ (n : ℕ). IsSetUp seen (Some (record { name = file.name; callers = n })) journal issuer) (sym same)
+    (subst (λ (r : Option RequestFile). IsSetUp seen r journal issuer) named set_up)
 
 -- why there is no host, by what the desk told and counted before
 pub no_host-since : (issuer : Setup) (journal : List ℕ) (logs other : Logged) (before mid after : ℕ) (last : Option FailedCall) (stores : List SeenStore)
@@ -204,16 +205,8 @@ no_host-since issuer journal logs other before mid after last stores cause told 
     subst (λ (n : ℕ). GivesNoHost issuer journal logs (record { before = n; after = after; last = last }) stores cause) stood
     (subst (λ (l : Logged). GivesNoHost issuer journal l (record { before = mid; after = after; last = last }) stores cause) told none)
 
--- shards that are ready, by what the desk told before
-pub ready-since : {S : Type 0} {G : Ghosts S} (issuer under : Setup) (journal : List ℕ) (logs other : Logged) (shards : List (Shard S G)) → other ≡ logs
-    → under ≡ issuer → IsReady issuer journal other shards → IsReady under journal logs shards
-ready-since issuer under journal logs other shards told same ready =
-    subst (λ (i : Setup). IsReady i journal logs shards) (sym same) (subst (λ (l : Logged). IsReady issuer journal l shards) told ready)
-
-pub sound-under : (issuer other : Setup) → other ≡ issuer → HasSoundParts issuer → HasSoundParts other
-sound-under issuer other same sound = subst HasSoundParts (sym same) sound
-
-module _ (seen : Seen) (requests : Option (List ℕ)) (journal : List ℕ) (issuer : Setup) (ending : Ending) (set_up : IsSetUp seen requests journal issuer) where
+module _ (seen : Seen) (requests : Option RequestFile) (journal : List ℕ) (issuer : Setup) (ending : Ending)
+    (set_up : IsSetUp seen requests journal issuer) where
   -- no memory was left once the issuer was known
   pub ends_without_memory : HasOpened seen true false → LeaveJournals journal seen.desk.logs seen.stores → StopsAtOnce seen NoMemory ending
       → EndsBy seen ending
@@ -264,80 +257,166 @@ module _ (seen : Seen) (requests : Option (List ℕ)) (journal : List ℕ) (issu
   ends_no_host ReadFault with_config no_requests cause left stopping = absurd cause
   ends_no_host (TooLong line) with_config no_requests cause left stopping = absurd cause
 
+-- the journals gave no host, by what the desk told and counted before
+pub ends_unloaded : (seen : Seen) (requests : Option RequestFile) (journal : List ℕ) (issuer : Setup) (ending : Ending)
+    (set_up : IsSetUp seen requests journal issuer) (other : Logged) (mid : ℕ) (stores : List SeenStore) (cause : Stop)
+    → is_some seen.config ≡ true → is_some seen.requests ≡ false → seen.stores ≡ stores → other ≡ seen.desk.logs → mid ≡ seen.desk.faults_before
+    → GivesNoHost issuer journal other (record { before = mid; after = seen.desk.faults_after; last = seen.desk.last_fault }) stores cause
+    → LeaveJournals journal other stores → StopsAtOnce seen cause ending → EndsBy seen ending
+ends_unloaded seen requests journal issuer ending set_up other mid stores cause with_config no_requests same told stood none left stopping =
+    let logs = seen.desk.logs in
+    ends_no_host seen requests journal issuer ending set_up cause with_config no_requests
+    (subst (λ (ss : List SeenStore). GivesNoHost issuer journal logs
+    (record { before = seen.desk.faults_before; after = seen.desk.faults_after; last = seen.desk.last_fault }) ss cause) (sym same)
+    (no_host-since issuer journal logs other seen.desk.faults_before mid seen.desk.faults_after seen.desk.last_fault stores cause told stood none))
+    (subst (LeaveJournals journal logs) (sym same) (subst (λ (l : Logged). LeaveJournals journal l stores) told left))
+    stopping
+
 -- ---- the ways that serving ends
 
-module _ (seen : Seen) (name journal : List ℕ) (issuer : Setup) (set_up : IsSetUp seen (Some name) journal issuer) where
-  -- the desk gave no request file
-  pub ends_no_requests : (T : Type 0) (other : Option FailedCall) (between : ℕ) (fault : DeskFault) (ending : Ending) (books : List Book)
-      → is_some seen.config ≡ true → is_some seen.requests ≡ false → KeepJournals issuer journal seen books books
-      → between ≡ seen.desk.faults_before → CountsFaults between seen.desk.faults_after (is_fault {T = T} (Err fault))
-      → seen.desk.last_fault ≡ last_after Read name (is_fault {T = T} (Err fault)) other → LeaveJournals journal seen.desk.logs seen.stores
-      → StopsAtOnce seen (stop_of fault) ending → EndsBy seen ending
-  ends_no_requests T other between Fault ending books with_config no_requests kept stood desk_count last left stopping =
-      ends_at_once seen ReadFault ending
-      (inr (inr (inl (record {
-        requests = name;
+module _ (seen : Seen) (requests : RequestFile) (journal : List ℕ) (issuer : Setup) (set_up : IsSetUp seen (Some requests) journal issuer) where
+  -- no memory was left to serve with
+  pub ends_unserved : (ending : Ending) → HasOpened seen true false
+      → LeavesLoaded requests.callers issuer journal seen.desk.logs seen.stores → StopsAtOnce seen NoMemory ending → EndsBy seen ending
+  ends_unserved ending opened leaves stopping =
+      ends_at_once seen NoMemory ending
+      (inr (inl (record {
+        requests = requests;
         journal = journal;
         issuer = issuer;
-        books = books;
+        first = leaves.first;
+        last = leaves.last;
+        opened = opened;
         set_up = set_up;
-        kept = kept;
+        kept = leaves.kept;
+        none = leaves.none;
+        left = leaves.left;
+        told = refl;
+      })))
+      stopping
+
+  -- the desk gave no request file
+  pub ends_no_requests : (T : Type 0) (other : Option FailedCall) (between : ℕ) (fault : DeskFault) (ending : Ending)
+      → is_some seen.config ≡ true → is_some seen.requests ≡ false
+      → LeavesLoaded requests.callers issuer journal seen.desk.logs seen.stores
+      → between ≡ seen.desk.faults_before → CountsFaults between seen.desk.faults_after (is_fault {T = T} (Err fault))
+      → seen.desk.last_fault ≡ last_after Read requests.name (is_fault {T = T} (Err fault)) other
+      → StopsAtOnce seen (stop_of fault) ending → EndsBy seen ending
+  ends_no_requests T other between Fault ending with_config no_requests leaves stood desk_count last stopping =
+      ends_at_once seen ReadFault ending
+      (inr (inr (inl (record {
+        requests = requests;
+        journal = journal;
+        issuer = issuer;
+        first = leaves.first;
+        last = leaves.last;
+        set_up = set_up;
+        kept = leaves.kept;
+        none = leaves.none;
         fails = record {
           config_is = with_config;
           requests_is = no_requests;
           rose = subst (λ (n : ℕ). Rose n seen.desk.faults_after) stood desk_count.counted;
           call_is = last;
         };
-        last = refl;
+        told = refl;
       }))))
       stopping
-  ends_no_requests T other between NoRoom ending books with_config no_requests kept stood desk_count last left stopping =
-      ends_without_memory seen (Some name) journal issuer ending set_up
-      (record { config_is = with_config; requests_is = no_requests; desk_stood = desk_count.counted ∙ stood }) left stopping
+  ends_no_requests T other between NoRoom ending with_config no_requests leaves stood desk_count last stopping =
+      ends_unserved ending (record { config_is = with_config; requests_is = no_requests; desk_stood = desk_count.counted ∙ stood }) leaves stopping
 
-  module _ {S : Type 0} {G : Ghosts S} (input : SeenInput) (left : Option (List ℕ)) (opened : HasOpened seen true true)
-      (input_is : seen.requests ≡ Some input) (given : GivesInput (seen.desk.tells name) left)
-      (loaded now : List (Shard S G)) (first : List Book)
-      (kept : (last : List Book) → Stand issuer now last → LeaveBetween issuer first last loaded now → KeepJournals issuer journal seen first last) where
+  module _ (input : SeenInput) (left : Option (List ℕ)) (opened : HasOpened seen true true) (input_is : seen.requests ≡ Some input)
+      (given : GivesInput (seen.desk.tells requests.name) left) (Answered : List (List ℕ) → List ℕ → Type 0)
+      (leaves : (asked : List (List ℕ)) (text : List ℕ) → Answered asked text
+      → LeavesAnswered requests.callers issuer journal seen.desk.logs seen.stores asked text) where
     -- what was served are the lines of the file that the desk holds
-    answers-served : (Answered : Setup → List Book → List Book → List ℕ → List ℕ → List ℕ → Type 0) (Written : List ℕ → Type 0)
-        → (served : ServesLines (Answered issuer first) Written issuer first loaded now left input.left) → AnswersLines Answered seen served.text
-    answers-served Answered Written served = record {
-      requests = name;
-      journal = journal;
-      issuer = issuer;
-      first = first;
-      last = served.last;
-      input = input;
-      file = served.file;
-      read = served.read;
-      opened = opened;
-      input_is = input_is;
-      set_up = set_up;
-      kept = kept served.last served.stand served.leave;
-      held = told-given (seen.desk.tells name) left served.file given served.content;
-      was_read = served.was_read;
-      answered = served.answered;
-    }
+    answers-served : (Lines : (List (List ℕ) → List ℕ → Type 0) → List ℕ → List ℕ → List ℕ → Type 0) (Written : List ℕ → Type 0)
+        → (served : ServesLines (Lines Answered) Written left input.left) (asked : List (List ℕ)) → Answered asked served.text
+        → ((Other : List (List ℕ) → List ℕ → Type 0) → Other asked served.text → Lines Other served.file served.read served.text)
+        → AnswersLines Lines seen served.text
+    answers-served Lines Written served asked answered lines_are =
+        let l = leaves asked served.text answered in
+        record {
+          requests = requests;
+          journal = journal;
+          issuer = issuer;
+          first = l.first;
+          last = l.last;
+          input = input;
+          file = served.file;
+          read = served.read;
+          opened = opened;
+          input_is = input_is;
+          set_up = set_up;
+          kept = l.kept;
+          held = told-given (seen.desk.tells requests.name) left served.file given served.content;
+          was_read = served.was_read;
+          answered = lines_are (AreAnsweredBy requests.callers issuer l.first l.last) l.answered;
+        }
+
+    all-served : (Written : List ℕ → Type 0) (served : ServesLines (AllAnswered Answered) Written left input.left)
+        → AnswersLines AllAnswered seen served.text
+    all-served Written served =
+        let a = served.answered in
+        answers-served AllAnswered Written served (lines served.file) a.answered
+        (λ Other other. record { to_the_end = a.to_the_end; within = a.within; answered = other })
+
+    whole-served : (Written : List ℕ → Type 0) (served : ServesLines (WholeAnswered Answered) Written left input.left)
+        → AnswersLines WholeAnswered seen served.text
+    whole-served Written served =
+        let a = served.answered in
+        answers-served WholeAnswered Written served a.whole a.answered
+        (λ Other other. record { whole = a.whole; rest = a.rest; parted = a.parted; within = a.within; answered = other })
+
+    passed-served : (number : ℕ) (Written : List ℕ → Type 0) (served : ServesLines (PassedAnswered number Answered) Written left input.left)
+        → AnswersLines (PassedAnswered number) seen served.text
+    passed-served number Written served =
+        let a = served.answered in
+        answers-served (PassedAnswered number) Written served a.whole a.answered
+        (λ Other other. record {
+          whole = a.whole;
+          ahead = a.ahead;
+          parted = a.parted;
+          within = a.within;
+          passes = a.passes;
+          number_is = a.number_is;
+          answered = other;
+        })
+
+    front-served : (Written : List ℕ → Type 0) (served : ServesLines (FrontAnswered Answered) Written left input.left)
+        → AnswersLines FrontAnswered seen served.text
+    front-served Written served =
+        let a = served.answered in
+        answers-served FrontAnswered Written served (lines a.front) a.answered
+        (λ Other other. record {
+          front = a.front;
+          ahead = a.ahead;
+          more = a.more;
+          was_read = a.was_read;
+          split = a.split;
+          ends_line = a.ends_line;
+          within = a.within;
+          answered = other;
+        })
 
     -- how the run ends, by how serving did
     pub ends_serving : (served : Served) (ending : Ending) (held : Option (List ℕ)) (faults fresh : ℕ)
-        → Serves issuer first loaded now left input.left seen.sink.held_before held served
+        → Serves Answered left input.left seen.sink.held_before held served
         → CountsFaults seen.sink.faults_before faults (write_failed served)
         → fresh ≡ 0 → (read_failed served ≡ true → Rose fresh input.faults)
         → EndsServing held seen.sink.held_after faults seen.sink.faults_after served ending → EndsBy seen ending
-    unfolding answers-served
+    unfolding answers-served all-served whole-served passed-served front-served
     ends_serving All ending held faults fresh serves counts none failed ends =
         let written : Appends seen.sink.held_before seen.sink.held_after serves.text =
         subst (λ (h : Option (List ℕ)). Appends seen.sink.held_before h serves.text) (sym ends.same) serves.written in
         subst (EndsBy seen) (sym ends.ending_is)
-        (serves.text, inl (answers-served AllAnswered (Appends seen.sink.held_before held) serves), written)
+        (serves.text, inl (all-served (Appends seen.sink.held_before held) serves), written)
     ends_serving SinkFault ending held faults fresh serves counts none failed ends =
         subst (EndsBy seen) (sym ends.ending_is)
         (record {
           rose = subst (Rose seen.sink.faults_before) (sym ends.stood) counts.counted;
           text = serves.text;
-          due = inr (inl (answers-served FrontAnswered (AppendsFront seen.sink.held_before held) serves));
+          due = inr (inl (front-served (AppendsFront seen.sink.held_before held) serves));
           front = subst (λ (h : Option (List ℕ)). AppendsFront seen.sink.held_before h serves.text) (sym ends.same) serves.written;
         })
     ends_serving ReadStopped ending held faults fresh serves counts none failed ends =
@@ -345,7 +424,7 @@ module _ (seen : Seen) (name journal : List ℕ) (issuer : Setup) (set_up : IsSe
         ends_by_stop seen held faults ReadFault ending serves.text
         (inr (inr (inr (record {
           answers = serves.text;
-          lines = answers-served WholeAnswered (Appends seen.sink.held_before held) serves;
+          lines = whole-served (Appends seen.sink.held_before held) serves;
           failed = Rose-from_none input.faults rose;
           last = refl;
         }))))
@@ -355,7 +434,7 @@ module _ (seen : Seen) (name journal : List ℕ) (issuer : Setup) (set_up : IsSe
         (record {
           number = number;
           answers = serves.text;
-          lines = answers-served (PassedAnswered number) (Appends seen.sink.held_before held) serves;
+          lines = passed-served number (Appends seen.sink.held_before held) serves;
           last = refl;
         })
         serves.written counts.never_falls ends
@@ -363,7 +442,7 @@ module _ (seen : Seen) (name journal : List ℕ) (issuer : Setup) (set_up : IsSe
 -- ---- the ways that showing ends
 
 pub ends_showing : (seen : Seen) (journal : List ℕ) (issuer : Setup) (books : List Book) (result : Result (Unit {0}) SinkFails)
-    → HasOpened seen true false → IsSetUp seen None journal issuer → KeepJournals issuer journal seen books books
+    → HasOpened seen true false → IsSetUp seen None journal issuer → KeepJournals 1 issuer journal seen.desk.logs seen.stores books books
     → WritesAll seen.sink.held_before seen.sink.held_after result (shown_text issuer books issuer.cards)
     → CountsFaults seen.sink.faults_before seen.sink.faults_after (is_err result) → EndsBy seen (written_ending result)
 ends_showing seen journal issuer books (Ok done) opened set_up kept written counts = (
@@ -411,7 +490,7 @@ module _ (seen : Seen) (cards steps seed : ℕ) (world : IsWorld seen.words card
       (λ told. ends_played ending told.0 told.1 told.2)
       (λ stopping.
       ends_at_once seen NoMemory ending
-      (inr (record {
+      (inr (inr (record {
         cards = cards;
         steps = steps;
         seed = seed;
@@ -419,6 +498,6 @@ module _ (seen : Seen) (cards steps seed : ℕ) (world : IsWorld seen.words card
         opened = opened;
         no_stores = no_stores;
         last = refl;
-      }))
+      })))
       stopping)
       plays

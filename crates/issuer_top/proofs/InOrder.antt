@@ -3,6 +3,7 @@ use Rattle.std.proofs.Common.{◌≡◌, ℕ, ◌-◌, ◌<◌, ◌≤◌, ◌�
 use Rattle.std.proofs.Common.{refl, sym, subst, ap, ◌∙◌, arith}
 use Rattle.std.proofs.lemmas.List.{length-append, take-append-le}
 use Rattle.std.specs.List.{flat_map}
+use Rattle.std.specs.Option.{option_map}
 use Rattle.std.specs.Prelude.{IsSomeAnd, IfSome, codes}
 use Rattle.issuer_base.specs.Tells.{Tells}
 use Rattle.line_reader.specs.declared.limits.TheConstants.{MAX_BYTES}
@@ -19,10 +20,10 @@ use Rattle.shard_book.specs.declared.replay.LoadFault.{LoadFault}
 use Rattle.shard_book.specs.declared.replay.LoadFault.TheVariants.{BadLine, BadRecord}
 use Rattle.shard_book.specs.Loading.{StopsAt, StopsText, IsOutside}
 use Rattle.shard_book.proofs.Exactly.{stops-outside}
-use Rattle.host_calls.specs.Books.{Book}
 use Rattle.issuer_top.specs.declared.ending.Ending.{Ending}
 use Rattle.issuer_top.specs.declared.ending.Ending.TheVariants.{Done, Stopped, WriteFault}
-use Rattle.issuer_top.specs.Command.{IsCommand}
+use Rattle.issuer_top.specs.Command.{RequestFile, IsCommand}
+use Rattle.issuer_top.specs.Answers.{AreAnsweredBy}
 use Rattle.issuer_top.specs.Pairs.{value_in}
 use Rattle.issuer_top.specs.Seen.{Told, Seen, SeenInput}
 use Rattle.issuer_top.specs.Answered.{PassedAnswered, WasRead}
@@ -34,16 +35,16 @@ use Rattle.issuer_top.proofs.CommandWords.{serve-gives, show-gives, serve-no_sho
 
 -- ---- what is said once
 
--- words are a command in one way
-record AreSame (config other_config : List ℕ) (requests other_requests : Option (List ℕ)) (journal other_journal : List ℕ) : Type 0 where
+-- words are a command in one way: with the same names
+record AreSame (config other_config : List ℕ) (requests other_requests : Option RequestFile) (journal other_journal : List ℕ) : Type 0 where
   config_is : config ≡ other_config
-  requests_are : requests ≡ other_requests
+  file_is : option_map (λ (file : RequestFile). file.name) requests ≡ option_map (λ (file : RequestFile). file.name) other_requests
   journal_is : journal ≡ other_journal
 
 one-value : (value : Option (List ℕ)) (x y : List ℕ) → value ≡ Some x → value ≡ Some y → x ≡ y
 one-value value x y one two = let e : Some x ≡ Some y = sym one ∙ two in cc
 
-same-names : (words : List (List ℕ)) (config other_config : List ℕ) (requests other_requests : Option (List ℕ)) (journal other_journal : List ℕ)
+same-names : (words : List (List ℕ)) (config other_config : List ℕ) (requests other_requests : Option RequestFile) (journal other_journal : List ℕ)
     → IsCommand words config requests journal → IsCommand words other_config other_requests other_journal
     → AreSame config other_config requests other_requests journal other_journal
 same-names words config other_config None None journal other_journal first second =
@@ -51,19 +52,19 @@ same-names words config other_config None None journal other_journal first secon
     let two = show-gives words other_config other_journal second in
     record {
       config_is = one-value (value_in words (codes "--config")) config other_config one.config_is two.config_is;
-      requests_are = refl;
+      file_is = refl;
       journal_is = one-value (value_in words (codes "--journal")) journal other_journal one.journal_is two.journal_is;
     }
-same-names words config other_config None (Some name) journal other_journal first second =
-    absurd (serve-no_show words other_config name other_journal config journal second first)
-same-names words config other_config (Some name) None journal other_journal first second =
-    absurd (serve-no_show words config name journal other_config other_journal first second)
-same-names words config other_config (Some name) (Some other) journal other_journal first second =
-    let one = serve-gives words config name journal first in
+same-names words config other_config None (Some file) journal other_journal first second =
+    absurd (serve-no_show words other_config file other_journal config journal second first)
+same-names words config other_config (Some file) None journal other_journal first second =
+    absurd (serve-no_show words config file journal other_config other_journal first second)
+same-names words config other_config (Some file) (Some other) journal other_journal first second =
+    let one = serve-gives words config file journal first in
     let two = serve-gives words other_config other other_journal second in
     record {
       config_is = one-value (value_in words (codes "--config")) config other_config one.config_is two.config_is;
-      requests_are = ap Some (one-value (value_in words (codes "--requests")) name other one.requests_is two.requests_is);
+      file_is = ap Some (one-value (value_in words (codes "--requests")) file.name other.name one.requests_is two.requests_is);
       journal_is = one-value (value_in words (codes "--journal")) journal other_journal one.journal_is two.journal_is;
     }
 
@@ -102,9 +103,9 @@ passes-more lines_before bytes ahead rest passes =
     passes
 
 -- a file within the limits goes past none
-not-past : (issuer : Setup) (first last : List Book) (file told read answers : List ℕ) (number : ℕ) (left : Option (List ℕ)) → file ≡ told
-    → IsWithinLimits (length (lines told)) (length told) → WasRead file read left → PassedAnswered number issuer first last file read answers → ⊥
-not-past issuer first last file told read answers number left same within was_read passed =
+not-past : (Answered : List (List ℕ) → List ℕ → Type 0) (file told read answers : List ℕ) (number : ℕ) (left : Option (List ℕ)) → file ≡ told
+    → IsWithinLimits (length (lines told)) (length told) → WasRead file read left → PassedAnswered number Answered file read answers → ⊥
+not-past Answered file told read answers number left same within was_read passed =
     let parted = BeginsWithLines-given read passed.whole passed.ahead was_read.unread passed.parted in
     let over = passes-more (length passed.whole) (length (flat_map ended passed.whole)) passed.ahead was_read.unread passed.passes in
     ⊎_elim
@@ -122,7 +123,7 @@ desk_faults seen = record { before = seen.desk.faults_before; after = seen.desk.
 counted : (input : Option SeenInput) (seen : SeenInput) → input ≡ Some seen → 0 < seen.faults → IsSomeAnd input (λ i. 0 < i.faults)
 counted input seen is failed = subst (λ o. IsSomeAnd o (λ (i : SeenInput). 0 < i.faults)) (sym is) failed
 
-module _ (seen : Seen) (config journal : List ℕ) (requests : Option (List ℕ)) (command : IsCommand seen.words config requests journal)
+module _ (seen : Seen) (config journal : List ℕ) (requests : Option RequestFile) (command : IsCommand seen.words config requests journal)
     (order : IsInOrder seen config journal) where
   -- nothing could not be read
   not-unread : (text : List ℕ) → IsReadFault seen text → ⊥
@@ -193,9 +194,10 @@ serves-in_order seen status ending is ends order =
     let l = passed.1.lines in
     let same =
     same-names seen.words order.config l.set_up.config (Some order.requests) (Some l.requests) order.journal l.journal order.serve l.set_up.command in
-    let name : l.requests ≡ order.requests = (let e : Some order.requests ≡ Some l.requests = same.requests_are in cc) in
-    let content = same-content seen.desk.tells order.requests l.requests l.file order.file name order.requests_held l.held in
-    not-past l.issuer l.first l.last l.file order.file l.read passed.1.answers passed.1.number l.input.left content order.within l.was_read l.answered)
+    let name : l.requests.name ≡ order.requests.name = (let e : Some order.requests.name ≡ Some l.requests.name = same.file_is in cc) in
+    let content = same-content seen.desk.tells order.requests.name l.requests.name l.file order.file name order.requests_held l.held in
+    not-past (AreAnsweredBy l.requests.callers l.issuer l.first l.last) l.file order.file l.read passed.1.answers passed.1.number l.input.left content
+    order.within l.was_read l.answered)
 
 pub shows-in_order : (seen : Seen) (status : ℕ) (ending : Ending) → status ≡ status_of ending → EndsBy seen ending → ShowsInOrder seen
     → (status ≡ 0) ⊎ (status ≡ 7)
@@ -205,11 +207,11 @@ shows-in_order seen status ending is ends order =
     let passed = subst (EndsBy seen) long ends in
     let l = passed.1.lines in
     let same = same-names seen.words order.config l.set_up.config None (Some l.requests) order.journal l.journal order.show l.set_up.command in
-    (let e : None ≡ Some l.requests = same.requests_are in cc))
+    (let e : None ≡ Some l.requests.name = same.file_is in cc))
 
 module _ (seen : Seen) (order : PlaysInOrder seen) where
   -- the words are no command over journals
-  no_host : (config : List ℕ) (requests : Option (List ℕ)) (journal : List ℕ) → IsCommand seen.words config requests journal → ⊥
+  no_host : (config : List ℕ) (requests : Option RequestFile) (journal : List ℕ) → IsCommand seen.words config requests journal → ⊥
   no_host config requests journal command = command-no_world seen.words config requests journal order.cards order.steps order.seed command order.world
 
   none-unread : (text : List ℕ) → IsReadFault seen text → ⊥

@@ -10,12 +10,10 @@ use Rattle.shard_book.specs.Shards.{store_in, sure_in}
 use Rattle.host_calls.specs.Books.{Book}
 use Rattle.host_calls.specs.Hosts.{AreShards, Stand}
 use Rattle.host_calls.specs.Runs.{LeaveBetween}
-use Rattle.host_calls.proofs.Running.{Begins, run-none, begins-legal, holds-journal}
-use Rattle.issuer_top.specs.Seen.{Seen, SeenStore, store_seen, Logged}
-use Rattle.issuer_top.specs.Configuration.{HasSoundParts}
+use Rattle.host_calls.proofs.Running.{Begins, run-none, holds-journal}
+use Rattle.issuer_top.specs.Seen.{SeenStore, store_seen, Logged}
 use Rattle.issuer_top.specs.Journals.{journal_name, IsReady}
 use Rattle.issuer_top.specs.Kept.{KeepsJournal, KeepJournals}
-use Rattle.issuer_top.specs.Serving.{StartsFrom}
 use Rattle.issuer_top.proofs.HostRuns.{recorded}
 use Rattle.issuer_top.proofs.CrashSteps.{crash-leaves}
 
@@ -54,31 +52,19 @@ module _ {S : Type 0} {G : Ghosts S} where
   begins issuer prefix logs loaded ready shards =
       run-none issuer ready.stores loaded (stores-opened issuer prefix logs loaded ready shards) ready.loaded
 
-  pub starts : (issuer : Setup) (prefix : List ℕ) (logs : Logged) (loaded : List (Shard S G)) (ready : IsReady issuer prefix logs loaded)
-      (shards : AreShards issuer loaded) → HasSoundParts issuer → StartsFrom issuer loaded (begins issuer prefix logs loaded ready shards).books
-  starts issuer prefix logs loaded ready shards sound =
-      let first = begins issuer prefix logs loaded ready shards in
-      record {
-        run = first.has_run;
-        lawful = record {
-          count_is = first.has_run.stand.count_is ∙ shards.count_is;
-          legal = begins-legal issuer ready.stores loaded ready.loaded first;
-          sound = sound;
-        };
-      }
-
-  module _ (issuer : Setup) (prefix : List ℕ) (seen : Seen) (loaded now : List (Shard S G)) (ready : IsReady issuer prefix seen.desk.logs loaded)
+  module _ (issuer : Setup) (prefix : List ℕ) (logs : Logged) (stores : List SeenStore) (loaded now : List (Shard S G))
+      (ready : IsReady issuer prefix logs loaded)
       (before : AreShards issuer loaded) (after : AreShards issuer now)
       (told : (store : S) → IfSome (G.disk store) (λ disk. G.bytes store ≡ Some disk.now.bytes))
-      (stores_are : seen.stores ≡ map (store_seen G) (map store_in now)) where
+      (stores_are : stores ≡ map (store_seen G) (map store_in now)) where
     module _ (last : List Book) (stand : Stand issuer now last)
-        (leave : LeaveBetween issuer (begins issuer prefix seen.desk.logs loaded ready before).books last loaded now) where
+        (leave : LeaveBetween issuer (begins issuer prefix logs loaded ready before).books last loaded now) where
       keeps-journal : (shard : ℕ) (was is : Book) (store : SeenStore)
-          → slice_get (begins issuer prefix seen.desk.logs loaded ready before).books shard ≡ Some was
-          → slice_get last shard ≡ Some is → slice_get seen.stores shard ≡ Some store
-          → KeepsJournal issuer shard (seen.desk.logs (journal_name prefix shard)) was is store
+          → slice_get (begins issuer prefix logs loaded ready before).books shard ≡ Some was
+          → slice_get last shard ≡ Some is → slice_get stores shard ≡ Some store
+          → KeepsJournal 1 issuer shard (logs (journal_name prefix shard)) was is store
       keeps-journal shard was is store was_at is_at store_at =
-          let books = begins issuer prefix seen.desk.logs loaded ready before in
+          let books = begins issuer prefix logs loaded ready before in
           let here = seen-at now shard store (sym (ap (λ (l : List SeenStore). slice_get l shard) stores_are) ∙ store_at) in
           let within = slice_get_within books.books shard was was_at in
           let count = books.has_run.stand.count_is in
@@ -88,11 +74,11 @@ module _ {S : Type 0} {G : Ghosts S} where
           let book = books.books_are shard store_was.0 was store_was.1 was_at in
           let log = ready.opened shard store_was.0 store_was.1 in
           let stands = stand.each shard here.0 is here.1 is_at in
-          subst (λ (s : SeenStore). KeepsJournal issuer shard (seen.desk.logs (journal_name prefix shard)) was is s) here.2
+          subst (λ (s : SeenStore). KeepsJournal 1 issuer shard (logs (journal_name prefix shard)) was is s) here.2
           (record {
             was = record {
               rest = book.rest;
-              held_is = held-told (seen.desk.logs (journal_name prefix shard)) (G.bytes store_was.0) _ log.bytes_are book.text_is;
+              held_is = held-told (logs (journal_name prefix shard)) (G.bytes store_was.0) _ log.bytes_are book.text_is;
               unbroken = book.unbroken;
               records = recorded books.has_run.stand shard was was_at;
               legal = book.legal;
@@ -101,7 +87,7 @@ module _ {S : Type 0} {G : Ghosts S} where
             };
             holds = holds-journal issuer now last after stand shard here.0 is here.1 is_at;
             faults_are = stands.faults_are;
-            crash = crash-leaves issuer shard (seen.desk.logs (journal_name prefix shard)) was.history is.history (sure_in one.0)
+            crash = crash-leaves issuer shard (logs (journal_name prefix shard)) was.history is.history (sure_in one.0)
                 ((books.has_run.stand.each shard one.0 was one.1 was_at).settled book.untold).sure_is
                 (G.disk store_was.0) (G.disk (store_in one.0)) (G.disk (store_in here.0)) (G.bytes store_was.0)
                 (ready.loaded.each shard store_was.0 one.0 store_was.1 one.1).leaves
@@ -109,10 +95,10 @@ module _ {S : Type 0} {G : Ghosts S} where
                 log.untouched (told store_was.0) log.bytes_are;
           })
 
-      pub keep-journals : KeepJournals issuer prefix seen (begins issuer prefix seen.desk.logs loaded ready before).books last
+      pub keep-journals : KeepJournals 1 issuer prefix logs stores (begins issuer prefix logs loaded ready before).books last
       keep-journals = record {
         stores_are = ap length stores_are ∙ mapped (store_seen G) (map store_in now) ∙ mapped store_in now ∙ after.count_is;
-        first_are = (begins issuer prefix seen.desk.logs loaded ready before).has_run.stand.count_is ∙ before.count_is;
+        first_are = (begins issuer prefix logs loaded ready before).has_run.stand.count_is ∙ before.count_is;
         last_are = stand.count_is ∙ after.count_is;
         each = keeps-journal;
       }

@@ -20,6 +20,7 @@ use Rattle.shard_book.specs.declared.shard.Shard.{Shard}
 use Rattle.shard_book.specs.Shards.{store_in, IsCutToText, IsLoadImage}
 use Rattle.shard_book.proofs.LoadCrash.{crash-read, load-image}
 use Rattle.host_calls.specs.Loading.{ComeBack, IsGivenBack, IsNotLoaded}
+use Rattle.host_calls.specs.OpeningLogs.{AllComeBack, HostComesBack}
 use Rattle.host_calls.proofs.Loads.{given-back}
 use Rattle.issuer_top.specs.Seen.{Logged, SeenStore, store_seen}
 use Rattle.issuer_top.specs.Journals.{journal_name, IsOpened, AreOpened, IsReady}
@@ -195,6 +196,22 @@ module _ {S : Type 0} (G : Ghosts S) (told : (store : S) → IfSome (G.disk stor
       (λ (early : number < failed). given-left told held before.0 log issuer number here.0 (come.before number before.0 here.0 early before.1 here.1))
       apart)
       (cases_order failed number))
+
+  -- all were loaded, and come back
+  pub all-left : (issuer : Setup) (failed : ℕ) (fault : LoadFault) (back : List S) → AllComeBack G.bytes G.disk G.faults issuer stores failed fault back
+      → LeaveJournals prefix logs (map (store_seen G) back)
+  all-left issuer failed fault back come number seen is =
+      let here = seen-store G back number seen is in
+      let below = slice_get_within back number here.0 here.1 in
+      let count = come.count_is in
+      let before = at-place stores number (omega (arith, below, count)) in
+      subst (LeavesJournal (logs (journal_name prefix number))) here.2
+      (given-left told (logs (journal_name prefix number)) before.0 (opened number before.0 before.1) issuer number here.0
+      (come.each number before.0 here.0 before.1 here.1))
+
+  pub host-left : (issuer : Setup) (failed : ℕ) (fault : LoadFault) (back : List S)
+      → HostComesBack G.bytes G.disk G.faults issuer stores failed fault back → LeaveJournals prefix logs (map (store_seen G) back)
+  host-left issuer failed fault back come = ⊎_elim (back-left issuer failed fault back) (all-left issuer failed fault back) come
 
 -- all were loaded, and are closed
 pub closed-left : {S : Type 0} {G : Ghosts S} (told : (store : S) → IfSome (G.disk store) (λ disk. G.bytes store ≡ Some disk.now.bytes)) (issuer : Setup)

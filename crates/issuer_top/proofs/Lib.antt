@@ -8,6 +8,9 @@ pub mod JournalSteps
 pub mod CrashSteps
 pub mod KeptSteps
 pub mod LeftSteps
+pub mod AloneSteps
+pub mod TogetherSteps
+pub mod HostSteps
 pub mod LoadingSteps
 pub mod ShowSteps
 pub mod EndingSteps

@@ -1,16 +1,18 @@
 -- Why opened journals gave no host.
-use Rattle.std.proofs.Common.{◌≡◌, ℕ, ◌<◌, List, length, Option, None, Some, refl, ap, ◌∙◌, subst, arith, inl, inr}
+use Rattle.std.proofs.Common.{◌≡◌, ℕ, ◌<◌, List, length, Option, None, Some, refl, sym, ap, ◌∙◌, subst, arith, inl, inr, ⊎_elim}
 use Rattle.std.specs.Prelude.{slice_get, map, IfSome}
 use Rattle.std.specs.Option.{option_map}
 use Rattle.std.proofs.lemmas.Option.{slice_get-map}
 use Rattle.issuer_base.specs.OutsideFaults.{Rose}
 use Rattle.issuer_base.specs.declared.outside.store.Store.{Ghosts}
 use Rattle.issuer_base.proofs.ManyCalls.{Rose-from_none}
+use Rattle.answer_text.specs.declared.stop_line.Stop.{Stop}
 use Rattle.issuer_setup.specs.IssuerSetup.{Setup}
 use Rattle.shard_book.specs.declared.replay.LoadFault.{LoadFault}
 use Rattle.shard_book.specs.declared.replay.LoadFault.TheVariants.{BadLine, BadRecord, StoreFault, NoMemory}
 use Rattle.host_calls.specs.Loading.{ComeBack, IsNotLoaded}
-use Rattle.issuer_top.specs.Seen.{Logged, store_seen}
+use Rattle.host_calls.specs.OpeningLogs.{HostComesBack}
+use Rattle.issuer_top.specs.Seen.{Logged, SeenStore, store_seen}
 use Rattle.issuer_top.specs.Journals.{journal_name, IsOpened, AreOpened}
 use Rattle.issuer_top.specs.Loading.{DeskFaults, HasOpenedAll, GivesNoHost, stop_of_load}
 use Rattle.issuer_top.proofs.KeptSteps.{at-place, mapped}
@@ -19,6 +21,13 @@ use Rattle.issuer_top.proofs.KeptSteps.{at-place, mapped}
 told-held : (P : List ℕ → Type 0) (held bytes : Option (List ℕ)) → IfSome held (λ told. bytes ≡ Some told) → IfSome bytes P → IfSome held P
 told-held P None bytes same holds = tt
 told-held P (Some told) bytes same holds = subst (λ (b : Option (List ℕ)). IfSome b P) same holds
+
+-- why there is no host, of the stores that are handed on with the cause
+pub no_host-given : (issuer : Setup) (prefix : List ℕ) (logs : Logged) (desk : DeskFaults) (stores given : List SeenStore) (cause told : Stop)
+    → cause ≡ told → stores ≡ given → GivesNoHost issuer prefix logs desk given told → GivesNoHost issuer prefix logs desk stores cause
+no_host-given issuer prefix logs desk stores given cause told same handed none =
+    subst (λ (c : Stop). GivesNoHost issuer prefix logs desk stores c) (sym same)
+    (subst (λ (ss : List SeenStore). GivesNoHost issuer prefix logs desk ss told) (sym handed) none)
 
 module _ {S : Type 0} (G : Ghosts S) (issuer : Setup) (prefix : List ℕ) (logs : Logged) (desk : DeskFaults) (stores back : List S) (failed : ℕ)
     (opened : AreOpened G prefix logs stores) (count : length stores ≡ issuer.shards) (stood : desk.after ≡ desk.before) where
@@ -73,3 +82,10 @@ module _ {S : Type 0} (G : Ghosts S) (issuer : Setup) (prefix : List ℕ) (logs 
     stops = told-held _ _ _ (log (BadRecord line) come).bytes_are (not-loaded (BadRecord line) come).stops;
   }
   gives-no_host NoMemory come = stood
+
+  pub gives-no_shared : (fault : LoadFault) → HostComesBack G.bytes G.disk G.faults issuer stores failed fault back
+      → GivesNoHost issuer prefix logs desk (map (store_seen G) back) (stop_of_load fault failed)
+  gives-no_shared fault come =
+      ⊎_elim (gives-no_host fault)
+      (λ all. subst (λ (f : LoadFault). GivesNoHost issuer prefix logs desk (map (store_seen G) back) (stop_of_load f failed)) (sym all.fault_is) stood)
+      come

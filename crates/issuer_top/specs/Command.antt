@@ -1,7 +1,9 @@
 -- The words of the three commands that the program knows.
-use Rattle.std.specs.Prelude.{◌≡◌, ◌≢◌, ℕ, ◌*◌, ◌^◌, ◌<◌, ◌≤◌, Bool, false, ◌||◌, if◌then◌else◌, List, [], ◌∷◌, map, Option, None, Some, codes, IsTrue, All}
+use Rattle.std.specs.Prelude.{◌≡◌, ◌≢◌, ◌⊎◌, ℕ, ◌*◌, ◌^◌, ◌<◌, ◌≤◌, Bool, false, ◌||◌, if◌then◌else◌}
+use Rattle.std.specs.Prelude.{List, [], ◌∷◌, map, Option, None, Some, codes, IsTrue, All}
 use Rattle.std.specs.Fmt.{decimal}
 use Rattle.std.specs.Str.{bytes_eq}
+use Rattle.issuer_base.specs.declared.limits.TheConstants.{MAX_CALLERS}
 
 -- a value is a word that isn't empty and doesn't begin with a hyphen
 abbrev pub IsValue : List ℕ → Type 0
@@ -37,9 +39,12 @@ pub record IsCall (command : List ℕ) (options words values : List (List ℕ)) 
   pub known : All (λ pair. IsTrue (is_one_of options pair.option)) pairs
   pub named : All (λ pair. IsValue pair.value) pairs
 
--- the options of the command to serve, of the one to show, and of the one to play a world
+-- the options that the command to serve needs and the one that it may have besides, those of the command to show, and of the one to play a world
 abbrev pub serve_options : List (List ℕ)
 serve_options = codes "--config" ∷ codes "--requests" ∷ codes "--journal" ∷ []
+
+abbrev pub callers_option : List ℕ
+callers_option = codes "--callers"
 
 abbrev pub show_options : List (List ℕ)
 show_options = codes "--config" ∷ codes "--journal" ∷ []
@@ -47,9 +52,23 @@ show_options = codes "--config" ∷ codes "--journal" ∷ []
 abbrev pub world_options : List (List ℕ)
 world_options = codes "--cards" ∷ codes "--steps" ∷ codes "--seed" ∷ []
 
--- the words are the command to serve, with the names of the configuration, of the request file and of the journals
-abbrev pub IsServe : List (List ℕ) → List ℕ → List ℕ → List ℕ → Type 0
-IsServe words config requests journal = IsCall (codes "serve") serve_options words (config ∷ requests ∷ journal ∷ [])
+-- a request file, by its name and by how many callers answer its lines
+pub record RequestFile : Type 0 where
+  pub name : List ℕ
+  pub callers : ℕ
+
+-- so many callers may answer the lines of a run
+pub record IsGroup (callers : ℕ) : Type 0 where
+  pub some : 1 ≤ callers
+  pub few : callers ≤ MAX_CALLERS
+
+-- the words are the command to serve, with the names of the configuration, of the request file and of the journals; and with the number of its
+-- callers in decimal digits without a sign or a zero in front, or without it, and then there is one
+abbrev pub IsServe : List (List ℕ) → List ℕ → RequestFile → List ℕ → Type 0
+IsServe words config requests journal =
+    (IsCall (codes "serve") serve_options words (config ∷ requests.name ∷ journal ∷ []) × (requests.callers ≡ 1))
+    ⊎ (IsCall (codes "serve") (callers_option ∷ serve_options) words (decimal requests.callers ∷ config ∷ requests.name ∷ journal ∷ [])
+    × IsGroup requests.callers)
 
 -- the words are the command to show, with the names of the configuration and of the journals
 abbrev pub IsShow : List (List ℕ) → List ℕ → List ℕ → Type 0
@@ -69,12 +88,12 @@ pub record IsWorld (words : List (List ℕ)) (cards steps seed : ℕ) : Type 0 w
   pub size : IsSize cards steps
   pub seed_within : seed < 2 ^ 32
 
--- the words are a command over journals, with these names, and it is to serve where there is a name of a request file
-abbrev pub IsCommand : List (List ℕ) → List ℕ → Option (List ℕ) → List ℕ → Type 0
+-- the words are a command over journals, with these names, and it is to serve where there is a request file
+abbrev pub IsCommand : List (List ℕ) → List ℕ → Option RequestFile → List ℕ → Type 0
 IsCommand words config (Some requests) journal = IsServe words config requests journal
 IsCommand words config None journal = IsShow words config journal
 
 -- the words are none of the three
 pub record IsNoCommand (words : List (List ℕ)) : Type 0 where
-  pub no_host : (config : List ℕ) (requests : Option (List ℕ)) (journal : List ℕ) → IsCommand words config requests journal → ⊥
+  pub no_host : (config : List ℕ) (requests : Option RequestFile) (journal : List ℕ) → IsCommand words config requests journal → ⊥
   pub no_world : (cards steps seed : ℕ) → IsWorld words cards steps seed → ⊥

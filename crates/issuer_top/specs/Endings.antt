@@ -17,7 +17,8 @@ use Rattle.answer_text.specs.declared.stop_line.Stop.TheVariants.{Usage, Config,
 use Rattle.shard_book.specs.Grounds.{grounds_of}
 use Rattle.shard_book.specs.Shards.{IsTextOf}
 use Rattle.host_calls.specs.Books.{Book}
-use Rattle.issuer_top.specs.Command.{IsServe, IsShow, IsWorld, IsCommand, IsNoCommand}
+use Rattle.issuer_top.specs.Command.{RequestFile, IsServe, IsShow, IsWorld, IsCommand, IsNoCommand}
+use Rattle.issuer_top.specs.Answers.{AreAnsweredBy, AnswersNone}
 use Rattle.issuer_top.specs.Seen.{Seen, SeenInput, SeenStore}
 use Rattle.issuer_top.specs.Configuration.{config_stop}
 use Rattle.issuer_top.specs.Journals.{journal_name}
@@ -45,9 +46,8 @@ pub record FailsToOpen (seen : Seen) (name : List ℕ) (config : Bool) : Type 0 
   pub rose : Rose seen.desk.faults_before seen.desk.faults_after
   pub call_is : seen.desk.last_fault ≡ Some (record { call = Read; name = name })
 
--- the words are a command, with this name of a request file where there is one and this name of journals, and the configuration says
--- this issuer
-pub record IsSetUp (seen : Seen) (requests : Option (List ℕ)) (journal : List ℕ) (issuer : Setup) : Type 0 where
+-- the words are a command, with this request file where there is one and this name of journals, and the configuration says this issuer
+pub record IsSetUp (seen : Seen) (requests : Option RequestFile) (journal : List ℕ) (issuer : Setup) : Type 0 where
   pub config : List ℕ
   pub content : List ℕ
   pub command : IsCommand seen.words config requests journal
@@ -56,8 +56,8 @@ pub record IsSetUp (seen : Seen) (requests : Option (List ℕ)) (journal : List 
 
 -- lines of the request file were read and answered, and this is the text of their answers; the journals are kept meanwhile; `Answered`
 -- says which lines
-pub record AnswersLines (Answered : Setup → List Book → List Book → List ℕ → List ℕ → List ℕ → Type 0) (seen : Seen) (text : List ℕ) : Type 0 where
-  pub requests : List ℕ
+pub record AnswersLines (Answered : (List (List ℕ) → List ℕ → Type 0) → List ℕ → List ℕ → List ℕ → Type 0) (seen : Seen) (text : List ℕ) : Type 0 where
+  pub requests : RequestFile
   pub journal : List ℕ
   pub issuer : Setup
   pub first : List Book
@@ -68,10 +68,10 @@ pub record AnswersLines (Answered : Setup → List Book → List Book → List �
   pub opened : HasOpened seen true true
   pub input_is : seen.requests ≡ Some input
   pub set_up : IsSetUp seen (Some requests) journal issuer
-  pub kept : KeepJournals issuer journal seen first last
-  pub held : Tells (seen.desk.tells requests) (Some file)
+  pub kept : KeepJournals requests.callers issuer journal seen.desk.logs seen.stores first last
+  pub held : Tells (seen.desk.tells requests.name) (Some file)
   pub was_read : WasRead file read input.left
-  pub answered : Answered issuer first last file read text
+  pub answered : Answered (AreAnsweredBy requests.callers issuer first last) file read text
 
 -- the journals are kept as they were loaded, and this is the text of all cards
 pub record IsShown (seen : Seen) (text : List ℕ) : Type 0 where
@@ -80,7 +80,7 @@ pub record IsShown (seen : Seen) (text : List ℕ) : Type 0 where
   pub books : List Book
   pub opened : HasOpened seen true false
   pub set_up : IsSetUp seen None journal issuer
-  pub kept : KeepJournals issuer journal seen books books
+  pub kept : KeepJournals 1 issuer journal seen.desk.logs seen.stores books books
   pub shown : text ≡ shown_text issuer books issuer.cards
 
 -- a world was played, and this is the text of what it came to; nothing was opened
@@ -109,7 +109,7 @@ pub record IsUsage (seen : Seen) (text : List ℕ) : Type 0 where
 -- status 2: the configuration is broken, and its place is told; no journal was opened, nor the request file
 pub record IsConfig (seen : Seen) (text : List ℕ) : Type 0 where
   pub config : List ℕ
-  pub requests : Option (List ℕ)
+  pub requests : Option RequestFile
   pub journal : List ℕ
   pub content : List ℕ
   pub fault : ConfigFault
@@ -123,7 +123,7 @@ pub record IsConfig (seen : Seen) (text : List ℕ) : Type 0 where
 -- status 3: the desk failed at the configuration's name
 pub record CannotOpenConfig (seen : Seen) (text : List ℕ) : Type 0 where
   pub config : List ℕ
-  pub requests : Option (List ℕ)
+  pub requests : Option RequestFile
   pub journal : List ℕ
   pub command : IsCommand seen.words config requests journal
   pub fails : FailsToOpen seen config false
@@ -133,7 +133,7 @@ pub record CannotOpenConfig (seen : Seen) (text : List ℕ) : Type 0 where
 -- status 3: the configuration failed while it was read
 pub record CannotReadConfig (seen : Seen) (text : List ℕ) : Type 0 where
   pub config : List ℕ
-  pub requests : Option (List ℕ)
+  pub requests : Option RequestFile
   pub journal : List ℕ
   pub command : IsCommand seen.words config requests journal
   pub opened : HasOpened seen true false
@@ -143,14 +143,16 @@ pub record CannotReadConfig (seen : Seen) (text : List ℕ) : Type 0 where
 
 -- status 3: the desk failed at the request file's name, once the journals were loaded
 pub record CannotOpenRequests (seen : Seen) (text : List ℕ) : Type 0 where
-  pub requests : List ℕ
+  pub requests : RequestFile
   pub journal : List ℕ
   pub issuer : Setup
-  pub books : List Book
+  pub first : List Book
+  pub last : List Book
   pub set_up : IsSetUp seen (Some requests) journal issuer
-  pub kept : KeepJournals issuer journal seen books books
-  pub fails : FailsToOpen seen requests true
-  pub last : text ≡ stop_text ReadFault
+  pub kept : KeepJournals requests.callers issuer journal seen.desk.logs seen.stores first last
+  pub none : AnswersNone requests.callers first last
+  pub fails : FailsToOpen seen requests.name true
+  pub told : text ≡ stop_text ReadFault
 
 -- status 3: the request file failed while it was read, and the lines that stand whole in what was read were answered
 pub record CannotReadRequests (seen : Seen) (text : List ℕ) : Type 0 where
@@ -166,7 +168,7 @@ IsReadFault seen text =
 
 -- the journals gave no host, for this cause, and their whole lines stay; the request file was not opened
 pub record HasNoHost (stop : Stop) (seen : Seen) (text : List ℕ) : Type 0 where
-  pub requests : Option (List ℕ)
+  pub requests : Option RequestFile
   pub journal : List ℕ
   pub issuer : Setup
   pub set_up : IsSetUp seen requests journal issuer
@@ -185,16 +187,31 @@ IsStoreFault seen text = (shard : ℕ) × HasNoHost (StoreFault shard) seen text
 abbrev pub IsBadJournal : Seen → List ℕ → Type 0
 IsBadJournal seen text = (shard line : ℕ) × HasNoHost (BadJournal shard line) seen text
 
--- status 7: no memory was left for the work of a host, before the request file was opened; the whole lines of journals that were opened stay
+-- status 7: no memory was left for the configuration, for the journals or for a host; the whole lines of journals that were opened stay
 pub record LacksMemory (seen : Seen) (text : List ℕ) : Type 0 where
   pub config : List ℕ
-  pub requests : Option (List ℕ)
+  pub requests : Option RequestFile
   pub journal : List ℕ
   pub config_opened : Bool
   pub command : IsCommand seen.words config requests journal
   pub opened : HasOpened seen config_opened false
   pub left : LeaveJournals journal seen.desk.logs seen.stores
   pub last : text ≡ stop_text NoMemory
+
+-- status 7: no memory was left to serve with, once the journals were loaded and before the request file was opened; they are kept, and with one
+-- caller their whole lines stay at each crash since they were opened
+pub record CannotServe (seen : Seen) (text : List ℕ) : Type 0 where
+  pub requests : RequestFile
+  pub journal : List ℕ
+  pub issuer : Setup
+  pub first : List Book
+  pub last : List Book
+  pub opened : HasOpened seen true false
+  pub set_up : IsSetUp seen (Some requests) journal issuer
+  pub kept : KeepJournals requests.callers issuer journal seen.desk.logs seen.stores first last
+  pub none : AnswersNone requests.callers first last
+  pub left : requests.callers ≡ 1 → LeaveJournals journal seen.desk.logs seen.stores
+  pub told : text ≡ stop_text NoMemory
 
 -- status 7: no memory was left for a world; nothing was opened
 pub record CannotPlay (seen : Seen) (text : List ℕ) : Type 0 where
@@ -208,7 +225,7 @@ pub record CannotPlay (seen : Seen) (text : List ℕ) : Type 0 where
 
 -- status 7: no memory was left
 abbrev pub IsNoMemory : Seen → List ℕ → Type 0
-IsNoMemory seen text = LacksMemory seen text ⊎ CannotPlay seen text
+IsNoMemory seen text = LacksMemory seen text ⊎ (CannotServe seen text ⊎ CannotPlay seen text)
 
 -- status 8: a byte of the request file past a limit was read, and the lines before were answered
 pub record IsTooLong (seen : Seen) (text : List ℕ) : Type 0 where
@@ -268,12 +285,12 @@ pub record IsInOrder (seen : Seen) (config journal : List ℕ) : Type 0 where
 -- the words are the command to serve, all is in order, and the desk tells of a request file within the limits
 pub record ServesInOrder (seen : Seen) : Type 0 where
   pub config : List ℕ
-  pub requests : List ℕ
+  pub requests : RequestFile
   pub journal : List ℕ
   pub file : List ℕ
   pub serve : IsServe seen.words config requests journal
   pub in_order : IsInOrder seen config journal
-  pub requests_held : seen.desk.tells requests ≡ Some (Some file)
+  pub requests_held : seen.desk.tells requests.name ≡ Some (Some file)
   pub within : IsWithinLimits (length (lines file)) (length file)
 
 -- the words are the command to show, and all is in order

@@ -1,6 +1,6 @@
 -- What a run makes of the journals: what they were, what they are, and what a crash since they were opened may leave.
 use Rattle.std.specs.Prelude.{◌≡◌, ◌⊎◌, ℕ, List, ◌∷◌, ◌++◌, length, slice_get, Option, Some, IfSome, All}
-use Rattle.issuer_base.specs.Stores.{Disk, Moment, LeavesSince, timeline}
+use Rattle.issuer_base.specs.Stores.{Disk, MayLeave, Moment, LeavesSince, timeline}
 use Rattle.issuer_base.specs.Tells.{Tells}
 use Rattle.issuer_base.specs.declared.entry.Entry.{Entry}
 use Rattle.card_history.specs.LegalRecords.{IsLegalHistory}
@@ -8,10 +8,11 @@ use Rattle.issuer_setup.specs.IssuerSetup.{Setup}
 use Rattle.journal_rec.specs.Record.{IsRecord}
 use Rattle.journal_rec.specs.RecordText.{texts_of, IsUnbroken}
 use Rattle.record_store.specs.Images.{IsCutImage}
-use Rattle.shard_book.specs.Grounds.{grounds_of}
+use Rattle.shard_book.specs.Grounds.{grounds_of, grounds_now, IsImageOf}
 use Rattle.host_calls.specs.Books.{Book}
 use Rattle.host_calls.specs.Runs.{HoldsJournal, IsImageBetween}
-use Rattle.issuer_top.specs.Seen.{Seen, SeenStore}
+use Rattle.issuer_top.specs.Answers.{ByCallers}
+use Rattle.issuer_top.specs.Seen.{Logged, SeenStore}
 use Rattle.issuer_top.specs.Journals.{journal_name}
 
 -- the journal was the text of the book's history, which is legal, and a rest without a newline; no fault of its store was counted or told
@@ -34,18 +35,23 @@ pub record CrashLeaves (issuer : Setup) (shard : ℕ) (held : Option (List ℕ))
   pub leaves : LeavesSince
       (λ image. IsCutImage (length (texts_of first)) opened image ⊎ IsImageBetween issuer shard first last image) 0 disk
 
--- the journal of a shard was that of the first book and is that of the last
-pub record KeepsJournal (issuer : Setup) (shard : ℕ) (held : Option (List ℕ)) (first last : Book) (store : SeenStore) : Type 0 where
+-- a crash that comes now leaves an image of the history
+pub record LeavesNow (issuer : Setup) (shard : ℕ) (history : List Entry) (disk : Disk) : Type 0 where
+  pub leaves : (image : List ℕ) → MayLeave disk.now image → IsImageOf (grounds_now issuer) shard history image
+
+-- the journal of a shard was that of the first book and is that of the last, after a run of so many callers
+pub record KeepsJournal (count : ℕ) (issuer : Setup) (shard : ℕ) (held : Option (List ℕ)) (first last : Book) (store : SeenStore) : Type 0 where
   pub was : WasJournal issuer shard held first
   pub holds : HoldsJournal issuer shard last store.bytes
   pub faults_are : store.faults ≡ last.faults
-  pub crash : IfSome store.disk (CrashLeaves issuer shard held first.history last.history)
+  pub crash : IfSome store.disk (λ disk.
+      ByCallers count (CrashLeaves issuer shard held first.history last.history disk) (LeavesNow issuer shard last.history disk))
 
--- the journal of each shard, by the name that the words give, was that of its first book and is that of its last
-pub record KeepJournals (issuer : Setup) (prefix : List ℕ) (seen : Seen) (first last : List Book) : Type 0 where
-  pub stores_are : length seen.stores ≡ issuer.shards
+-- the journal of each shard, of which the desk told by the name that the words give, was that of its first book and is that of its last
+pub record KeepJournals (count : ℕ) (issuer : Setup) (prefix : List ℕ) (logs : Logged) (stores : List SeenStore) (first last : List Book) : Type 0 where
+  pub stores_are : length stores ≡ issuer.shards
   pub first_are : length first ≡ issuer.shards
   pub last_are : length last ≡ issuer.shards
   pub each : (shard : ℕ) (was is : Book) (store : SeenStore)
-      → slice_get first shard ≡ Some was → slice_get last shard ≡ Some is → slice_get seen.stores shard ≡ Some store
-      → KeepsJournal issuer shard (seen.desk.logs (journal_name prefix shard)) was is store
+      → slice_get first shard ≡ Some was → slice_get last shard ≡ Some is → slice_get stores shard ≡ Some store
+      → KeepsJournal count issuer shard (logs (journal_name prefix shard)) was is store

@@ -7,10 +7,12 @@ pub mod Opening
 pub mod Journals
 pub mod Loading
 pub mod Worlds
+pub mod Answers
 pub mod Answered
 pub mod Kept
 pub mod Left
 pub mod Shown
+pub mod Hosts
 pub mod Serving
 pub mod Status
 pub mod Endings

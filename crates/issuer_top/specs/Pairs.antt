@@ -1,12 +1,15 @@
 -- The pairs that the words behind a command make, and what the words ask for.
-use Rattle.std.specs.Prelude.{◌≡◌, ℕ, ◌*◌, ◌%◌, nat_le, Bool, true, false, not, ◌==◌, ◌&&◌, if◌then◌else◌}
+use Rattle.std.specs.Prelude.{◌≡◌, ◌⊎◌, ℕ, ◌*◌, ◌%◌, nat_le, Bool, true, false, not, ◌==◌, ◌&&◌, if◌then◌else◌}
 use Rattle.std.specs.Prelude.{List, [], ◌∷◌, length, drop, slice_get, Option, Some, None, codes}
+use Rattle.std.specs.Fmt.{decimal}
 use Rattle.std.specs.Option.{option_map}
 use Rattle.issuer_top.specs.declared.words.Command.{Command}
 use Rattle.issuer_top.specs.declared.words.Command.TheVariants.{Serve, Show, World}
+use Rattle.issuer_top.specs.declared.words.Requests.{Requests}
 use Rattle.issuer_top.specs.declared.words.Task.{Task}
 use Rattle.issuer_top.specs.declared.words.Task.TheVariants.{Host, Play}
-use Rattle.issuer_top.specs.Command.{Pair, values_of, is_one_of, serve_options, show_options, world_options, IsServe, IsShow, IsWorld, IsCommand}
+use Rattle.issuer_top.specs.Command.{Pair, values_of, is_one_of, serve_options, callers_option, show_options, world_options}
+use Rattle.issuer_top.specs.Command.{RequestFile, IsGroup, IsServe, IsShow, IsWorld, IsCommand}
 
 -- whether a word is a value
 abbrev pub is_value : List ℕ → Bool
@@ -20,7 +23,7 @@ first_word Show = codes "show"
 first_word World = codes "world"
 
 abbrev pub options_of : Command → List (List ℕ)
-options_of Serve = serve_options
+options_of Serve = callers_option ∷ serve_options
 options_of Show = show_options
 options_of World = world_options
 
@@ -45,25 +48,41 @@ only [] = None
 only (value ∷ []) = Some value
 only (value ∷ next ∷ values) = None
 
--- the value that the words behind the first one give the option once
+-- the values that the words behind the first one give the option, and the value where they give it once
+abbrev pub values_in : List (List ℕ) → List ℕ → List (List ℕ)
+values_in words option = values_of option (pairs_of (drop 1 words))
+
 abbrev pub value_in : List (List ℕ) → List ℕ → Option (List ℕ)
-value_in words option = only (values_of option (pairs_of (drop 1 words)))
+value_in words option = only (values_in words option)
+
+-- the words begin with this one, and behind it are pairs of these options
+pub record AreWordsWith (command : List ℕ) (options words : List (List ℕ)) : Type 0 where
+  pub odd : length words % 2 ≡ 1
+  pub first : slice_get words 0 ≡ Some command
+  pub pairs : are_pairs options (pairs_of (drop 1 words)) ≡ true
 
 -- the words begin with the command, and behind it are pairs of its options
-pub record AreWordsOf (command : Command) (words : List (List ℕ)) : Type 0 where
-  pub odd : length words % 2 ≡ 1
-  pub first : slice_get words 0 ≡ Some (first_word command)
-  pub pairs : are_pairs (options_of command) (pairs_of (drop 1 words)) ≡ true
+abbrev pub AreWordsOf : Command → List (List ℕ) → Type 0
+AreWordsOf command words = AreWordsWith (first_word command) (options_of command) words
+
+-- the words give so many callers, or don't say, and then it is one
+abbrev pub GivesCallers : List (List ℕ) → ℕ → Type 0
+GivesCallers words callers =
+    ((values_in words callers_option ≡ []) × (callers ≡ 1)) ⊎ ((values_in words callers_option ≡ decimal callers ∷ []) × IsGroup callers)
 
 -- the words are the command, with whatever its options are given
 abbrev pub Asks : Command → List (List ℕ) → Type 0
-Asks Serve words = (config requests journal : List ℕ) × IsServe words config requests journal
+Asks Serve words = (config : List ℕ) × (requests : RequestFile) × (journal : List ℕ) × IsServe words config requests journal
 Asks Show words = (config journal : List ℕ) × IsShow words config journal
 Asks World words = (cards steps seed : ℕ) × IsWorld words cards steps seed
 
+-- the request file that the code names
+abbrev pub request_file : Requests → RequestFile
+request_file requests = record { name = requests.file.now; callers = requests.callers }
+
 -- the words ask for this
 abbrev pub IsTask : List (List ℕ) → Task → Type 0
-IsTask words (Host names) = IsCommand words names.config.now (option_map (λ name. name.now) names.requests) names.journal.now
+IsTask words (Host names) = IsCommand words names.config.now (option_map request_file names.requests) names.journal.now
 IsTask words (Play size) = IsWorld words size.cards size.steps size.seed
 
 -- whether a world may have so many cards and steps

@@ -1,5 +1,5 @@
 -- What a run sees of the outside: its words, the desk, the inputs and the journals that it opened, and the sink.
-use Rattle.std.specs.Prelude.{ℕ, List, map, Option}
+use Rattle.std.specs.Prelude.{◌≡◌, ℕ, List, map, Option}
 use Rattle.std.specs.Option.{option_map}
 use Rattle.issuer_base.specs.Desk.{FailedCall}
 use Rattle.issuer_base.specs.Stores.{Disk}
@@ -61,6 +61,11 @@ desk_seen desk before after = record {
   faults_after = desk.faults after;
   last_fault = desk.last_fault after;
 }
+
+-- a desk tells of inputs what it told when it was given, and its count of faults is the same
+pub record IsSameDesk {D I J : Type 0} (desk : Desk D I J) (given now : D) : Type 0 where
+  pub holds_are : desk.holds now ≡ desk.holds given
+  pub faults_are : desk.faults now ≡ desk.faults given
 
 -- an input after the run
 abbrev pub input_seen : {I : Type 0} → Source I → I → SeenInput

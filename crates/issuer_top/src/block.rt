@@ -8,11 +8,9 @@ ghost use Rattle.issuer_top.specs.declared.block.TheConstants.{BLOCK_ROOM};
 
 use answer_text::{LINE_ROOM, write_answer};
 use arrayvec::ArrayVec;
+use caller_lanes::BLOCK_LINES;
 use issuer_base::{Answer, NoMemory, Sink, WriteFault, write_all};
 use std::alloc::Global;
-
-/// How many lines are answered before their answers are written, at most.
-pub(crate) const BLOCK_LINES: usize = 1_024;
 
 /// How many bytes their answers have, at most.
 const BLOCK_ROOM: usize = BLOCK_LINES * LINE_ROOM;

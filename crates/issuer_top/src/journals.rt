@@ -1,14 +1,20 @@
 //! The journals of an issuer's shards, opened at a desk and loaded.
-ghost use Rattle.std.specs.Prelude.{◌≡◌, ◌<◌, ◌≤◌, ℕ, List, length, map, true, is_ok, string_bytes, IfOk, IfErr};
+ghost use Rattle.std.specs.Prelude.{◌≡◌, ◌<◌, ◌≤◌, ℕ, List, [], length, map, true, is_ok, string_bytes, IfOk, IfErr};
 ghost use Rattle.issuer_base.specs.Desk.{last_after};
 ghost use Rattle.issuer_base.specs.OutsideFaults.{CountsFaults};
+ghost use Rattle.issuer_base.specs.declared.limits.TheConstants.{MAX_CALLERS};
 ghost use Rattle.issuer_base.specs.declared.outside.DeskCall.TheVariants.{Log};
+ghost use Rattle.caller_lanes.specs.Lanes.{callers_in, waiting_in};
+ghost use Rattle.issuer_top.specs.Command.{IsGroup};
+ghost use Rattle.issuer_top.specs.Hosts.{IsReadySolo, IsReadyTogether, TakesMore, callers_of, IsReady, HasServed, MaySettle, HasRoom, IsSettled};
 ghost use Rattle.issuer_top.specs.Seen.{store_seen};
-ghost use Rattle.issuer_top.specs.Journals.{journal_name, IsOpened, AreOpened, IsReady};
+ghost use Rattle.issuer_top.specs.Journals.{journal_name, IsOpened, AreOpened};
 ghost use Rattle.issuer_top.specs.Left.{LeaveJournals};
 ghost use Rattle.issuer_top.specs.Loading.{GivesNoHost, IsUnopened, is_log_fault, stop_of_load};
 
+use crate::hosts::LineHost;
 use answer_text::Stop;
+use caller_lanes::Lanes;
 use host_calls::{HostBack, LoadFault, Solo};
 use issuer_base::{Desk, DeskFault};
 use issuer_setup::Issuer;
@@ -20,16 +26,42 @@ pub(crate) struct NoHost<S> {
     pub(crate) stores: Vec<S>,
 }
 
-/// The host of an issuer, over the journals under these names.
+/// The host of an issuer with so many callers, over the journals under these names.
 pub(crate) fn load_host<D: Desk>(
     alloc: Global,
     desk: &mut D,
     prefix: &str,
     issuer: Issuer,
+    callers: u8,
+) -> Result<LineHost<D::Journal>, NoHost<D::Journal>>
+    requires { IsGroup callers }
+    ensures ready { IfOk result (IsReady issuer prefix.now (D.logs desk.old)) }
+    ensures callers { IfOk result (λ host. callers_of host ≡ callers) }
+    ensures fresh { IfOk result (λ host. HasServed host [] [] [] host) }
+    ensures room { IfOk result (λ host. HasRoom host 0 × MaySettle host 0 × IsSettled host) }
+    ensures stood { is_ok result ≡ true → D.faults desk.new ≡ D.faults desk.old }
+    ensures none { IfErr result (λ back. GivesNoHost issuer prefix.now (D.logs desk.old)
+        (record { before = D.faults desk.old; after = D.faults desk.new; last = D.last_fault desk.new })
+        (map (store_seen D.Journal.Store) back.stores.items) back.cause) }
+    ensures left { IfErr result (λ back. LeaveJournals prefix.now (D.logs desk.old) (map (store_seen D.Journal.Store) back.stores.items)) }
+    ensures kept { D.holds desk.new ≡ D.holds desk.old }
+{
+    if callers == 1 {
+        Ok(LineHost::Alone(load_alone(alloc, desk, prefix, issuer)?))
+    } else {
+        Ok(LineHost::Together(load_together(alloc, desk, prefix, issuer, callers)?))
+    }
+}
+
+/// The host of one caller of an issuer, over the journals under these names.
+pub(crate) fn load_alone<D: Desk>(
+    alloc: Global,
+    desk: &mut D,
+    prefix: &str,
+    issuer: Issuer,
 ) -> Result<Solo<D::Journal>, NoHost<D::Journal>>
-    ensures issuer { IfOk result (λ host. host.issuer ≡ issuer) }
+    ensures ready { IfOk result (IsReadySolo issuer prefix.now (D.logs desk.old)) }
     ensures some { IfOk result (λ host. 0 < host.issuer.shards) }
-    ensures ready { IfOk result (λ host. IsReady issuer prefix.now (D.logs desk.old) host.shards.items) }
     ensures stood { is_ok result ≡ true → D.faults desk.new ≡ D.faults desk.old }
     ensures none { IfErr result (λ back. GivesNoHost issuer prefix.now (D.logs desk.old)
         (record { before = D.faults desk.old; after = D.faults desk.new; last = D.last_fault desk.new })
@@ -40,16 +72,49 @@ pub(crate) fn load_host<D: Desk>(
     let stores = open_journals(alloc, desk, prefix, &issuer)?;
     match Solo::load(alloc, stores, issuer) {
         Ok(host) => Ok(host),
-        Err(
-            HostBack {
-                fault,
-                shard,
-                stores,
-            },
-        ) => Err(NoHost {
-            cause: stop_of_load(fault, shard),
-            stores,
-        }),
+        Err(back) => Err(no_host(back)),
+    }
+}
+
+/// The host of more than one caller, likewise.
+fn load_together<D: Desk>(
+    alloc: Global,
+    desk: &mut D,
+    prefix: &str,
+    issuer: Issuer,
+    callers: u8,
+) -> Result<Lanes<D::Journal>, NoHost<D::Journal>>
+    requires { (1 < callers) × (callers ≤ MAX_CALLERS) }
+    ensures ready { IfOk result (IsReadyTogether issuer prefix.now (D.logs desk.old)) }
+    ensures callers { IfOk result (λ host. callers_in host ≡ callers) }
+    ensures fresh { IfOk result (λ host. TakesMore host 0 × (waiting_in host ≡ 0)) }
+    ensures stood { is_ok result ≡ true → D.faults desk.new ≡ D.faults desk.old }
+    ensures none { IfErr result (λ back. GivesNoHost issuer prefix.now (D.logs desk.old)
+        (record { before = D.faults desk.old; after = D.faults desk.new; last = D.last_fault desk.new })
+        (map (store_seen D.Journal.Store) back.stores.items) back.cause) }
+    ensures left { IfErr result (λ back. LeaveJournals prefix.now (D.logs desk.old) (map (store_seen D.Journal.Store) back.stores.items)) }
+    ensures kept { D.holds desk.new ≡ D.holds desk.old }
+{
+    let stores = open_journals(alloc, desk, prefix, &issuer)?;
+    match Lanes::load(alloc, stores, issuer, callers) {
+        Ok(host) => Ok(host),
+        Err(back) => Err(no_host(back)),
+    }
+}
+
+/// The stores of journals that gave no host, and why the run stops.
+fn no_host<S>(back: HostBack<S>) -> NoHost<S>
+    ensures cause { result.cause ≡ stop_of_load back.fault back.shard }
+    ensures stores { result.stores ≡ back.stores }
+{
+    let HostBack {
+        fault,
+        shard,
+        stores,
+    } = back;
+    NoHost {
+        cause: stop_of_load(fault, shard),
+        stores,
     }
 }
 

@@ -1,17 +1,23 @@
 //! Whole runs over a desk and a sink in memory.
 ghost use Rattle.std.specs.Prelude.{◌≡◌, [], None, IfOk};
 
+mod callers;
+mod devices;
 mod journals;
+mod meeting;
 mod scripts;
 mod worlds;
 
 use super::*;
 use issuer_base::{
-    Desk, DeskFault, MemorySink, MemorySource, NoMemory, ReadFault, Sink, Source, Words, WriteFault,
+    Desk, DeskFault, Gate, MemorySink, MemorySource, NoMemory, OpenGate, ReadFault, Sink, Source,
+    Words, WriteFault,
 };
 use std::alloc::{AllocError, Global};
 use std::process::Abort;
+use std::sync::Wait;
 use std::test::Fail;
+use std::thread::Threads;
 use store_edge::{MemoryDesk, MemoryStore};
 
 /// One shard, one key set, two cards, and a table that approves up to an amount of 500000.
@@ -98,21 +104,36 @@ fn desk_of(alloc: Global, config: &str, requests: &str) -> Result<MemoryDesk, Fa
 }
 
 /// What a run writes, and the status that it ends with.
-fn run<R: AllocGlobal>(
+fn run<R: AllocGlobal + Threads + Wait + Sync>(
     rt: &R,
     words: &[&str],
     config: &str,
     requests: &str,
 ) -> Result<(u8, String), Fail> {
+    run_at(rt, words, config, requests, &OpenGate)
+}
+
+/// The same, through a gate.
+fn run_at<R: AllocGlobal + Threads + Wait + Sync, G: Gate + Sync>(
+    rt: &R,
+    words: &[&str],
+    config: &str,
+    requests: &str,
+    gate: &G,
+) -> Result<(u8, String), Fail> {
     let desk = desk_of(rt.alloc(), config, requests)?;
     let mut out = MemorySink::new(rt.alloc(), 65_536, Vec::new(rt.alloc()))?;
-    let status = status_of(issue(rt, &words_of(rt.alloc(), words)?, desk, &mut out));
+    let status = status_of(issue(rt, &words_of(rt.alloc(), words)?, desk, &mut out, gate));
     let text = String::from_utf8(out.bytes().to_vec(rt.alloc())?)?;
     Ok((status, text))
 }
 
 /// Checks that a run over the configuration answers all lines, and just so.
-fn check<R: AllocGlobal + Abort>(rt: &R, requests: &str, expected: &str) -> Result<(), Fail> {
+fn check<R: AllocGlobal + Threads + Wait + Sync + Abort>(
+    rt: &R,
+    requests: &str,
+    expected: &str,
+) -> Result<(), Fail> {
     let (status, text) = run(rt, &COMMAND, CONFIG, requests)?;
     assert_eq!(rt; text.as_str(), expected, "for {requests}");
     assert_eq!(rt; status, 0);
@@ -267,6 +288,21 @@ fn takes_words_in_any_order_each_once(rt: HostRuntime) -> Result<(), Fail> {
         ("show --config config --journal", 1, "stop 1\n"),
         ("serve", 1, "stop 1\n"),
         ("world --cards 1 --steps 8", 1, "stop 1\n"),
+        (
+            "serve --callers 16 --config config --requests requests --journal j",
+            0,
+            "refused 1 1\n",
+        ),
+        (
+            "serve --config config --callers 17 --requests requests --journal j",
+            1,
+            "stop 1\n",
+        ),
+        (
+            "serve --config config --requests requests --journal j --callers 02",
+            1,
+            "stop 1\n",
+        ),
         ("", 1, "stop 1\n"),
         (
             "serve --config none --requests requests --journal j",
@@ -291,7 +327,10 @@ const UNTOUCHED: &str =
     "4000000000000002 00 hi - status 0 queued 0 done 0 flight - ok\n4000000000000010 00 hi - status 0 queued 0 done 0 flight - ok\n";
 
 /// The status of a run of these words, parted by spaces, over one line that is no request, and what it writes.
-fn run_words<R: AllocGlobal>(rt: &R, words: &str) -> Result<(u8, String), Fail> {
+fn run_words<R: AllocGlobal + Threads + Wait + Sync>(
+    rt: &R,
+    words: &str,
+) -> Result<(u8, String), Fail> {
     let mut all = Vec::new(rt.alloc());
     for word in words.split(' ') {
         all.push(word)?;
@@ -373,14 +412,23 @@ impl Desk for SippingDesk {
 }
 
 /// The status of a run whose request file gives one byte a read and fails at one call, and what it writes.
-fn run_sipping<R: AllocGlobal>(rt: &R, fails_at: u64) -> Result<(u8, String), Fail> {
+fn run_sipping<R: AllocGlobal + Threads + Wait + Sync>(
+    rt: &R,
+    fails_at: u64,
+) -> Result<(u8, String), Fail> {
     let desk = SippingDesk {
         requests: "X\nXY\n\nZ",
         fails_at,
         alloc: rt.alloc(),
     };
     let mut out = MemorySink::new(rt.alloc(), 1_024, Vec::new(rt.alloc()))?;
-    let status = status_of(issue(rt, &words_of(rt.alloc(), &COMMAND)?, desk, &mut out));
+    let status = status_of(issue(
+        rt,
+        &words_of(rt.alloc(), &COMMAND)?,
+        desk,
+        &mut out,
+        &OpenGate,
+    ));
     let text = String::from_utf8(out.bytes().to_vec(rt.alloc())?)?;
     Ok((status, text))
 }
@@ -444,7 +492,13 @@ fn stops_where_the_sink_fails(rt: HostRuntime) -> Result<(), Fail> {
                 fails_after,
                 faults: 0,
             };
-            let ended = status_of(issue(&rt, &words_of(rt.alloc(), words)?, desk, &mut out));
+            let ended = status_of(issue(
+                &rt,
+                &words_of(rt.alloc(), words)?,
+                desk,
+                &mut out,
+                &OpenGate,
+            ));
             let expected = if fails_after < text.len() { 4 } else { status };
             assert_eq!(rt; ended, expected, "{text} after {fails_after}");
             let taken = out.taken.get(..out.calls);
@@ -535,7 +589,13 @@ fn stops_at_a_line_too_many(rt: HostRuntime) -> Result<(), Fail> {
         lines: 1_048_577,
         alloc: rt.alloc(),
     };
-    let status = status_of(issue(&rt, &words_of(rt.alloc(), &COMMAND)?, desk, &mut out));
+    let status = status_of(issue(
+        &rt,
+        &words_of(rt.alloc(), &COMMAND)?,
+        desk,
+        &mut out,
+        &OpenGate,
+    ));
     assert_eq!(rt; status, 8);
     // 1,048,576 times `refused 1 1`, and `stop 8 1048577`.
     assert_eq!(rt; out.bytes, 12 * 1_048_576 + 15);

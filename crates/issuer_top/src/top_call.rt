@@ -1,18 +1,21 @@
 //! The top call.
-ghost use Rattle.std.specs.Prelude.{◌≡◌, ◌<◌, ◌⊎◌, ℕ, List, [], map, None, Some};
+ghost use Rattle.std.specs.Prelude.{◌≡◌, ◌<◌, ◌⊎◌, ℕ, List, [], map, None, Some, IfSome};
 ghost use Rattle.std.specs.Option.{option_map};
+ghost use Rattle.issuer_setup.specs.IssuerSetup.{Setup};
 ghost use Rattle.issuer_top.specs.Configuration.{HasSoundParts};
 ghost use Rattle.issuer_top.specs.Opening.{stop_of};
-ghost use Rattle.issuer_top.specs.Journals.{IsReady};
+ghost use Rattle.issuer_top.specs.Hosts.{IsReadySolo, callers_of, IsReady, HasServed, MaySettle, HasRoom, IsSettled};
 ghost use Rattle.issuer_top.specs.Status.{IsStatus};
-ghost use Rattle.issuer_top.specs.Stopping.{EndsServing};
-ghost use Rattle.issuer_top.specs.Seen.{SeenDesk, SeenInput, seen_of, seen_by, desk_seen, input_seen, store_seen, sink_seen};
-ghost use Rattle.issuer_top.specs.Command.{IsCommand};
+ghost use Rattle.issuer_top.specs.Stopping.{EndsServing, GivesStop};
+ghost use Rattle.issuer_top.specs.Seen.{SeenDesk, SeenInput, IsSameDesk, seen_of, seen_by, desk_seen, input_seen, store_seen, sink_seen};
+ghost use Rattle.issuer_top.specs.Command.{IsCommand, IsGroup};
+ghost use Rattle.issuer_top.specs.Pairs.{request_file};
 ghost use Rattle.issuer_top.specs.Endings.{IsSetUp, EndsBy, Writes, IsDone, IsUsage, IsConfig, IsReadFault, IsStoreFault, IsBadJournal, IsWriteFault, IsNoMemory, IsTooLong, ServesInOrder, ShowsInOrder, PlaysInOrder};
 
 use crate::config::read_issuer;
 use crate::ending::{Ending, end_writing, status_of};
-use crate::journals::{NoHost, load_host};
+use crate::hosts::LineHost;
+use crate::journals::{NoHost, load_alone, load_host};
 use crate::play::play_world;
 use crate::serve::{Served, Server};
 use crate::show::show;
@@ -20,8 +23,11 @@ use crate::stopping::stop_with;
 use crate::words::{Names, Task, read_words};
 use answer_text::Stop;
 use host_calls::Solo;
-use issuer_base::{Desk, DeskFault, NoMemory, Sink, Store, Words};
+use issuer_base::{Desk, DeskFault, Gate, NoMemory, Sink, Store, Words};
+use issuer_setup::Issuer;
 use std::alloc::Global;
+use std::sync::Wait;
+use std::thread::Threads;
 
 /// What a run gives back: its status, the desk, and all that was opened.
 pub struct Ended<D: Desk> {
@@ -40,13 +46,16 @@ pub struct Ended<D: Desk> {
 }
 
 /// Does all that the program does: reads the words and the configuration, loads the journals, and answers each line of the
-/// request file, or shows all cards; or plays a world of its own.
-pub fn issue<R: AllocGlobal, D: Desk, W: Sink>(
-    rt: &R,
-    words: &Words,
-    mut desk: D,
-    out: &mut W,
-) -> Ended<D>
+/// request file, by one caller or by several at once, or shows all cards; or plays a world of its own.
+///
+/// The gate is told of each request line by its number, from 1: before it is answered and once it is. It may wait for the gate.
+pub fn issue<R, D, W, G>(rt: &R, words: &Words, mut desk: D, out: &mut W, gate: &G) -> Ended<D>
+where
+    R: AllocGlobal + Threads + Wait + Sync,
+    D: Desk,
+    D::Journal: Send,
+    W: Sink,
+    G: Gate + Sync,
     ensures statuses { IsStatus result.status }
 
     // What each status says of the words, the desk, all that was opened, and what was written.
@@ -82,7 +91,7 @@ pub fn issue<R: AllocGlobal, D: Desk, W: Sink>(
         config,
         requests,
         stores,
-    } = run(rt.alloc(), words, &mut desk, out);
+    } = run(rt, words, &mut desk, out, gate);
     Ended {
         status: status_of(ending),
         desk,
@@ -101,18 +110,26 @@ struct Outcome<I, J> {
 }
 
 /// Reads the words, does what they ask for, and says how the run ended.
-fn run<D: Desk, W: Sink>(
-    alloc: Global,
+fn run<R, D, W, G>(
+    rt: &R,
     words: &Words,
     desk: &mut D,
     out: &mut W,
+    gate: &G,
 ) -> Outcome<D::Input, D::Journal>
+where
+    R: AllocGlobal + Threads + Wait + Sync,
+    D: Desk,
+    D::Journal: Send,
+    W: Sink,
+    G: Gate + Sync,
     ensures { EndsBy (seen_of words.now (desk_seen D.Desk desk.old desk.new)
         (option_map (input_seen D.Input.Source) result.config) (option_map (input_seen D.Input.Source) result.requests)
         (map (store_seen D.Journal.Store) result.stores.items) (sink_seen W.Sink out.old out.new)) result.ending }
 {
+    let alloc = rt.alloc();
     match read_words(words) {
-        Some(Task::Host(names)) => run_host(alloc, names, desk, out),
+        Some(Task::Host(names)) => run_host(rt, names, desk, out, gate),
         Some(Task::Play(size)) => nothing_opened(alloc, play_world(alloc, size, out)),
         None => nothing_opened(alloc, stop_with(Stop::Usage, out)),
     }
@@ -134,17 +151,26 @@ fn nothing_opened<I, J>(alloc: Global, ending: Ending) -> Outcome<I, J>
 }
 
 /// Reads the configuration, loads the journals, and does what the command asks.
-fn run_host<D: Desk, W: Sink>(
-    alloc: Global,
+fn run_host<R, D, W, G>(
+    rt: &R,
     names: Names<'_>,
     desk: &mut D,
     out: &mut W,
+    gate: &G,
 ) -> Outcome<D::Input, D::Journal>
-    ensures { (words : List (List ℕ)) → IsCommand words names.entry.config.now (option_map (λ name. name.now) names.entry.requests) names.entry.journal.now
+where
+    R: AllocGlobal + Threads + Wait + Sync,
+    D: Desk,
+    D::Journal: Send,
+    W: Sink,
+    G: Gate + Sync,
+    requires { IfSome names.requests (λ requests. IsGroup requests.callers) }
+    ensures { (words : List (List ℕ)) → IsCommand words names.entry.config.now (option_map request_file names.entry.requests) names.entry.journal.now
         → EndsBy (seen_of words (desk_seen D.Desk desk.old desk.new)
         (option_map (input_seen D.Input.Source) result.config) (option_map (input_seen D.Input.Source) result.requests)
         (map (store_seen D.Journal.Store) result.stores.items) (sink_seen W.Sink out.old out.new)) result.ending }
 {
+    let alloc = rt.alloc();
     let mut config = match desk.read(names.config) {
         Ok(config) => config,
         Err(fault) => {
@@ -163,22 +189,11 @@ fn run_host<D: Desk, W: Sink>(
             };
         }
     };
-    let host = match load_host(alloc, desk, names.journal, issuer) {
-        Ok(host) => host,
-        Err(NoHost { cause, stores }) => {
-            return Outcome {
-                ending: stop_with(cause, out),
-                config: Some(config),
-                requests: None,
-                stores,
-            };
-        }
-    };
     let Finished {
         ending,
         requests,
         stores,
-    } = do_command(alloc, host, desk, names.requests, out);
+    } = do_command(rt, issuer, names, desk, out, gate);
     Outcome {
         ending,
         config: Some(config),
@@ -204,44 +219,81 @@ struct Finished<I, J> {
     stores: Vec<J>,
 }
 
-/// Answers all lines of the request file under this name, or shows all cards where there is none.
-fn do_command<D: Desk, W: Sink>(
-    alloc: Global,
-    host: Solo<D::Journal>,
+/// Loads the journals of an issuer and answers all lines of the request file, or shows all cards where there is none.
+fn do_command<R, D, W, G>(
+    rt: &R,
+    issuer: Issuer,
+    names: Names<'_>,
     desk: &mut D,
-    requests: Option<&str>,
     out: &mut W,
+    gate: &G,
 ) -> Finished<D::Input, D::Journal>
-    requires { 0 < host.issuer.shards }
-    ensures { (words : List (List ℕ)) (given : D) (config : SeenInput) (journal : List ℕ)
+where
+    R: AllocGlobal + Threads + Wait + Sync,
+    D: Desk,
+    D::Journal: Send,
+    W: Sink,
+    G: Gate + Sync,
+    requires { IfSome names.requests (λ requests. IsGroup requests.callers) }
+    ensures { (words : List (List ℕ)) (given : D) (config : SeenInput)
         → let seen = seen_of words (desk_seen D.Desk given desk.new) (Some config) (option_map (input_seen D.Input.Source) result.requests)
         (map (store_seen D.Journal.Store) result.stores.items) (sink_seen W.Sink out.old out.new) in
-        IsSetUp seen (option_map (λ name. name.now) requests.entry) journal host.issuer
-        → IsReady host.issuer journal (D.logs given) host.shards.items → HasSoundParts host.issuer
-        → D.holds desk.old ≡ D.holds given → D.faults desk.old ≡ D.faults given → EndsBy seen result.ending }
+        IsSetUp seen (option_map request_file names.entry.requests) names.entry.journal.now issuer → HasSoundParts issuer
+        → IsSameDesk D.Desk given desk.old → D.logs desk.old ≡ D.logs given → EndsBy seen result.ending }
 {
-    match requests {
-        Some(name) => serve_requests(alloc, host, desk, name, out),
-        None => show_cards::<D, W>(host, out),
+    let alloc = rt.alloc();
+    match names.requests {
+        None => match load_alone(alloc, desk, names.journal, issuer) {
+            Ok(host) => show_cards::<D, W>(host, out),
+            Err(back) => not_loaded(back, out),
+        },
+        Some(requests) => {
+            match load_host(alloc, desk, names.journal, issuer, requests.callers) {
+                Ok(host) => serve_requests(rt, host, desk, requests.file, out, gate),
+                Err(back) => not_loaded(back, out),
+            }
+        }
+    }
+}
+
+/// How a run ends whose journals gave no host.
+fn not_loaded<I, J, W: Sink>(back: NoHost<J>, out: &mut W) -> Finished<I, J>
+    ensures requests { result.requests ≡ None }
+    ensures stores { result.stores ≡ back.stores }
+    ensures ending { GivesStop (W.held out.old) (W.held out.new) (W.faults out.old) (W.faults out.new) back.cause result.ending }
+{
+    let NoHost { cause, stores } = back;
+    Finished {
+        ending: stop_with(cause, out),
+        requests: None,
+        stores,
     }
 }
 
 /// Answers all lines of the request file under this name.
-fn serve_requests<D: Desk, W: Sink>(
-    alloc: Global,
-    host: Solo<D::Journal>,
+fn serve_requests<R, D, W, G>(
+    rt: &R,
+    mut host: LineHost<D::Journal>,
     desk: &mut D,
     name: &str,
     out: &mut W,
+    gate: &G,
 ) -> Finished<D::Input, D::Journal>
-    ensures { (words : List (List ℕ)) (given : D) (config : SeenInput) (journal : List ℕ)
+where
+    R: AllocGlobal + Threads + Wait + Sync,
+    D: Desk,
+    D::Journal: Send,
+    W: Sink,
+    G: Gate + Sync,
+    requires room { HasRoom host 0 × MaySettle host 0 × IsSettled host }
+    ensures { (words : List (List ℕ)) (given : D) (config : SeenInput) (journal : List ℕ) (issuer : Setup)
         → let seen = seen_of words (desk_seen D.Desk given desk.new) (Some config) (option_map (input_seen D.Input.Source) result.requests)
         (map (store_seen D.Journal.Store) result.stores.items) (sink_seen W.Sink out.old out.new) in
-        IsSetUp seen (Some name.now) journal host.issuer → IsReady host.issuer journal (D.logs given) host.shards.items → HasSoundParts host.issuer
-        → D.holds desk.old ≡ D.holds given → D.faults desk.old ≡ D.faults given → EndsBy seen result.ending }
+        IsSetUp seen (Some (record { name = name.now; callers = callers_of host })) journal issuer
+        → IsReady issuer journal (D.logs given) host → HasServed host [] [] [] host
+        → HasSoundParts issuer → IsSameDesk D.Desk given desk.old → EndsBy seen result.ending }
 {
-    let mut host = host;
-    let mut server = match Server::new(alloc) {
+    let mut server = match Server::new(rt.alloc()) {
         Ok(server) => server,
         Err(NoMemory) => {
             return Finished {
@@ -261,7 +313,7 @@ fn serve_requests<D: Desk, W: Sink>(
             };
         }
     };
-    let served = server.serve(&mut host, &mut requests, out);
+    let served = server.serve(rt, gate, &mut host, &mut requests, out);
     Finished {
         ending: end_serving(served, out),
         requests: Some(requests),
@@ -287,11 +339,11 @@ fn show_cards<D: Desk, W: Sink>(
     out: &mut W,
 ) -> Finished<D::Input, D::Journal>
     requires { 0 < host.issuer.shards }
-    ensures { (words : List (List ℕ)) (desk : SeenDesk) (config : SeenInput) (journal : List ℕ)
+    ensures { (words : List (List ℕ)) (desk : SeenDesk) (config : SeenInput) (journal : List ℕ) (issuer : Setup)
         → let seen = seen_of words desk (Some config) (option_map (input_seen D.Input.Source) result.requests)
         (map (store_seen D.Journal.Store) result.stores.items) (sink_seen W.Sink out.old out.new) in
-        IsSetUp seen None journal host.issuer → IsReady host.issuer journal desk.logs host.shards.items → HasSoundParts host.issuer
-        → desk.faults_after ≡ desk.faults_before → EndsBy seen result.ending }
+        IsSetUp seen None journal issuer → IsReadySolo issuer journal desk.logs host → desk.faults_after ≡ desk.faults_before
+        → EndsBy seen result.ending }
 {
     let ending = end_writing(show(&host, out));
     Finished {

@@ -1,14 +1,14 @@
 //! The words of a run.
-ghost use Rattle.std.specs.Prelude.{◌≡◌, ◌≢◌, ◌+◌, ◌*◌, ◌%◌, ◌<◌, ◌^◌, ℕ, length, drop, IfNone, IfSome, MatchOption, codes};
+ghost use Rattle.std.specs.Prelude.{◌≡◌, ◌≢◌, ◌+◌, ◌*◌, ◌%◌, ◌<◌, ◌^◌, ℕ, length, drop, slice_get, IfNone, IfSome, MatchOption};
 ghost use Rattle.std.specs.Fmt.{decimal};
 ghost use Rattle.std.specs.Option.{option_map};
-ghost use Rattle.issuer_top.specs.Command.{is_one_of, IsNoCommand};
-ghost use Rattle.issuer_top.specs.Pairs.{is_value, first_word, options_of, is_pair, are_pairs, pairs_of, value_in, is_within, AreWordsOf, Asks, IsTask};
+ghost use Rattle.issuer_top.specs.Command.{is_one_of, IsGroup, IsNoCommand};
+ghost use Rattle.issuer_top.specs.Pairs.{is_value, first_word, options_of, is_pair, are_pairs, pairs_of, values_in, value_in, is_within, AreWordsOf, GivesCallers, Asks, IsTask};
 ghost use Rattle.issuer_top.specs.declared.words.Command.{Command};
 ghost use Rattle.issuer_top.specs.declared.words.Command.TheVariants.{Serve, Show, World};
 ghost use Rattle.issuer_top.specs.declared.words.Task.TheVariants.{Host, Play};
 
-use issuer_base::Words;
+use issuer_base::{MAX_CALLERS, Words};
 use itoa::Buffer;
 
 /// How many cards a world may have.
@@ -45,10 +45,19 @@ pub(crate) enum Task<'a> {
 pub(crate) struct Names<'a> {
     /// The name of the configuration.
     pub(crate) config: &'a str,
-    /// The name of the request file, where the command is to serve.
-    pub(crate) requests: Option<&'a str>,
+    /// The request file, where the command is to serve.
+    pub(crate) requests: Option<Requests<'a>>,
     /// What the names of the journals begin with.
     pub(crate) journal: &'a str,
+}
+
+/// What the words of the command to serve say of the request lines.
+#[derive(Clone, Copy)]
+pub(crate) struct Requests<'a> {
+    /// The name of their file.
+    pub(crate) file: &'a str,
+    /// How many callers answer them, 1 to 16.
+    pub(crate) callers: u8,
 }
 
 /// The numbers in the words of the command to play a world.
@@ -95,13 +104,39 @@ fn serve_names(words: &Words) -> Option<Names<'_>>
     ensures none { IfNone result (Asks Serve words.now → ⊥) }
 {
     let config = value_of(words, "--config")?;
-    let requests = value_of(words, "--requests")?;
+    let file = value_of(words, "--requests")?;
     let journal = value_of(words, "--journal")?;
+    let callers = callers_of(words)?;
     Some(Names {
         config,
-        requests: Some(requests),
+        requests: Some(Requests { file, callers }),
         journal,
     })
+}
+
+/// How many callers the words ask for: one where they don't say.
+fn callers_of(words: &Words) -> Option<u8>
+    requires { length words.now % 2 ≡ 1 }
+    ensures { MatchOption result ((callers : ℕ) → GivesCallers words.now callers → ⊥) (GivesCallers words.now) }
+{
+    let given = given_for(words, "--callers");
+    match given.first {
+        None => Some(1),
+        Some(word) if given.times == 1 => group_of(word),
+        Some(_) => None,
+    }
+}
+
+/// The number of callers that a word says; `None` where it says none that a run may have.
+fn group_of(word: &str) -> Option<u8>
+    ensures { MatchOption result ((callers : ℕ) → IsGroup callers → word.now ≢ decimal callers) (λ callers. (word.now ≡ decimal callers) × IsGroup callers) }
+{
+    let number = number_of(word)?;
+    if 1 <= number && number <= u32::from(MAX_CALLERS) {
+        Some(number as u8)
+    } else {
+        None
+    }
 }
 
 /// The names in the words of the command to show.
@@ -198,7 +233,9 @@ fn is_option(word: &str, command: Command) -> bool
     ensures { result ≡ is_one_of (options_of command) word.now }
 {
     match command {
-        Command::Serve => word == "--config" || word == "--requests" || word == "--journal",
+        Command::Serve => {
+            word == "--callers" || word == "--config" || word == "--requests" || word == "--journal"
+        }
         Command::Show => word == "--config" || word == "--journal",
         Command::World => word == "--cards" || word == "--steps" || word == "--seed",
     }
@@ -215,16 +252,34 @@ fn value_of<'a>(words: &'a Words, option: &str) -> Option<&'a str>
     requires { length words.now % 2 ≡ 1 }
     ensures { option_map (λ value. value.now) result ≡ value_in words.now option.now }
 {
+    let given = given_for(words, option);
+    if given.times == 1 { given.first } else { None }
+}
+
+/// What the words behind the first one give an option.
+#[derive(Clone, Copy)]
+struct Given<'a> {
+    /// How often they give it a value.
+    times: usize,
+    /// The first of its values.
+    first: Option<&'a str>,
+}
+
+fn given_for<'a>(words: &'a Words, option: &str) -> Given<'a>
+    requires { length words.now % 2 ≡ 1 }
+    ensures times { result.times ≡ length (values_in words.now option.now) }
+    ensures first { option_map (λ value. value.now) result.first ≡ slice_get (values_in words.now option.now) 0 }
+{
     let mut left = words.count() / 2;
-    let mut value = None;
+    let mut first = None;
     let mut times: usize = 0;
     while left > 0 {
         left -= 1;
-        let (name, given) = (words.word(2 * left + 1), words.word(2 * left + 2));
+        let (name, value) = (words.word(2 * left + 1), words.word(2 * left + 2));
         if name == option {
-            value = Some(given);
+            first = Some(value);
             times += 1;
         }
     }
-    if times == 1 { value } else { None }
+    Given { times, first }
 }

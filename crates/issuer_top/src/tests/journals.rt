@@ -4,28 +4,43 @@ use super::*;
 use issuer_base::Store;
 
 /// What a run over this desk writes, its status, and the bytes of its first journal.
-pub(super) fn run_over<R: AllocGlobal>(
+pub(super) fn run_over<R: AllocGlobal + Threads + Wait + Sync>(
     rt: &R,
     words: &[&str],
     desk: MemoryDesk,
 ) -> Result<(u8, String, Vec<u8>), Fail> {
-    let mut out = MemorySink::new(rt.alloc(), 65_536, Vec::new(rt.alloc()))?;
+    run_into(rt, words, desk, Vec::new(rt.alloc()))
+}
+
+/// The same, where these calls of the sink fail.
+pub(super) fn run_into<R: AllocGlobal + Threads + Wait + Sync>(
+    rt: &R,
+    words: &[&str],
+    desk: MemoryDesk,
+    fails: Vec<u64>,
+) -> Result<(u8, String, Vec<u8>), Fail> {
+    let mut out = MemorySink::new(rt.alloc(), 65_536, fails)?;
     let Ended {
         status,
         desk: _desk,
         config: _config,
         requests: _requests,
         stores,
-    } = issue(rt, &words_of(rt.alloc(), words)?, desk, &mut out);
+    } = issue(rt, &words_of(rt.alloc(), words)?, desk, &mut out, &OpenGate);
     let text = String::from_utf8(out.bytes().to_vec(rt.alloc())?)?;
     Ok((status, text, first_bytes(rt.alloc(), &stores)))
 }
 
 /// The bytes of the first store, all of which are safe; none where there is no store.
 fn first_bytes(alloc: Global, stores: &[MemoryStore]) -> Vec<u8> {
-    let Some(store) = stores.first() else {
-        return Vec::new(alloc);
-    };
+    match stores.first() {
+        Some(store) => bytes_of(alloc, store),
+        None => Vec::new(alloc),
+    }
+}
+
+/// The bytes of a store, all of which are safe.
+pub(super) fn bytes_of(alloc: Global, store: &MemoryStore) -> Vec<u8> {
     match store.image(store.len()) {
         Ok(Some(bytes)) => bytes,
         _ => Vec::new(alloc),
@@ -120,7 +135,13 @@ fn answers_before_it_waits_for_more(rt: HostRuntime) -> Result<(), Fail> {
         alloc: rt.alloc(),
     };
     let mut out = MemorySink::new(rt.alloc(), 0, Vec::new(rt.alloc()))?;
-    let ended = issue(&rt, &words_of(rt.alloc(), &COMMAND)?, desk, &mut out);
+    let ended = issue(
+        &rt,
+        &words_of(rt.alloc(), &COMMAND)?,
+        desk,
+        &mut out,
+        &OpenGate,
+    );
     let Ended {
         status,
         desk: _desk,

@@ -84,7 +84,7 @@ fn queued(alloc: Global) -> Result<(String, String), AllocError> {
 
 /// Checks that a run over an empty journal answers the five commands, the request on counter 7 and then these just so, and that
 /// this is shown of the first card on what it leaves.
-fn check_shown<R: AllocGlobal + Abort>(
+fn check_shown<R: AllocGlobal + Threads + Wait + Sync + Abort>(
     rt: &R,
     requests: &str,
     answers: &str,

@@ -7,11 +7,15 @@ const EIGHT_STEPS: &str =
     "taps 8\nfresh 7\napproved 4\nkept 1\nrefused 1\nauthenticated 4\nunauthenticated 2\nqueued 3\ndone 3\nran 3\nhalted 0\n";
 
 /// What is written of a world, and the status, where the sink fails at these calls; nothing else is opened.
-fn play_into<R: AllocGlobal>(rt: &R, words: &[&str], fails: &[u64]) -> Result<(u8, String), Fail> {
+fn play_into<R: AllocGlobal + Threads + Wait + Sync>(
+    rt: &R,
+    words: &[&str],
+    fails: &[u64],
+) -> Result<(u8, String), Fail> {
     let alloc = rt.alloc();
     let desk = MemoryDesk::new(alloc, Vec::new(alloc));
     let mut out = MemorySink::new(alloc, 65_536, fails.to_vec(alloc)?)?;
-    let status = status_of(issue(rt, &words_of(alloc, words)?, desk, &mut out));
+    let status = status_of(issue(rt, &words_of(alloc, words)?, desk, &mut out, &OpenGate));
     let text = String::from_utf8(out.bytes().to_vec(alloc)?)?;
     Ok((status, text))
 }

@@ -4,11 +4,11 @@ use Rattle.std.specs.Prelude.{slice_get}
 use Rattle.std.specs.Option.{option_map}
 use Rattle.issuer_top.specs.Command.{values_of}
 use Rattle.issuer_top.specs.Pairs.{pairs_of}
-use Rattle.issuer_top.proofs.words.value_of.Given as goal
+use Rattle.issuer_top.proofs.words.given_for.Given as goal
 
 abbrev pub invariant-loop-left : goal.invariant-loop-left
 invariant-loop-left l = record {
-  first : option_map (λ value. value.now) l.value ≡ slice_get (values_of l.option (pairs_of (drop (2 * l.left + 1) l.words))) 0;
+  first : option_map (λ value. value.now) l.first ≡ slice_get (values_of l.option (pairs_of (drop (2 * l.left + 1) l.words))) 0;
   count : l.times ≡ length (values_of l.option (pairs_of (drop (2 * l.left + 1) l.words)));
   few : l.times + l.left ≤ length l.words;
   within : 2 * l.left + 1 ≤ length l.words;

@@ -3,15 +3,15 @@ use Rattle.std.proofs.Common.{◌≡◌, ◌+◌, ◌*◌, ◌<◌, true, false,
 use Rattle.std.specs.Prelude.{slice_get}
 use Rattle.std.specs.Str.{bytes_eq}
 use Rattle.issuer_top.specs.Command.{values_of}
-use Rattle.issuer_top.specs.Pairs.{only, pairs_of}
-use Rattle.issuer_top.proofs.CommandWords.{values-more, values-same, only-by_count}
-use Rattle.issuer_top.proofs.words.value_of.Goals as goal
+use Rattle.issuer_top.specs.Pairs.{pairs_of}
+use Rattle.issuer_top.proofs.CommandWords.{values-more, values-same}
+use Rattle.issuer_top.proofs.words.given_for.Goals as goal
 
 pub loop-left-preserved-then-eq : goal.loop-left-preserved-then-eq
 loop-left-preserved-then-eq c =
     let some : 0 < c.loop-left.left = omega arith in
     let same : bytes_eq c.word-name.result.now c.args.option.now ≡ true = search rules in
-    let more = values-more c.args.words.now c.loop-left.left some c.word-name.result.now c.word-given.result.now c.word-name.ensures c.word-given.ensures
+    let more = values-more c.args.words.now c.loop-left.left some c.word-name.result.now c.word-value.result.now c.word-name.ensures c.word-value.ensures
     c.args.option.now same in
     let before = c.loop-left.invariant.count in
     let long = ap length more in
@@ -21,7 +21,7 @@ pub loop-left-preserved : goal.loop-left-preserved
 loop-left-preserved c =
     let some : 0 < c.loop-left.left = omega arith in
     let other : bytes_eq c.word-name.result.now c.args.option.now ≡ false = search rules in
-    let same = values-same c.args.words.now c.loop-left.left some c.word-name.result.now c.word-given.result.now c.word-name.ensures c.word-given.ensures
+    let same = values-same c.args.words.now c.loop-left.left some c.word-name.result.now c.word-value.result.now c.word-name.ensures c.word-value.ensures
     c.args.option.now other in
     record {
       first = c.loop-left.invariant.first ∙ sym (ap (λ values. slice_get values 0) same);
@@ -30,16 +30,14 @@ loop-left-preserved c =
       within = omega arith;
     }
 
-pub returns-then-times-eq1 : goal.returns-then-times-eq1
-returns-then-times-eq1 c =
+pub returns-clause-times : goal.returns-clause-times
+returns-clause-times c =
     let none : c.loop-left.left ≡ 0 = omega arith in
     let at = ap (λ n. values_of c.args.option.now (pairs_of (drop (2 * n + 1) c.args.words.now))) none in
-    let found = only-by_count _ _ _ c.loop-left.invariant.first c.loop-left.invariant.count in
-    sym (found.0 c.if-times-eq1.true) ∙ ap only at
+    c.loop-left.invariant.count ∙ ap length at
 
-pub returns-else-times-eq1 : goal.returns-else-times-eq1
-returns-else-times-eq1 c =
+pub returns-clause-first : goal.returns-clause-first
+returns-clause-first c =
     let none : c.loop-left.left ≡ 0 = omega arith in
     let at = ap (λ n. values_of c.args.option.now (pairs_of (drop (2 * n + 1) c.args.words.now))) none in
-    let found = only-by_count _ _ _ c.loop-left.invariant.first c.loop-left.invariant.count in
-    sym (found.1 c.if-times-eq1.false) ∙ ap only at
+    c.loop-left.invariant.first ∙ ap (λ values. slice_get values 0) at

@@ -1,0 +1,13 @@
+-- What the host of one caller leaves.
+use Rattle.issuer_top.proofs.AloneSteps.{leaves-alone, leaves-loaded_alone}
+use Rattle.issuer_top.proofs.alone.close_alone.Goals as goal
+
+pub returns-clause-answered : goal.returns-clause-answered
+returns-clause-answered g c = λ issuer prefix logs first lines text ready sound so_far.
+    leaves-alone g.met.S.Store.told_bytes issuer prefix logs first ready sound
+    c.args.host lines text so_far c.close.result.items c.close.ensures
+
+pub returns-clause-loaded : goal.returns-clause-loaded
+returns-clause-loaded g c = λ issuer prefix logs ready.
+    leaves-loaded_alone g.met.S.Store.told_bytes issuer prefix logs c.args.host
+    ready c.close.result.items c.close.ensures
