@@ -1,5 +1,5 @@
 -- The host of one caller: a line more, and what it leaves.
-use Rattle.std.proofs.Common.{◌≡◌, ℕ, ◌+◌, List, [], ◌∷◌, ◌++◌, length, map, refl, sym, ap, subst, ◌∙◌, append-nil, arith}
+use Rattle.std.proofs.Common.{◌≡◌, ℕ, List, [], ◌∷◌, ◌++◌, map, refl, sym, ap, subst, ◌∙◌, append-nil, arith}
 use Rattle.std.specs.Prelude.{IfSome, Some}
 use Rattle.std.proofs.lemmas.List.{flat_map_more}
 use Rattle.std.proofs.lemmas.Option.{slice_get_within}
@@ -20,7 +20,6 @@ use Rattle.host_calls.specs.Runs.{HasRun, LeaveBetween}
 use Rattle.host_calls.specs.Turns.{Run, Turn}
 use Rattle.host_calls.proofs.OneRun.{run-one_history}
 use Rattle.host_calls.proofs.Running.{begins-legal, run-on}
-use Rattle.issuer_top.specs.Answers.{AreAnswered}
 use Rattle.issuer_top.specs.Configuration.{HasSoundParts}
 use Rattle.issuer_top.specs.Hosts.{TakesLine, Settles, LeavesAnswered, LeavesLoaded, IsReadySolo, HasAnswered}
 use Rattle.issuer_top.specs.Left.{LeaveJournals}

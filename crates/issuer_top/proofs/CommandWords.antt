@@ -17,7 +17,7 @@ use Rattle.issuer_top.specs.declared.words.Command.{Command}
 use Rattle.issuer_top.specs.declared.words.Command.TheVariants.{Serve, Show, World}
 use Rattle.issuer_top.specs.Command.{IsValue, Pair, words_of, values_of, is_one_of, IsCall, IsSize, serve_options, callers_option, show_options, world_options}
 use Rattle.issuer_top.specs.Command.{RequestFile, IsGroup, IsServe, IsShow, IsWorld, IsCommand, IsNoCommand}
-use Rattle.issuer_top.specs.Pairs.{is_value, first_word, options_of, pairs_of, is_pair, are_pairs, only, values_in, value_in}
+use Rattle.issuer_top.specs.Pairs.{is_value, first_word, pairs_of, is_pair, are_pairs, only, values_in, value_in}
 use Rattle.issuer_top.specs.Pairs.{AreWordsWith, AreWordsOf, GivesCallers, Asks, is_within}
 
 -- ---- the pairs of words

@@ -11,7 +11,7 @@ use Rattle.issuer_base.specs.declared.outside.store.Store.{Ghosts}
 use Rattle.issuer_base.proofs.Moments.{LeavesOnly-weaker}
 use Rattle.issuer_base.proofs.ToldTwice.{BothTold-given}
 use Rattle.issuer_setup.specs.IssuerSetup.{Setup}
-use Rattle.journal_rec.specs.RecordText.{texts_of, IsUnbroken}
+use Rattle.journal_rec.specs.RecordText.{texts_of}
 use Rattle.record_store.specs.Images.{IsCutImage, OnlyReads}
 use Rattle.record_store.proofs.ReadSoFar.{reads-none}
 use Rattle.shard_book.specs.declared.replay.LoadFault.{LoadFault}

@@ -1,14 +1,13 @@
 -- Serving, one line more and to each of its ends.
 use Rattle.std.proofs.Common.{◌≡◌, ℕ, ◌+◌, ◌≤◌, List, [], ◌∷◌, ◌++◌, length, map, Option, None, Some, Ok, Err}
 use Rattle.std.proofs.Common.{refl, sym, ap, subst, ◌∙◌, arith, append-nil, append_assoc, ⊎_elim}
-use Rattle.std.specs.Prelude.{Result}
 use Rattle.std.proofs.lemmas.List.{length-append, length-take, map-append}
 use Rattle.std.specs.List.{flat_map}
 use Rattle.std.specs.Io.KnownBytes.{Appends, Consumes, IsAtEnd}
 use Rattle.std.proofs.KnownBytes.{Appends-nil, Appends-trans, Consumes-nil, Consumes-trans}
 use Rattle.issuer_base.specs.declared.faults.WriteFault.{WriteFault}
 use Rattle.issuer_base.specs.declared.limits.TheConstants.{KEPT_BYTES}
-use Rattle.issuer_base.specs.Sink.{AppendsFront, WritesAll}
+use Rattle.issuer_base.specs.Sink.{AppendsFront}
 use Rattle.issuer_base.specs.Tells.{Tells}
 use Rattle.issuer_base.proofs.ManyCalls.{AppendsFront-after, Tells-whole}
 use Rattle.line_reader.specs.Lines.{lines, ended, BeginsWithLines}
@@ -18,10 +17,10 @@ use Rattle.line_reader.proofs.LineLaws.{lines-begins, length-begins, BeginsWithL
 use Rattle.line_reader.proofs.WholeLines.{HasGivenLines-unread, HasGivenLines-line, IsLinesAndRest-rest, IsLinesAndRest-end, IsLinesAndRest-fault}
 use Rattle.line_reader.proofs.WholeLines.{lines-rest_given, lines-end_reached, PassesLimit-stopped}
 use Rattle.issuer_top.specs.declared.serve.Served.{Served}
-use Rattle.issuer_top.specs.declared.serve.Served.TheVariants.{All, ReadFault, WriteFault as SinkFault, TooLong}
-use Rattle.issuer_top.specs.Answered.{WasRead, AllAnswered, WholeAnswered, FrontAnswered, PassedAnswered}
+use Rattle.issuer_top.specs.declared.serve.Served.TheVariants.{All, ReadFault, TooLong}
+use Rattle.issuer_top.specs.Answered.{WasRead, WholeAnswered, FrontAnswered, PassedAnswered}
 use Rattle.issuer_top.specs.Hosts.{TakesLine}
-use Rattle.issuer_top.specs.Serving.{ServesLines, Serves, WritesAnswers, WritesDue, EndsBy}
+use Rattle.issuer_top.specs.Serving.{ServesLines, Serves, WritesDue, EndsBy}
 
 -- ---- what an input had
 

@@ -1,6 +1,6 @@
 -- The host of several callers: a line more, and what it leaves.
-use Rattle.std.proofs.Common.{◌≡◌, ℕ, ◌+◌, ◌-◌, ◌^◌, ◌<◌, ◌≤◌, zero, suc, false, List, [], ◌∷◌, ◌++◌, length, take, map, Option, None, Some}
-use Rattle.std.proofs.Common.{refl, sym, ap, subst, ◌∙◌, arith, append-nil, append_assoc, inl, inr, ⊎_elim}
+use Rattle.std.proofs.Common.{◌≡◌, ℕ, ◌+◌, ◌-◌, ◌^◌, ◌<◌, ◌≤◌, zero, suc, List, [], ◌∷◌, ◌++◌, length, take, map, Option, None, Some}
+use Rattle.std.proofs.Common.{refl, sym, ap, subst, ◌∙◌, arith, append-nil, append_assoc}
 use Rattle.std.specs.Prelude.{slice_get, IfSome, All}
 use Rattle.std.proofs.lemmas.List.{length-map, take_all, flat_map_more}
 use Rattle.std.proofs.lemmas.Grind.{flat_map-append}
@@ -11,14 +11,12 @@ use Rattle.issuer_base.specs.Stores.{Disk, MayLeave}
 use Rattle.issuer_base.specs.Tells.{Tells}
 use Rattle.issuer_base.specs.declared.answer.Answer.{Answer}
 use Rattle.issuer_base.specs.declared.entry.Entry.{Entry}
-use Rattle.issuer_base.specs.declared.limits.TheConstants.{MAX_FAULTS_TOLD}
 use Rattle.issuer_base.specs.declared.outside.store.Store.{Ghosts}
 use Rattle.card_history.specs.LegalRecords.{IsLegalHistory}
 use Rattle.issuer_setup.specs.IssuerSetup.{Setup}
 use Rattle.journal_rec.specs.Record.{IsRecord}
 use Rattle.journal_rec.specs.RecordText.{texts_of}
 use Rattle.line_reader.specs.Reading.{kept}
-use Rattle.line_checks.specs.Reading.{reading}
 use Rattle.line_checks.proofs.KeptLines.{reading-kept}
 use Rattle.answer_text.specs.AnswerText.{printed}
 use Rattle.seat_names.specs.Totals.{total}
@@ -33,7 +31,6 @@ use Rattle.shard_book.specs.Grounds.{grounds_of, grounds_now, IsImageOf}
 use Rattle.shard_turns.specs.declared.logs.LogItem.{LogItem}
 use Rattle.shard_turns.specs.declared.logs.LogItem.TheVariants.{Record}
 use Rattle.shard_turns.specs.declared.logs.LogHead.{LogHead}
-use Rattle.shard_turns.specs.Opening.{log_with}
 use Rattle.shard_turns.specs.ShardLogs.{records_of, faults_of, RiseTo}
 use Rattle.host_calls.specs.Authorising.{Authorises}
 use Rattle.host_calls.specs.Books.{Book, histories_of}
@@ -48,7 +45,7 @@ use Rattle.many_callers.specs.Settled.{TellNoFault, AreSettled}
 use Rattle.caller_lanes.specs.Dealing.{every, AreDealt}
 use Rattle.caller_lanes.specs.declared.lanes.Lanes.{Lanes}
 use Rattle.caller_lanes.specs.Lanes.{issuer_in, opening_logs, callers_in, HasSameHost, HasClosed, HasServed as LanesServe}
-use Rattle.issuer_top.specs.Answers.{AreAnsweredTogether, AreBooksOf, AnswersNone, ByCallers, AreAnsweredBy}
+use Rattle.issuer_top.specs.Answers.{AreAnsweredTogether, AreBooksOf, ByCallers}
 use Rattle.issuer_top.specs.Configuration.{HasSoundParts}
 use Rattle.issuer_top.specs.Hosts.{TakesLine, Settles, LeavesAnswered, LeavesLoaded, IsReadyTogether, HaveAnswered}
 use Rattle.issuer_top.specs.Journals.{journal_name, IsOpened, AreOpened}

@@ -1,8 +1,7 @@
 -- The opened journals gave a host of one caller, or none.
 use Rattle.std.proofs.Common.{refl, sym, ap, subst}
 use Rattle.std.specs.Prelude.{map}
-use Rattle.answer_text.specs.declared.stop_line.Stop.{Stop}
-use Rattle.issuer_top.specs.Seen.{SeenStore, store_seen}
+use Rattle.issuer_top.specs.Seen.{store_seen}
 use Rattle.issuer_top.specs.Left.{LeaveJournals}
 use Rattle.issuer_top.proofs.LeftSteps.{back-left}
 use Rattle.issuer_top.proofs.LoadingSteps.{no_host-given, gives-no_host}

@@ -1,13 +1,13 @@
 -- The answers are taken one at a time, until none is left.
-use Rattle.std.proofs.Common.{◌≡◌, ◌++◌, ◌∙◌, ℕ, List, [], sym, subst, arith}
+use Rattle.std.proofs.Common.{◌++◌, ◌∙◌, [], sym, subst, arith}
 use Rattle.std.proofs.lemmas.List.{append-nil}
 use Rattle.caller_lanes.specs.declared.lanes.Lanes.{Lanes}
 use Rattle.issuer_top.specs.Hosts.{HaveAnswered, Settles}
 use Rattle.issuer_top.proofs.TogetherSteps.{takes-answer, settles-together}
 use Rattle.issuer_top.proofs.together.settle_together.Goals as goal
 
-pub loop-init : goal.loop-init
-loop-init g c = record {
+pub loop-answer-init : goal.loop-answer-init
+loop-answer-init g c = record {
   taking = λ first lines text waiting so_far.
       let start = c.answer.ensures.served lines so_far.answers waiting so_far.served in
       record { same = c.answer.ensures.host; taken = []; rest = start.0; due = sym (append-nil _); served = start.1 };

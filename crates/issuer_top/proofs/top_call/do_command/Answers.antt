@@ -1,5 +1,5 @@
 -- Each of the commands, by as many callers as the words say.
-use Rattle.std.proofs.Common.{refl, sym, ap, ◌∙◌, subst, Some}
+use Rattle.std.proofs.Common.{refl, ap, ◌∙◌, subst}
 use Rattle.std.specs.Prelude.{map, is_some}
 use Rattle.std.specs.Option.{option_map}
 use Rattle.issuer_top.specs.Seen.{Logged, input_seen, store_seen}

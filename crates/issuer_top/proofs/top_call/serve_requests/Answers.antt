@@ -1,5 +1,5 @@
 -- How a run ends that came to its request file.
-use Rattle.std.proofs.Common.{refl, sym, ap, ◌∙◌, subst}
+use Rattle.std.proofs.Common.{refl, ◌∙◌, subst}
 use Rattle.issuer_top.specs.Hosts.{HasServed}
 use Rattle.issuer_top.specs.Opening.{GivesInput}
 use Rattle.issuer_top.proofs.ServingSteps.{AnswersAll}
