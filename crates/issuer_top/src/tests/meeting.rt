@@ -1,5 +1,5 @@
 //! Two callers over stores that wait for each other.
-ghost use Rattle.std.specs.Prelude.{length};
+ghost use Rattle.std.specs.Prelude.{None, length};
 
 use super::callers::{SEVENTH, looks_for, seventh_each, two_shards, words_for};
 use super::*;
