@@ -37,8 +37,11 @@ image-same issuer shard first last image same is =
     record { between = first; from_first = goes-on_same first first refl; to_last = goes-on_same first last same; image_is = is }
 
 module _ {S : Type 0} {G : Ghosts S} where
-  -- a call of a shard answers so on each history that it stands for
-  pub record IsCalled (issuer : Setup) (old new : Shard S G) (answer : Answer) (Changes : ℕ → List Entry → List Entry → Type 0) : Type 0 where
+  -- the shard of a card is called, and answers so on each history that it stands for
+  pub record IsCalled (issuer : Setup) (shards : List (Shard S G)) (name : CardName) (home : ℕ) (old new : Shard S G) (answer : Answer)
+      (Changes : ℕ → List Entry → List Entry → Type 0) : Type 0 where
+    pub home_is : home ≡ shard_of issuer name
+    pub old_is : slice_get shards home ≡ Some old
     pub answers : (history : List Entry) → StandsFor issuer old history
         → (after : List Entry) × StandsFor issuer new after × Changes (number_in old) history after
     pub leaves : (history : List Entry) → StandsFor issuer old history
@@ -48,23 +51,6 @@ module _ {S : Type 0} {G : Ghosts S} where
     pub undoubted : IsUndoubted old → IsUndoubted new
     pub under : IsUnder issuer new
     pub number_is : number_in new ≡ number_in old
-
-  -- the clauses of the call, put together
-  pub is-called : (issuer : Setup) (old new : Shard S G) (answer : Answer) (Changes : ℕ → List Entry → List Entry → Type 0)
-      → ((history : List Entry) → StandsFor issuer old history → (after : List Entry) × StandsFor issuer new after × Changes (number_in old) history after)
-      → ((history : List Entry) → StandsFor issuer old history
-      → BothTold (LeavesOnly (IsImageOf (grounds_now issuer) (number_in old) history)) (disk_in old) (disk_in new))
-      → CountsFaults (faults_in old) (faults_in new) (is_store_fault answer) → told_in new ≡ told_after (told_in old) (is_store_fault answer)
-      → (IsUndoubted old → IsUndoubted new) → IsUnder issuer new → number_in new ≡ number_in old → IsCalled issuer old new answer Changes
-  is-called issuer old new answer Changes answers leaves counts told_is undoubted under number_is = record {
-    answers = answers;
-    leaves = leaves;
-    counts = counts;
-    told_is = told_is;
-    undoubted = undoubted;
-    under = under;
-    number_is = number_is;
-  }
 
   -- a card's number is that of a card of its shard
   pub card-at_home : (issuer : Setup) (shards : List (Shard S G)) → AreShards issuer shards → (number home : ℕ) (shard : Shard S G)
@@ -115,11 +101,10 @@ module _ {S : Type 0} {G : Ghosts S} where
       (subst (λ (after : Shard S G). BothTold (LeavesOnly (IsImageOf (grounds_now issuer) number was.history)) (disk_in before) (disk_in after)) same
       (leaves-uncalled issuer number before was.history (are.numbers_are number before before_is) (stand.each number before was before_is was_is).stands))
 
-  module _ (issuer : Setup) (shards : List (Shard S G)) (are : AreShards issuer shards) (name : CardName) (home : ℕ) (home_is : home ≡ shard_of issuer name)
-      (old new : Shard S G) (old_is : slice_get shards home ≡ Some old) (answer : Answer) (Changes : ℕ → List Entry → List Entry → Type 0)
-      (called : IsCalled issuer old new answer Changes) where
+  module _ {issuer : Setup} {shards : List (Shard S G)} (are : AreShards issuer shards) {name : CardName} {home : ℕ} {old new : Shard S G} {answer : Answer}
+      {Changes : ℕ → List Entry → List Entry → Type 0} (called : IsCalled issuer shards name home old new answer Changes) where
     within : home < length shards
-    within = slice_get_within shards home old old_is
+    within = slice_get_within shards home old called.old_is
 
     -- what is there once the shard was called
     there : (shard : Shard S G) → slice_get (set shards home new) home ≡ Some shard → new ≡ shard
@@ -136,7 +121,7 @@ module _ {S : Type 0} {G : Ghosts S} where
           elim (cases_eq number home) [
             | inl same ↦
                 let its = there shard (subst (λ number. slice_get (set shards home new) number ≡ Some shard) same is) in
-                ap number_in (sym its) ∙ called.number_is ∙ are.numbers_are home old old_is ∙ sym same
+                ap number_in (sym its) ∙ called.number_is ∙ are.numbers_are home old called.old_is ∙ sym same
             | inr apart ↦ are.numbers_are number shard (there-other number shard apart is)
           ];
       under = λ number shard is.
@@ -150,7 +135,7 @@ module _ {S : Type 0} {G : Ghosts S} where
           elim (cases_eq number home) [
             | inl same ↦
                 let its = there shard (subst (λ number. slice_get (set shards home new) number ≡ Some shard) same is) in
-                subst IsUndoubted its (called.undoubted (are.undoubted home old old_is))
+                subst IsUndoubted its (called.undoubted (are.undoubted home old called.old_is))
             | inr apart ↦ are.undoubted number shard (there-other number shard apart is)
           ];
     }
@@ -163,10 +148,10 @@ module _ {S : Type 0} {G : Ghosts S} where
           let book_within : home < length books = omega (arith, within, count) in
           let found = read-within books home book_within in
           let book : Book = found.0 in
-          let its = stand.each home old book old_is found.1 in
+          let its = stand.each home old book called.old_is found.1 in
           let answered = called.answers book.history its.stands in
           let after : Book = record { history = answered.0; faults = faults_in new; told = told_in new } in
-          let number_is : number_in old ≡ shard_of issuer name = are.numbers_are home old old_is ∙ home_is in (
+          let number_is : number_in old ≡ shard_of issuer name = are.numbers_are home old called.old_is ∙ called.home_is in (
             set books home after,
             record {
               count_is = length-set books home after ∙ count ∙ sym (length-set shards home new);
@@ -178,7 +163,7 @@ module _ {S : Type 0} {G : Ghosts S} where
                         ∙ subst (λ number. slice_get (set books home after) number ≡ Some other) same other_is) in
                         subst (λ (other : Book). StandsForBook issuer shard other) book_at
                         (subst (λ (shard : Shard S G). StandsForBook issuer shard after) shard_at
-                        (stands-for_book issuer new answered.0 answered.1 (called.undoubted (are.undoubted home old old_is))))
+                        (stands-for_book issuer new answered.0 answered.1 (called.undoubted (are.undoubted home old called.old_is))))
                     | inr apart ↦
                         stand.each number shard other (there-other number shard apart shard_is) (sym (read-other books home after number apart) ∙ other_is)
                   ];
@@ -186,11 +171,11 @@ module _ {S : Type 0} {G : Ghosts S} where
             record {
               old = book;
               new = after;
-              old_is = subst (λ number. slice_get books number ≡ Some book) home_is found.1;
+              old_is = subst (λ number. slice_get books number ≡ Some book) called.home_is found.1;
               changes = subst (λ number. Changes number book.history answered.0) number_is answered.2;
               counts = subst (λ faults. CountsFaults faults (faults_in new) (is_store_fault answer)) its.faults_are called.counts;
               told_is = called.told_is ∙ ap (λ told. told_after told (is_store_fault answer)) its.told_are;
-              after_is = ap (λ number. set books number after) home_is;
+              after_is = ap (λ number. set books number after) called.home_is;
             },
           )
 
@@ -200,11 +185,11 @@ module _ {S : Type 0} {G : Ghosts S} where
           let same_book : is.history ≡ was.history = ap (λ (book : Book). book.history) (same_Some is was (sym is_is ∙ was_is)) in
           elim (cases_eq number home) [
             | inl same ↦
-                let old_at : old ≡ before = same_Some old before (sym old_is ∙ subst (λ number. slice_get shards number ≡ Some before) same before_is) in
+                let old_at : old ≡ before = same_Some old before (sym called.old_is ∙ subst (λ number. slice_get shards number ≡ Some before) same before_is) in
                 let new_at = there after (subst (λ number. slice_get (set shards home new) number ≡ Some after) same after_is) in
                 let stands = (stand.each number before was before_is was_is).stands in
                 let left = called.leaves was.history (subst (λ (shard : Shard S G). StandsFor issuer shard was.history) (sym old_at) stands) in
-                let number_is : number_in old ≡ number = are.numbers_are home old old_is ∙ sym same in
+                let number_is : number_in old ≡ number = are.numbers_are home old called.old_is ∙ sym same in
                 between-same issuer number before after was.history is.history same_book
                 (subst (λ (before : Shard S G). BothTold (LeavesOnly (IsImageOf (grounds_now issuer) number was.history)) (disk_in before) (disk_in after))
                 old_at

@@ -14,7 +14,7 @@ use Rattle.issuer_setup.specs.CardList.{name_of, AreCards}
 use Rattle.issuer_setup.specs.IssuerSetup.{Setup}
 use Rattle.row_core.specs.CardRow.{CardRow, KeptScripts, StandsFor as RowStandsFor}
 use Rattle.row_core.proofs.OtherCards.{stands-other}
-use Rattle.shard_book.specs.ShardRows.{ShardRows, IsHome, RowStands, StandsFor, is_decided}
+use Rattle.shard_book.specs.ShardRows.{ShardRows, IsHome, Covers, RowStands, StandsFor, is_decided}
 use Rattle.shard_book.specs.Steps.{IsCardOf}
 use Rattle.shard_book.proofs.Places.{places-differ}
 use Rattle.shard_book.proofs.Marks.{Marks, is_on, marked-there, marked-elsewhere, decided-its, decided-elsewhere}
@@ -104,41 +104,50 @@ module _ (issuer : Setup) (rows : ShardRows) (history : List Entry) (stands : St
         ];
   }
 
--- the row at a card's place is changed so that it stands for one record more
-pub step-more : (issuer : Setup) (rows now : ShardRows) → rows ≡ now → (number place : ℕ) → place ≡ number / rows.shards → (row new : CardRow)
-    → IsHome now number → slice_get rows.rows place ≡ Some row → (card : CardInfo) (history : List Entry) (entry : Entry) → StandsFor issuer now history
-    → IsCardOf issuer number card → card_in entry ≡ name_of card → (bits : CounterSets) → Marks rows.bits bits place entry
-    → (RowStandsFor card row history → RowStandsFor card new (history ++ entry ∷ []))
-    → StandsFor issuer (record { shard = rows.shard; shards = rows.shards; cards = rows.cards; rows = set rows.rows place new; bits = bits })
-    (history ++ entry ∷ [])
-step-more issuer rows now view number place place_is row new home row_is card history entry stands known its bits marks gains =
-    let marks_there : Marks rows.bits bits (number / rows.shards) entry = subst (λ place. Marks rows.bits bits place entry) place_is marks in
-    let home_inside = subst (λ (rows : ShardRows). IsHome rows number) (sym view) home in
-    let stands_inside = subst (λ (rows : ShardRows). StandsFor issuer rows history) (sym view) stands in
-    let row_there : slice_get rows.rows (number / rows.shards) ≡ Some row = subst (λ place. slice_get rows.rows place ≡ Some row) place_is row_is in
-    subst (λ place. StandsFor issuer (record { shard = rows.shard; shards = rows.shards; cards = rows.cards; rows = set rows.rows place new; bits = bits })
-    (history ++ entry ∷ []))
-    (sym place_is) (stands-more issuer rows history stands_inside number home_inside row row_there card entry new bits known its marks_there gains)
-
--- the queue of a card is that of its row
-pub queue-inside : (issuer : Setup) (rows now : ShardRows) → rows ≡ now → (number place : ℕ) → place ≡ number / rows.shards → (row : CardRow)
-    → IsHome now number → slice_get rows.rows place ≡ Some row → (card : CardInfo) (history : List Entry) → StandsFor issuer now history
-    → IsCardOf issuer number card → row.scripts.commands ≡ waiting (scripts_of (name_of card) history)
-queue-inside issuer rows now view number place place_is row home row_is card history stands known =
-    queue-there issuer rows history (subst (λ (rows : ShardRows). StandsFor issuer rows history) (sym view) stands) number
-    (subst (λ (rows : ShardRows). IsHome rows number) (sym view) home) row (subst (λ place. slice_get rows.rows place ≡ Some row) place_is row_is)
-    card known.card_is
-
 -- what an answer says at Ok is so where it is one
 pub ok-then : {X E : Type 0} (result : Result X E) (Q : Type 0) → IfOk result (λ _. Q) → IsOk result → Q
 ok-then (Ok x) Q says ok = says
 ok-then (Err e) Q says ok = absurd (false≢true ok)
 
--- and the row at a card's place stands for the history
-pub row-inside : (issuer : Setup) (rows now : ShardRows) → rows ≡ now → (number place : ℕ) → place ≡ number / rows.shards → (row : CardRow)
-    → IsHome now number → slice_get rows.rows place ≡ Some row → (card : CardInfo) (history : List Entry) → StandsFor issuer now history
-    → IsCardOf issuer number card → RowStandsFor card row history
-row-inside issuer rows now view number place place_is row home row_is card history stands known =
-    row-there issuer rows history (subst (λ (rows : ShardRows). StandsFor issuer rows history) (sym view) stands) number
-    (subst (λ (rows : ShardRows). IsHome rows number) (sym view) home) row (subst (λ place. slice_get rows.rows place ≡ Some row) place_is row_is)
-    card known.card_is
+-- the row of the card with this number was read at its place in the rows
+pub record IsRead (rows now : ShardRows) (number place : ℕ) (row : CardRow) : Type 0 where
+  pub view : rows ≡ now
+  pub home : IsHome rows number
+  pub place_is : place ≡ number / rows.shards
+  pub row_is : slice_get rows.rows (number / rows.shards) ≡ Some row
+
+pub is-read : {rows now : ShardRows} {number place : ℕ} {row : CardRow} → rows ≡ now → Covers rows → IsHome now number → place ≡ number / rows.shards
+    → row ≡ get_or rows.rows place row → IsRead rows now number place row
+is-read {rows} {now} {number} {place} {row} view covers home place_is row_is =
+    let home_inside = subst (λ (rows : ShardRows). IsHome rows number) (sym view) home in
+    record {
+      view = view;
+      home = home_inside;
+      place_is = place_is;
+      row_is = slice_get-get_or rows.rows (number / rows.shards) row (covers.each number home_inside)
+          ∙ ap Some (sym (row_is ∙ ap (λ place. get_or rows.rows place row) place_is));
+    }
+
+module _ (issuer : Setup) {rows now : ShardRows} {number place : ℕ} {row : CardRow} (read : IsRead rows now number place row) (card : CardInfo)
+    (history : List Entry) (stands : StandsFor issuer now history) (known : IsCardOf issuer number card) where
+  inside : StandsFor issuer rows history
+  inside = subst (λ (rows : ShardRows). StandsFor issuer rows history) (sym read.view) stands
+
+  -- it stands for the history
+  pub row-inside : RowStandsFor card row history
+  row-inside = row-there issuer rows history inside number read.home row read.row_is card known.card_is
+
+  -- its queue is the card's
+  pub queue-inside : row.scripts.commands ≡ waiting (scripts_of (name_of card) history)
+  queue-inside = queue-there issuer rows history inside number read.home row read.row_is card known.card_is
+
+  -- and it is changed so that it stands for one record more
+  pub step-more : (entry : Entry) (new : CardRow) (bits : CounterSets) → card_in entry ≡ name_of card → Marks rows.bits bits place entry
+      → (RowStandsFor card row history → RowStandsFor card new (history ++ entry ∷ []))
+      → StandsFor issuer (record { shard = rows.shard; shards = rows.shards; cards = rows.cards; rows = set rows.rows place new; bits = bits })
+      (history ++ entry ∷ [])
+  step-more entry new bits its marks gains =
+      let marks_there : Marks rows.bits bits (number / rows.shards) entry = subst (λ place. Marks rows.bits bits place entry) read.place_is marks in
+      subst (λ place. StandsFor issuer (record { shard = rows.shard; shards = rows.shards; cards = rows.cards; rows = set rows.rows place new; bits = bits })
+      (history ++ entry ∷ []))
+      (sym read.place_is) (stands-more issuer rows history inside number read.home row read.row_is card entry new bits known its marks_there gains)

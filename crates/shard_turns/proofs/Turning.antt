@@ -117,13 +117,23 @@ module _ {S : Type 0} {G : Ghosts S} where
         after_is = after_is ∙ ap (λ n. turned n (items_at logs number) None before) number_is;
       }
 
-  module _ (issuer : Setup) (Changes : ℕ → List Entry → List Entry → Type 0) (answer : Answer) (entry : Option Entry) (number : ℕ)
-      (logs : List (Log LogItem LogHead)) (old new : Shard S G) (found : HasFound issuer logs number old) (called : IsCalled issuer old new answer)
-      (answers : (history : List Entry) → StandsFor issuer old history → (after : List Entry) × StandsFor issuer new after × Changes
-      (number_in old) history after)
-      (recording : (history after : List Entry) → Changes number history after → IsAnsweredBy issuer number history after answer entry)
-      (given : Option Entry) (given_is : given ≡ entry) (fault : Bool) (told : ℕ) (told_is : told ≡ told_in old)
-      (fault_is : fault ≡ (is_store_fault answer && ltb told MAX_FAULTS_TOLD)) where
+  -- the shard that has the turn is called: it answers so, and gives its log this record, or where it has to, that the store failed
+  pub record IsCalledInTurn (issuer : Setup) (Changes : ℕ → List Entry → List Entry → Type 0) (logs : List (Log LogItem LogHead)) (number : ℕ)
+      (old new : Shard S G) (answer : Answer) (given : Option Entry) (fault : Bool) : Type 0 where
+    pub found : HasFound issuer logs number old
+    pub called : IsCalled issuer old new answer
+    pub answers : (history : List Entry) → StandsFor issuer old history → (after : List Entry) × StandsFor issuer new after × Changes
+        (number_in old) history after
+    pub entry : Option Entry
+    pub entry_is : given ≡ entry
+    pub recording : (history after : List Entry) → Changes number history after → IsAnsweredBy issuer number history after answer entry
+    pub told : ℕ
+    pub told_is : told ≡ told_in old
+    pub fault_is : fault ≡ (is_store_fault answer && ltb told MAX_FAULTS_TOLD)
+
+  module _ {issuer : Setup} {Changes : ℕ → List Entry → List Entry → Type 0} {logs : List (Log LogItem LogHead)} {number : ℕ} {old new : Shard S G}
+      {answer : Answer} {given : Option Entry} {fault : Bool}
+      (call : IsCalledInTurn issuer Changes logs number old new answer given fault) where
     abbrev items : List LogItem
     items = items_at logs number
 
@@ -131,43 +141,44 @@ module _ {S : Type 0} {G : Ghosts S} where
     by_rule = is_store_fault answer && ltb (told_in old) MAX_FAULTS_TOLD
 
     abbrev said : (after : List Entry) × StandsFor issuer new after × Changes (number_in old) (records_of items) after
-    said = answers (records_of items) found.stands.stands
+    said = call.answers (records_of items) call.found.stands.stands
 
     changed : Changes number (records_of items) said.0
-    changed = subst (λ n. Changes n (records_of items) said.0) found.stands.number_is said.2
+    changed = subst (λ n. Changes n (records_of items) said.0) call.found.stands.number_is said.2
 
-    rule-is : fault ≡ by_rule
-    rule-is = fault_is ∙ ap (λ told. is_store_fault answer && ltb told MAX_FAULTS_TOLD) told_is
-
-    added-is : added_by given fault (faults_in new) ≡ added_by entry by_rule (faults_in new)
+    added-is : added_by given fault (faults_in new) ≡ added_by call.entry by_rule (faults_in new)
     added-is =
-        ap (λ (given : Option Entry). added_by given fault (faults_in new)) given_is
-        ∙ ap (λ (fault : Bool). added_by entry fault (faults_in new)) rule-is
+        ap (λ (entry : Option Entry). added_by entry fault (faults_in new)) call.entry_is
+        ∙ ap (λ (fault : Bool). added_by call.entry fault (faults_in new))
+        (call.fault_is ∙ ap (λ told. is_store_fault answer && ltb told MAX_FAULTS_TOLD) call.told_is)
 
     -- the shard stands for the log with what was added
     pub turn-stands : StandsIn new (with_items logs number (log_after items (added_by given fault (faults_in new)))) number
     turn-stands =
         subst (λ (added : Option LogItem). StandsIn new (with_items logs number (log_after items added)) number) (sym added-is)
-        (stands-close (λ (shard : Shard S G) head items. StandsForLog shard head items) new logs number (head_with issuer number found.faults found.first)
-        (log_after items (added_by entry by_rule (faults_in new))) found.head_is
-        (log-step issuer number found.first found.faults old new answer items found.stands called said.0 said.1 entry
-        (recording (records_of items) said.0 changed)))
+        (stands-close (λ (shard : Shard S G) head items. StandsForLog shard head items) new logs number
+        (head_with issuer number call.found.faults call.found.first) (log_after items (added_by call.entry by_rule (faults_in new))) call.found.head_is
+        (log-step issuer number call.found.first call.found.faults old new answer items call.found.stands call.called said.0 said.1 call.entry
+        (call.recording (records_of items) said.0 changed)))
 
-    -- and the turn answers so
-    pub turn-answers : (before after : TurnView LogItem LogHead) → IsFront (items_at before.seen number) items → number < length before.seen
-        → after ≡ free (counted_if number (added_by given fault (faults_in new)) (entered number items before))
-        → AnswersInTurn issuer number (Changes number) before answer after
-    turn-answers before after front below after_is =
-        let answered = recording (records_of items) said.0 changed in
-        let added : Option LogItem = added_by entry by_rule (faults_in new) in
-        record {
+    -- and the turn answers so, at the shard of the card
+    pub turn-answers : (shard : ℕ) → number ≡ shard → (before inside after : TurnView LogItem LogHead) → number < length before.seen
+        → IsFront (items_at before.seen number) items → inside ≡ entered number items before
+        → after ≡ free (counted_if number (added_by given fault (faults_in new)) inside) → AnswersInTurn issuer shard (Changes shard) before answer after
+    turn-answers shard number_is before inside after below front inside_is after_is =
+        let answered = call.recording (records_of items) said.0 changed in
+        let added : Option LogItem = added_by call.entry by_rule (faults_in new) in
+        let answers : AnswersInTurn issuer number (Changes number) before answer after = record {
           between = items;
           added = added;
           front = front;
           changes = subst (Changes number (records_of items))
-              (sym (records-after issuer number found.first found.faults old new answer items found.stands called said.0 said.1 entry by_rule (faults_in new)
-              answered)) changed;
-          adds = answered.adds items (told_in old) (faults_in new) refl found.stands.told_is;
-          after_is = after_is ∙ ap (λ (added : Option LogItem). free (counted_if number added (entered number items before))) added-is
+              (sym (records-after issuer number call.found.first call.found.faults old new answer items call.found.stands call.called said.0 said.1 call.entry
+              by_rule (faults_in new) answered)) changed;
+          adds = answered.adds items (told_in old) (faults_in new) refl call.found.stands.told_is;
+          after_is = after_is
+              ∙ ap (λ (inside : TurnView LogItem LogHead). free (counted_if number (added_by given fault (faults_in new)) inside)) inside_is
+              ∙ ap (λ (added : Option LogItem). free (counted_if number added (entered number items before))) added-is
               ∙ turned-is before number items added below;
-        }
+        } in
+        subst (λ n. AnswersInTurn issuer n (Changes n) before answer after) number_is answers

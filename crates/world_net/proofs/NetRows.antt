@@ -128,13 +128,18 @@ module _ (issuer : Setup) (rows : List CardRow) (shards : List ShardState) (stan
         );
   }
 
--- a shard that got one more record, among the shards
+-- a shard that was read, among the shards
+pub shard-read : (shards : List ShardState) (place : ℕ) (shard : ShardState) → place < length shards → shard ≡ get_or shards place shard
+    → shard ≡ at shards place
+shard-read shards place shard within shard_is =
+    sym (get_or_from_slice_get shards place shard no_shard (slice_get-get_or shards place shard within ∙ ap Some (sym shard_is)))
+
+-- and one that got one more record
 pub shards-record : (shards : List ShardState) (home place : ℕ) (entry made : Entry) (old new : ShardState) → home ≡ place → home < length shards
     → old ≡ get_or shards home old → made ≡ entry → new ≡ record { history = old.history ++ made ∷ []; doubt = None }
     → set shards home new ≡ recorded shards place entry
 shards-record shards home place entry made old new at_home within old_is made_is new_is =
-    let read : old ≡ at shards home =
-    sym (get_or_from_slice_get shards home old no_shard (slice_get-get_or shards home old within ∙ ap Some (sym old_is))) in
+    let read : old ≡ at shards home = shard-read shards home old within old_is in
     let new_here : new ≡ record { history = (at shards home).history ++ entry ∷ []; doubt = None } =
     new_is ∙ (λ i. record { history = (read i).history ++ made_is i ∷ []; doubt = None }) in
     ap (set shards home) new_here ∙ ap (λ n. recorded shards n entry) at_home

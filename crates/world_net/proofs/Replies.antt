@@ -1,5 +1,5 @@
 -- A reply that the decision table makes is one that the issuer makes, whatever its table is.
-use Rattle.std.proofs.Common.{◌≡◌, ℕ, Bool, true, List, [], ◌∷◌, ◌++◌, length, Option, Some, Ok, IsTrue, refl, ap, sym, ◌∙◌}
+use Rattle.std.proofs.Common.{◌≡◌, ℕ, ◌%◌, Bool, true, List, [], ◌∷◌, ◌++◌, length, Option, Some, Ok, IsTrue, refl, ap, sym, ◌∙◌}
 use Rattle.std.proofs.Common.{subst, arith, inl, inr}
 use Rattle.std.proofs.lemmas.Bool.{and_parts, cases_Bool, cond-true, cond-false, not-true}
 use Rattle.std.proofs.lemmas.Option.{none-some, same_Some}
@@ -18,7 +18,7 @@ use Rattle.card_history.specs.declared.decision.Asked.TheVariants.{Decide}
 use Rattle.card_history.specs.LegalRecords.{IsLegalDecision}
 use Rattle.card_history.specs.Records.{card_of, status_of, IsBelow}
 use Rattle.card_history.specs.Scripts.{Scripts, scripts_of, batch_of, first_of}
-use Rattle.card_history.specs.Turns.{IsUnused, decided_for}
+use Rattle.card_history.specs.Turns.{IsUnused, Answers, decided_for}
 use Rattle.decision_table.specs.declared.row.TableRow.{TableRow}
 use Rattle.decision_table.specs.Fitting.{fits, decision}
 use Rattle.decision_table.specs.Tables.{tells_approval, is_table}
@@ -27,17 +27,15 @@ use Rattle.issuer_setup.specs.CardList.{name_of, number_of}
 use Rattle.issuer_setup.specs.IssuerSetup.{Setup, keys_of}
 use Rattle.key_derive.specs.declared.card.CardKeys.{CardKeys}
 use Rattle.key_derive.specs.SessionKey.{session_ac}
-use Rattle.line_checks.specs.AtHand.{IsRequestAtHand}
 use Rattle.line_checks.specs.Reading.{checked}
-use Rattle.line_checks.specs.declared.checked.CheckedRequest.{CheckedRequest}
 use Rattle.row_core.specs.Accepting.{told_update, says_approval, IsMade}
 use Rattle.row_core.specs.CardRow.{CardRow, StandsFor}
-use Rattle.row_core.specs.Plan.{IsPlan}
+use Rattle.row_core.specs.Plan.{answer_of, history_after}
 use Rattle.row_core.specs.Replying.{reply_bytes, reply_by_row, script_bytes, no_reply, reply_after, reply_by, reply_of_card, reply_to}
 use Rattle.row_core.specs.declared.row.Outcome.{Outcome}
 use Rattle.row_core.specs.declared.row.Outcome.TheVariants.{Fresh, Kept, Below, Taken}
 use Rattle.tlv_objects.specs.Writing.{object_text}
-use Rattle.shard_book.specs.Grounds.{IsCardOfShard, grounds_of}
+use Rattle.shard_book.specs.Grounds.{grounds_of}
 use Rattle.shard_book.proofs.Adopted.{decision-legal}
 
 -- a list of two
@@ -141,53 +139,56 @@ own-reply issuer history request number info keys number_is info_is keys_are =
     ∙ ap (λ (card : Option CardInfo). reply_by card (keys_of issuer number request) issuer.table history request) info_is
     ∙ ap (λ (set : Option CardKeys). reply_by (Some info) set issuer.table history request) keys_are
 
-module _ (issuer : Setup) (shard : ℕ) (history : List Entry) (request : Request) (found : CheckedRequest) (info : CardInfo) (row : CardRow) (place : ℕ)
-    (at_hand : IsRequestAtHand issuer found) (same : found.request ≡ request) (genuine : checked issuer request ≡ Ok (Decide request))
-    (info_is : slice_get issuer.cards found.card ≡ Some info) (named : card_of request ≡ name_of info) (stands : StandsFor info row history)
-    (home : IsCardOfShard issuer shard (card_of request)) (at_end : place ≡ length history) where
+-- what a card's row plans for a request of the card, where it stands for the history of the card's shard
+pub record IsPlanned (issuer : Setup) (history : List Entry) (request : Request) (card : ℕ) (keys : CardKeys) (row : CardRow) (outcome : Outcome)
+    : Type 0 where
+  pub genuine : checked issuer request ≡ Ok (Decide request)
+  pub number_is : number_of (card_of request) issuer.cards ≡ Some card
+  pub keys_are : keys_of issuer card request ≡ Some keys
+  pub info : CardInfo
+  pub info_is : slice_get issuer.cards card ≡ Some info
+  pub named : card_of request ≡ name_of info
+  pub stands : StandsFor info row history
+  pub answers : Answers 0 (reply_after info.method keys issuer.table) history request (answer_of 0 outcome) (history_after history outcome)
+
+module _ {issuer : Setup} {history : List Entry} {request : Request} {card : ℕ} {keys : CardKeys} {row : CardRow} where
   -- a fresh plan for a request is a legal decision of it
-  pub planned-legal : (reply : Reply) (step : Decision) (table_row : TableRow) → IsPlan row found.keys issuer.table request place (Fresh reply step)
+  pub planned-legal : (reply : Reply) (step : Decision) (table_row : TableRow) → IsPlanned issuer history request card keys row (Fresh reply step)
       → decision issuer.table row.status request ≡ Some table_row → IsTrue (is_table issuer.table) → length table_row.arc ≡ 2 → length table_row.csu ≡ 4
-      → IsLegalDecision (grounds_of issuer) shard history request reply
-  planned-legal reply step table_row plan decides valid code_is update_is =
-      let answers = plan 0 info history stands named at_end in
+      → IsLegalDecision (grounds_of issuer) (card % issuer.shards) history request reply
+  planned-legal reply step table_row planned decides valid code_is update_is =
+      let method = planned.info.method in
       let scripts = scripts_of (card_of request) history in
-      let status : row.status ≡ status_of (card_of request) history = stands.status_is ∙ ap (λ name. status_of name history) (sym named) in
+      let status : row.status ≡ status_of (card_of request) history = planned.stands.status_is ∙ ap (λ name. status_of name history) (sym planned.named) in
       let decided_here : decision issuer.table (status_of (card_of request) history) request ≡ Some table_row =
       ap (λ status. decision issuer.table status request) (sym status) ∙ decides in
-      let reply_is : reply ≡ reply_by_row info.method found.keys scripts request table_row =
-      answers.3 ∙ ap (λ (found_row : Option TableRow). option_map_or (reply_by_row info.method found.keys scripts request) found_row no_reply) decided_here in
-      decision-legal issuer shard history request reply found.card info found.keys
-      (ap (λ (q : Request). number_of (card_of q) issuer.cards) (sym same) ∙ at_hand.card_is.number_is) info_is
-      (ap (λ (q : Request). keys_of issuer found.card q) (sym same) ∙ at_hand.keys_are) home genuine (record {
-        unused = answers.0;
-        made = subst (IsMade info.method found.keys scripts request) (sym reply_is)
-            (made-by_row info.method found.keys scripts request table_row code_is update_is
-            (row-tells issuer.table row.status request table_row valid decides));
+      let reply_is : reply ≡ reply_by_row method keys scripts request table_row =
+      planned.answers.3 ∙ ap (λ (found_row : Option TableRow). option_map_or (reply_by_row method keys scripts request) found_row no_reply) decided_here in
+      decision-legal issuer (card % issuer.shards) history request reply card planned.info keys planned.number_is planned.info_is planned.keys_are
+      (record { number = card; number_is = planned.number_is; home = refl }) planned.genuine (record {
+        unused = planned.answers.0;
+        made = subst (IsMade method keys scripts request) (sym reply_is)
+            (made-by_row method keys scripts request table_row code_is update_is (row-tells issuer.table row.status request table_row valid decides));
       })
 
   -- by the issuer's own table
-  pub planned-own : (reply : Reply) (step : Decision) → IsPlan row found.keys issuer.table request place (Fresh reply step)
+  pub planned-own : (reply : Reply) (step : Decision) → IsPlanned issuer history request card keys row (Fresh reply step)
       → reply ≡ reply_to issuer history request
-  planned-own reply step plan =
-      let number_is : number_of (card_of request) issuer.cards ≡ Some found.card =
-      ap (λ (q : Request). number_of (card_of q) issuer.cards) (sym same) ∙ at_hand.card_is.number_is in
-      let keys_are : keys_of issuer found.card request ≡ Some found.keys =
-      ap (λ (q : Request). keys_of issuer found.card q) (sym same) ∙ at_hand.keys_are in
-      (plan 0 info history stands named at_end).3 ∙ sym (own-reply issuer history request found.card info found.keys number_is info_is keys_are)
+  planned-own reply step planned =
+      planned.answers.3 ∙ sym (own-reply issuer history request card planned.info keys planned.number_is planned.info_is planned.keys_are)
 
   -- any other plan says that the counter isn't unused
   pub planned-used : (outcome : Outcome) → ((reply : Reply) (step : Decision) → outcome ≡ Fresh reply step → ⊥)
-      → IsPlan row found.keys issuer.table request place outcome → IsUnused (decided_for request history) request → ⊥
-  planned-used (Fresh reply step) other plan unused = other reply step refl
-  planned-used (Kept reply at) other plan unused =
-      let used = (plan 0 info history stands named at_end).0 in
+      → IsPlanned issuer history request card keys row outcome → IsUnused (decided_for request history) request → ⊥
+  planned-used (Fresh reply step) other planned unused = other reply step refl
+  planned-used (Kept reply at) other planned unused =
+      let used = planned.answers.0 in
       All-contains (λ (decision : Decision). decision.request.atc ≡ request.atc → ⊥) (decided_for request history) _ unused.unrecorded used.recorded
       used.same_counter
-  planned-used (Below top) other plan unused =
-      let old = (plan 0 info history stands named at_end).0 in
+  planned-used (Below top) other planned unused =
+      let old = planned.answers.0 in
       unused.in_window (subst (λ (hi : Option ℕ). IsBelow hi request.atc) (sym old.greatest_is) old.below)
-  planned-used (Taken at) other plan unused =
-      let taken = (plan 0 info history stands named at_end).0 in
+  planned-used (Taken at) other planned unused =
+      let taken = planned.answers.0 in
       All-contains (λ (decision : Decision). decision.request.atc ≡ request.atc → ⊥) (decided_for request history) _ unused.unrecorded taken.1.recorded
       taken.1.same_counter

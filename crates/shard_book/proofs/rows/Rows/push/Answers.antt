@@ -1,31 +1,16 @@
 -- The row of the command's card stands for it, and the others for the record of another card.
-use Rattle.std.proofs.Common.{◌<◌, length, refl, sym, subst}
-use Rattle.std.proofs.lemmas.Option.{slice_get_read}
-use Rattle.shard_book.specs.ShardRows.{ShardRows, IsHome}
+use Rattle.std.proofs.Common.{refl, sym, subst}
+use Rattle.issuer_base.specs.declared.entry.Entry.{Entry}
 use Rattle.issuer_base.specs.declared.entry.Entry.TheVariants.{Queued}
 use Rattle.script_queue.specs.CommandQueue.{TakesOneMore}
 use Rattle.shard_book.proofs.Marks.{unmarked}
-use Rattle.shard_book.proofs.RowsAfter.{ok-then, queue-inside, step-more}
+use Rattle.shard_book.proofs.RowsAfter.{ok-then, is-read, queue-inside, step-more}
 use Rattle.shard_book.proofs.rows.Rows.push.Goals as goal
 
 pub returns-clause-queued : goal.returns-clause-queued
 returns-clause-queued c issuer card history stands known takes =
-    let rows : ShardRows = record {
-      shard = c.self.inside.shard;
-      shards = c.self.inside.shards;
-      cards = c.self.inside.cards;
-      rows = c.self.inside.rows.items;
-      bits = c.self.inside.bits;
-    } in
-    let home : IsHome rows c.args.card = subst (λ (rows : ShardRows). IsHome rows c.args.card) (sym c.self.view_is) c.requires.home in
-    let within : c.index_of.result < length rows.rows =
-    subst (λ place. place < length rows.rows) (sym c.index_of.ensures) (c.self.invariant.each c.args.card home) in
-    let row_is = slice_get_read rows.rows _ c.index_of.result c.index_mut.result.now refl within c.index_mut.ensures.value in
-    let there =
-    queue-inside issuer rows c.args.self.now c.self.view_is c.args.card c.index_of.result c.index_of.ensures c.index_mut.result.now c.requires.home row_is card
-    history stands known in
-    let ok = c.push.ensures.taken.1 (subst TakesOneMore (sym there) takes) in
-    step-more issuer rows c.args.self.now c.self.view_is c.args.card c.index_of.result c.index_of.ensures c.index_mut.result.now c.push.new.self
-    c.requires.home row_is card history (Queued card.pan card.psn c.args.command) stands known refl rows.bits
-    (unmarked rows.bits c.index_of.result (Queued card.pan card.psn c.args.command) (λ counter. refl))
-    (λ before. ok-then c.push.result _ c.push.ensures.queued ok card history before)
+    let entry : Entry = Queued card.pan card.psn c.args.command in
+    let read = is-read c.self.view_is c.self.invariant c.requires.home c.index_of.ensures c.index_mut.ensures.value in
+    let ok = c.push.ensures.taken.1 (subst TakesOneMore (sym (queue-inside issuer read card history stands known)) takes) in
+    step-more issuer read card history stands known entry c.push.new.self c.self.inside.bits refl
+    (unmarked c.self.inside.bits c.index_of.result entry (λ counter. refl)) (ok-then c.push.result _ c.push.ensures.queued ok card history)

@@ -1,6 +1,5 @@
 -- The shard and the row of the request's card have the decision.
-use Rattle.std.proofs.Common.{◌≡◌, ◌<◌, ◌%◌, List, length, set, Some, Ok, ap, sym, ◌∙◌, subst, arith}
-use Rattle.std.proofs.lemmas.Option.{slice_get-get_or, get_or_from_slice_get}
+use Rattle.std.proofs.Common.{◌≡◌, ◌<◌, ◌%◌, List, length, set, Ok, ap, sym, ◌∙◌, subst, arith}
 use Rattle.issuer_base.specs.declared.request.Request.{Request}
 use Rattle.issuer_base.specs.declared.entry.Entry.{Entry}
 use Rattle.issuer_base.specs.declared.entry.Entry.TheVariants.{Decided}
@@ -11,10 +10,10 @@ use Rattle.issuer_setup.specs.CardList.{number_of}
 use Rattle.line_checks.specs.Reading.{checked}
 use Rattle.line_checks.proofs.Numbers.{number-within}
 use Rattle.shard_book.specs.Grounds.{grounds_of}
-use Rattle.world_net.specs.WorldState.{ShardState, no_shard, home_of}
+use Rattle.world_net.specs.WorldState.{ShardState, home_of}
 use Rattle.world_net.specs.Stepping.{world_of, RowsStand}
 use Rattle.world_net.proofs.Hosts.{at}
-use Rattle.world_net.proofs.NetRows.{row-there, shards-record}
+use Rattle.world_net.proofs.NetRows.{row-there, shard-read, shards-record}
 use Rattle.world_net.proofs.NetWrites.{put-same, home-card, rows-join}
 use Rattle.world_net.proofs.net.Net.join.Goals as goal
 
@@ -51,9 +50,7 @@ returns-clause-rows c =
     ap (λ (q : Request). Decided q c.copy-3.result) c.copy-2.ensures ∙ ap (Decided request) c.copy-3.ensures in
     let shards_are = shards-record world.shards c.from-home.result place (Decided request reply) _ c.index_mut.result.now c.add.new.self at_home within
     c.index_mut.ensures.value made c.in_ok-add.ensures.added in
-    let read : c.index.result.now ≡ at world.shards c.from-home.result =
-    sym (get_or_from_slice_get world.shards c.from-home.result c.index.result.now no_shard
-    (slice_get-get_or world.shards c.from-home.result c.index.result.now within ∙ ap Some (sym c.index.ensures))) in
+    let read : c.index.result.now ≡ at world.shards c.from-home.result = shard-read world.shards _ _ within c.index.ensures in
     let at_end : length c.history.result.now ≡ length (at world.shards place).history =
     ap (λ (l : List Entry). length l) (c.history.ensures ∙ ap (λ (s : ShardState). s.history) (read ∙ ap (at world.shards) at_home)) in
     subst (RowsStand world.issuer (set c.args.self.now.rows.items found.card c.adopt_under.new.self)) (sym shards_are)
