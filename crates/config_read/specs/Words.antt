@@ -1,5 +1,5 @@
 -- What the texts and numbers of a configuration write.
-use Rattle.std.specs.Prelude.{ℕ, ◌+◌, ◌*◌, ◌&&◌, ◌==◌, nat_le, if◌then◌else◌, List, [], ◌∷◌, map, codes, Option, Some, None}
+use Rattle.std.specs.Prelude.{ℕ, ◌+◌, ◌-◌, ◌*◌, ◌%◌, ◌^◌, ◌&&◌, ◌==◌, nat_le, if◌then◌else◌, List, [], ◌∷◌, map, codes, Option, Some, None}
 use Rattle.std.specs.Char.{digit_value, is_ascii_digit}
 use Rattle.std.specs.List.{list_all}
 use Rattle.std.specs.Result.{result_ok}
@@ -14,6 +14,10 @@ use Rattle.issuer_base.specs.declared.answer.Method.TheVariants.{One, Two}
 -- so many bytes: two hexadecimal digits each, of either case
 abbrev pub bytes_of : ℕ → List ℕ → Option (List ℕ)
 bytes_of count text = result_ok (decode_sized text count)
+
+-- how far a character stands behind the digit 0, or how far before it, from 256 down
+unfoldable pub past_zero : ℕ → ℕ
+past_zero character = (character + (2 ^ 8 - 48)) % 2 ^ 8
 
 -- an account number: 8 to 19 digits
 unfoldable pub pan_of : List ℕ → Option (List ℕ)

@@ -33,12 +33,12 @@ pub(crate) fn front_cards(alloc: Global, elements: &[Value]) -> Result<Vec<CardI
     ensures cards { IfOk result (λ cards. cards.items ≡ front card_in (map view elements.now)) }
     ensures few { IfOk result (λ cards. length cards.items ≤ length elements.now) }
 {
-    let mut cards = Vec::new(alloc);
+    let mut cards = Vec::with_capacity(alloc, elements.len())?;
     for element in elements {
         let Some(card) = read_card(element) else {
             return Ok(cards);
         };
-        cards.push(card)?;
+        cards.push_reserved(card);
     }
     Ok(cards)
 }

@@ -267,7 +267,12 @@ const BROKEN_ROWS: [(&str, &str, &str, u32); 24] = [
     ("another name", TABLE, r#""tables":["#, 0),
     ("a number", TABLE, r#""table":1,"rows":["#, 0),
     ("an empty list", TABLE, r#""table":[],"rows":["#, 0),
-    ("an element that is no object", TABLE, r#""table":[null,"#, 1),
+    (
+        "an element that is no object",
+        TABLE,
+        r#""table":[null,"#,
+        1,
+    ),
     ("no mask", r#""tvr_mask":"#, r#""mask":"#, 1),
     (
         "a mask of 8 digits",

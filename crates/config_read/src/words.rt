@@ -1,22 +1,33 @@
 //! What the texts and numbers of a configuration write.
-ghost use Rattle.std.specs.Prelude.{◌≡◌, if◌then◌else◌, Some, None};
+ghost use Rattle.std.specs.Prelude.{◌≡◌, map, if◌then◌else◌, Some, None};
 ghost use Rattle.std.specs.Char.{digit_value, is_ascii_digit};
-ghost use Rattle.config_read.specs.Words.{at_most, bytes_of, method_of, option_of, pan_of, psn_of};
+ghost use Rattle.config_read.specs.Words.{at_most, bytes_of, method_of, option_of, pan_of, past_zero, psn_of};
 
-use arrayvec::ArrayVec;
 use hex::FromHex;
-use issuer_base::{MasterOption, Method, Pan};
+use issuer_base::{MAX_PAN_DIGITS, MasterOption, Method, Pan};
 
 /// The account number of 8 to 19 digits.
-#[tactic(auto, unfolding(crate::specs::Words::pan_of))]
 pub(crate) fn read_pan(text: &str) -> Option<Pan>
     ensures { result ≡ pan_of text.now }
 {
-    let mut digits = ArrayVec::<u8, 19>::new();
-    for character in text.as_bytes() {
-        digits.try_push(read_digit(*character)?).ok()?;
+    let text = text.as_bytes();
+    if text.len() > MAX_PAN_DIGITS {
+        return None;
     }
-    Pan::new(digits.as_slice())
+    let mut characters = [0; MAX_PAN_DIGITS];
+    characters[..text.len()].copy_from_slice(text);
+    Pan::new(&past_zero(characters)[..text.len()])
+}
+
+/// How far each character stands behind the digit 0: at most 9 for a digit alone. No character is tested by itself, so that the
+/// loop takes many in one step.
+fn past_zero(mut characters: [u8; MAX_PAN_DIGITS]) -> [u8; MAX_PAN_DIGITS]
+    ensures { result ≡ map past_zero characters }
+{
+    for character in &mut characters {
+        *character = character.wrapping_sub(b'0');
+    }
+    characters
 }
 
 /// The sequence number of two digits, a nibble each.

@@ -99,7 +99,8 @@ pub fn joined(left: [u8; 8], right: [u8; 8]) -> Key16
     Key16(bytes)
 }
 
-/// The key with each byte in odd parity.
+/// The key with each byte in odd parity. In a function of its own the compiler takes all bytes in one step.
+#[inline(never)]
 fn in_odd_parity(key: Key16) -> Key16
     ensures { result.0 ≡ map with_odd_parity key.0 }
 {

@@ -17,7 +17,7 @@ use journal_rec::MOST_RECORD_BYTES;
 use record_store::read_from;
 use std::alloc::Global;
 
-/// How many bytes of a store are read at a time: more than any record has.
+/// How many bytes of a store are read at a time at most: more than any record has.
 const BUFFER_BYTES: usize = 64 * 1_024;
 
 /// Reads a store, and takes over the records of its whole lines into the rows of this shard.
@@ -43,7 +43,7 @@ pub(crate) fn take_over<S: Store>(
     let Ok(rows) = Rows::new(alloc, issuer, shard) else {
         return Err(LoadFault::NoMemory);
     };
-    let Ok(buffer) = buffer(alloc) else {
+    let Ok(buffer) = buffer(alloc, store.len()) else {
         return Err(LoadFault::NoMemory);
     };
     let mut buffer = buffer;
@@ -216,9 +216,19 @@ fn has_newline<S: Store>(store: &mut S, from: u64, buffer: &mut [u8]) -> Result<
     Ok(false)
 }
 
-/// The bytes that a part of a store is read into.
-fn buffer(alloc: Global) -> Result<Vec<u8>, NoMemory>
-    ensures { IfOk result (λ bytes. length bytes.items ≡ BUFFER_BYTES) }
+/// The bytes that a part of a store of so many bytes is read into: as many as the store has, where they aren't too many, and
+/// room for any record.
+fn buffer(alloc: Global, size: u64) -> Result<Vec<u8>, NoMemory>
+    ensures { IfOk result (λ bytes. MOST_RECORD_BYTES ≤ length bytes.items) }
 {
-    Ok(vec![in alloc; 0; BUFFER_BYTES]?)
+    Ok(vec![in alloc; 0; buffer_bytes(size)]?)
+}
+
+fn buffer_bytes(size: u64) -> usize
+    ensures { MOST_RECORD_BYTES ≤ result }
+{
+    if size >= BUFFER_BYTES as u64 {
+        return BUFFER_BYTES;
+    }
+    MOST_RECORD_BYTES.max(size as usize)
 }
