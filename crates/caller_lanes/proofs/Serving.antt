@@ -1,7 +1,7 @@
 -- What the lanes' callers were asked and answered, after each step, and that their passes stay seated.
 use Rattle.std.proofs.Common.{◌≡◌, ℕ, ◌+◌, ◌*◌, ◌<◌, List, [], ◌∷◌, ◌++◌, length, take, drop, map, Some}
 use Rattle.std.proofs.Common.{All, get_or, refl, sym, ap, subst, ◌∙◌, arith}
-use Rattle.std.proofs.lemmas.List.{length-map, take_more, map-append}
+use Rattle.std.proofs.lemmas.List.{length-map, take_more}
 use Rattle.std.proofs.lemmas.List.Folds.{flat_map-map}
 use Rattle.std.proofs.lemmas.List.Elements.{All-get_or}
 use Rattle.std.proofs.lemmas.Option.{slice_get-get_or, slice_get_within, get_or_from_slice_get}
@@ -131,19 +131,19 @@ calls-length issuer (line ∷ lines) (answer ∷ answers) claims logs claims_now
     omega (arith, calls-length issuer lines answers claims_first logs_first claims_now logs_now calls)
 
 -- one line more of those in a list was answered
-pub calls-line : {X : Type 0} (f : X → List ℕ) (issuer : Setup) (lines : List X) (place : ℕ) (kept : X) (line : List ℕ) (answers all : List Answer)
+pub calls-line : (issuer : Setup) (lines : List (List ℕ)) (place : ℕ) (line : List ℕ) (answers all : List Answer)
     (answer : Answer) (claims : ClaimView) (logs : TurnView LogItem LogHead) (claims_then : ClaimView) (logs_then : TurnView LogItem LogHead)
-    (claims_now : ClaimView) (logs_now : TurnView LogItem LogHead) → place < length lines → kept ≡ get_or lines place kept → line ≡ f kept
-    → all ≡ answers ++ answer ∷ [] → Calls issuer (map f (take place lines)) answers claims logs claims_then logs_then
+    (claims_now : ClaimView) (logs_now : TurnView LogItem LogHead) → slice_get lines place ≡ Some line
+    → all ≡ answers ++ answer ∷ [] → Calls issuer (take place lines) answers claims logs claims_then logs_then
     → Authorises issuer (reading issuer line) claims_then logs_then answer claims_now logs_now
-    → Calls issuer (map f (take (place + 1) lines)) all claims logs claims_now logs_now
-calls-line {X} f issuer lines place kept line answers all answer claims logs claims_then logs_then claims_now logs_now below at is grown calls call =
-    let lines_are : map f (take (place + 1) lines) ≡ map f (take place lines) ++ line ∷ [] =
-    ap (map f) (take_more lines place kept below) ∙ map-append f (take place lines) (get_or lines place kept ∷ [])
-    ∙ ap (λ (x : X). map f (take place lines) ++ f x ∷ []) (sym at) ∙ ap (λ (line : List ℕ). map f (take place lines) ++ line ∷ []) (sym is) in
+    → Calls issuer (take (place + 1) lines) all claims logs claims_now logs_now
+calls-line issuer lines place line answers all answer claims logs claims_then logs_then claims_now logs_now at grown calls call =
+    let lines_are : take (place + 1) lines ≡ take place lines ++ line ∷ [] =
+    take_more lines place line (slice_get_within lines place line at)
+    ∙ ap (λ (next : List ℕ). take place lines ++ next ∷ []) (get_or_from_slice_get lines place line line at) in
     subst (λ (lines : List (List ℕ)). Calls issuer lines all claims logs claims_now logs_now) (sym lines_are)
-    (subst (λ (answers : List Answer). Calls issuer (map f (take place lines) ++ line ∷ []) answers claims logs claims_now logs_now) (sym grown)
-    (calls-more issuer (map f (take place lines)) answers claims logs claims_then logs_then line answer claims_now logs_now calls call))
+    (subst (λ (answers : List Answer). Calls issuer (take place lines ++ line ∷ []) answers claims logs claims_now logs_now) (sym grown)
+    (calls-more issuer (take place lines) answers claims logs claims_then logs_then line answer claims_now logs_now calls call))
 
 -- a caller that answered more
 served-more : (issuer : Setup) (opening : List (Log LogItem LogHead)) (old new : Pass) (lines more : List (List ℕ)) (answers told : List Answer)

@@ -1,5 +1,6 @@
 -- The definitions that the contracts of this crate cite.
 pub mod Dealing
+pub mod WaitingLines
 pub mod OneLane
 pub mod Turns
 pub mod Seated

@@ -1,5 +1,5 @@
 -- What a lane has, and what its pass knows.
-use Rattle.std.specs.Prelude.{◌≡◌, ℕ, List, [], length, map, slice_get, Some}
+use Rattle.std.specs.Prelude.{◌≡◌, ℕ, List, [], length, slice_get, Some}
 use Rattle.issuer_base.specs.declared.answer.Answer.{Answer}
 use Rattle.issuer_base.specs.declared.outside.store.Store.{Ghosts}
 use Rattle.issuer_setup.specs.IssuerSetup.{Setup}
@@ -14,7 +14,7 @@ use Rattle.caller_lanes.specs.declared.lane.Lane.{Lane}
 
 -- the lines that wait
 abbrev pub waiting_lines : Lane → List (List ℕ)
-waiting_lines lane = map (λ line. line.items) lane.lines.items
+waiting_lines lane = lane.lines.lines
 
 -- the answers that weren't taken yet
 abbrev pub due_answers : Lane → List Answer

@@ -1,29 +1,26 @@
 //! A caller with its pass, the lines that wait for it, and its answers.
-ghost use Rattle.std.specs.Prelude.{◌≡◌, ◌<◌, ◌≤◌, [], ◌∷◌, ◌++◌, length, vec_len, vec_capacity, IfOk};
+ghost use Rattle.std.specs.Prelude.{◌≡◌, ◌<◌, ◌≤◌, [], ◌∷◌, ◌++◌, length, IfOk};
 ghost use Rattle.std.specs.VecDeque.{deque_capacity};
 ghost use Rattle.line_checks.specs.Reading.{reading};
 ghost use Rattle.host_calls.specs.Authorising.{Authorises};
 ghost use Rattle.host_calls.specs.Passes.{claims_of, logs_of, IsFree};
 ghost use Rattle.issuer_base.specs.declared.limits.TheConstants.{KEPT_BYTES};
 
-use arrayvec::ArrayVec;
+use crate::slots::LineSlots;
 use host_calls::{Host, Pass};
-use issuer_base::{Answer, Gate, KEPT_BYTES, NoMemory, Store};
+use issuer_base::{Answer, Gate, NoMemory, Store};
 use std::alloc::Global;
 use std::collections::VecDeque;
 use std::sync::Wait;
 
-/// The bytes of a line, as far as they are kept.
-pub(crate) type KeptLine = ArrayVec<u8, KEPT_BYTES>;
-
 /// The memory of a lane: room for so many lines and their answers.
 #[derive(Drop)]
 pub(crate) struct LaneRoom {
-    lines: Vec<KeptLine>,
+    lines: LineSlots,
     answers: VecDeque<Answer>,
     count: usize,
-    ghost none: { (lines.items ≡ []) × (answers.items ≡ []) },
-    ghost room: { (count ≤ vec_capacity lines) × (count ≤ deque_capacity answers) },
+    ghost none: { (lines.lines ≡ []) × (answers.items ≡ []) },
+    ghost room: { (lines.room ≡ count) × (count ≤ deque_capacity answers) },
 }
 
 impl LaneRoom {
@@ -32,7 +29,7 @@ impl LaneRoom {
         ensures { IfOk result (λ room. room.count ≡ count) }
     {
         Ok(LaneRoom {
-            lines: Vec::with_capacity(alloc, count)?,
+            lines: LineSlots::new(alloc, count)?,
             answers: VecDeque::with_capacity(alloc, count)?,
             count,
         })
@@ -42,7 +39,7 @@ impl LaneRoom {
 /// A caller with its pass, the lines that wait for it, and its answers that weren't taken yet.
 pub(crate) struct Lane {
     pub(crate) pass: Pass,
-    pub(crate) lines: Vec<KeptLine>,
+    pub(crate) lines: LineSlots,
     pub(crate) answers: VecDeque<Answer>,
 
     /// How many lines may wait, and how many answers.
@@ -51,8 +48,7 @@ pub(crate) struct Lane {
     /// The number in the run of the line that is answered next, and how many lines of the run that goes on with each.
     number: u64,
     step: u64,
-    ghost room_is: { (room ≤ vec_capacity lines) × (room ≤ deque_capacity answers) },
-    ghost lines_fit: { vec_len lines ≤ room },
+    ghost room_is: { (lines.room ≡ room) × (room ≤ deque_capacity answers) },
 }
 
 impl Lane {
@@ -61,7 +57,7 @@ impl Lane {
     /// A caller with this pass, whose first line has this number in the run.
     pub(crate) fn new(pass: Pass, room: LaneRoom, number: u64, step: u64) -> Lane
         ensures pass { result.pass ≡ pass }
-        ensures none { (result.lines.items ≡ []) × (result.answers.items ≡ []) }
+        ensures none { (result.lines.lines ≡ []) × (result.answers.items ≡ []) }
         ensures room { result.room ≡ room.count }
     {
         let LaneRoom {
@@ -81,14 +77,12 @@ impl Lane {
 
     /// One more line waits.
     pub(crate) fn add(&mut self, line: &[u8])
-        requires room { vec_len self.old.lines < self.old.room }
+        requires room { length (waiting_lines self.old) < self.old.room }
         requires kept { length line.now ≤ KEPT_BYTES }
         ensures waiting { waiting_lines self.new ≡ waiting_lines self.old ++ line.now ∷ [] }
         ensures same { (self.new.pass ≡ self.old.pass) × (self.new.answers ≡ self.old.answers) × (self.new.room ≡ self.old.room) }
     {
-        let mut kept = ArrayVec::new();
-        kept.try_extend_from_slice(line).unwrap();
-        self.lines.push_reserved(kept);
+        self.lines.add(line);
     }
 
     /// Takes the first answer that is due.
@@ -122,7 +116,7 @@ impl Lane {
         ensures { HasAnswered host.now self.old self.new }
     {
         for place in 0..self.lines.len() {
-            let line = self.lines[place].as_slice();
+            let line = self.lines.line(place);
             let answer = answer_line(rt, host, gate, &mut self.pass, self.number, line);
             self.answers.push_back_reserved(answer);
             self.number = self.number.saturating_add(self.step);

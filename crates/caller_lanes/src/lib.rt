@@ -6,6 +6,7 @@ mod dealer;
 mod lane;
 mod lanes;
 mod load;
+mod slots;
 
 pub use host_calls::{HostBack, LoadFault};
 pub use lanes::{BLOCK_LINES, Lanes};

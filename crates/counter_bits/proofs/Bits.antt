@@ -173,12 +173,19 @@ tested sets index counter word known small word_is =
     ap (λ (n : ℕ). eqb n 1) (shr_and_one word (counter % WORD_COUNTERS) ∙ ap (λ (word : ℕ). bit_at word (counter % WORD_COUNTERS)) word_is)
     ∙ sym (here sets index counter known small)
 
--- where no word is open the sets are empty
-pub no-bits : (sets : CounterSets) → sets.words ≡ [] → (index counter : ℕ) → has sets index counter ≡ false
+-- where the word of a counter is 0 the counter isn't in the set
+pub no-counter : (sets : CounterSets) (index counter word : ℕ) → word ≡ get_or sets.words (word_of sets.cards index counter) 0 → word ≡ 0
+    → has sets index counter ≡ false
 unfolding has
-no-bits sets words_are index counter =
-    let zero : get_or sets.words (word_of sets.cards index counter) 0 ≡ 0 =
-    ap (λ (words : List ℕ). get_or words (word_of sets.cards index counter) 0) words_are ∙ get_or_past [] (word_of sets.cards index counter) 0 (omega arith) in
+no-counter sets index counter word word_is zero =
     and_right (ltb index sets.cards) _
     (and_right (ltb counter COUNTERS) (eqb (bit sets.cards sets.words index counter) 1)
-    (ap (λ (word : ℕ). eqb (bit_at word (counter % WORD_COUNTERS)) 1) zero ∙ ap (λ (n : ℕ). eqb n 1) (bit_at-zero (counter % WORD_COUNTERS))))
+    (ap (λ (word : ℕ). eqb (bit_at word (counter % WORD_COUNTERS)) 1) (sym word_is ∙ zero)
+    ∙ ap (λ (n : ℕ). eqb n 1) (bit_at-zero (counter % WORD_COUNTERS))))
+
+-- where no word is open the sets are empty
+pub no-bits : (sets : CounterSets) → sets.words ≡ [] → (index counter : ℕ) → has sets index counter ≡ false
+no-bits sets words_are index counter =
+    no-counter sets index counter 0
+    (sym (ap (λ (words : List ℕ). get_or words (word_of sets.cards index counter) 0) words_are
+    ∙ get_or_past [] (word_of sets.cards index counter) 0 (omega arith))) refl

@@ -1,5 +1,5 @@
 //! A set of transaction counters for each of so many cards.
-ghost use Rattle.std.specs.Prelude.{◌≡◌, ℕ, Bool, false, ◌+◌, ◌-◌, ◌*◌, ◌<◌, ◌≤◌, ◌^◌, ◌==◌, ◌&&◌, ◌||◌, ◌++◌, length, replicate, take, slice_index, vec_capacity, IfOk};
+ghost use Rattle.std.specs.Prelude.{◌≡◌, ℕ, Bool, true, false, ◌+◌, ◌-◌, ◌*◌, ◌/◌, ◌<◌, ◌≤◌, ◌^◌, ◌==◌, ◌&&◌, ◌||◌, ◌++◌, length, replicate, take, slice_index, vec_capacity, IfOk};
 ghost use Rattle.counter_bits.specs.CounterSets.{has, times, one_if, word_of};
 
 use issuer_base::NoMemory;
@@ -90,10 +90,43 @@ impl CounterBits {
         ensures listed { IfOk result (λ _. (other counter : ℕ)
             → times other counter list.new.items ≡ times other counter list.old.items + one_if (number == other && has self.now index counter)) }
     {
-        for counter in 0..COUNTERS {
+        for block in 0..CARD_WORDS {
+            self.list_word(index, block, number, list)?;
+        }
+        Ok(())
+    }
+
+    /// Lists the counters of this word of the card's set. A word without counters is passed over.
+    fn list_word(
+        &self,
+        index: usize,
+        block: usize,
+        number: u32,
+        list: &mut Vec<(u32, u16)>,
+    ) -> Result<(), NoMemory>
+        requires card { index < self.now.cards }
+        requires word { block < CARD_WORDS }
+        ensures kept { (length list.old.items ≤ length list.new.items) × (take (length list.old.items) list.new.items ≡ list.old.items) }
+        ensures listed { IfOk result (λ _. (other counter : ℕ) → times other counter list.new.items
+            ≡ times other counter list.old.items + one_if (number == other && (block == counter / WORD_COUNTERS && has self.now index counter))) }
+    {
+        if self.is_empty(index, block) {
+            return Ok(());
+        }
+        let first = block * WORD_COUNTERS;
+        for counter in first..first + WORD_COUNTERS {
             self.list_one(index, counter as u16, number, list)?;
         }
         Ok(())
+    }
+
+    /// Whether this word of the card's set has no counter.
+    fn is_empty(&self, index: usize, block: usize) -> bool
+        requires card { index < self.now.cards }
+        requires word { block < CARD_WORDS }
+        ensures { result ≡ true → (counter : ℕ) → counter / WORD_COUNTERS ≡ block → has self.now index counter ≡ false }
+    {
+        word_at(self.opened.as_slice(), block * self.cards as usize + index) == 0
     }
 
     /// Lists this counter where the card's set has it.

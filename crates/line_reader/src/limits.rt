@@ -10,4 +10,4 @@ pub const MAX_LINES: u32 = 1_048_576;
 pub const MAX_BYTES: u64 = 2_147_483_648;
 
 /// How many bytes of the input are in memory at most.
-pub const BUFFER_BYTES: usize = 65_536;
+pub const BUFFER_BYTES: usize = 524_288;

@@ -1,5 +1,5 @@
 -- One lane more is seated, and was asked nothing.
-use Rattle.std.proofs.Common.{◌≡◌, map, rules, sym, ap, ◌∙◌, subst}
+use Rattle.std.proofs.Common.{◌≡◌, rules, sym, ap, ◌∙◌, subst}
 use Rattle.std.proofs.lemmas.List.Elements.{All-pop, All-push}
 use Rattle.shard_turns.specs.ShardSeats.{opening_in}
 use Rattle.host_calls.specs.Passes.{claims_of, logs_of, IsFree}
@@ -24,7 +24,7 @@ loop-room-preserved g c =
           (seated-more host c.loop-room.first c.split-pass.new.pass lanes lane c.loop-room.first.claims.named c.split-pass.ensures.pass.0
           c.split-pass.ensures.pass.1 c.split-pass.ensures.pass.2 lane_free claims before.seated);
       new = rw c.push_reserved.ensures.items (All-push (IsNew host.issuer (opening_in host.turns)) lanes lane before.new (record {
-        none_wait = ap (map (λ line. line.items)) c.new-lane.ensures.none.0;
+        none_wait = c.new-lane.ensures.none.0;
         none_due = c.new-lane.ensures.none.1;
         served = new-served host.issuer (opening_in host.turns) c.loop-room.first lane.pass claims logs before.seated.opened;
       }));

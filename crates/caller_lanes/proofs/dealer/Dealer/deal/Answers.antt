@@ -1,7 +1,6 @@
 -- One line more waits for the lane whose turn it was, and the next lane has the turn.
-use Rattle.std.proofs.Common.{◌≡◌, ◌*◌, length, Some, arith, rules}
+use Rattle.std.proofs.Common.{◌≡◌, ◌*◌, length, Some, rules}
 use Rattle.std.proofs.lemmas.List.Elements.{All-set}
-use Rattle.std.proofs.lemmas.List.{length-map}
 use Rattle.std.proofs.lemmas.Option.{slice_get_read}
 use Rattle.std.proofs.Math.Seq.{map-set_same}
 use Rattle.std.specs.List.{slice_get}
@@ -17,8 +16,7 @@ add-requires-clause-room c =
     let lane_is : slice_get dealer.lanes.items dealer.progress.next ≡ Some lane =
     slice_get_read dealer.lanes.items dealer.lanes.len dealer.progress.next lane (search rules) dealer.within.0 (search rules) in
     let all : length dealer.lanes.items * lane.room ≡ dealer.room = search rules in
-    let room = lane-room dealer.lanes.items dealer.progress dealer.room lane dealer.in_turn lane_is all c.requires.room in
-    omega (arith, room, length-map lane.lines.items (λ line. line.items))
+    lane-room dealer.lanes.items dealer.progress dealer.room lane dealer.in_turn lane_is all c.requires.room
 
 pub returns-clause-passes : goal.returns-clause-passes
 returns-clause-passes c =

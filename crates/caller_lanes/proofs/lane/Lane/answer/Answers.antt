@@ -14,7 +14,7 @@ loop-place-preserved g c =
       room = before.room;
       count = ap length c.push_back_reserved.ensures.items
           ∙ omega (arith, length-append c.loop-place.self.answers.items (c.answer_line-answer.result ∷ []), before.count);
-      calls = calls-line (λ line. line.items) c.args.host.now.issuer c.args.self.now.lines.items c.loop-place.place c.index.result.now
-          c.as_slice-line.result.now c.loop-place.self.answers.items c.push_back_reserved.new.self.items c.answer_line-answer.result _ _ _ _ _ _
-          (search rules) (search rules) (search rules) c.push_back_reserved.ensures.items before.calls c.answer_line-answer.ensures.answers;
+      calls = calls-line c.args.host.now.issuer c.args.self.now.lines.lines c.loop-place.place c.line-line.result.now c.loop-place.self.answers.items
+          c.push_back_reserved.new.self.items c.answer_line-answer.result _ _ _ _ _ _ (search rules) c.push_back_reserved.ensures.items before.calls
+          c.answer_line-answer.ensures.answers;
     }
