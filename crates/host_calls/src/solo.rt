@@ -72,7 +72,6 @@ impl<S: Store> Solo<S> {
     }
 
     /// The answer to a line, which is without its newline. A new record is safe in its shard's store before it is answered.
-    #[inline(always)]
     pub fn authorise(&mut self, line: &[u8]) -> Answer
         ensures turn { (books : List Book) → Stand self.old.issuer self.old.shards.items books
             → (after : List Book) × Stand self.new.issuer self.new.shards.items after
