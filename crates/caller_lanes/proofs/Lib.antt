@@ -1,4 +1,5 @@
 -- The lemmas of this crate.
+mod AnsweredBoth
 mod Every
 mod Merged
 mod HavingTurns

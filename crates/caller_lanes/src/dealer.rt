@@ -1,5 +1,6 @@
 //! The lanes, and whose turn it is.
 ghost use Rattle.std.specs.Prelude.{◌≡◌, ℕ, ◌<◌, ◌≤◌, ◌+◌, ◌*◌, List, [], ◌∷◌, ◌++◌, length, vec_len, All, map};
+ghost use Rattle.std.specs.Thread.{IsSync, IsSend};
 ghost use Rattle.issuer_base.specs.declared.answer.Answer.{Answer};
 ghost use Rattle.issuer_base.specs.declared.limits.TheConstants.{KEPT_BYTES};
 ghost use Rattle.host_calls.specs.Passes.{IsFree};
@@ -100,7 +101,8 @@ impl Dealer {
     }
 }
 
-/// Lets all callers answer the lines that wait, each in a thread of its own.
+/// Lets all callers answer the lines that wait, each in a thread of its own: this thread makes one for each of the others, and answers for the last.
+#[cycle(lanes)]
 fn answer_at_once<S: Store + Send, R: Threads + Wait + Sync, G: Gate + Sync>(
     rt: &R,
     host: &Host<S>,
@@ -112,8 +114,41 @@ fn answer_at_once<S: Store + Send, R: Threads + Wait + Sync, G: Gate + Sync>(
     requires some { 0 < length lanes.old }
     ensures { HaveAnswered host.now lanes.old lanes.new }
 {
-    let count = lanes.len();
-    thread::for_each_mut(rt, lanes, count, &|_, lane| lane.answer(rt, host, gate));
+    if lanes.len() == 1 {
+        lanes[0].answer(rt, host, gate);
+        return;
+    }
+    let (first, others) = lanes.split_at_mut(1);
+    answer_beside(rt, host, gate, first, others);
+}
+
+/// Lets a thread of its own answer for the first caller, while this one lets the others answer.
+#[cycle(lanes)]
+fn answer_beside<S: Store + Send, R: Threads + Wait + Sync, G: Gate + Sync>(
+    rt: &R,
+    host: &Host<S>,
+    gate: &G,
+    first: &mut [Lane],
+    others: &mut [Lane],
+)
+    requires free { All (λ lane. IsFree host.now lane.pass) first.old × All (λ lane. IsFree host.now lane.pass) others.old }
+    requires none { All (λ lane. lane.answers.items ≡ []) first.old × All (λ lane. lane.answers.items ≡ []) others.old }
+    requires one { length first.old ≡ 1 }
+    requires some { 0 < length others.old }
+    ensures first { HaveAnswered host.now first.old first.new }
+    ensures others { HaveAnswered host.now others.old others.new }
+{
+    let mut front = ||
+        requires { IsSync R.row × IsSync G.row × IsSend S.row × (length first.now ≡ 1)
+            × All (λ lane. IsFree host.now lane.pass) first.now × All (λ lane. lane.answers.items ≡ []) first.now }
+        ensures { HaveAnswered host.entry.now first.entry.now first.exit.now }
+    { answer_at_once(rt, host, gate, first) };
+    let mut back = ||
+        requires { IsSync R.row × IsSync G.row × IsSend S.row × (0 < length others.now)
+            × All (λ lane. IsFree host.now lane.pass) others.now × All (λ lane. lane.answers.items ≡ []) others.now }
+        ensures { HaveAnswered host.entry.now others.entry.now others.exit.now }
+    { answer_at_once(rt, host, gate, others) };
+    thread::join_mut(rt, &mut front, &mut back);
 }
 
 /// The lane whose turn comes behind that of this one, of so many.
