@@ -223,16 +223,41 @@ Runs_more keys left right i l r m key done h ek em =
     ∙ ap (λ b. fold round (record { left = turned 31 (bits 32 r); right = b }) (drop (i + 1) keys)) (sym next) in
     record { joined = sym step ∙ done.joined }
 
--- two rounds in a step, after which no half is exchanged
-pub Runs_two : (keys : List (List Bool)) (left right i l r m n : ℕ) (key next : List Bool) → Runs keys left right (2 * i) l r → 2 * i + 1 < length keys
-    → key ≡ get_or keys (2 * i) [] → m ≡ number (turned 1 (cipher_function (turned 31 (bits 32 r)) key))
-    → next ≡ get_or keys (2 * i + 1) [] → n ≡ number (turned 1 (cipher_function (turned 31 (bits 32 (bit_xor l m))) next))
-    → Runs keys left right (2 * (i + 1)) (bit_xor l m) (bit_xor r n)
-Runs_two keys left right i l r m n key next done h ek em en eo =
-    let one : Runs keys left right (2 * i + 1) r (bit_xor l m) = Runs_more keys left right (2 * i) l r m key done (omega arith) ek em in
-    let two : Runs keys left right (2 * i + 1 + 1) (bit_xor l m) (bit_xor r n) = Runs_more keys left right (2 * i + 1) r (bit_xor l m) n next one h en eo in
-    let count : 2 * i + 1 + 1 ≡ 2 * (i + 1) = omega arith in
-    subst (λ k. Runs keys left right k (bit_xor l m) (bit_xor r n)) count two
+-- two rounds of these halves, the second of which exchanges them back
+pub two_are : (left right m n : ℕ) (first second : List Bool) → m ≡ number (turned 1 (cipher_function (turned 31 (bits 32 right)) first))
+    → n ≡ number (turned 1 (cipher_function (turned 31 (bits 32 (bit_xor left m))) second))
+    → turned_halves (bit_xor left m) (bit_xor right n) ≡ round (round (turned_halves left right) first) second
+two_are left right m n first second em en =
+    let keys : List (List Bool) = first ∷ second ∷ [] in
+    let one : Runs keys left right 1 right (bit_xor left m) =
+    Runs_more keys left right 0 left right m first (Runs_none keys left right) (omega arith) refl em in
+    let two : Runs keys left right 2 (bit_xor left m) (bit_xor right n) =
+    Runs_more keys left right 1 right (bit_xor left m) n second one (omega arith) refl en in
+    two.joined
+
+-- two rounds more, by the next two keys
+pub Runs_two : (keys : List (List Bool)) (left right i l r p q : ℕ) (key next : List Bool) → Runs keys left right i l r → i + 1 < length keys
+    → key ≡ get_or keys i [] → next ≡ get_or keys (i + 1) [] → turned_halves p q ≡ round (round (turned_halves l r) key) next
+    → Runs keys left right (i + 1 + 1) p q
+Runs_two keys left right i l r p q key next done h ek en both =
+    let rest : List (List Bool) = drop (i + 1 + 1) keys in
+    let ahead : drop i keys ≡ key ∷ next ∷ rest =
+    drop_more keys i [] (omega arith) ∙ ap₂ (λ k ks. k ∷ ks) (sym ek) (drop_more keys (i + 1) [] h ∙ ap (λ k. k ∷ rest) (sym en)) in
+    record { joined = ap (λ halves. fold round halves rest) both ∙ sym (ap (fold round (turned_halves l r)) ahead) ∙ done.joined }
+
+-- four rounds more, two and two
+pub Runs_four : (keys : List (List Bool)) (left right i l r m n p q : ℕ) (first second third fourth : List Bool) → Runs keys left right (4 * i) l r
+    → 4 * i + 3 < length keys → first ≡ get_or keys (4 * i) [] → second ≡ get_or keys (4 * i + 1) [] → third ≡ get_or keys (4 * i + 2) []
+    → fourth ≡ get_or keys (4 * i + 3) [] → turned_halves m n ≡ round (round (turned_halves l r) first) second
+    → turned_halves p q ≡ round (round (turned_halves m n) third) fourth → Runs keys left right (4 * (i + 1)) p q
+Runs_four keys left right i l r m n p q first second third fourth done h e1 e2 e3 e4 one two =
+    let at : (a b : ℕ) (key : List Bool) → a ≡ b → key ≡ get_or keys a [] → key ≡ get_or keys b [] =
+    λ a b key same is. is ∙ ap (λ k. get_or keys k []) same in
+    let half : Runs keys left right (4 * i + 1 + 1) m n = Runs_two keys left right (4 * i) l r m n first second done (omega arith) e1 e2 one in
+    let whole : Runs keys left right (4 * i + 1 + 1 + 1 + 1) p q =
+    Runs_two keys left right (4 * i + 1 + 1) m n p q third fourth half (omega arith)
+    (at (4 * i + 2) (4 * i + 1 + 1) third (omega arith) e3) (at (4 * i + 3) (4 * i + 1 + 1 + 1) fourth (omega arith) e4) two in
+    subst (λ k. Runs keys left right k p q) (omega arith) whole
 
 pub Runs_all : (keys : List (List Bool)) (left right i l r : ℕ) → Runs keys left right i l r → length keys ≤ i
     → turned_halves l r ≡ fold round (turned_halves left right) keys

@@ -90,7 +90,7 @@ impl Des {
     pub fn encipher_permuted(&self, block: &PermutedBlock) -> PermutedBlock
         ensures { (key : List ℕ) → HasKey self.now key → word_bytes result ≡ des_encipher key (word_bytes block.now) }
     {
-        let (left, right) = rounds(&self.keys, block.left, block.right);
+        let (left, right) = rounds(&self.keys, (block.left, block.right));
         PermutedBlock::after_rounds(left, right)
     }
 
@@ -98,7 +98,7 @@ impl Des {
     pub fn decipher_permuted(&self, block: &PermutedBlock) -> PermutedBlock
         ensures { (key : List ℕ) → HasKey self.now key → word_bytes result ≡ des_decipher key (word_bytes block.now) }
     {
-        let (left, right) = rounds_back(&self.keys, block.left, block.right);
+        let (left, right) = rounds_back(&self.keys, (block.left, block.right));
         PermutedBlock::after_rounds(left, right)
     }
 

@@ -1,4 +1,4 @@
-//! The sixteen rounds on words, two at a time, both halves kept turned left by one place.
+//! The sixteen rounds on words, four at a time, both halves kept turned left by one place.
 
 ghost use Rattle.std.specs.Prelude.{◌≡◌, ℕ, ◌*◌, ◌/◌, ◌%◌, ◌^◌, ◌<◌, ◌++◌, bit_and, bit_xor, map, fold, reverse};
 ghost use Rattle.des_block.specs.Bits.{bits, number};
@@ -13,7 +13,7 @@ use crate::schedule::RoundKey;
 ///
 /// So turned, the bits that the even boxes take stand in the low six bits of each byte; the odd boxes' stand there after
 /// four places more.
-#[inline]
+#[inline(always)]
 fn mixed(half: u32, key: &RoundKey) -> u32
     ensures { result ≡ number (turned 1 (cipher_function (turned 31 (bits 32 half)) (key_bits key.now))) }
 {
@@ -71,35 +71,61 @@ pub(crate) fn joined(left: u32, right: u32) -> u64
     (a5 as u64) << 32 | b5 as u64
 }
 
+/// Two rounds, the second of which exchanges the halves back.
+#[inline(always)]
+fn two_rounds(first: &RoundKey, second: &RoundKey, halves: (u32, u32)) -> (u32, u32)
+    ensures { turned_halves result.0 result.1 ≡ round (round (turned_halves halves.0 halves.1) (key_bits first.now)) (key_bits second.now) }
+{
+    let left = halves.0 ^ mixed(halves.1, first);
+    let right = halves.1 ^ mixed(left, second);
+    (left, right)
+}
+
+/// The same two rounds of two blocks side by side, so that neither waits for its own look-ups alone.
+#[inline(always)]
+fn two_rounds_of_both(
+    first: &RoundKey,
+    second: &RoundKey,
+    halves: (u32, u32),
+    beside: (u32, u32),
+) -> ((u32, u32), (u32, u32))
+    ensures first { turned_halves result.0.0 result.0.1 ≡ round (round (turned_halves halves.0 halves.1) (key_bits first.now)) (key_bits second.now) }
+    ensures second { turned_halves result.1.0 result.1.1 ≡ round (round (turned_halves beside.0 beside.1) (key_bits first.now)) (key_bits second.now) }
+{
+    let left = halves.0 ^ mixed(halves.1, first);
+    let left_beside = beside.0 ^ mixed(beside.1, first);
+    let right = halves.1 ^ mixed(left, second);
+    let right_beside = beside.1 ^ mixed(left_beside, second);
+    ((left, right), (left_beside, right_beside))
+}
+
 /// The sixteen rounds.
 #[inline]
-pub(crate) fn rounds(keys: &[RoundKey; 16], left: u32, right: u32) -> (u32, u32)
-    ensures { turned_halves result.0 result.1 ≡ fold round (turned_halves left right) (map key_bits keys.now) }
+pub(crate) fn rounds(keys: &[RoundKey; 16], halves: (u32, u32)) -> (u32, u32)
+    ensures { turned_halves result.0 result.1 ≡ fold round (turned_halves halves.0 halves.1) (map key_bits keys.now) }
 {
-    let mut left = left;
-    let mut right = right;
-    for i in 0..8 {
-        left ^= mixed(right, &keys[2 * i]);
-        right ^= mixed(left, &keys[2 * i + 1]);
+    let mut ready = halves;
+    for i in 0..4 {
+        let middle = two_rounds(&keys[4 * i], &keys[4 * i + 1], ready);
+        ready = two_rounds(&keys[4 * i + 2], &keys[4 * i + 3], middle);
     }
-    (left, right)
+    ready
 }
 
 /// The sixteen rounds with the keys in the opposite order.
 #[inline]
-pub(crate) fn rounds_back(keys: &[RoundKey; 16], left: u32, right: u32) -> (u32, u32)
-    ensures { turned_halves result.0 result.1 ≡ fold round (turned_halves left right) (reverse (map key_bits keys.now)) }
+pub(crate) fn rounds_back(keys: &[RoundKey; 16], halves: (u32, u32)) -> (u32, u32)
+    ensures { turned_halves result.0 result.1 ≡ fold round (turned_halves halves.0 halves.1) (reverse (map key_bits keys.now)) }
 {
-    let mut left = left;
-    let mut right = right;
-    for i in 0..8 {
-        left ^= mixed(right, &keys[15 - 2 * i]);
-        right ^= mixed(left, &keys[14 - 2 * i]);
+    let mut ready = halves;
+    for i in 0..4 {
+        let middle = two_rounds(&keys[15 - 4 * i], &keys[14 - 4 * i], ready);
+        ready = two_rounds(&keys[13 - 4 * i], &keys[12 - 4 * i], middle);
     }
-    (left, right)
+    ready
 }
 
-/// The sixteen rounds of two blocks side by side, so that neither waits for its own look-ups alone.
+/// The sixteen rounds of two blocks side by side.
 #[inline]
 pub(crate) fn rounds_of_both(
     keys: &[RoundKey; 16],
@@ -109,15 +135,12 @@ pub(crate) fn rounds_of_both(
     ensures first { turned_halves result.0.0 result.0.1 ≡ fold round (turned_halves first.0 first.1) (map key_bits keys.now) }
     ensures second { turned_halves result.1.0 result.1.1 ≡ fold round (turned_halves second.0 second.1) (map key_bits keys.now) }
 {
-    let (mut left, mut right) = first;
-    let (mut beside_left, mut beside_right) = second;
-    for i in 0..8 {
-        left ^= mixed(right, &keys[2 * i]);
-        beside_left ^= mixed(beside_right, &keys[2 * i]);
-        right ^= mixed(left, &keys[2 * i + 1]);
-        beside_right ^= mixed(beside_left, &keys[2 * i + 1]);
+    let mut ready = (first, second);
+    for i in 0..4 {
+        let middle = two_rounds_of_both(&keys[4 * i], &keys[4 * i + 1], ready.0, ready.1);
+        ready = two_rounds_of_both(&keys[4 * i + 2], &keys[4 * i + 3], middle.0, middle.1);
     }
-    ((left, right), (beside_left, beside_right))
+    ready
 }
 
 /// The same with the keys in the opposite order.
@@ -130,13 +153,10 @@ pub(crate) fn rounds_of_both_back(
     ensures first { turned_halves result.0.0 result.0.1 ≡ fold round (turned_halves first.0 first.1) (reverse (map key_bits keys.now)) }
     ensures second { turned_halves result.1.0 result.1.1 ≡ fold round (turned_halves second.0 second.1) (reverse (map key_bits keys.now)) }
 {
-    let (mut left, mut right) = first;
-    let (mut beside_left, mut beside_right) = second;
-    for i in 0..8 {
-        left ^= mixed(right, &keys[15 - 2 * i]);
-        beside_left ^= mixed(beside_right, &keys[15 - 2 * i]);
-        right ^= mixed(left, &keys[14 - 2 * i]);
-        beside_right ^= mixed(beside_left, &keys[14 - 2 * i]);
+    let mut ready = (first, second);
+    for i in 0..4 {
+        let middle = two_rounds_of_both(&keys[15 - 4 * i], &keys[14 - 4 * i], ready.0, ready.1);
+        ready = two_rounds_of_both(&keys[13 - 4 * i], &keys[12 - 4 * i], middle.0, middle.1);
     }
-    ((left, right), (beside_left, beside_right))
+    ready
 }

@@ -1,8 +1,8 @@
--- The rounds so far, two in a step.
+-- The rounds so far, four in a step.
 use Rattle.std.proofs.Common.{◌*◌, map}
 use Rattle.des_block.specs.Keyed.{key_bits}
 use Rattle.des_block.proofs.MixedSteps.{Runs}
 use Rattle.des_block.proofs.rounds.rounds.Given as goal
 
 abbrev pub invariant-loop-i : goal.invariant-loop-i
-invariant-loop-i l = Runs (map key_bits l.keys) l.initial.left l.initial.right (2 * l.i) l.left l.right
+invariant-loop-i l = Runs (map key_bits l.keys) l.initial.ready.0 l.initial.ready.1 (4 * l.i) l.ready.0 l.ready.1

@@ -2,7 +2,7 @@
 use Rattle.std.proofs.Common.{◌≡◌, ◌+◌, ◌-◌, ◌*◌, ◌<◌, ℕ, length, map, reverse, get_or, [], sym, ap, ◌∙◌, arith}
 use Rattle.std.proofs.lemmas.List.{get_or-map, get_or-reverse, length-map, length-reverse}
 use Rattle.des_block.specs.Keyed.{key_bits}
-use Rattle.des_block.proofs.MixedSteps.{Runs_none, Runs_two, Runs_all}
+use Rattle.des_block.proofs.MixedSteps.{Runs_none, Runs_four, Runs_all}
 use Rattle.des_block.proofs.rounds.rounds_of_both_back.Goals as goal
 
 pub loop-i-init : goal.loop-i-init
@@ -18,16 +18,18 @@ loop-i-preserved c =
     let back : length (reverse (map key_bits keys)) ≡ 16 = length-reverse (map key_bits keys) ∙ len in
     let place : (n m : ℕ) → n < 16 → m ≡ 15 - n → get_or (reverse (map key_bits keys)) n [] ≡ get_or (map key_bits keys) m [] =
     λ n m h e. get_or-reverse (map key_bits keys) n [] (omega arith) ∙ ap (λ k. get_or (map key_bits keys) k []) (omega arith) in (
-      Runs_two (reverse (map key_bits keys)) c.args.first.0 c.args.first.1 i c.loop-i.left c.loop-i.right c.mixed-left.result c.mixed-right.result _ _
-          c.loop-i.invariant.0 (omega arith)
-          (sym (place (2 * i) (15 - 2 * i) (omega arith) (omega arith) ∙ get_or-map key_bits keys (15 - 2 * i) _ _ (omega arith))) c.mixed-left.ensures
-          (sym (place (2 * i + 1) (14 - 2 * i) (omega arith) (omega arith) ∙ get_or-map key_bits keys (14 - 2 * i) _ _ (omega arith))) c.mixed-right.ensures,
-      Runs_two (reverse (map key_bits keys)) c.args.second.0 c.args.second.1 i c.loop-i.beside_left c.loop-i.beside_right
-          c.mixed-beside_left.result c.mixed-beside_right.result _ _
-          c.loop-i.invariant.1 (omega arith)
-          (sym (place (2 * i) (15 - 2 * i) (omega arith) (omega arith) ∙ get_or-map key_bits keys (15 - 2 * i) _ _ (omega arith))) c.mixed-beside_left.ensures
-          (sym (place (2 * i + 1) (14 - 2 * i) (omega arith) (omega arith) ∙ get_or-map key_bits keys (14 - 2 * i) _ _ (omega arith)))
-          c.mixed-beside_right.ensures,
+      Runs_four (reverse (map key_bits keys)) c.args.first.0 c.args.first.1 i _ _ _ _ _ _ _ _ _ _ c.loop-i.invariant.0 (omega arith)
+          (sym (place (4 * i) (15 - 4 * i) (omega arith) (omega arith) ∙ get_or-map key_bits keys (15 - 4 * i) _ _ (omega arith)))
+          (sym (place (4 * i + 1) (14 - 4 * i) (omega arith) (omega arith) ∙ get_or-map key_bits keys (14 - 4 * i) _ _ (omega arith)))
+          (sym (place (4 * i + 2) (13 - 4 * i) (omega arith) (omega arith) ∙ get_or-map key_bits keys (13 - 4 * i) _ _ (omega arith)))
+          (sym (place (4 * i + 3) (12 - 4 * i) (omega arith) (omega arith) ∙ get_or-map key_bits keys (12 - 4 * i) _ _ (omega arith)))
+          c.two_rounds_of_both-middle.ensures.first c.two_rounds_of_both-ready.ensures.first,
+      Runs_four (reverse (map key_bits keys)) c.args.second.0 c.args.second.1 i _ _ _ _ _ _ _ _ _ _ c.loop-i.invariant.1 (omega arith)
+          (sym (place (4 * i) (15 - 4 * i) (omega arith) (omega arith) ∙ get_or-map key_bits keys (15 - 4 * i) _ _ (omega arith)))
+          (sym (place (4 * i + 1) (14 - 4 * i) (omega arith) (omega arith) ∙ get_or-map key_bits keys (14 - 4 * i) _ _ (omega arith)))
+          (sym (place (4 * i + 2) (13 - 4 * i) (omega arith) (omega arith) ∙ get_or-map key_bits keys (13 - 4 * i) _ _ (omega arith)))
+          (sym (place (4 * i + 3) (12 - 4 * i) (omega arith) (omega arith) ∙ get_or-map key_bits keys (12 - 4 * i) _ _ (omega arith)))
+          c.two_rounds_of_both-middle.ensures.second c.two_rounds_of_both-ready.ensures.second,
     )
 
 pub returns-clause-first : goal.returns-clause-first
@@ -35,12 +37,13 @@ returns-clause-first c =
     let keys = c.args.keys.now in
     let len : length (map key_bits keys) ≡ 16 = length-map keys key_bits ∙ omega arith in
     let back : length (reverse (map key_bits keys)) ≡ 16 = length-reverse (map key_bits keys) ∙ len in
-    Runs_all (reverse (map key_bits keys)) c.args.first.0 c.args.first.1 (2 * c.loop-i.i) c.loop-i.left c.loop-i.right c.loop-i.invariant.0 (omega arith)
+    Runs_all (reverse (map key_bits keys)) c.args.first.0 c.args.first.1 (4 * c.loop-i.i) c.loop-i.ready.0.0 c.loop-i.ready.0.1
+    c.loop-i.invariant.0 (omega arith)
 
 pub returns-clause-second : goal.returns-clause-second
 returns-clause-second c =
     let keys = c.args.keys.now in
     let len : length (map key_bits keys) ≡ 16 = length-map keys key_bits ∙ omega arith in
     let back : length (reverse (map key_bits keys)) ≡ 16 = length-reverse (map key_bits keys) ∙ len in
-    Runs_all (reverse (map key_bits keys)) c.args.second.0 c.args.second.1 (2 * c.loop-i.i) c.loop-i.beside_left c.loop-i.beside_right
+    Runs_all (reverse (map key_bits keys)) c.args.second.0 c.args.second.1 (4 * c.loop-i.i) c.loop-i.ready.1.0 c.loop-i.ready.1.1
     c.loop-i.invariant.1 (omega arith)

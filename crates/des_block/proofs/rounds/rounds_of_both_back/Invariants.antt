@@ -6,5 +6,5 @@ use Rattle.des_block.proofs.rounds.rounds_of_both_back.Given as goal
 
 abbrev pub invariant-loop-i : goal.invariant-loop-i
 invariant-loop-i l =
-    Runs (reverse (map key_bits l.keys)) l.initial.left l.initial.right (2 * l.i) l.left l.right
-    × Runs (reverse (map key_bits l.keys)) l.initial.beside_left l.initial.beside_right (2 * l.i) l.beside_left l.beside_right
+    Runs (reverse (map key_bits l.keys)) l.initial.ready.0.0 l.initial.ready.0.1 (4 * l.i) l.ready.0.0 l.ready.0.1
+    × Runs (reverse (map key_bits l.keys)) l.initial.ready.1.0 l.initial.ready.1.1 (4 * l.i) l.ready.1.0 l.ready.1.1
