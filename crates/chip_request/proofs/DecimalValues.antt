@@ -1,25 +1,13 @@
--- A value of decimal digits alone is an account number where it has 4 to 9 bytes.
-use Rattle.std.proofs.Common.{◌≡◌, ℕ, ◌*◌, ◌/◌, ◌%◌, ◌≤◌, Bool, true, false, List, [], ◌∷◌, length, drop, take_while, nat_le, cond, Some, None, if◌then◌else◌}
-use Rattle.std.proofs.Common.{refl, sym, ap, ◌∙◌, arith}
+-- A value of decimal digits alone is an account number where they are one.
+use Rattle.std.proofs.Common.{◌≡◌, ℕ, ◌≤◌, Bool, true, false, List, [], ◌∷◌, length, drop, take_while, nat_le, cond, Some, None, if◌then◌else◌}
+use Rattle.std.proofs.Common.{refl, sym, ap, ◌∙◌}
 use Rattle.std.specs.List.{list_all, flat_map}
 use Rattle.std.proofs.lemmas.Bool.{and_parts, and_from, le-leb}
 use Rattle.std.proofs.lemmas.List.Sums.{take_while-cons}
 use Rattle.issuer_base.specs.CardNumber.{is_pan, pan_from}
-use Rattle.issuer_base.specs.ChipData.{is_bcd, digits_of}
+use Rattle.issuer_base.specs.ChipData.{digits_of}
 use Rattle.chip_request.specs.Fields.{leading_digits, has_account_number}
 use Rattle.chip_request.specs.Forms.{account_number_in}
-
-are_digits : (value : List ℕ) → list_all is_bcd value ≡ true → list_all (λ digit. nat_le digit 9) (flat_map digits_of value) ≡ true
-unfolding is_bcd
-are_digits [] all = refl
-are_digits (byte ∷ bytes) all =
-    let parts = and_parts (is_bcd byte) (list_all is_bcd bytes) all in
-    let halves = and_parts (nat_le (byte / 16) 9) (nat_le (byte % 16) 9) parts.0 in
-    and_from _ _ halves.0 (and_from _ _ halves.1 (are_digits bytes parts.1))
-
-two_each : (value : List ℕ) → length (flat_map digits_of value) ≡ 2 * length value
-two_each [] = refl
-two_each (byte ∷ bytes) = let others = two_each bytes in omega arith
 
 all_taken : (p : ℕ → Bool) (xs : List ℕ) → list_all p xs ≡ true → take_while p xs ≡ xs
 all_taken p [] all = refl
@@ -30,17 +18,6 @@ all_taken p (x ∷ xs) all =
 none_left : (xs : List ℕ) → drop (length xs) xs ≡ []
 none_left [] = refl
 none_left (x ∷ xs) = none_left xs
-
-pub all_decimal : (value : List ℕ) → 4 ≤ length value → length value ≤ 9 → list_all is_bcd value ≡ true → has_account_number value ≡ true
-unfolding has_account_number leading_digits is_pan
-all_decimal value least most all =
-    let digits = are_digits value all in
-    let size = two_each value in
-    let whole = all_taken (λ nibble. nat_le nibble 9) (flat_map digits_of value) digits in
-    let pan = and_from _ _ (and_from _ _ (le-leb 8 (length (flat_map digits_of value)) (omega arith))
-    (le-leb (length (flat_map digits_of value)) 19 (omega arith))) digits in
-    let sized = and_from _ _ (le-leb 4 (length value) least) (le-leb (length value) 10 (omega arith)) in
-    rw (whole, none_left) (and_from _ _ (and_from _ _ sized pan) refl)
 
 all_leading : (value : List ℕ) → is_pan (flat_map digits_of value) ≡ true → leading_digits value ≡ flat_map digits_of value
 unfolding leading_digits is_pan

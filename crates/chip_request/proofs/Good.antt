@@ -1,17 +1,20 @@
 -- Objects with which nothing is wrong make a request.
-use Rattle.std.proofs.Common.{◌≡◌, ℕ, ◌==◌, Bool, true, false, not, cond, List, [], ◌∷◌, length, replicate, Option, Some, None, option_and_then, refl}
-use Rattle.std.proofs.Common.{◌∙◌, slice_index}
+use Rattle.std.proofs.Common.{◌≡◌, ℕ, ◌==◌, Bool, true, false, not, cond, List, [], ◌∷◌, length, replicate, Option, Some, None, option_and_then, is_some, refl}
+use Rattle.std.proofs.Common.{Ok, if◌then◌else◌, sym, ap, ◌∙◌, slice_index}
 use Rattle.std.proofs.lemmas.Bool.{and_parts}
 use Rattle.std.specs.List.{list_all}
-use Rattle.tlv_objects.specs.Tlv.{TlvObject}
+use Rattle.tlv_objects.specs.Tlv.{TlvObject, objects_of}
 use Rattle.issuer_base.specs.ChipData.{is_bcd, has_profile, is_request, request_from}
 use Rattle.issuer_base.proofs.ChipDataLemmas.{request_from-valid}
 use Rattle.chip_request.specs.Fields.{Field, fields, has_bytes, has_decimal_bytes, has_account_number, has_application_data, leading_digits, required}
 use Rattle.chip_request.specs.Fields.{optional}
 use Rattle.chip_request.specs.Forms.{account_number_in}
-use Rattle.chip_request.specs.Reading.{values_of, is_missing, is_misformed, first_wrong, first_or, parts_of}
+use Rattle.chip_request.specs.Reading.{values_of, is_missing, is_misformed, first_wrong, first_or, parts_of, request_of}
 use Rattle.chip_request.proofs.Found.{first_of, all_found}
-use Rattle.chip_request.specs.Slots.{first_with_tag, sized, request_in}
+use Rattle.issuer_base.specs.declared.request.Parts.{Parts}
+use Rattle.chip_request.specs.declared.reading.RequestFault.{RequestFault}
+use Rattle.chip_request.proofs.Meaning.{answered, none_among, all_right, right_objects, takes_without_fault}
+use Rattle.chip_request.specs.Slots.{Found, first_with_tag, sized, fault_among, is_right, request_in}
 
 -- a field is good where it is there and of its form, or may be absent
 IsGood : Field → List (List ℕ) → Type 0
@@ -162,3 +165,35 @@ pub finds_request : (objects : List TlvObject) → first_wrong is_missing object
 finds_request objects present formed =
     let good = are_good fields objects present formed in
     good_request objects good ∙ request_from-valid (parts_of objects) (good_parts objects good)
+
+found_request : (objects : List TlvObject) (founds : List Found) → founds ≡ all_found objects → fault_among founds ≡ None
+    → request_in founds ≡ Some (parts_of objects)
+found_request objects founds found none =
+    let right = right_objects objects founds found (sym none) in
+    ap request_in found ∙ finds_request objects right.0 right.1
+
+made_of_right : (is : Bool) (request : Option Parts) (made : Parts) → Some made ≡ (if is then request else None) → (is ≡ true) × (Some made ≡ request)
+made_of_right true request made makes = (refl, makes)
+made_of_right false request made makes = absurd cc
+
+-- the request that is made where nothing is wrong is the one that the text says
+pub takes_right : (bytes : List ℕ) (founds : List Found) (made : Parts) → (objects_of bytes).torn ≡ None → founds ≡ all_found (objects_of bytes).objects
+    → Some made ≡ (if list_all is_right founds then request_in founds else None) → Ok made ≡ request_of bytes
+takes_right bytes founds made whole found makes =
+    let right = made_of_right (list_all is_right founds) (request_in founds) made makes in
+    let none = none_among founds right.0 in
+    answered _ _ _ (right.1 ∙ found_request (objects_of bytes).objects founds found none) (takes_without_fault bytes founds whole found (sym none))
+
+-- and where none is made something is wrong
+has_fault : (objects : List TlvObject) (founds : List Found) (fault : Option RequestFault) → fault_among founds ≡ fault → founds ≡ all_found objects
+    → None ≡ (if list_all is_right founds then request_in founds else None) → is_some fault ≡ true
+has_fault objects founds (Some fault) among found none = refl
+has_fault objects founds None among found none =
+    let right = all_right founds among in
+    let made = found_request objects founds found among in
+    let wrong : None ≡ Some (parts_of objects) = none ∙ ap (λ is. if is then request_in founds else None) right ∙ made in
+    absurd cc
+
+pub finds_fault : (objects : List TlvObject) (founds : List Found) → founds ≡ all_found objects
+    → None ≡ (if list_all is_right founds then request_in founds else None) → is_some (fault_among founds) ≡ true
+finds_fault objects founds found none = has_fault objects founds (fault_among founds) refl found none

@@ -1,5 +1,6 @@
 -- The laws of this crate.
 pub mod Walk
+pub mod Places
 pub mod DecimalValues
 pub mod HexDistance
 pub mod HexTable
@@ -8,6 +9,7 @@ pub mod PairLoop
 pub mod Found
 pub mod Meaning
 pub mod Good
+pub mod Sizes
 pub mod LoopsOfParts
 pub mod Readings
 pub mod DataReading

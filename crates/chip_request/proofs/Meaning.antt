@@ -213,6 +213,21 @@ unfolding fault_among
 none_among founds right =
     rw (none_wrong wrongs.Missing founds right, none_wrong wrongs.Misformed founds right, none_wrong wrongs.Repeated founds right) refl
 
+none_chosen : (is : Bool) (tag : ℕ) (others : Option ℕ) → cond is (Some tag) others ≡ None → (is ≡ false) × (others ≡ None)
+none_chosen true tag others none = absurd cc
+none_chosen false tag others none = (refl, none)
+
+-- and where none finds one, nothing is wrong with any field
+right_where_none : (founds : List Found) → first_wrong_found wrongs.Missing founds ≡ None → first_wrong_found wrongs.Misformed founds ≡ None
+    → first_wrong_found wrongs.Repeated founds ≡ None → list_all is_right founds ≡ true
+unfolding first_wrong_found
+right_where_none [] missing misformed repeated = refl
+right_where_none (found ∷ founds) missing misformed repeated =
+    let present = none_chosen (is_wrong wrongs.Missing found) _ _ missing in
+    let formed = none_chosen (is_wrong wrongs.Misformed found) _ _ misformed in
+    let once = none_chosen (is_wrong wrongs.Repeated found) _ _ repeated in
+    rw (once.0, present.0, formed.0) (right_where_none founds present.1 formed.1 once.1)
+
 -- what is answered where this is wrong, or nothing
 with_fault : {A : Type 0} → Option RequestFault → Result A RequestFault → Result A RequestFault
 with_fault (Some fault) next = Err fault
@@ -264,3 +279,11 @@ right_objects objects founds found none =
     let first = none_named (first_wrong_found wrongs.Missing founds) Missing _ (sym none) in
     let second = none_named (first_wrong_found wrongs.Misformed founds) BadField _ first.1 in
     (looked_missing objects founds _ found refl ∙ first.0, looked_misformed objects founds _ found refl ∙ second.0)
+
+pub all_right : (founds : List Found) → fault_among founds ≡ None → list_all is_right founds ≡ true
+unfolding fault_among
+all_right founds none =
+    let first = none_named (first_wrong_found wrongs.Missing founds) Missing _ none in
+    let second = none_named (first_wrong_found wrongs.Misformed founds) BadField _ first.1 in
+    let third = none_named (first_wrong_found wrongs.Repeated founds) Repeated _ second.1 in
+    right_where_none founds first.0 second.0 third.0

@@ -2,7 +2,6 @@
 use Rattle.std.proofs.Common.{◌≡◌, ℕ, zero, suc, ◌+◌, ◌<◌, ◌≤◌, ◌==◌, Bool, true, false, ◌&&◌, List, [], ◌∷◌, map, length, get_or, set, drop}
 use Rattle.std.proofs.Common.{Option, Some, None, is_none, cond, Bor, drop-cons, drop_of_length-le, refl, sym, ap, ◌∙◌, add-one, arith}
 use Rattle.std.specs.Option.{option_map}
-use Rattle.std.specs.List.{list_all}
 use Rattle.std.proofs.lemmas.Bool.{and_parts, eqb-true}
 use Rattle.std.proofs.lemmas.List.{map-set, length-map}
 use Rattle.chip_request.specs.declared.slots.Field as declared_field
@@ -10,7 +9,7 @@ use Rattle.chip_request.specs.SlotViews.{field_in}
 use Rattle.tlv_objects.specs.Tlv.{TlvObject}
 use Rattle.chip_request.specs.declared.slots.Wrong.{Wrong}
 use Rattle.chip_request.specs.Fields.{Field, fields}
-use Rattle.chip_request.specs.Slots.{Found, place_of, founds_of, with_object, first_with_tag, first_wrong_found, is_wrong, is_right}
+use Rattle.chip_request.specs.Slots.{Found, place_of, founds_of, with_object, first_with_tag, first_wrong_found, is_wrong}
 
 -- no two fields of a table have one tag
 unfoldable pub are_distinct : List Field → Bool
@@ -30,16 +29,16 @@ none_chosen true place h = absurd cc
 none_chosen false None h = (refl, refl)
 none_chosen false (Some place) h = absurd cc
 
-here_chosen : (b : Bool) (place : Option ℕ) → cond b (Some 0) (option_map (λ place. place + 1) place) ≡ Some 0 → b ≡ true
-here_chosen true place h = refl
-here_chosen false None h = absurd cc
-here_chosen false (Some place) h = let none : place + 1 ≡ 0 = cc in absurd (omega arith)
+pub place_in_front : (b : Bool) (place : Option ℕ) → cond b (Some 0) (option_map (λ place. place + 1) place) ≡ Some 0 → b ≡ true
+place_in_front true place h = refl
+place_in_front false None h = absurd cc
+place_in_front false (Some place) h = let none : place + 1 ≡ 0 = cc in absurd (omega arith)
 
-behind_chosen : (b : Bool) (place : Option ℕ) (i : ℕ) → cond b (Some 0) (option_map (λ place. place + 1) place) ≡ Some (suc i)
+pub place_behind : (b : Bool) (place : Option ℕ) (i : ℕ) → cond b (Some 0) (option_map (λ place. place + 1) place) ≡ Some (suc i)
     → (b ≡ false) × (place ≡ Some i)
-behind_chosen true place i h = absurd cc
-behind_chosen false None i h = absurd cc
-behind_chosen false (Some place) i h = let next : place + 1 ≡ suc i = cc in let same : place ≡ i = omega arith in (refl, ap Some same)
+place_behind true place i h = absurd cc
+place_behind false None i h = absurd cc
+place_behind false (Some place) i h = let next : place + 1 ≡ suc i = cc in let same : place ≡ i = omega arith in (refl, ap Some same)
 
 -- an object of no field of a table changes nothing
 pub passed_over : (object : TlvObject) (fs : List Field) (firsts : List (Option (List ℕ))) (are : List Bool)
@@ -58,7 +57,7 @@ only_here : (tag : ℕ) (field : Field) (fs : List Field) → are_distinct (fiel
 unfolding place_of are_distinct
 only_here tag field fs distinct here =
     let parts : (is_none (place_of field.tag fs) ≡ true) × (are_distinct fs ≡ true) = and_parts _ _ distinct in
-    let same : field.tag == tag ≡ true = here_chosen _ _ here in
+    let same : field.tag == tag ≡ true = place_in_front _ _ here in
     let equal : field.tag ≡ tag = eqb-true _ _ same in
     (same, ap (λ t. place_of t fs) (sym equal) ∙ none_at _ parts.0)
 
@@ -68,7 +67,7 @@ only_behind : (tag i : ℕ) (field : Field) (fs : List Field) → are_distinct (
 unfolding place_of are_distinct
 only_behind tag i field fs distinct here =
     let parts : (is_none (place_of field.tag fs) ≡ true) × (are_distinct fs ≡ true) = and_parts _ _ distinct in
-    let both : (field.tag == tag ≡ false) × (place_of tag fs ≡ Some i) = behind_chosen _ _ _ here in
+    let both : (field.tag == tag ≡ false) × (place_of tag fs ≡ Some i) = place_behind _ _ _ here in
     (both.0, both.1, parts.1)
 
 no_place : (tag i : ℕ) → place_of tag [] ≡ Some i → ⊥
@@ -117,10 +116,10 @@ first_at tag [] firsts are i long many here = absurd cc
 first_at tag (field ∷ fs) [] are i long many here = absurd cc
 first_at tag (field ∷ fs) (first ∷ firsts) [] i long many here = absurd cc
 first_at tag (field ∷ fs) (first ∷ firsts) (is ∷ are) zero long many here =
-    let same : field.tag == tag ≡ true = here_chosen _ _ here in
+    let same : field.tag == tag ≡ true = place_in_front _ _ here in
     rw same refl
 first_at tag (field ∷ fs) (first ∷ firsts) (is ∷ are) (suc i) long many here =
-    let both : (field.tag == tag ≡ false) × (place_of tag fs ≡ Some i) = behind_chosen _ _ _ here in
+    let both : (field.tag == tag ≡ false) × (place_of tag fs ≡ Some i) = place_behind _ _ _ here in
     rw (both.0) (first_at tag fs firsts are i (omega arith) (omega arith) both.1)
 
 -- and a tag of no field has none
@@ -252,46 +251,3 @@ pub look_end : (wrong : Wrong) (firsts : List (Option (Bor (List ℕ)))) (are : 
 look_end wrong firsts are i past long many =
     let size = many_slots firsts are long many in
     wrong_end wrong (founds_of fields (map value_in firsts) are) i (omega (arith, size))
-
--- nothing is wrong from a place on if nothing is with the field there, and nothing behind it
-rights_split : (founds : List Found) (i : ℕ) (d : Found) → i < length founds
-    → list_all is_right (drop i founds) ≡ (is_right (get_or founds i d) && list_all is_right (drop (i + 1) founds))
-rights_split founds i d below = rw (drop-cons founds i d, add-one) refl
-
-rights_at : (table : List declared_field.Field) (firsts : List (Option (Bor (List ℕ)))) (are : List Bool) (i : ℕ)
-    (d : declared_field.Field) (is : Bool) → i < 15 → length firsts ≡ 15 → length are ≡ 15 → map field_in table ≡ fields
-    → list_all is_right (drop i (founds_of fields (map value_in firsts) are))
-    ≡ (is_right (record { field = field_in (get_or table i d); first = value_in (get_or firsts i None); is_repeated = get_or are i is })
-    && list_all is_right (drop (i + 1) (founds_of fields (map value_in firsts) are)))
-rights_at table firsts are i d is below long many same =
-    let here = slots_at table firsts are i d no_found is below long many same in
-    let size = many_slots firsts are long many in
-    let founds = founds_of fields (map value_in firsts) are in
-    rights_split founds i no_found (omega (arith, size)) ∙ ap (λ found. is_right found && list_all is_right (drop (i + 1) founds)) here
-
--- a walk over the slots goes on behind a field with which nothing is wrong
-pub rights_behind : (table : List declared_field.Field) (firsts : List (Option (Bor (List ℕ)))) (are : List Bool) (i : ℕ)
-    (d : declared_field.Field) (is : Bool) → i < 15 → length firsts ≡ 15 → length are ≡ 15 → map field_in table ≡ fields
-    → is_right (record { field = field_in (get_or table i d); first = value_in (get_or firsts i None); is_repeated = get_or are i is }) ≡ true
-    → list_all is_right (drop (i + 1) (founds_of fields (map value_in firsts) are))
-    ≡ list_all is_right (drop i (founds_of fields (map value_in firsts) are))
-rights_behind table firsts are i d is below long many same right =
-    let founds = founds_of fields (map value_in firsts) are in
-    sym (rights_at table firsts are i d is below long many same ∙ ap (λ b. b && list_all is_right (drop (i + 1) founds)) right)
-
--- and ends at one with which something is
-pub rights_here : (table : List declared_field.Field) (firsts : List (Option (Bor (List ℕ)))) (are : List Bool) (i : ℕ)
-    (d : declared_field.Field) (is : Bool) → i < 15 → length firsts ≡ 15 → length are ≡ 15 → map field_in table ≡ fields
-    → is_right (record { field = field_in (get_or table i d); first = value_in (get_or firsts i None); is_repeated = get_or are i is }) ≡ false
-    → false ≡ list_all is_right (drop i (founds_of fields (map value_in firsts) are))
-rights_here table firsts are i d is below long many same wrong =
-    let founds = founds_of fields (map value_in firsts) are in
-    sym (rights_at table firsts are i d is below long many same ∙ ap (λ b. b && list_all is_right (drop (i + 1) founds)) wrong)
-
--- or behind the last
-pub rights_end : (firsts : List (Option (Bor (List ℕ)))) (are : List Bool) (i : ℕ) → 15 ≤ i → length firsts ≡ 15 → length are ≡ 15
-    → list_all is_right (drop i (founds_of fields (map value_in firsts) are)) ≡ true
-rights_end firsts are i past long many =
-    let size = many_slots firsts are long many in
-    let past : length (founds_of fields (map value_in firsts) are) ≤ i = omega (arith, size) in
-    rw (drop_of_length-le (founds_of fields (map value_in firsts) are) past) refl

@@ -82,6 +82,34 @@ abbrev pub sized : ℕ → Option (List ℕ) → List ℕ
 sized count None = replicate count 0
 sized count (Some value) = if length value == count then value else replicate count 0
 
+-- a value is there, in so many bytes
+abbrev pub is_sized : ℕ → Option (List ℕ) → Bool
+is_sized count None = false
+is_sized count (Some value) = length value == count
+
+-- a value is absent, or there in so many bytes
+abbrev pub is_absent_or_sized : ℕ → Option (List ℕ) → Bool
+is_absent_or_sized count None = true
+is_absent_or_sized count (Some value) = length value == count
+
+-- each field that has a number of bytes has it
+unfoldable pub have_sizes : List Found → Bool
+have_sizes founds =
+    is_absent_or_sized 1 (first_with_tag 0x5F34 founds)
+    && is_sized 2 (first_with_tag 0x82 founds)
+    && is_sized 5 (first_with_tag 0x95 founds)
+    && is_sized 3 (first_with_tag 0x9A founds)
+    && is_sized 1 (first_with_tag 0x9C founds)
+    && is_sized 6 (first_with_tag 0x9F02 founds)
+    && is_absent_or_sized 6 (first_with_tag 0x9F03 founds)
+    && is_sized 32 (first_with_tag 0x9F10 founds)
+    && is_sized 2 (first_with_tag 0x9F1A founds)
+    && is_sized 2 (first_with_tag 0x5F2A founds)
+    && is_sized 8 (first_with_tag 0x9F26 founds)
+    && is_sized 1 (first_with_tag 0x9F27 founds)
+    && is_sized 2 (first_with_tag 0x9F36 founds)
+    && is_sized 4 (first_with_tag 0x9F37 founds)
+
 -- the request that was found, if what was found makes one
 unfoldable pub request_in : List Found → Option Parts
 request_in founds = option_and_then (λ pan. request_from (record {

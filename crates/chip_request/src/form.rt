@@ -1,11 +1,9 @@
 //! The forms of the fields' values.
-ghost use Rattle.std.specs.Prelude.{◌≡◌, ◌==◌, ◌≤◌, length, nat_le, take_while};
+ghost use Rattle.std.specs.Prelude.{◌≡◌, ◌==◌, ◌≤◌, ◌*◌, length, nat_le, take, take_while};
 ghost use Rattle.std.specs.List.{list_all, flat_map};
 ghost use Rattle.issuer_base.specs.ChipData.{digits_of};
-ghost use Rattle.chip_request.specs.Fields.{has_account_number};
 ghost use Rattle.chip_request.specs.Forms.{fits, account_number_in};
 
-use arrayvec::ArrayVec;
 use issuer_base::{Pan, are_decimal, has_profile};
 
 /// What the value of a field has to be.
@@ -29,21 +27,10 @@ impl Form {
         match self {
             Form::Bytes(count) => value.len() == count,
             Form::Decimal(count) => value.len() == count && are_decimal(value),
-            Form::AccountNumber => is_account_number(value),
+            Form::AccountNumber => account_number(value).is_some(),
             Form::ApplicationData => value.len() == 32 && has_profile(value),
         }
     }
-}
-
-/// Whether a value has the form of an account number. Nine bytes at most of decimal digits alone are one, and most values are so.
-fn is_account_number(value: &[u8]) -> bool
-    ensures { result ≡ has_account_number value.now }
-{
-    let count = value.len();
-    if count >= 4 && count <= 9 && are_decimal(value) {
-        return true;
-    }
-    account_number(value).is_some()
 }
 
 /// The account number in a value of that form. Most values are digits alone, which are tried first.
@@ -55,27 +42,27 @@ pub(crate) fn account_number(value: &[u8]) -> Option<Pan>
     if count < 4 || count > 10 {
         return None;
     }
-    let nibbles = nibbles_of(value);
-    if let Some(pan) = Pan::new(nibbles.as_slice()) {
+    let spread = nibbles_of(value);
+    let nibbles = &spread[..2 * count];
+    if let Some(pan) = Pan::new(nibbles) {
         return Some(pan);
     }
-    let (digits, filling) = nibbles
-        .as_slice()
-        .split_at(digits_in_front(nibbles.as_slice()));
+    let (digits, filling) = nibbles.split_at(digits_in_front(nibbles));
     if !is_filling(filling) {
         return None;
     }
     Pan::new(digits)
 }
 
-fn nibbles_of(value: &[u8]) -> ArrayVec<u8, 20>
+/// The nibbles of a value, in front of an array.
+fn nibbles_of(value: &[u8]) -> [u8; 20]
     requires { length value.now ≤ 10 }
-    ensures { result.items ≡ flat_map digits_of value.now }
+    ensures { take (2 * length value.now) result ≡ flat_map digits_of value.now }
 {
-    let mut nibbles = ArrayVec::new();
-    for byte in value {
-        nibbles.push(byte / 16);
-        nibbles.push(byte % 16);
+    let mut nibbles = [0; 20];
+    for (place, byte) in value.iter().enumerate() {
+        nibbles[2 * place] = byte / 16;
+        nibbles[2 * place + 1] = byte % 16;
     }
     nibbles
 }

@@ -1,9 +1,10 @@
 //! Reading a request's chip data.
-ghost use Rattle.std.specs.Prelude.{◌≡◌, ◌≤◌, ◌<◌, ◌+◌, ◌^◌, ℕ, length, map, OnOk, IfErr};
+ghost use Rattle.std.specs.Prelude.{◌≡◌, ◌≤◌, ◌<◌, ◌+◌, ◌^◌, ℕ, None, if◌then◌else◌, length, map, OnOk, IfErr};
+ghost use Rattle.std.specs.List.{list_all};
 ghost use Rattle.tlv_objects.specs.Tlv.{objects_of, objects_ahead};
 ghost use Rattle.chip_request.specs.Fields.{fields};
 ghost use Rattle.chip_request.specs.Reading.{request_of};
-ghost use Rattle.chip_request.specs.Slots.{fault_among, request_in, unfound, with_objects};
+ghost use Rattle.chip_request.specs.Slots.{fault_among, is_right, request_in, unfound, with_objects};
 ghost use Rattle.chip_request.specs.SlotViews.{founds_in};
 
 use crate::form::account_number;
@@ -34,20 +35,31 @@ pub fn read_request(bytes: &[u8]) -> Result<Request, RequestFault>
 {
     let mut slots = Slots::unfound();
     note_all(&mut slots, Objects::new(bytes))?;
-    if let Some(fault) = first_fault(&slots) {
-        return Err(fault);
+    match right_request(&slots) {
+        Some(request) => Ok(request),
+        None => Err(first_fault(&slots).unwrap()),
     }
-    Ok(request_in(&slots).unwrap())
 }
 
-/// The first thing that is wrong with what was found. Mostly nothing is, which is looked at first.
+/// The request that was found, where nothing is wrong with any field. The forms of the values are seen by making it.
+#[inline(always)]
+fn right_request(slots: &Slots<'_>) -> Option<Request>
+    ensures { result ≡ if list_all is_right (founds_in slots.now) then request_in (founds_in slots.now) else None }
+{
+    if !slots.are_single() {
+        return None;
+    }
+    if !slots.have_sizes() {
+        return None;
+    }
+    request_in(slots)
+}
+
+/// The first thing that is wrong with what was found.
 #[tactic(auto, unfolding(crate::specs::Slots::fault_among))]
 fn first_fault(slots: &Slots<'_>) -> Option<RequestFault>
     ensures { result ≡ fault_among (founds_in slots.now) }
 {
-    if slots.are_right() {
-        return None;
-    }
     if let Some(tag) = slots.first_wrong(Wrong::Missing) {
         return Some(RequestFault::Missing(tag));
     }

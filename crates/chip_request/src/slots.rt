@@ -1,9 +1,10 @@
 //! The fields of a request, and what a walk over the objects keeps of each.
-ghost use Rattle.std.specs.Prelude.{◌≡◌, ◌<◌, map, option_map, IfSome};
+ghost use Rattle.std.specs.Prelude.{◌≡◌, ◌<◌, Option, Some, map, option_map, IfSome, true};
+ghost use Rattle.issuer_base.specs.declared.request.Parts.{Parts};
 ghost use Rattle.std.specs.List.{list_all};
 ghost use Rattle.tlv_objects.specs.Seen.{seen as object_seen};
 ghost use Rattle.chip_request.specs.Fields.{fields};
-ghost use Rattle.chip_request.specs.Slots.{founds_of, place_of, with_object, unfound, is_wrong, is_right, first_wrong_found, first_with_tag, sized};
+ghost use Rattle.chip_request.specs.Slots.{founds_of, place_of, with_object, unfound, is_wrong, is_right, first_wrong_found, first_with_tag, sized, is_sized, is_absent_or_sized, have_sizes, request_in};
 ghost use Rattle.chip_request.specs.SlotViews.{field_in, founds_in};
 
 use crate::form::Form;
@@ -68,30 +69,30 @@ fn table() -> &'static [Field; 15]
     &FIELDS
 }
 
+/// The place in the table of the one field whose tag ends in a byte, and 0 where none does.
+const PLACES: [u8; 256] = [
+    0, 0, 6, 7, 0, 0, 0, 0, 0, 0, 0, 0, 0, 0, 0, 0, 8, 0, 0, 0, 0, 0, 0, 0, 0, 0, 9, 0, 0, 0, 0, 0,
+    0, 0, 0, 0, 0, 0, 11, 12, 0, 0, 10, 0, 0, 0, 0, 0, 0, 0, 0, 0, 1, 0, 13, 14, 0, 0, 0, 0, 0, 0,
+    0, 0, 0, 0, 0, 0, 0, 0, 0, 0, 0, 0, 0, 0, 0, 0, 0, 0, 0, 0, 0, 0, 0, 0, 0, 0, 0, 0, 0, 0, 0, 0,
+    0, 0, 0, 0, 0, 0, 0, 0, 0, 0, 0, 0, 0, 0, 0, 0, 0, 0, 0, 0, 0, 0, 0, 0, 0, 0, 0, 0, 0, 0, 0, 0,
+    0, 0, 0, 0, 2, 0, 0, 0, 0, 0, 0, 0, 0, 0, 0, 0, 0, 0, 0, 0, 0, 0, 0, 3, 0, 0, 0, 0, 4, 0, 5, 0,
+    0, 0, 0, 0, 0, 0, 0, 0, 0, 0, 0, 0, 0, 0, 0, 0, 0, 0, 0, 0, 0, 0, 0, 0, 0, 0, 0, 0, 0, 0, 0, 0,
+    0, 0, 0, 0, 0, 0, 0, 0, 0, 0, 0, 0, 0, 0, 0, 0, 0, 0, 0, 0, 0, 0, 0, 0, 0, 0, 0, 0, 0, 0, 0, 0,
+    0, 0, 0, 0, 0, 0, 0, 0, 0, 0, 0, 0, 0, 0, 0, 0, 0, 0, 0, 0, 0, 0, 0, 0, 0, 0, 0, 0, 0, 0, 0, 0,
+    0, 0,
+];
+
 /// The place in the table of the field with a tag.
-#[tactic(auto, unfolding(crate::specs::Slots::place_of))]
+#[inline(always)]
 fn place_of(tag: u32) -> Option<usize>
     ensures place { result ≡ place_of tag fields }
     ensures within { IfSome result (λ place. place < 15) }
 {
-    match tag {
-        0x5A => Some(0),
-        0x5F34 => Some(1),
-        0x82 => Some(2),
-        0x95 => Some(3),
-        0x9A => Some(4),
-        0x9C => Some(5),
-        0x9F02 => Some(6),
-        0x9F03 => Some(7),
-        0x9F10 => Some(8),
-        0x9F1A => Some(9),
-        0x5F2A => Some(10),
-        0x9F26 => Some(11),
-        0x9F27 => Some(12),
-        0x9F36 => Some(13),
-        0x9F37 => Some(14),
-        _ => None,
+    let place = usize::from(PLACES[(tag % 256) as usize]);
+    if FIELDS[place].tag != tag {
+        return None;
     }
+    Some(place)
 }
 
 impl<'a> Slots<'a> {
@@ -118,11 +119,59 @@ impl<'a> Slots<'a> {
         }
     }
 
-    /// Whether nothing is wrong with any field, which one walk over them tells.
-    pub(crate) fn are_right(&self) -> bool
-        ensures { result ≡ list_all is_right (founds_in self.now) }
+    /// Whether a field is there, and its value has so many bytes.
+    #[inline(always)]
+    fn has_bytes(&self, tag: u32, count: usize) -> bool
+        ensures { result ≡ is_sized count (first_with_tag tag (founds_in self.now)) }
     {
-        are_right(&self.firsts, &self.are_repeated)
+        let Some(value) = self.first_value(tag) else {
+            return false;
+        };
+        value.len() == count
+    }
+
+    /// Whether a field is absent, or its value has so many bytes.
+    #[inline(always)]
+    fn is_absent_or_has_bytes(&self, tag: u32, count: usize) -> bool
+        ensures { result ≡ is_absent_or_sized count (first_with_tag tag (founds_in self.now)) }
+    {
+        let Some(value) = self.first_value(tag) else {
+            return true;
+        };
+        value.len() == count
+    }
+
+    /// Whether each field that has a number of bytes has it. The account number has none.
+    #[tactic(auto, unfolding(crate::specs::Slots::have_sizes))]
+    #[inline(always)]
+    pub(crate) fn have_sizes(&self) -> bool
+        ensures { result ≡ have_sizes (founds_in self.now) }
+    {
+        self.is_absent_or_has_bytes(0x5F34, 1)
+            && self.has_bytes(0x82, 2)
+            && self.has_bytes(0x95, 5)
+            && self.has_bytes(0x9A, 3)
+            && self.has_bytes(0x9C, 1)
+            && self.has_bytes(0x9F02, 6)
+            && self.is_absent_or_has_bytes(0x9F03, 6)
+            && self.has_bytes(0x9F10, 32)
+            && self.has_bytes(0x9F1A, 2)
+            && self.has_bytes(0x5F2A, 2)
+            && self.has_bytes(0x9F26, 8)
+            && self.has_bytes(0x9F27, 1)
+            && self.has_bytes(0x9F36, 2)
+            && self.has_bytes(0x9F37, 4)
+    }
+
+    /// Whether no field is there twice. Then nothing is wrong with any field where each has its size, and what was found makes a request.
+    #[inline(always)]
+    pub(crate) fn are_single(&self) -> bool
+        ensures right { list_all is_right (founds_in self.now) ≡ true → result ≡ true }
+        ensures sized { list_all is_right (founds_in self.now) ≡ true → have_sizes (founds_in self.now) ≡ true }
+        ensures makes { result ≡ true → have_sizes (founds_in self.now) ≡ true
+            → (made : Parts) → request_in (founds_in self.now) ≡ Some made → list_all is_right (founds_in self.now) ≡ true }
+    {
+        are_single(&self.firsts, &self.are_repeated)
     }
 
     /// The tag of the first field with which this is wrong.
@@ -167,20 +216,6 @@ impl Field {
             Wrong::Repeated => is_repeated,
         }
     }
-
-    /// Whether nothing is wrong with the field.
-    fn is_right(&self, first: Option<&[u8]>, is_repeated: bool) -> bool
-        ensures { result ≡ is_right
-            (record { field = field_in self.now; first = option_map (λ value. value.now) first.entry; is_repeated = is_repeated }) }
-    {
-        if is_repeated {
-            return false;
-        }
-        match first {
-            None => !self.is_required,
-            Some(value) => self.form.fits(value),
-        }
-    }
 }
 
 // The arrays are passed alone, since a proof knows the length of an array that is a parameter.
@@ -199,15 +234,18 @@ fn first_wrong_among(
     None
 }
 
-fn are_right(firsts: &[Option<&[u8]>; 15], are_repeated: &[bool; 15]) -> bool
-    ensures { result ≡ list_all is_right (founds_of fields (map (option_map (λ value. value.now)) firsts.now) are_repeated.now) }
+// The values are named by the contract alone.
+#[inline(always)]
+fn are_single(_firsts: &[Option<&[u8]>; 15], are_repeated: &[bool; 15]) -> bool
+    ensures right { list_all is_right (founds_of fields (map (option_map (λ value. value.now)) _firsts.now) are_repeated.now) ≡ true
+        → result ≡ true }
+    ensures sized { list_all is_right (founds_of fields (map (option_map (λ value. value.now)) _firsts.now) are_repeated.now) ≡ true
+        → have_sizes (founds_of fields (map (option_map (λ value. value.now)) _firsts.now) are_repeated.now) ≡ true }
+    ensures makes { result ≡ true → have_sizes (founds_of fields (map (option_map (λ value. value.now)) _firsts.now) are_repeated.now) ≡ true
+        → (made : Parts) → request_in (founds_of fields (map (option_map (λ value. value.now)) _firsts.now) are_repeated.now) ≡ Some made
+        → list_all is_right (founds_of fields (map (option_map (λ value. value.now)) _firsts.now) are_repeated.now) ≡ true }
 {
-    for (place, field) in table().iter().enumerate() {
-        if !field.is_right(firsts[place], are_repeated[place]) {
-            return false;
-        }
-    }
-    true
+    *are_repeated == [false; 15]
 }
 
 // The repetitions are named by the contract alone.

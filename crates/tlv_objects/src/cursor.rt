@@ -54,16 +54,20 @@ impl<'a> Objects<'a> {
         }
     }
 
-    // Passes over the 00 bytes in front of the next object.
+    // Passes over the 00 bytes in front of the next object, where there mostly is none.
+    #[inline(always)]
     fn pass_zeros(&mut self)
         ensures same { objects_ahead self.new ≡ objects_ahead self.old }
         ensures first { slice_get self.new.bytes 0 ≢ Some 0 }
         ensures shorter { length self.new.bytes ≤ length self.old.bytes }
         ensures end { self.new.at + length self.new.bytes ≡ self.old.at + length self.old.bytes }
     {
-        self.pass(zeros_in_front(self.ahead));
+        if let [0, ..] = self.ahead {
+            self.pass(zeros_in_front(self.ahead));
+        }
     }
 
+    #[inline(always)]
     fn pass(&mut self, count: usize)
         requires { count ≤ length self.old.bytes }
         ensures { self.new ≡ record { bytes = drop count self.old.bytes; at = self.old.at + count } }
@@ -85,6 +89,7 @@ impl<'a> Iterator for Objects<'a> {
     ghost remaining = { λ cursor. at_most (length cursor.bytes) };
 
     /// The next object, or the fault that ends the text. After a fault there is nothing more.
+    #[inline(always)]
     fn next(&mut self) -> Option<Result<Object<'a>, TlvFault>> {
         self.pass_zeros();
         let (ahead, at) = (self.ahead, self.at);

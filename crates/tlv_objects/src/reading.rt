@@ -2,18 +2,16 @@
 ghost use Rattle.std.specs.Prelude.{◌≡◌, ◌==◌, option_map, take_while, length};
 ghost use Rattle.tlv_objects.specs.Tlv.{tag_at, length_at, front_object};
 
-/// The number of 00 bytes at the front, where there mostly is none.
+/// The number of 00 bytes at the front.
 pub(crate) fn zeros_in_front(bytes: &[u8]) -> usize
     ensures { result ≡ length (take_while (λ byte. byte == 0) bytes.now) }
 {
-    match bytes {
-        [0, ..] => bytes.iter().take_while(|byte| **byte == 0).count(),
-        _ => 0,
-    }
+    bytes.iter().take_while(|byte| **byte == 0).count()
 }
 
 /// The tag at the front, and the bytes behind it.
 #[tactic(auto, unfolding(crate::specs::Tlv::tag_at))]
+#[inline(always)]
 fn read_tag(bytes: &[u8]) -> Option<(u32, &[u8])>
     ensures { option_map (λ found. (found.0, found.1.now)) result ≡ tag_at bytes.now }
 {
@@ -38,14 +36,17 @@ fn read_tag(bytes: &[u8]) -> Option<(u32, &[u8])>
 
 /// The length at the front, and the bytes behind it.
 #[tactic(auto, unfolding(crate::specs::Tlv::length_at))]
+#[inline(always)]
 fn read_length(bytes: &[u8]) -> Option<(usize, &[u8])>
     ensures { option_map (λ found. (found.0, found.1.now)) result ≡ length_at bytes.now }
 {
     let [first, rest @ ..] = bytes else {
         return None;
     };
+    if *first <= 0x7F {
+        return Some((usize::from(*first), rest));
+    }
     match (*first, rest) {
-        (0x00..=0x7F, rest) => Some((usize::from(*first), rest)),
         (0x81, [length, rest @ ..]) => Some((usize::from(*length), rest)),
         (0x82, [high, low, rest @ ..]) => {
             Some((usize::from(*high) * 0x100 + usize::from(*low), rest))
@@ -56,6 +57,7 @@ fn read_length(bytes: &[u8]) -> Option<(usize, &[u8])>
 
 /// The tag and the value of the object at the front, and the bytes behind it.
 #[tactic(auto, unfolding(crate::specs::Tlv::front_object))]
+#[inline(always)]
 pub(crate) fn read_object(bytes: &[u8]) -> Option<(u32, &[u8], &[u8])>
     ensures { option_map (λ found. record { tag = found.0; value = found.1.now; rest = found.2.now }) result
         ≡ front_object bytes.now }

@@ -7,4 +7,4 @@ use Rattle.chip_request.proofs.form.account_number.Goals as goal
 pub returns-in-Some : goal.returns-in-Some
 returns-in-Some c =
     digits_alone c.args.value.now c.in-Some.pan (omega arith) (omega arith)
-    (ap pan_from (sym (c.as_slice.ensures.value ∙ c.nibbles_of-nibbles.ensures)) ∙ sym c.in-Some.ensures)
+    (ap pan_from (sym c.nibbles_of-spread.ensures) ∙ sym c.in-Some.ensures)

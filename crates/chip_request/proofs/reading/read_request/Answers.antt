@@ -2,9 +2,8 @@
 use Rattle.std.proofs.Common.{sym, ap, ◌∙◌, Err, is_some}
 use Rattle.std.proofs.lemmas.Result.{err_from_is_err_and}
 use Rattle.tlv_objects.specs.Tlv.{Ahead, objects_ahead, objects_of}
-use Rattle.chip_request.specs.Slots.{request_in}
-use Rattle.chip_request.proofs.Meaning.{walked, refuses_torn, refuses_fault, right_objects, takes_without_fault, answered}
-use Rattle.chip_request.proofs.Good.{finds_request}
+use Rattle.chip_request.proofs.Meaning.{walked, refuses_torn, refuses_fault}
+use Rattle.chip_request.proofs.Good.{takes_right, finds_fault}
 use Rattle.chip_request.proofs.reading.read_request.Goals as goal
 
 pub returns-in_err-note_all : goal.returns-in_err-note_all
@@ -17,18 +16,14 @@ returns-in_err-note_all c =
 pub returns-in-Some : goal.returns-in-Some
 returns-in-Some c =
     let whole = walked c.args.bytes.now _ _ _ c.new.ensures c.unfound-slots.ensures c.in_ok-note_all.ensures.ok in
-    sym (refuses_fault c.args.bytes.now _ c.in-Some.fault whole.0 whole.1 c.in-Some.ensures)
+    takes_right c.args.bytes.now _ c.in-Some.request whole.0 whole.1 c.in-Some.ensures
 
 pub unwrap-requires : goal.unwrap-requires
 unwrap-requires c =
     let whole = walked c.args.bytes.now _ _ _ c.new.ensures c.unfound-slots.ensures c.in_ok-note_all.ensures.ok in
-    let right = right_objects (objects_of c.args.bytes.now).objects _ whole.1 c.in_default.ensures in
-    ap is_some (c.request_in.ensures ∙ ap request_in whole.1 ∙ finds_request (objects_of c.args.bytes.now).objects right.0 right.1)
+    ap is_some c.first_fault.ensures ∙ finds_fault (objects_of c.args.bytes.now).objects _ whole.1 c.in-None.ensures
 
-pub returns : goal.returns
-returns c =
+pub returns-in-None : goal.returns-in-None
+returns-in-None c =
     let whole = walked c.args.bytes.now _ _ _ c.new.ensures c.unfound-slots.ensures c.in_ok-note_all.ensures.ok in
-    let right = right_objects (objects_of c.args.bytes.now).objects _ whole.1 c.in_default.ensures in
-    let found = finds_request (objects_of c.args.bytes.now).objects right.0 right.1 in
-    let same = sym c.unwrap.ensures ∙ c.request_in.ensures ∙ ap request_in whole.1 ∙ found in
-    answered _ _ _ same (takes_without_fault c.args.bytes.now _ whole.0 whole.1 c.in_default.ensures)
+    sym (refuses_fault c.args.bytes.now _ _ whole.0 whole.1 (sym c.unwrap.ensures ∙ c.first_fault.ensures))
