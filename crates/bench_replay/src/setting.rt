@@ -64,7 +64,9 @@ pub(crate) fn issuer(alloc: Global, count: u32) -> Option<Issuer>
     for number in 0..count {
         cards.push(info(number)?).ok()?;
     }
-    Issuer::new(alloc, 1, keys, cards, table).ok()
+    let mut issuer = Issuer::new(alloc, 1, keys, cards, table).ok()?;
+    issuer.keep_all();
+    Some(issuer)
 }
 
 /// So many of its cards.

@@ -32,14 +32,15 @@ pub(crate) struct Shared<S: Store> {
 
 impl<S: Store> Host<S> {
     /// Loads the shards of an issuer from their stores, in order, as `Solo::load` does, and lets callers share them. The pass is the first
-    /// one; others are split off it.
+    /// one; others are split off it. Callers only read the issuer, so each card's keys for cryptograms are derived now, and kept set up: of a pair of
+    /// card and key set, that sets up one key and enciphers two blocks.
     ///
     /// The first shard that can't be loaded stops it. Where memory is wanting for the host itself, the shard that is named is the first one.
     /// Then the stores come back in order. No other call takes memory.
     pub fn load(
         alloc: Global,
         stores: Vec<S>,
-        issuer: Issuer,
+        mut issuer: Issuer,
     ) -> Result<(Host<S>, Pass), HostBack<S>>
         requires { length stores.items ≡ issuer.shards }
         ensures issuer { IfOk result (λ made. made.0.issuer ≡ issuer) }
@@ -58,6 +59,7 @@ impl<S: Store> Host<S> {
                 stores,
             });
         };
+        issuer.keep_all();
         let before = Snapshot::of(&stores);
         let Lists { shards, back } = load_all(alloc, &issuer, stores, lists)?;
         match share(alloc, &issuer, &before, shards) {

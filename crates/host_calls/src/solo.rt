@@ -60,6 +60,8 @@ impl<S: Store> Solo<S> {
                 stores,
             });
         };
+        let mut issuer = issuer;
+        keep_for_records(&mut issuer, stores.as_slice());
         match load_all(alloc, &issuer, stores, lists) {
             Ok(Lists { shards, back }) => Ok(Solo {
                 issuer,
@@ -71,7 +73,8 @@ impl<S: Store> Solo<S> {
         }
     }
 
-    /// The answer to a line, which is without its newline. A new record is safe in its shard's store before it is answered.
+    /// The answer to a line, which is without its newline. A new record is safe in its shard's store before it is answered. A card's key for
+    /// cryptograms is derived at the card's first request, and kept set up.
     pub fn authorise(&mut self, line: &[u8]) -> Answer
         ensures turn { (books : List Book) → Stand self.old.issuer self.old.shards.items books
             → (after : List Book) × Stand self.new.issuer self.new.shards.items after
@@ -85,7 +88,7 @@ impl<S: Store> Solo<S> {
             → LeaveBetween self.old.issuer books books self.old.shards.items self.new.shards.items }
         ensures issuer { self.new.issuer ≡ self.old.issuer }
     {
-        match check_line_in(&self.issuer, line, &mut self.data) {
+        match check_line_in(&mut self.issuer, line, &mut self.data) {
             Ok(Checked::Decide(found)) => self.decide(&found),
             Ok(Checked::Queue(found)) => self.queue(found),
             Ok(Checked::Status(found)) => self.set_status(found),
@@ -178,5 +181,14 @@ impl<S: Store> Solo<S> {
     {
         let shard = self.home(found.card);
         self.shards[shard].set_status(&self.issuer, found)
+    }
+}
+
+/// Keeps the keys of all cards where there is anything in these stores, whose records are checked again.
+fn keep_for_records<S: Store>(issuer: &mut Issuer, stores: &[S])
+    ensures { issuer.new ≡ issuer.old }
+{
+    if stores.iter().any(|store| store.len() > 0) {
+        issuer.keep_all();
     }
 }

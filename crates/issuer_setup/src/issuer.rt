@@ -2,6 +2,7 @@
 ghost use Rattle.std.specs.Prelude.{◌≡◌, ◌%◌, ◌<◌, true, None, Some, length, slice_get, IfOk, IfErr};
 ghost use Rattle.std.specs.Option.{option_map};
 ghost use Rattle.card_history.specs.Records.{CardName};
+ghost use Rattle.key_derive.specs.SessionKey.{session_ac};
 ghost use Rattle.issuer_setup.specs.Shards.{are_shards};
 ghost use Rattle.issuer_setup.specs.KeyList.{key_of, bad_key, AreKeys};
 ghost use Rattle.issuer_setup.specs.CardList.{number_of, bad_card, AreCards};
@@ -15,7 +16,7 @@ use crate::shard_count::ShardCount;
 use arrayvec::ArrayVec;
 use decision_table::Table;
 use issuer_base::{MAX_KEY_SETS, NoMemory, Pan, Request};
-use key_derive::{CardKeys, KeySet, LazyKeys};
+use key_derive::{CardKeys, CardSecrets, KeySet, LazyKeys, SessionKey};
 use std::alloc::Global;
 use std::marker::Model;
 
@@ -94,8 +95,8 @@ impl Model for Issuer {
 }
 
 impl Issuer {
-    /// The issuer of just these parts. It derives the master keys of each card from each key set, and takes
-    /// memory for them.
+    /// The issuer of just these parts. It derives no key yet, and takes memory for the master keys of each card from each key set: 304
+    /// bytes a pair, of which 256 are for a key that is kept.
     pub fn of(
         alloc: Global,
         shards: ShardCount,
@@ -105,7 +106,7 @@ impl Issuer {
     ) -> Result<Issuer, NoMemory>
         ensures { IfOk result (λ issuer. issuer ≡ record { shards = shards; keys = keys; cards = cards; table = table }) }
     {
-        let kept = KeptKeys::derive(alloc, keys.as_slice(), cards.as_slice())?;
+        let kept = KeptKeys::underived(alloc, keys.as_slice(), cards.as_slice())?;
         Ok(Issuer {
             shards,
             keys,
@@ -116,7 +117,7 @@ impl Issuer {
     }
 
     /// The issuer of just these parts, or the first of them that is bad: the number of shards, then the key
-    /// sets, then the cards. It derives the master keys of each card from each key set.
+    /// sets, then the cards. It takes memory as [`Issuer::of`] does.
     pub fn new(
         alloc: Global,
         shards: u8,
@@ -174,7 +175,7 @@ impl Issuer {
     }
 
     /// The master keys of this card from the key set that the request's derivation key index names; `None`
-    /// where no key set has that index. The one for cryptograms was derived with the issuer, and the other is derived now.
+    /// where no key set has that index. Both are derived now.
     pub fn keys_of(&self, card: u32, request: &Request) -> Option<CardKeys>
         requires { card < length self.now.cards }
         ensures { result ≡ keys_of self.now card request.now }
@@ -182,13 +183,50 @@ impl Issuer {
         Some(self.lazy_keys_of(card, request)?.pair())
     }
 
-    /// The same keys, of which the one for secure messages is derived when it is asked for.
+    /// The same keys, of which each is derived when it is asked for.
     pub fn lazy_keys_of(&self, card: u32, request: &Request) -> Option<LazyKeys>
         requires { card < length self.now.cards }
         ensures { result ≡ keys_of self.now card request.now }
     {
+        Some(self.secrets_of(card, request)?.keys())
+    }
+
+    /// The session key for the cryptograms of this request, from the same keys. Where the card's key is kept, it sets up one key and enciphers
+    /// two blocks; else three keys and four blocks.
+    pub fn session_of(&self, card: u32, request: &Request) -> Option<SessionKey>
+        requires { card < length self.now.cards }
+        ensures { result ≡ option_map (λ keys. session_ac keys.ac.0 request.now.atc) (keys_of self.now card request.now) }
+    {
+        let secrets = self.secrets_of(card, request)?;
+        Some(secrets.session(request.parts().atc))
+    }
+
+    /// Keeps the card's master key for cryptograms from the key set that the request's derivation key index names set up, where there is such
+    /// a key set. Where it isn't kept yet, that sets up two keys and enciphers two blocks.
+    pub fn keep(&mut self, card: u32, request: &Request)
+        requires { card < length self.old.cards }
+        ensures { self.new ≡ self.old }
+    {
+        if let Some(place) = self.keys.place_of(request.dki()) {
+            self.kept.keep(card, place);
+        }
+    }
+
+    /// Keeps the master key for cryptograms of each card from each key set. Of each key set the issuer's master keys are set up once, and for each
+    /// pair that isn't kept yet one key is set up and two blocks are enciphered.
+    pub fn keep_all(&mut self)
+        ensures { self.new ≡ self.old }
+    {
+        self.kept.keep_all(self.keys.as_slice());
+    }
+
+    /// The card's master keys from the key set that the request's derivation key index names.
+    fn secrets_of(&self, card: u32, request: &Request) -> Option<&CardSecrets>
+        requires { card < length self.now.cards }
+        ensures { option_map (λ secrets. secrets.now) result ≡ keys_of self.now card request.now }
+    {
         let place = self.keys.place_of(request.dki())?;
-        Some(self.kept.keys_of(card, place).copy())
+        Some(self.kept.secrets_of(card, place))
     }
 
     /// The number of the card with this account and sequence number; `None` where no card has them.

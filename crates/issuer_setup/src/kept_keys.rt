@@ -1,14 +1,15 @@
-//! The master keys of an issuer's cards: those for cryptograms are derived once, and what the others come from is kept.
+//! The master keys of an issuer's cards: those for cryptograms are derived when they are first asked for, and kept set up.
 ghost use Rattle.std.specs.Prelude.{◌≡◌, ◌+◌, ◌*◌, ◌<◌, ◌≤◌, ◌++◌, Some, length, slice_get, vec_len, vec_capacity, IfOk};
 ghost use Rattle.issuer_setup.specs.KeptKeys.{pairs_of, kept_keys};
 
 use crate::card::CardInfo;
 use issuer_base::{MAX_CARDS, MAX_KEY_SETS};
-use key_derive::{KeySet, LazyKeys, MasterCiphers};
+use key_derive::{CardSecrets, KeySet, MasterCiphers};
 use std::alloc::{AllocError, Global};
 use std::marker::Model;
 
-/// The master keys of each card from each key set, of which those for secure messages are derived when they are asked for.
+/// The master keys of each card from each key set, of which those for cryptograms can be kept set up. The others are derived whenever they are
+/// asked for.
 ///
 /// A contract sees how many key sets there are, and the list of the pairs of keys.
 #[derive(Drop)]
@@ -17,7 +18,7 @@ pub(crate) struct KeptKeys {
     sets: usize,
 
     /// The pairs of keys, card by card, those of a card in the order of the key sets.
-    pairs: Vec<LazyKeys>,
+    pairs: Vec<CardSecrets>,
 }
 
 impl Model for KeptKeys {
@@ -32,9 +33,9 @@ impl Model for KeptKeys {
 }
 
 impl KeptKeys {
-    /// Derives the master key for cryptograms of each card from each key set, which is set up once: about 48 bytes a pair, for
-    /// which it takes the memory at first.
-    pub(crate) fn derive(
+    /// The master keys of each card from each key set, of which none is derived yet: no key is set up and no block enciphered. It
+    /// takes the memory at first, 304 bytes a pair, of which 256 are for a key that is kept.
+    pub(crate) fn underived(
         alloc: Global,
         keys: &[KeySet],
         cards: &[CardInfo],
@@ -43,10 +44,9 @@ impl KeptKeys {
         requires cards { length cards.now ≤ MAX_CARDS }
         ensures { IfOk result (λ kept. kept ≡ kept_keys keys.now cards.now) }
     {
-        let ciphers = set_up(alloc, keys)?;
         let mut pairs = Vec::with_capacity(alloc, cards.len() * keys.len())?;
         for card in cards {
-            add_card(&mut pairs, ciphers.as_slice(), card);
+            add_card(&mut pairs, keys, card);
         }
         Ok(KeptKeys {
             sets: keys.len(),
@@ -55,32 +55,58 @@ impl KeptKeys {
     }
 
     /// The master keys of the card with this number from the key set at this place.
-    pub(crate) fn keys_of(&self, card: u32, place: usize) -> &LazyKeys
+    pub(crate) fn secrets_of(&self, card: u32, place: usize) -> &CardSecrets
         requires { card * self.now.sets + place < length self.now.pairs }
         ensures { slice_get self.now.pairs (card * self.now.sets + place) ≡ Some result.now }
     {
         &self.pairs[card as usize * self.sets + place]
     }
+
+    /// Keeps the key for cryptograms of the card with this number from the key set at this place, where it isn't kept yet.
+    pub(crate) fn keep(&mut self, card: u32, place: usize)
+        requires { card * self.old.sets + place < length self.old.pairs }
+        ensures { self.new ≡ self.old }
+    {
+        let at = card as usize * self.sets + place;
+        self.pairs[at].keep();
+    }
+
+    /// Keeps the keys for cryptograms of all cards from each of these key sets, of which each master key is set up once where they are
+    /// those of the issuer.
+    pub(crate) fn keep_all(&mut self, keys: &[KeySet])
+        requires { length keys.now ≤ MAX_KEY_SETS }
+        ensures { self.new ≡ self.old }
+    {
+        for (place, set) in keys.iter().enumerate() {
+            keep_set(
+                self.pairs.as_mut_slice(),
+                place,
+                keys.len(),
+                &MasterCiphers::new(set),
+            );
+        }
+    }
 }
 
-/// Each of these key sets, set up.
-fn set_up(alloc: Global, keys: &[KeySet]) -> Result<Vec<MasterCiphers>, AllocError>
-    ensures { IfOk result (λ ciphers. ciphers.items ≡ keys.now) }
+/// Keeps the keys for cryptograms of the pairs at this place and at each so many further on.
+fn keep_set(pairs: &mut [CardSecrets], place: usize, step: usize, ciphers: &MasterCiphers)
+    requires { (0 < step) × (step ≤ MAX_KEY_SETS) × (place < step) }
+    ensures { pairs.new ≡ pairs.old }
 {
-    let mut ciphers = Vec::with_capacity(alloc, keys.len())?;
-    for set in keys {
-        ciphers.push_reserved(MasterCiphers::new(set));
+    let mut at = place;
+    while at < pairs.len() {
+        pairs[at].keep_by(ciphers);
+        at += step;
     }
-    Ok(ciphers)
 }
 
 /// Adds the master keys of a card from each key set to pairs that have room for them.
-fn add_card(pairs: &mut Vec<LazyKeys>, ciphers: &[MasterCiphers], card: &CardInfo)
-    requires { length pairs.old.items + length ciphers.now ≤ vec_capacity pairs.old }
-    ensures added { pairs.new.items ≡ pairs.old.items ++ pairs_of ciphers.now card.now }
+fn add_card(pairs: &mut Vec<CardSecrets>, keys: &[KeySet], card: &CardInfo)
+    requires { length pairs.old.items + length keys.now ≤ vec_capacity pairs.old }
+    ensures added { pairs.new.items ≡ pairs.old.items ++ pairs_of keys.now card.now }
     ensures room { vec_capacity pairs.new ≡ vec_capacity pairs.old }
 {
-    for set in ciphers {
-        pairs.push_reserved(set.lazy_keys(&card.pan, card.psn));
+    for set in keys {
+        pairs.push_reserved(CardSecrets::of(set, &card.pan, card.psn));
     }
 }

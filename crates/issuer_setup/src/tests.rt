@@ -1,11 +1,13 @@
 //! An issuer of good parts, by each of its calls, and the parts that make none.
 
+ghost use Rattle.std.specs.Prelude.{◌<◌, length};
+
 use super::*;
 use arrayvec::ArrayVec;
 use decision_table::{Table, TableRow};
 use des_block::Key16;
 use issuer_base::{MAX_KEY_SETS, MasterOption, Method, Pan, Parts, Request};
-use key_derive::{KeySet, card_keys};
+use key_derive::{KeySet, SessionKey, card_keys};
 use std::alloc::Global;
 use std::test::Fail;
 
@@ -105,6 +107,50 @@ fn tells_its_parts(rt: HostRuntime) -> Result<(), Fail> {
     let expected = card_keys(&KEY, &named.pan, named.psn);
     let asked = request().ok_or("a request")?;
     assert!(rt; issuer.keys_of(1, &asked) == Some(expected));
+    Ok(())
+}
+
+/// What the request's session key for this card makes of a block of zeros.
+fn enciphered(issuer: &Issuer, card: u32, request: &Request) -> Option<[u8; 8]>
+    requires { card < length issuer.now.cards }
+{
+    Some(issuer.session_of(card, request)?.cipher().encipher([0; 8]))
+}
+
+#[test]
+fn gives_the_same_session_keys_of_keys_that_it_keeps(rt: HostRuntime) -> Result<(), Fail> {
+    let alloc = rt.alloc();
+    let asked = request().ok_or("a request")?;
+    let named = card(8, 0x00).ok_or("a card")?;
+    let keys_of_card = card_keys(&KEY, &named.pan, named.psn);
+    let session = SessionKey::for_cryptograms(&keys_of_card.ac, 1);
+    let want = Some(session.cipher().encipher([0; 8]));
+    let mut issuer = Issuer::new(
+        alloc,
+        2,
+        keys(&[7, 0])?,
+        cards(alloc, &GOOD_CARDS)?,
+        table()?,
+    )
+    .map_err(|_| "an issuer")?;
+    assert_eq!(rt; issuer.cards(), 3);
+    let unkept = [
+        enciphered(&issuer, 1, &asked),
+        enciphered(&issuer, 2, &asked),
+    ];
+    assert_eq!(rt; unkept[0], want);
+    issuer.keep(1, &asked);
+    let one_kept = [
+        enciphered(&issuer, 1, &asked),
+        enciphered(&issuer, 2, &asked),
+    ];
+    assert_eq!(rt; one_kept, unkept);
+    issuer.keep_all();
+    let all_kept = [
+        enciphered(&issuer, 1, &asked),
+        enciphered(&issuer, 2, &asked),
+    ];
+    assert_eq!(rt; all_kept, unkept);
     Ok(())
 }
 

@@ -1,10 +1,10 @@
--- A card's master key for secure messages, which may not be derived yet.
-use Rattle.des_block.specs.declared.Key16.{Key16}
-use Rattle.key_derive.specs.declared.lazy.MessageKey.{MessageKey}
-use Rattle.key_derive.specs.declared.lazy.MessageKey.TheVariants.{Derived, Underived}
+-- A card's master keys, which may not be derived yet.
+use Rattle.key_derive.specs.declared.card.CardKeys.{CardKeys}
+use Rattle.key_derive.specs.declared.lazy.KeySource.{KeySource}
+use Rattle.key_derive.specs.declared.lazy.KeySource.TheVariants.{Derived, Underived}
 use Rattle.key_derive.specs.MasterKey.{diversified}
 
--- the key itself, or what the issuer's master key makes of the block of digits
-abbrev pub message_key : MessageKey → Key16
-message_key (Derived key) = key
-message_key (Underived master block) = record { 0 = diversified master.0 block }
+-- the keys themselves, or what the issuer's master keys make of the block of digits
+abbrev pub keys_from : KeySource → CardKeys
+keys_from (Derived keys) = keys
+keys_from (Underived ac smi block) = record { ac = record { 0 = diversified ac.0 block }; smi = record { 0 = diversified smi.0 block } }

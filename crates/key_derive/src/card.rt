@@ -1,9 +1,9 @@
 //! The keys of a card from those of its issuer.
 
 ghost use Rattle.std.specs.Prelude.{◌≡◌};
+ghost use Rattle.des_block.specs.Keyed.{HasKeyPair};
 ghost use Rattle.key_derive.specs.CardKey.{card_keys};
 
-use crate::lazy::LazyKeys;
 use crate::master::{block_of, diversified};
 use des_block::{Key16, Tdes};
 use issuer_base::{MasterOption, Pan};
@@ -100,13 +100,18 @@ impl MasterCiphers {
         }
     }
 
-    /// The same keys, of which the one for secure messages is derived when it is asked for. Sets up no key, and enciphers
-    /// two blocks.
-    pub fn lazy_keys(&self, pan: &Pan, psn: u8) -> LazyKeys
-        ensures { result ≡ card_keys self.now pan.now psn }
+    /// The issuer's master key for application cryptograms.
+    pub(crate) fn key(&self) -> Key16
+        ensures { result ≡ self.now.ac }
     {
-        let block = block_of(self.set.option, pan, psn);
-        LazyKeys::underived(diversified(&self.ac, block), self.set.smi, block)
+        self.set.ac
+    }
+
+    /// Triple DES under it.
+    pub(crate) fn cipher(&self) -> &Tdes
+        ensures { HasKeyPair result.now self.now.ac.0 }
+    {
+        &self.ac
     }
 }
 

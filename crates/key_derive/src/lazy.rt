@@ -1,71 +1,78 @@
-//! A card's master keys, of which the one for secure messages is derived when it is asked for.
-ghost use Rattle.std.specs.Prelude.{◌≡◌, ℕ, List};
-ghost use Rattle.key_derive.specs.LazyKey.{message_key};
-ghost use Rattle.key_derive.specs.MasterKey.{diversified};
+//! A card's master keys, which are derived when they are asked for.
+ghost use Rattle.std.specs.Prelude.{◌≡◌};
+ghost use Rattle.key_derive.specs.CardKey.{card_keys};
 
-use crate::card::CardKeys;
-use crate::master::diversified;
+use crate::card::{CardKeys, KeySet, MasterCiphers};
+use crate::master::{block_of, diversified};
 use des_block::{Key16, Tdes};
+use issuer_base::Pan;
 use std::marker::Model;
 
-/// A card's master keys. The one for the integrity of secure messages need not be derived before it is asked for, as few
-/// replies carry such a message.
+/// A card's master keys. None of them need be derived before it is asked for: a host sees few of its cards often, and few replies
+/// carry a secure message.
 ///
 /// A contract sees the pair of keys.
 #[derive(Drop)]
 pub struct LazyKeys {
-    /// For application cryptograms.
-    ac: Key16,
-
-    /// For the integrity of secure messages.
-    smi: MessageKey,
+    source: KeySource,
 }
 
-/// A card's master key for the integrity of secure messages.
+/// Where a card's master keys come from.
 #[derive(Clone, Copy)]
-pub(crate) enum MessageKey {
-    /// It is this key.
-    Derived(Key16),
+pub(crate) enum KeySource {
+    /// They are these.
+    Derived(CardKeys),
 
-    /// It is what the issuer's master key makes of this block of digits.
-    Underived { master: Key16, block: [u8; 8] },
+    /// They are what the issuer's master keys make of this block of digits.
+    Underived {
+        ac: Key16,
+        smi: Key16,
+        block: [u8; 8],
+    },
 }
 
 impl Model for LazyKeys {
     ghost use Rattle.key_derive.specs.declared.card.CardKeys.{CardKeys};
-    ghost use Rattle.key_derive.specs.LazyKey.{message_key};
+    ghost use Rattle.key_derive.specs.LazyKey.{keys_from};
 
     ghost Value = { CardKeys };
 
-    ghost view = { λ keys. record { ac = keys.ac; smi = message_key keys.smi } };
+    ghost view = { λ keys. keys_from keys.source };
 }
 
 impl LazyKeys {
-    /// The keys of which `ac` is derived, and the other is what the issuer's master key makes of this block.
-    pub(crate) fn underived(ac: Key16, master: Key16, block: [u8; 8]) -> LazyKeys
-        ensures { result ≡ record { ac = ac; smi = record { 0 = diversified master.0 block } } }
+    /// The master keys of a card from those of its issuer, of which none is derived yet. It sets up no key and enciphers nothing; option
+    /// B hashes an account number of more than sixteen digits.
+    pub fn of(set: &KeySet, pan: &Pan, psn: u8) -> LazyKeys
+        ensures { result ≡ card_keys set.now pan.now psn }
     {
         LazyKeys {
-            ac,
-            smi: MessageKey::Underived { master, block },
+            source: KeySource::Underived {
+                ac: set.ac,
+                smi: set.smi,
+                block: block_of(set.option, pan, psn),
+            },
         }
     }
 
-    /// The key for application cryptograms.
-    pub fn ac(&self) -> &Key16
-        ensures { result.now ≡ self.now.ac }
+    /// The key for application cryptograms. Where it isn't derived yet, it sets up the issuer's master key and enciphers two
+    /// blocks, each time it is called.
+    pub fn ac(&self) -> Key16
+        ensures { result ≡ self.now.ac }
     {
-        &self.ac
+        match &self.source {
+            KeySource::Derived(keys) => keys.ac,
+            KeySource::Underived { ac, block, .. } => diversified(&Tdes::new(ac), *block),
+        }
     }
 
-    /// The key for the integrity of secure messages. Where it isn't derived yet, it sets up the issuer's master key and
-    /// enciphers two blocks, each time it is called.
+    /// The key for the integrity of secure messages, at the same cost.
     pub fn smi(&self) -> Key16
         ensures { result ≡ self.now.smi }
     {
-        match self.smi {
-            MessageKey::Derived(key) => key,
-            MessageKey::Underived { master, block } => diversified(&Tdes::new(&master), block),
+        match &self.source {
+            KeySource::Derived(keys) => keys.smi,
+            KeySource::Underived { smi, block, .. } => diversified(&Tdes::new(smi), *block),
         }
     }
 
@@ -74,7 +81,7 @@ impl LazyKeys {
         ensures { result ≡ self.now }
     {
         CardKeys {
-            ac: self.ac,
+            ac: self.ac(),
             smi: self.smi(),
         }
     }
@@ -84,8 +91,20 @@ impl LazyKeys {
         ensures { result ≡ self.now }
     {
         LazyKeys {
-            ac: self.ac,
-            smi: self.smi,
+            source: self.source,
+        }
+    }
+
+    /// The key for application cryptograms. Where it is to be derived from the master key that these ciphers have set up, it sets up
+    /// none.
+    pub(crate) fn ac_by(&self, ciphers: &MasterCiphers) -> Key16
+        ensures { result ≡ self.now.ac }
+    {
+        match &self.source {
+            KeySource::Underived { ac, block, .. } if *ac == ciphers.key() => {
+                diversified(ciphers.cipher(), *block)
+            }
+            _ => self.ac(),
         }
     }
 }
@@ -98,8 +117,7 @@ impl From<CardKeys> for LazyKeys {
 
     fn from(pair: CardKeys) -> LazyKeys {
         LazyKeys {
-            ac: pair.ac,
-            smi: MessageKey::Derived(pair.smi),
+            source: KeySource::Derived(pair),
         }
     }
 }

@@ -3,6 +3,7 @@
 
 mod card;
 mod digits;
+mod kept;
 mod lazy;
 mod master;
 mod session;
@@ -11,6 +12,7 @@ mod tests;
 
 pub use card::{CardKeys, KeySet, MasterCiphers, card_keys};
 pub use digits::decimal16;
+pub use kept::CardSecrets;
 pub use lazy::LazyKeys;
 pub use master::{master_key, option_a, option_b};
 pub use session::{SessionKey, session_ac, session_sm};

@@ -1,6 +1,6 @@
 //! The session keys of a transaction: EMV 4.3 Book 2, Annex A1.3.1.
 
-ghost use Rattle.std.specs.Prelude.{◌≡◌, slice_set};
+ghost use Rattle.std.specs.Prelude.{◌≡◌, ℕ, List, slice_set};
 ghost use Rattle.des_block.specs.Keyed.{HasKeyPair};
 ghost use Rattle.key_derive.specs.SessionKey.{session_key, session_ac, session_sm};
 
@@ -30,11 +30,18 @@ impl Model for SessionKey {
 
 impl SessionKey {
     /// The key of the transaction with this counter, from the card's master key for cryptograms, as `session_ac` gives it.
-    /// Sets up the master key and the session key.
+    /// Sets up the master key and the session key, and enciphers two blocks.
     pub fn for_cryptograms(master: &Key16, atc: u16) -> SessionKey
         ensures { result ≡ session_ac master.now.0 atc }
     {
-        let key = session_ac(master, atc);
+        SessionKey::under(&Tdes::new(master), atc)
+    }
+
+    /// The same key, from the card's master key set up in this cipher. Sets up the session key, and enciphers two blocks.
+    pub fn under(master: &Tdes, atc: u16) -> SessionKey
+        ensures { (mk : List ℕ) → HasKeyPair master.now mk → result ≡ session_ac mk atc }
+    {
+        let key = session_ac_under(master, atc);
         let cipher = Tdes::new(&key);
         SessionKey { key, cipher }
     }
@@ -52,8 +59,14 @@ impl SessionKey {
 pub fn session_ac(mk: &Key16, atc: u16) -> Key16
     ensures { result.0 ≡ session_ac mk.now.0 atc }
 {
+    session_ac_under(&Tdes::new(mk), atc)
+}
+
+fn session_ac_under(master: &Tdes, atc: u16) -> Key16
+    ensures { (mk : List ℕ) → HasKeyPair master.now mk → result.0 ≡ session_ac mk atc }
+{
     let [high, low] = atc.to_be_bytes();
-    session_key(mk, [high, low, 0, 0, 0, 0, 0, 0])
+    session_key(master, [high, low, 0, 0, 0, 0, 0, 0])
 }
 
 /// The session key for a transaction's secure messages, from the card's master key and the application
@@ -61,14 +74,13 @@ pub fn session_ac(mk: &Key16, atc: u16) -> Key16
 pub fn session_sm(mk: &Key16, ac: &[u8; 8]) -> Key16
     ensures { result.0 ≡ session_sm mk.now.0 ac.now }
 {
-    session_key(mk, *ac)
+    session_key(&Tdes::new(mk), *ac)
 }
 
-fn session_key(mk: &Key16, value: [u8; 8]) -> Key16
-    ensures { result.0 ≡ session_key mk.now.0 value }
+fn session_key(master: &Tdes, value: [u8; 8]) -> Key16
+    ensures { (mk : List ℕ) → HasKeyPair master.now mk → result.0 ≡ session_key mk value }
 {
-    let tdes = Tdes::new(mk);
-    let (left, right) = tdes.encipher_both(with_third(value, 0xF0), with_third(value, 0x0F));
+    let (left, right) = master.encipher_both(with_third(value, 0xF0), with_third(value, 0x0F));
     joined(left, right)
 }
 

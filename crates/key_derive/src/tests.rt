@@ -249,6 +249,46 @@ fn derives_the_keys_of_a_card(rt: HostRuntime) -> Result<(), Fail> {
         };
         let pan = pan(digits).ok_or("an account number")?;
         assert_eq!(rt; card_keys(&set, &pan, psn), want, "for {digits}");
+        assert_eq!(rt; LazyKeys::of(&set, &pan, psn).pair(), want, "for {digits}");
+    }
+    Ok(())
+}
+
+#[test]
+fn keeps_the_keys_that_it_has(rt: HostRuntime) -> Result<(), Fail> {
+    let set = KeySet {
+        dki: 1,
+        option: MasterOption::A,
+        ac: key(0xDDF1DA21_32AFB7D3_17680B1A_CC706866_u128),
+        smi: key(0x5EDEFF59_858E2EF6_A2B6D5BE_DE7E5429_u128),
+    };
+    let other = KeySet { ac: set.smi, ..set };
+    let pan = pan("4943094148").ok_or("an account number")?;
+    let keys = card_keys(&set, &pan, 0x59);
+    let want = SessionKey::for_cryptograms(&keys.ac, 7)
+        .cipher()
+        .encipher([0; 8]);
+    let unkept = CardSecrets::of(&set, &pan, 0x59);
+    let mut kept = CardSecrets::of(&set, &pan, 0x59);
+    kept.keep();
+    kept.keep();
+    let mut by_its_own = CardSecrets::of(&set, &pan, 0x59);
+    by_its_own.keep_by(&MasterCiphers::new(&set));
+    let mut by_another = CardSecrets::of(&set, &pan, 0x59);
+    by_another.keep_by(&MasterCiphers::new(&other));
+    let cases = [
+        ("unkept", unkept),
+        ("kept", kept),
+        ("kept by its own key set", by_its_own),
+        ("kept by another key set", by_another),
+    ];
+    for (name, secrets) in &cases {
+        assert_eq!(rt;
+            secrets.session(7).cipher().encipher([0; 8]),
+            want,
+            "{name}"
+        );
+        assert_eq!(rt; secrets.keys().pair(), keys, "{name}");
     }
     Ok(())
 }

@@ -1,6 +1,8 @@
 -- What was found and derived when a line was checked.
-use Rattle.std.specs.Prelude.{◌≡◌, ◌≤◌, ℕ, Some, IsTrue}
+use Rattle.std.specs.Prelude.{◌≡◌, ◌≤◌, ℕ, Some, true, IsTrue}
 use Rattle.issuer_base.specs.declared.limits.TheConstants.{MAX_STATUS}
+use Rattle.issuer_base.specs.declared.request.Request.{Request}
+use Rattle.issuer_base.specs.ChipData.{is_arqc}
 use Rattle.issuer_base.specs.ScriptCommand.{is_command}
 use Rattle.card_history.specs.declared.decision.Asked.{Asked}
 use Rattle.card_history.specs.declared.decision.Asked.TheVariants.{Decide as AsksDecision, Queue as AsksQueue, Status as AsksStatus}
@@ -11,6 +13,7 @@ use Rattle.issuer_setup.specs.IssuerSetup.{Setup, keys_of}
 use Rattle.line_checks.specs.declared.checked.Checked.{Checked}
 use Rattle.line_checks.specs.declared.checked.Checked.TheVariants.{Decide, Queue, Status}
 use Rattle.line_checks.specs.declared.checked.CheckedRequest.{CheckedRequest}
+use Rattle.line_checks.specs.declared.request.KnownCard.{KnownCard}
 use Rattle.line_checks.specs.declared.checked.CheckedCommand.{CheckedCommand}
 use Rattle.line_checks.specs.declared.checked.CheckedStatus.{CheckedStatus}
 
@@ -24,6 +27,12 @@ asked_of (Status found) = AsksStatus found.pan found.psn found.status
 pub record IsCardAtHand (issuer : Setup) (name : CardName) (number : ℕ) : Type 0 where
   pub valid : AreCards issuer.cards
   pub number_is : number_of name issuer.cards ≡ Some number
+
+-- the request asks to go online, and these are its card and the card's master keys from the key set that it names
+pub record HasKeysAtHand (issuer : Setup) (request : Request) (known : KnownCard) : Type 0 where
+  pub card_is : IsCardAtHand issuer (card_of request) known.card
+  pub online_is : is_arqc request ≡ true
+  pub keys_are : keys_of issuer known.card request ≡ Some known.keys
 
 -- besides, the keys are the card's master keys from the key set that the request names, and the session key is that of
 -- these keys and the request's counter: EMV 4.3 Book 2, Annex A1.3.1

@@ -6,7 +6,7 @@ ghost use Rattle.line_checks.specs.AtHand.{asked_of, IsAtHand};
 
 use crate::card::{check_command, check_status};
 use crate::checked::Checked;
-use crate::request::check_data;
+use crate::request::{check_data, check_data_in};
 use chip_request::{LineForm, read_line_into};
 use issuer_base::{MAX_CHIP_BYTES, Refusal};
 use issuer_setup::Issuer;
@@ -16,21 +16,29 @@ pub fn check_line(issuer: &Issuer, line: &[u8]) -> Result<Checked, Refusal>
     ensures asked { result_map_both asked_of (λ refusal. refusal) result ≡ reading issuer.now line.now }
     ensures at_hand { IfOk result (IsAtHand issuer.now) }
 {
-    check_line_in(issuer, line, &mut [0; MAX_CHIP_BYTES])
+    let mut data = [0; MAX_CHIP_BYTES];
+    match read_line_into(line, &mut data).map_err(Refusal::BadLine)? {
+        LineForm::Ask { count } => check_data(issuer, &data[..count]),
+        LineForm::Queue { pan, psn, count } => check_command(issuer, pan, psn, &data[..count]),
+        LineForm::Set { pan, psn, status } => check_status(issuer, pan, psn, status),
+    }
 }
 
-/// As [`check_line`], with room of the caller's for the line's data, of which nothing counts before or after.
+/// As [`check_line`], with room of the caller's for the line's data, of which nothing counts before or after. The issuer keeps the key for
+/// cryptograms of the card that a request names, once the card, the kind of request and the key set are right: so the card's next
+/// request finds it set up. A contract sees no change of the issuer.
 #[inline(always)]
 pub fn check_line_in(
-    issuer: &Issuer,
+    issuer: &mut Issuer,
     line: &[u8],
     data: &mut [u8; MAX_CHIP_BYTES],
 ) -> Result<Checked, Refusal>
-    ensures asked { result_map_both asked_of (λ refusal. refusal) result ≡ reading issuer.now line.now }
-    ensures at_hand { IfOk result (IsAtHand issuer.now) }
+    ensures asked { result_map_both asked_of (λ refusal. refusal) result ≡ reading issuer.old line.now }
+    ensures at_hand { IfOk result (IsAtHand issuer.old) }
+    ensures same { issuer.new ≡ issuer.old }
 {
     match read_line_into(line, data).map_err(Refusal::BadLine)? {
-        LineForm::Ask { count } => check_data(issuer, &data[..count]),
+        LineForm::Ask { count } => check_data_in(issuer, &data[..count]),
         LineForm::Queue { pan, psn, count } => check_command(issuer, pan, psn, &data[..count]),
         LineForm::Set { pan, psn, status } => check_status(issuer, pan, psn, status),
     }

@@ -1,17 +1,17 @@
 //! The check of the request that chip data say.
-ghost use Rattle.std.specs.Prelude.{◌≡◌, ◌≤◌, length, IfOk};
+ghost use Rattle.std.specs.Prelude.{◌≡◌, ◌≤◌, length, Err, IfOk, IfErr};
 ghost use Rattle.std.specs.Result.{result_map_both};
 ghost use Rattle.card_history.specs.declared.decision.Asked.TheVariants.{Decide};
 ghost use Rattle.chip_request.specs.Reading.{request_of};
 ghost use Rattle.line_checks.specs.Reading.{refusal_of, checked, checked_data};
-ghost use Rattle.line_checks.specs.AtHand.{asked_of, IsAtHand, IsRequestAtHand};
+ghost use Rattle.line_checks.specs.AtHand.{asked_of, IsAtHand, IsRequestAtHand, HasKeysAtHand};
 
 use crate::checked::{Checked, CheckedRequest};
 use chip_request::{RequestFault, read_request};
 use cryptogram_in::holds_under;
 use issuer_base::{MAX_CHIP_BYTES, Refusal, Request};
 use issuer_setup::Issuer;
-use key_derive::SessionKey;
+use key_derive::LazyKeys;
 
 /// The request that these chip data say, checked by the issuer's cards and keys.
 #[inline(always)]
@@ -22,6 +22,19 @@ pub(crate) fn check_data(issuer: &Issuer, bytes: &[u8]) -> Result<Checked, Refus
 {
     let request = read_request(bytes).map_err(refusal_of)?;
     let found = check_request(issuer, request)?;
+    Ok(Checked::Decide(found))
+}
+
+/// As [`check_data`], and the card's key for cryptograms is kept.
+#[inline(always)]
+pub(crate) fn check_data_in(issuer: &mut Issuer, bytes: &[u8]) -> Result<Checked, Refusal>
+    requires { length bytes.now ≤ MAX_CHIP_BYTES }
+    ensures request { result_map_both asked_of (λ refusal. refusal) result ≡ checked_data issuer.old (request_of bytes.now) }
+    ensures at_hand { IfOk result (IsAtHand issuer.old) }
+    ensures same { issuer.new ≡ issuer.old }
+{
+    let request = read_request(bytes).map_err(refusal_of)?;
+    let found = check_request_in(issuer, request)?;
     Ok(Checked::Decide(found))
 }
 
@@ -38,11 +51,40 @@ fn refusal_of(fault: RequestFault) -> Refusal
 
 /// The request, checked by the issuer's cards and keys: the card is known, it asks to go online, its key set is known, and its
 /// cryptogram is right. Its session key is set up once.
-#[tactic(auto, unfolding(cryptogram_in::specs::Cryptogram::application_cryptogram))]
 #[inline(always)]
 pub fn check_request(issuer: &Issuer, request: Request) -> Result<CheckedRequest, Refusal>
     ensures request { result_map_both (λ found. Decide found.request) (λ refusal. refusal) result ≡ checked issuer.now request }
     ensures at_hand { IfOk result (IsRequestAtHand issuer.now) }
+{
+    let known = known_card(issuer, &request)?;
+    check_cryptogram(issuer, request, known)
+}
+
+/// As [`check_request`], and the card's key for cryptograms is kept before it is used, whether the cryptogram is right or not.
+#[inline(always)]
+fn check_request_in(issuer: &mut Issuer, request: Request) -> Result<CheckedRequest, Refusal>
+    ensures request { result_map_both (λ found. Decide found.request) (λ refusal. refusal) result ≡ checked issuer.old request }
+    ensures at_hand { IfOk result (IsRequestAtHand issuer.old) }
+    ensures same { issuer.new ≡ issuer.old }
+{
+    let known = known_card(issuer, &request)?;
+    issuer.keep(known.card, &request);
+    check_cryptogram(issuer, request, known)
+}
+
+/// A card of the issuer, with its master keys from the key set that a request names.
+#[derive(Drop)]
+pub(crate) struct KnownCard {
+    /// The number of the card.
+    pub(crate) card: u32,
+    pub(crate) keys: LazyKeys,
+}
+
+/// The card of a request that asks to go online, with a key set that is known.
+#[inline(always)]
+fn known_card(issuer: &Issuer, request: &Request) -> Result<KnownCard, Refusal>
+    ensures known { IfOk result (λ known. HasKeysAtHand issuer.now request.now known) }
+    ensures refused { IfErr result (λ refusal. checked issuer.now request.now ≡ Err refusal) }
 {
     let parts = request.parts();
     let Some(card) = issuer.card(&parts.pan, parts.psn) else {
@@ -51,10 +93,28 @@ pub fn check_request(issuer: &Issuer, request: Request) -> Result<CheckedRequest
     if !request.is_arqc() {
         return Err(Refusal::NotArqc);
     }
-    let Some(keys) = issuer.lazy_keys_of(card, &request) else {
+    let Some(keys) = issuer.lazy_keys_of(card, request) else {
         return Err(Refusal::UnknownKey(request.dki()));
     };
-    let session = SessionKey::for_cryptograms(keys.ac(), request.parts().atc);
+    Ok(KnownCard { card, keys })
+}
+
+/// The request of a known card, where its cryptogram is right.
+#[tactic(auto, unfolding(cryptogram_in::specs::Cryptogram::application_cryptogram))]
+#[inline(always)]
+fn check_cryptogram(
+    issuer: &Issuer,
+    request: Request,
+    known: KnownCard,
+) -> Result<CheckedRequest, Refusal>
+    requires { HasKeysAtHand issuer.now request known }
+    ensures request { result_map_both (λ found. Decide found.request) (λ refusal. refusal) result ≡ checked issuer.now request }
+    ensures at_hand { IfOk result (IsRequestAtHand issuer.now) }
+{
+    let KnownCard { card, keys } = known;
+    let Some(session) = issuer.session_of(card, &request) else {
+        return Err(Refusal::UnknownKey(request.dki()));
+    };
     if !holds_under(&session, &request) {
         return Err(Refusal::BadCryptogram);
     }

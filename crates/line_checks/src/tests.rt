@@ -198,6 +198,23 @@ fn checks_requests(rt: HostRuntime) -> Result<(), Fail> {
     Ok(())
 }
 
+/// A card's key is derived at its first request and found at the second.
+#[test]
+fn checks_requests_again(rt: HostRuntime) -> Result<(), Fail> {
+    let mut issuer = issuer(rt.alloc())?;
+    let mut data = [0; MAX_CHIP_BYTES];
+    for turn in 0..2 {
+        for case in &CASES {
+            let name = case.name;
+            let line = line(rt.alloc(), case.asked)?;
+            let checked = check_line_in(&mut issuer, line.as_bytes(), &mut data);
+            let found = told(rt.alloc(), checked)?;
+            assert_eq!(rt; found.as_str(), case.expected, "{name}, turn {turn}");
+        }
+    }
+    Ok(())
+}
+
 #[test]
 fn checks_other_lines(rt: HostRuntime) -> Result<(), Fail> {
     let issuer = issuer(rt.alloc())?;

@@ -6,9 +6,8 @@ use Rattle.key_derive.proofs.session.session_key.Goals as goal
 
 pub returns : goal.returns
 unfolding session_key
-returns c =
-    let mk = c.args.mk.now.0 in
+returns c mk keyed =
     c.joined.ensures
     ∙ ap₂ (λ left right. left ++ right)
-    (c.encipher_both.ensures.first mk c.new-tdes.ensures ∙ ap (tdes_encipher mk) c.with_third.ensures)
-    (c.encipher_both.ensures.second mk c.new-tdes.ensures ∙ ap (tdes_encipher mk) c.with_third-2.ensures)
+    (c.encipher_both.ensures.first mk keyed ∙ ap (tdes_encipher mk) c.with_third.ensures)
+    (c.encipher_both.ensures.second mk keyed ∙ ap (tdes_encipher mk) c.with_third-2.ensures)

@@ -4,4 +4,4 @@ use Rattle.key_derive.proofs.session.session_sm.Goals as goal
 
 pub returns : goal.returns
 unfolding session_sm
-returns c = c.session_key.ensures
+returns c = c.session_key.ensures c.args.mk.now.0 c.new.ensures

@@ -6,14 +6,15 @@ use Rattle.host_calls.proofs.host.Host.load.Goals as goal
 
 pub returns-in-Err-clause-stopped : goal.returns-in-Err-clause-stopped
 returns-in-Err-clause-stopped g c =
+    let loaded = rw c.keep_all.ensures at c.in_ok-shards.ensures.loaded in
     inr (rw (c.take_stores.ensures.stores, c.in-Err.ensures.refused)
-    (all-come-back c.args.issuer c.args.stores.items c.in_ok-shards.field-0.shards.items c.in_ok-shards.ensures.loaded))
+    (all-come-back c.args.issuer c.args.stores.items c.in_ok-shards.field-0.shards.items loaded))
 
 pub invariant_of-host : goal.invariant_of-host
 invariant_of-host g c = record {
   cards = c.in-Ok-share.ensures.cards.0;
   shards = c.in-Ok-share.ensures.turns.0;
-  counted = opened-counted g.S.Store.bytes g.S.Store.faults c.args.issuer c.of-before.result.value.items _ c.in-Ok-share.ensures.opening;
+  counted = opened-counted g.S.Store.bytes g.S.Store.faults c.keep_all.new.self c.of-before.result.value.items _ c.in-Ok-share.ensures.opening;
   recorded = c.in-Ok-share.ensures.recorded;
 }
 

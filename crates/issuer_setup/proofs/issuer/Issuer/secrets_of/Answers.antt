@@ -2,16 +2,16 @@
 use Rattle.std.proofs.Common.{◌<◌, length, sym, ◌∙◌}
 use Rattle.issuer_base.specs.ChipData.{dki}
 use Rattle.issuer_setup.proofs.KeptKeysLemmas.{kept-within, kept-keys, no-keys}
-use Rattle.issuer_setup.proofs.issuer.Issuer.lazy_keys_of.Goals as goal
+use Rattle.issuer_setup.proofs.issuer.Issuer.secrets_of.Goals as goal
 
 pub returns-in_err-place : goal.returns-in_err-place
 returns-in_err-place c =
     let searched = rw c.dki.ensures at c.place_of.ensures in
-    c.from_residual.ensures
-    ∙ rw (← c.self.view_is) (sym (no-keys c.self.inside.keys c.self.inside.cards c.args.card (dki c.args.request.now) (sym searched ∙ c.in_err-place.was)))
+    rw (c.from_residual.ensures, ← c.self.view_is)
+    (sym (no-keys c.self.inside.keys c.self.inside.cards c.args.card (dki c.args.request.now) (sym searched ∙ c.in_err-place.was)))
 
-pub keys_of-requires : goal.keys_of-requires
-keys_of-requires c =
+pub secrets_of-requires : goal.secrets_of-requires
+secrets_of-requires c =
     let searched = rw c.dki.ensures at c.place_of.ensures in
     let below : c.args.card < length c.self.inside.cards = rw (← c.self.view_is) at c.requires in
     kept-within c.self.inside.keys c.self.inside.cards c.self.inside.kept c.args.card (dki c.args.request.now) c.in_ok-place.place
@@ -21,6 +21,6 @@ pub returns : goal.returns
 returns c =
     let searched = rw c.dki.ensures at c.place_of.ensures in
     let below : c.args.card < length c.self.inside.cards = rw (← c.self.view_is) at c.requires in
-    rw (← c.self.view_is, c.copy.ensures)
-    (kept-keys c.self.inside.keys c.self.inside.cards c.self.inside.kept c.args.card (dki c.args.request.now) c.in_ok-place.place c.keys_of.result.now
-    c.self.invariant below (sym searched ∙ c.in_ok-place.was) c.keys_of.ensures)
+    rw (← c.self.view_is)
+    (kept-keys c.self.inside.keys c.self.inside.cards c.self.inside.kept c.args.card (dki c.args.request.now) c.in_ok-place.place c.secrets_of.result.now
+    c.self.invariant below (sym searched ∙ c.in_ok-place.was) c.secrets_of.ensures)

@@ -2,7 +2,7 @@
 use Rattle.std.proofs.Common.{◌≡◌, ◌*◌, length, take, vec_capacity}
 use Rattle.std.specs.List.{flat_map}
 use Rattle.issuer_setup.specs.KeptKeys.{pairs_of}
-use Rattle.issuer_setup.proofs.kept_keys.KeptKeys.derive.Given as goal
+use Rattle.issuer_setup.proofs.kept_keys.KeptKeys.underived.Given as goal
 
 abbrev pub invariant-loop-card : goal.invariant-loop-card
 invariant-loop-card l = record {
