@@ -1,10 +1,8 @@
 -- What a row's slots say of a request is one turn's answer to it after each history that the row stands for.
-use Rattle.std.proofs.Common.{◌≡◌, ℕ, List, [], ◌∷◌, length, refl, ap, sym, ◌∙◌, subst}
-use Rattle.std.proofs.lemmas.List.{append_cancel_left}
+use Rattle.std.proofs.Common.{◌≡◌, ℕ, List, length, refl, ap, sym, ◌∙◌, subst}
 use Rattle.issuer_base.specs.declared.answer.Method.{Method}
 use Rattle.issuer_base.specs.declared.answer.Reply.{Reply}
 use Rattle.issuer_base.specs.declared.entry.Entry.{Entry}
-use Rattle.issuer_base.specs.declared.entry.Entry.TheVariants.{Decided}
 use Rattle.issuer_base.specs.declared.request.Request.{Request}
 use Rattle.card_history.specs.declared.decision.Decision.{Decision}
 use Rattle.card_history.specs.Records.{CardName, card_of, decided, greatest, status_of}
@@ -25,26 +23,22 @@ use Rattle.row_core.proofs.RowLemmas.{keeps-scripts}
 abbrev pub fresh_by : Method → CardKeys → List TableRow → Scripts → ℕ → Request → ℕ → Outcome
 fresh_by method keys table scripts status request place =
     let reply = decided_reply method keys table scripts status request in
-    Fresh reply (record { request = request; reply = reply; place = place })
+    Fresh reply place
 
--- the step of a fresh plan is the next decision of the row's card
-pub planned-next : (row : CardRow) (keys : CardKeys) (table : List TableRow) (request : Request) (place : ℕ)
-    (reply : Reply) (step : Decision) (card : CardInfo) (history : List Entry)
-    → IsPlan row keys table request place (Fresh reply step)
+-- a fresh plan is the next decision of the row's card
+pub planned-next : (row : CardRow) (keys : CardKeys) (table : List TableRow) (request : Request) (place at : ℕ)
+    (reply : Reply) (card : CardInfo) (history : List Entry)
+    → IsPlan row keys table request place (Fresh reply at)
     → StandsFor card row history
     → card_of request ≡ name_of card
     → place ≡ length history
-    → IsNext card history step
-planned-next row keys table request place reply step card history planned stands named at_end =
+    → IsNext card history (record { request = request; reply = reply; place = at })
+planned-next row keys table request place at reply card history planned stands named at_end =
     let answered = planned 0 card history stands named at_end in
-    let last : Decided step.request step.reply ∷ [] ≡ Decided request reply ∷ [] =
-    append_cancel_left history (Decided step.request step.reply ∷ []) (Decided request reply ∷ []) answered.4 in
-    let same : step.request ≡ request = cc in
     record {
-      of_card = ap card_of same ∙ named;
+      of_card = named;
       at_end = answered.2;
-      unused = subst (λ (request : Request). IsUnused (decided (name_of card) history) request) (sym same)
-          (subst (λ (name : CardName). IsUnused (decided name history) request) named answered.0);
+      unused = subst (λ (name : CardName). IsUnused (decided name history) request) named answered.0;
     }
 
 -- what is decided of a request on an unused counter is one turn's answer to it
@@ -61,6 +55,6 @@ plans-fresh row keys table request place outcome unused decides shard card histo
     let is_unused : IsUnused (decided (card_of request) history) request =
     subst (λ (name : CardName). IsUnused (decided name history) request) (sym named)
     (unused (decided (name_of card) history) stands.hi_is stands.window_is) in
-    subst (λ outcome. Answers shard (reply_after card.method keys table) history request (answer_of shard outcome) (history_after history outcome))
+    subst (λ outcome. Answers shard (reply_after card.method keys table) history request (answer_of shard outcome) (history_after history request outcome))
     (sym (decides scripts (keeps-scripts card row history stands)))
     (is_unused, refl, at_end, made, refl)

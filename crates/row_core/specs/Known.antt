@@ -9,7 +9,7 @@ use Rattle.row_core.specs.declared.row.Outcome.TheVariants.{Fresh, Kept, Below, 
 -- the decisions show that this is to be done with the request
 abbrev pub IsKnown : List Decision → Request → Outcome → Type 0
 IsKnown decisions request (Fresh reply step) = ⊥
-IsKnown decisions request (Kept reply place) = IsUsed decisions request (record { request = request; reply = reply; place = place })
+IsKnown decisions request (Kept reply place) = IsUsed decisions request (record { request = request; reply = reply.now; place = place })
 IsKnown decisions request (Below top) = IsTooOld decisions request top
 IsKnown decisions request (Taken place) =
     (decision : Decision) × IsUsed decisions request decision × (decision.place ≡ place) × (decision.request ≢ request)

@@ -21,8 +21,8 @@ use Rattle.row_core.specs.declared.row.Outcome.TheVariants.{Fresh, Kept, Below, 
 
 -- the answer of this shard to a request for which this is planned
 abbrev pub answer_of : ℕ → Outcome → Answer
-answer_of shard (Fresh reply step) = AnswerFresh shard step.place reply
-answer_of shard (Kept reply place) = AnswerKept shard place reply
+answer_of shard (Fresh reply place) = AnswerFresh shard place reply
+answer_of shard (Kept reply place) = AnswerKept shard place reply.now
 answer_of shard (Below top) = Refused (IsBelowWindow top)
 answer_of shard (Taken place) = Refused (IsTaken shard place)
 
@@ -38,10 +38,10 @@ with_status_for history card status = history ++ Status card.pan card.psn status
 abbrev pub with_record : List Entry → Decision → List Entry
 with_record history decision = history ++ Decided decision.request decision.reply ∷ []
 
--- the shard's history once the plan is carried out
-abbrev pub history_after : List Entry → Outcome → List Entry
-history_after history (Fresh reply step) = with_record history step
-history_after history _ = history
+-- the shard's history once the plan for this request is carried out
+abbrev pub history_after : List Entry → Request → Outcome → List Entry
+history_after history request (Fresh reply place) = with_record history (record { request = request; reply = reply; place = place })
+history_after history request _ = history
 
 -- a plan for a request of the row's card, whose record would stand at this place, is one turn's answer to it: by the decisions
 -- on its counter, and for a fresh one by the first row of the table that fits
@@ -49,13 +49,12 @@ abbrev pub IsPlan : CardRow → CardKeys → List TableRow → Request → ℕ �
 IsPlan row keys table request place outcome =
     (shard : ℕ) (card : CardInfo) (history : List Entry)
     → StandsFor card row history → card_of request ≡ name_of card → place ≡ length history
-    → Answers shard (reply_after card.method keys table) history request (answer_of shard outcome) (history_after history outcome)
+    → Answers shard (reply_after card.method keys table) history request (answer_of shard outcome) (history_after history request outcome)
 
--- a record that is planned is of this request with the planned reply, which has a byte, and stands at this place
-abbrev pub IsForRequest : Request → ℕ → Outcome → Type 0
-IsForRequest request place (Fresh reply step) =
-    (step ≡ record { request = request; reply = reply; place = place }) × (1 ≤ length reply.bytes.items)
-IsForRequest request place _ = Unit {0}
+-- a record that is planned stands at this place, and its reply has a byte
+abbrev pub StandsAt : ℕ → Outcome → Type 0
+StandsAt place (Fresh reply at) = (at ≡ place) × (1 ≤ length reply.bytes.items)
+StandsAt place _ = Unit {0}
 
 -- the decision is the next one of the row's card after this history: it is of the card, it stands at the place after the last, and
 -- its counter is in the window and unused

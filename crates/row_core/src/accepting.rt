@@ -11,7 +11,7 @@ ghost use Rattle.issuer_setup.specs.CardList.{name_of};
 ghost use Rattle.row_core.specs.CardRow.{KeepsWindow, KeepsScripts, StandsFor};
 ghost use Rattle.row_core.specs.Accepting.{told_update, says_approval, IsMade, MayFollow, IsAccepted};
 
-use crate::row::{Row, Step};
+use crate::row::Row;
 use arrayvec::ArrayVec;
 use cryptogram_in::holds_under;
 use issuer_base::{Method, Reply, Request};
@@ -86,13 +86,7 @@ impl Row {
         if !self.accepts_under(session, keys, &request, &reply) {
             return false;
         }
-        self.apply(Step {
-            decision: KeptEntry {
-                request,
-                reply,
-                place,
-            },
-        });
+        self.apply(&request, &reply, place);
         true
     }
 

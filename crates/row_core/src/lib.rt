@@ -7,7 +7,7 @@ mod row;
 mod scripts;
 
 pub use issuer_setup::{CardInfo, Cards, CardsFault, Issuer, IssuerFault, KeySets, ShardCount};
-pub use row::{Outcome, Row, Step};
+pub use row::{Outcome, Row};
 
 #[cfg(test)]
 mod tests;

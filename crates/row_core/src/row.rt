@@ -13,7 +13,7 @@ ghost use Rattle.row_core.specs.CardRow.{KeepsWindow, KeepsScripts, StandsFor};
 ghost use Rattle.row_core.specs.Known.{IsKnown};
 ghost use Rattle.row_core.specs.Launching.{TakesOff};
 ghost use Rattle.row_core.specs.Replying.{script_bytes, reply_bytes, decided_reply};
-ghost use Rattle.row_core.specs.Plan.{IsPlan, IsForRequest, IsNext, with_record, with_command_for, with_status_for};
+ghost use Rattle.row_core.specs.Plan.{IsPlan, StandsAt, IsNext, with_record, with_command_for, with_status_for};
 
 use crate::reply::{write_answer, write_scripts};
 use crate::scripts::CardScripts;
@@ -30,29 +30,14 @@ use script_queue::Queue;
 use std::alloc::Global;
 use std::marker::Model;
 
-/// A record that is to be added to a card's row: the request, its reply, and the place of the record in
-/// the shard's history. It comes from [`Row::plan`] alone, and goes to [`Row::apply`].
-#[derive(Drop)]
-pub struct Step {
-    pub(crate) decision: KeptEntry,
-}
-
-impl Model for Step {
-    ghost use Rattle.card_history.specs.declared.decision.Decision.{Decision};
-
-    ghost Value = { Decision };
-
-    ghost view = { λ step. step.decision };
-}
-
 /// What is to be done with a request of the row's card.
 #[derive(Drop)]
-pub enum Outcome {
-    /// Its counter is in the window and unused: this is the reply that the table decides, and the record of it.
-    Fresh(Reply, Step),
+pub enum Outcome<'a> {
+    /// Its counter is in the window and unused: this is the reply that the table decides, and the place of the record of it.
+    Fresh(Reply, u64),
 
-    /// The request was decided before: its reply, and the place of its record.
-    Kept(Reply, u64),
+    /// The request was decided before: its reply, which the row lends, and the place of its record.
+    Kept(&'a Reply, u64),
 
     /// Its counter is below the window of this greatest counter.
     Below(u16),
@@ -157,7 +142,7 @@ impl Row {
     ///
     /// `keys` are the card's master keys from the key set of the request, and `place` is where the next record
     /// of the card's shard would stand. Sets up the session key for cryptograms where the request is decided now.
-    pub fn plan(&self, keys: &CardKeys, table: &Table, request: &Request, place: u64) -> Outcome
+    pub fn plan(&self, keys: &CardKeys, table: &Table, request: &Request, place: u64) -> Outcome<'_>
         ensures { IsPlan self.now keys.now table.now request.now place result }
     {
         if let Some(outcome) = self.known(request) {
@@ -177,12 +162,12 @@ impl Row {
         table: &Table,
         request: &Request,
         place: u64,
-    ) -> Outcome
+    ) -> Outcome<'_>
         requires { session.now ≡ session_ac keys.now.ac.0 request.now.atc }
         ensures plan { IsPlan self.now keys.now table.now request.now place result }
 
         // Whatever the row stands for, a record that is to be added is of this request, and its reply has a byte.
-        ensures some { IsForRequest request.now place result }
+        ensures some { StandsAt place result }
     {
         if let Some(outcome) = self.known(request) {
             return outcome;
@@ -190,13 +175,19 @@ impl Row {
         self.decide(session, keys, table, request, place)
     }
 
-    /// Keeps the decision of a plan on this row as it is, and goes on to the flight that its reply begins.
-    pub fn apply(&mut self, step: Step)
-        ensures { (card : CardInfo) (history : List Entry) → StandsFor card self.old history → IsNext card history step
-            → StandsFor card self.new (with_record history step) }
+    /// Keeps the decision of this request that a plan on this row as it is gave, whose record stands at this place, and goes on to the flight
+    /// that its reply begins.
+    pub fn apply(&mut self, request: &Request, reply: &Reply, place: u64)
+        ensures { (card : CardInfo) (history : List Entry) → StandsFor card self.old history
+            → IsNext card history (record { request = request.now; reply = reply.now; place = place })
+            → StandsFor card self.new (with_record history (record { request = request.now; reply = reply.now; place = place })) }
     {
-        self.take_off(&step.decision.request);
-        self.kept.keep(step.decision);
+        self.take_off(request);
+        self.kept.keep(KeptEntry {
+            request: request.copy(),
+            reply: reply.copy(),
+            place,
+        });
     }
 
     /// Queues a command for the card, and gives its number in the card's queue, from 0. Where the queue takes no more, it is refused
@@ -243,12 +234,12 @@ impl Row {
         table: &Table,
         request: &Request,
         place: u64,
-    ) -> Outcome
+    ) -> Outcome<'_>
         requires { session.now ≡ session_ac keys.now.ac.0 request.now.atc }
         ensures reply { (scripts : Scripts) → KeepsScripts self.now scripts
             → let reply = decided_reply self.now.method keys.now table.now scripts self.now.status request.now in
-            result ≡ Outcome.Fresh reply (record { request = request.now; reply = reply; place = place }) }
-        ensures some { IsForRequest request.now place result }
+            result ≡ Outcome.Fresh reply place }
+        ensures some { StandsAt place result }
     {
         let row = decide(table, self.status, request);
         let mut reply = Reply {
@@ -257,12 +248,7 @@ impl Row {
             bytes: ArrayVec::new(),
         };
         self.write_reply(&mut reply.bytes, session, keys, request, row.arc, row.csu);
-        let decision = KeptEntry {
-            request: request.copy(),
-            reply: reply.copy(),
-            place,
-        };
-        Outcome::Fresh(reply, Step { decision })
+        Outcome::Fresh(reply, place)
     }
 
     /// Writes what goes to the card with this response code and, by method 2, this card status update, where nothing is written yet.
@@ -308,10 +294,10 @@ impl Row {
 
     /// What the decisions of the window say of a request; `None` where its counter is in the window and unused.
     #[inline(always)]
-    pub(crate) fn known(&self, request: &Request) -> Option<Outcome>
+    pub(crate) fn known(&self, request: &Request) -> Option<Outcome<'_>>
         ensures known { (decisions : List Decision) → self.now.hi ≡ greatest decisions → KeepsWindow self.now.slots decisions
             → MatchOption result (IsUnused decisions request.now) (IsKnown decisions request.now) }
-        ensures not_fresh { (place : ℕ) → IfSome result (IsForRequest request.now place) }
+        ensures not_fresh { (place : ℕ) → IfSome result (StandsAt place) }
     {
         let counter = request.parts().atc;
         if let Some(top) = top_above(self.hi, counter) {
@@ -321,7 +307,7 @@ impl Row {
         if !entry.request.is_same(request) {
             return Some(Outcome::Taken(entry.place));
         }
-        Some(Outcome::Kept(entry.reply.copy(), entry.place))
+        Some(Outcome::Kept(&entry.reply, entry.place))
     }
 }
 

@@ -90,10 +90,10 @@ fn keep(
     asked: &Request,
     place: u64,
 ) -> Result<Reply, Fail> {
-    let Outcome::Fresh(reply, step) = row.plan(keys, table, asked, place) else {
+    let Outcome::Fresh(reply, place) = row.plan(keys, table, asked, place) else {
         return Err(Fail::from("a request that isn't fresh"));
     };
-    row.apply(step);
+    row.apply(asked, &reply, place);
     Ok(reply)
 }
 
@@ -107,7 +107,7 @@ fn altered(reply: &Reply) -> Reply {
 }
 
 /// The outcome in words.
-fn told(alloc: Global, outcome: Outcome) -> Result<String, AllocError> {
+fn told(alloc: Global, outcome: Outcome<'_>) -> Result<String, AllocError> {
     match outcome {
         Outcome::Fresh(..) => format!(in alloc; "fresh"),
         Outcome::Kept(_, place) => format!(in alloc; "kept {place}"),

@@ -52,4 +52,4 @@ row-plan issuer rows found row place outcome at_hand home row_is plan history st
     let known = number_of-found (card_of found.request) issuer.cards found.card at_hand.card_is.number_is in
     let answers = plan rows.shard known.0 history (row-there issuer rows history stands found.card home row row_is known.0 known.1) (sym known.2) at_end in
     answers-alike rows.shard (reply_after known.0.method found.keys issuer.table) (reply_to issuer) history found.request
-    (answer_of rows.shard outcome) (history_after history outcome) (reply-at_hand issuer found known.0 history at_hand known.1) answers
+    (answer_of rows.shard outcome) (history_after history found.request outcome) (reply-at_hand issuer found known.0 history at_hand known.1) answers

@@ -28,7 +28,7 @@ pub record IsCardOf (issuer : Setup) (number : ℕ) (card : CardInfo) : Type 0 w
 abbrev pub IsPlanFor : Setup → ShardRows → CheckedRequest → ℕ → Outcome → Type 0
 IsPlanFor issuer rows found place outcome =
     (history : List Entry) → StandsFor issuer rows history → place ≡ length history
-    → Answers rows.shard (reply_to issuer) history found.request (answer_of rows.shard outcome) (history_after history outcome)
+    → Answers rows.shard (reply_to issuer) history found.request (answer_of rows.shard outcome) (history_after history found.request outcome)
 
 -- the decision of this request that comes next for its card is added
 abbrev pub Applies : ShardRows → CheckedRequest → Decision → ShardRows → Type 0

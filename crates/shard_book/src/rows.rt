@@ -7,7 +7,7 @@ ghost use Rattle.issuer_base.specs.ScriptCommand.{is_command};
 ghost use Rattle.card_history.specs.LegalRecords.{IsLegal};
 ghost use Rattle.issuer_setup.specs.IssuerSetup.{Setup};
 ghost use Rattle.key_derive.specs.SessionKey.{session_ac};
-ghost use Rattle.row_core.specs.Plan.{IsForRequest};
+ghost use Rattle.row_core.specs.Plan.{StandsAt};
 ghost use Rattle.line_checks.specs.AtHand.{IsRequestAtHand};
 ghost use Rattle.shard_book.specs.ShardRows.{AreRowsOf, AreSame, IsHome, AreEmpty, Covers, Lists, StandsFor};
 ghost use Rattle.shard_book.specs.Steps.{IsPlanFor, Applies, Accepts, Adopts, Queues, TakesCommand, SetsStatus};
@@ -16,7 +16,7 @@ use counter_bits::CounterBits;
 use issuer_base::{Command, MAX_CARDS, MAX_QUEUED, MAX_STATUS, MAX_UNDONE, NoMemory, Reply};
 use issuer_setup::Issuer;
 use line_checks::CheckedRequest;
-use row_core::{Outcome, Row, Step};
+use row_core::{Outcome, Row};
 use std::alloc::Global;
 use std::marker::Model;
 
@@ -84,12 +84,12 @@ impl Rows {
 
     /// What is to be done with a request of a card of this shard, whose record would stand at this place.
     #[inline(always)]
-    pub(crate) fn plan(&self, issuer: &Issuer, found: &CheckedRequest, place: u64) -> Outcome
+    pub(crate) fn plan(&self, issuer: &Issuer, found: &CheckedRequest, place: u64) -> Outcome<'_>
         requires rows { AreRowsOf issuer.now self.now }
         requires home { IsHome self.now found.now.card }
         requires at_hand { IsRequestAtHand issuer.now found.now }
         ensures plan { IsPlanFor issuer.now self.now found.now place result }
-        ensures some { IsForRequest found.now.request place result }
+        ensures some { StandsAt place result }
     {
         self.row(found.card).plan_under(
             &found.session,
@@ -100,15 +100,16 @@ impl Rows {
         )
     }
 
-    /// Adds the record of a plan for this request to the row of its card, and its counter to the card's.
-    pub(crate) fn apply(&mut self, found: &CheckedRequest, step: Step)
+    /// Adds the record of the decision that a plan gave for this request, which stands at this place, to the row of its card, and its counter to
+    /// the card's.
+    pub(crate) fn apply(&mut self, found: &CheckedRequest, reply: &Reply, place: u64)
         requires { IsHome self.old found.now.card }
-        ensures applied { Applies self.old found.now step self.new }
+        ensures applied { Applies self.old found.now (record { request = found.now.request; reply = reply.now; place = place }) self.new }
         ensures same { AreSame self.old self.new }
     {
         let index = index_of(found.card, self.shards);
         self.bits.add(index, found.request.parts().atc);
-        self.rows[index].apply(step);
+        self.rows[index].apply(&found.request, reply, place);
     }
 
     /// Takes over the decision of a request that was checked, where it may come next, and says whether it did.

@@ -8,7 +8,7 @@ ghost use Rattle.card_history.specs.LegalRecords.{IsLegal};
 ghost use Rattle.card_history.specs.Records.{card_of, named};
 ghost use Rattle.issuer_setup.specs.declared.card.CardInfo.{CardInfo};
 ghost use Rattle.issuer_setup.specs.IssuerSetup.{Setup};
-ghost use Rattle.row_core.specs.Plan.{IsNext, IsForRequest};
+ghost use Rattle.row_core.specs.Plan.{IsNext};
 ghost use Rattle.row_core.specs.Replying.{reply_to};
 ghost use Rattle.line_checks.specs.AtHand.{IsRequestAtHand, IsCommandAtHand, IsStatusAtHand};
 ghost use Rattle.line_checks.specs.Reading.{checked};
@@ -37,7 +37,7 @@ use issuer_setup::Issuer;
 use journal_rec::{write_decided, write_entry};
 use line_checks::{CheckedCommand, CheckedRequest, CheckedStatus};
 use record_store::Journal;
-use row_core::{Outcome, Row, Step};
+use row_core::{Outcome, Row};
 use std::alloc::Global;
 
 /// A shard of an issuer over a store: the rows of its cards, and the journal of its records.
@@ -132,16 +132,16 @@ impl<S: Store> Shard<S> {
     {
         let shard = self.rows.shard();
         match self.rows.plan(issuer, found, self.journal.records()) {
-            Outcome::Fresh(reply, step) => {
+            Outcome::Fresh(reply, place) => {
                 if !won {
                     return Answer::Refused(Refusal::Pending);
                 }
-                self.decide(found, reply, step)
+                self.decide(found, reply, place)
             }
             Outcome::Kept(reply, place) => Answer::Kept {
                 shard,
                 place,
-                reply,
+                reply: reply.copy(),
             },
             Outcome::Below(top) => Answer::Refused(Refusal::Below(top)),
             Outcome::Taken(place) => Answer::Refused(Refusal::Taken { shard, place }),
@@ -278,12 +278,11 @@ impl<S: Store> Shard<S> {
     }
 
     /// Decides a request by its plan.
-    fn decide(&mut self, found: &CheckedRequest, reply: Reply, step: Step) -> Answer
+    fn decide(&mut self, found: &CheckedRequest, reply: Reply, at: u64) -> Answer
         requires home { HasCard self.old found.now.card }
         requires some { 1 ≤ length reply.bytes.items }
         ensures added { (issuer : Setup) (card : CardInfo) (history : List Entry) → StandsFor issuer self.old history
-            → IsCardOf issuer found.now.card card → IsNext card history step
-            → step ≡ record { request = found.now.request; reply = reply; place = length history }
+            → IsCardOf issuer found.now.card card → IsNext card history (record { request = found.now.request; reply = reply; place = at })
             → IsLegal (grounds_now issuer) (number_in self.old) history (Entry.Decided found.now.request reply)
             → Adds issuer self.new history (Entry.Decided found.now.request reply) (Answer.Fresh (number_in self.old) (length history) reply) result }
         ensures tail { (history : List Entry) (tail : List ℕ) → HasTail self.old history tail
@@ -303,7 +302,7 @@ impl<S: Store> Shard<S> {
         let Ok(place) = self.put_text(text.as_slice()) else {
             return Answer::Refused(Refusal::StoreFault);
         };
-        self.rows.apply(found, step);
+        self.rows.apply(found, &reply, at);
         Answer::Fresh {
             shard: self.rows.shard(),
             place,

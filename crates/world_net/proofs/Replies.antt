@@ -149,14 +149,14 @@ pub record IsPlanned (issuer : Setup) (history : List Entry) (request : Request)
   pub info_is : slice_get issuer.cards card ≡ Some info
   pub named : card_of request ≡ name_of info
   pub stands : StandsFor info row history
-  pub answers : Answers 0 (reply_after info.method keys issuer.table) history request (answer_of 0 outcome) (history_after history outcome)
+  pub answers : Answers 0 (reply_after info.method keys issuer.table) history request (answer_of 0 outcome) (history_after history request outcome)
 
 module _ {issuer : Setup} {history : List Entry} {request : Request} {card : ℕ} {keys : CardKeys} {row : CardRow} where
   -- a fresh plan for a request is a legal decision of it
-  pub planned-legal : (reply : Reply) (step : Decision) (table_row : TableRow) → IsPlanned issuer history request card keys row (Fresh reply step)
+  pub planned-legal : (reply : Reply) (at : ℕ) (table_row : TableRow) → IsPlanned issuer history request card keys row (Fresh reply at)
       → decision issuer.table row.status request ≡ Some table_row → IsTrue (is_table issuer.table) → length table_row.arc ≡ 2 → length table_row.csu ≡ 4
       → IsLegalDecision (grounds_of issuer) (card % issuer.shards) history request reply
-  planned-legal reply step table_row planned decides valid code_is update_is =
+  planned-legal reply at table_row planned decides valid code_is update_is =
       let method = planned.info.method in
       let scripts = scripts_of (card_of request) history in
       let status : row.status ≡ status_of (card_of request) history = planned.stands.status_is ∙ ap (λ name. status_of name history) (sym planned.named) in
@@ -172,15 +172,15 @@ module _ {issuer : Setup} {history : List Entry} {request : Request} {card : ℕ
       })
 
   -- by the issuer's own table
-  pub planned-own : (reply : Reply) (step : Decision) → IsPlanned issuer history request card keys row (Fresh reply step)
+  pub planned-own : (reply : Reply) (at : ℕ) → IsPlanned issuer history request card keys row (Fresh reply at)
       → reply ≡ reply_to issuer history request
-  planned-own reply step planned =
+  planned-own reply at planned =
       planned.answers.3 ∙ sym (own-reply issuer history request card planned.info keys planned.number_is planned.info_is planned.keys_are)
 
   -- any other plan says that the counter isn't unused
-  pub planned-used : (outcome : Outcome) → ((reply : Reply) (step : Decision) → outcome ≡ Fresh reply step → ⊥)
+  pub planned-used : (outcome : Outcome) → ((reply : Reply) (at : ℕ) → outcome ≡ Fresh reply at → ⊥)
       → IsPlanned issuer history request card keys row outcome → IsUnused (decided_for request history) request → ⊥
-  planned-used (Fresh reply step) other planned unused = other reply step refl
+  planned-used (Fresh reply at) other planned unused = other reply at refl
   planned-used (Kept reply at) other planned unused =
       let used = planned.answers.0 in
       All-contains (λ (decision : Decision). decision.request.atc ≡ request.atc → ⊥) (decided_for request history) _ unused.unrecorded used.recorded

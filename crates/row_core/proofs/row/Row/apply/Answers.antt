@@ -1,5 +1,7 @@
 -- The row goes on by the decision, and keeps it in its counter's slot.
-use Rattle.std.proofs.Common.{ap, sym, ◌∙◌, subst}
+use Rattle.std.proofs.Common.{ap₂, sym, ◌∙◌, subst}
+use Rattle.issuer_base.specs.declared.request.Request.{Request}
+use Rattle.issuer_base.specs.declared.answer.Reply.{Reply}
 use Rattle.card_history.specs.declared.decision.Decision.{Decision}
 use Rattle.reply_keep.specs.ReplySlots.{with_kept}
 use Rattle.row_core.specs.CardRow.{CardRow}
@@ -10,11 +12,10 @@ use Rattle.row_core.proofs.row.Row.apply.Goals as goal
 pub returns : goal.returns
 returns c = λ card history stands next.
     let before = c.args.self.now in
-    let takes_off =
-    subst (λ (after : CardRow). TakesOff before after c.args.step.request) (sym c.self.view_is)
-    (subst (λ (step : Decision). TakesOff before c.take_off.new.self step.request) c.step.view_is c.take_off.ensures) in
-    stands-next card before _ history c.args.step c.keep.new.self
-    takes_off
-    (c.keep.ensures ∙ ap (λ step. with_kept step c.self.inside.kept) c.step.view_is)
+    let decision : Decision = record { request = c.args.request.now; reply = c.args.reply.now; place = c.args.place } in
+    let kept_as : Request → Reply → Decision = λ request reply. record { request = request; reply = reply; place = c.args.place } in
+    stands-next card before _ history decision c.keep.new.self
+    (subst (λ (after : CardRow). TakesOff before after c.args.request.now) (sym c.self.view_is) c.take_off.ensures)
+    (c.keep.ensures ∙ ap₂ (λ (request : Request) (reply : Reply). with_kept (kept_as request reply) c.self.inside.kept) c.copy.ensures c.copy-2.ensures)
     stands
     next

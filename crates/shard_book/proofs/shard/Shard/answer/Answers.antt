@@ -1,12 +1,10 @@
 -- Each outcome of the plan is answered as the history says.
-use Rattle.std.proofs.Common.{◌≡◌, length, refl, ap, sym, subst, ◌∙◌}
+use Rattle.std.proofs.Common.{◌≡◌, length, refl, sym, subst, ◌∙◌}
 use Rattle.issuer_base.specs.declared.answer.Reply.{Reply}
 use Rattle.issuer_base.specs.declared.entry.Entry.TheVariants.{Decided}
 use Rattle.issuer_base.specs.declared.request.Request.{Request}
-use Rattle.card_history.specs.declared.decision.Decision.{Decision}
 use Rattle.card_history.specs.Records.{CardName, card_of, decided}
 use Rattle.card_history.specs.Turns.{IsUnused}
-use Rattle.issuer_setup.specs.CardList.{name_of}
 use Rattle.row_core.specs.Plan.{IsNext}
 use Rattle.shard_book.proofs.LegalNext.{card-found, legal-decision}
 use Rattle.shard_book.specs.Answering.{LeavesTail}
@@ -35,19 +33,16 @@ returns-else-not-won-clause-answer g c history stands =
     let at_end : c.records.result ≡ length history = c.records.ensures ∙ stands.journal_holds.holds.count_is in
     let plan = c.in-Fresh.ensures.plan history stands.rows_stand at_end in
     let card = card-found issuer (card_of request) found.card c.requires.at_hand.card_is in
-    let step_is = c.in-Fresh.ensures.some.0 ∙ ap (λ place. let step : Decision = record { request = request; reply = reply; place = place } in step) at_end in
-    let next : IsNext card.card history c.in-Fresh.step = record {
-      of_card = ap (λ (step : Decision). card_of step.request) step_is ∙ sym card.named;
-      at_end = ap (λ (step : Decision). step.place) step_is;
-      unused =
-          subst (λ (other : Request). IsUnused (decided (name_of card.card) history) other) (sym (ap (λ (step : Decision). step.request) step_is))
-          (subst (λ (name : CardName). IsUnused (decided name history) request) (sym card.named) plan.0);
+    let next : IsNext card.card history (record { request = request; reply = reply; place = c.in-Fresh.place }) = record {
+      of_card = sym card.named;
+      at_end = c.in-Fresh.ensures.some.0 ∙ at_end;
+      unused = subst (λ (name : CardName). IsUnused (decided name history) request) (sym card.named) plan.0;
     } in
     let legal =
     legal-decision issuer c.args.self.now.rows c.requires.under (card_of request) found.card c.requires.at_hand.card_is c.requires.home history request reply
     refl c.requires.genuine plan.0 plan.3 in
     answer-added issuer c.decide.new.self c.args.self.now.rows.shard c.args.won history request reply c.decide.result c.if-not-won.false plan.0 plan.3
-    (c.decide.ensures.added issuer card.card history stands card.known next step_is legal)
+    (c.decide.ensures.added issuer card.card history stands card.known next legal)
 
 pub returns-else-not-won-clause-tail : goal.returns-else-not-won-clause-tail
 returns-else-not-won-clause-tail g c history tail stands holds =

@@ -2,10 +2,8 @@
 use Rattle.std.proofs.Common.{◌≡◌, ℕ, [], ◌∷◌, ◌++◌, length, ap, arith, sym, subst, ◌∙◌, inl, inr, refl}
 use Rattle.issuer_base.specs.declared.answer.Answer.TheVariants.{Fresh}
 use Rattle.issuer_base.specs.declared.entry.Entry.TheVariants.{Decided}
-use Rattle.card_history.specs.declared.decision.Decision.{Decision}
 use Rattle.journal_rec.specs.RecordText.{text_of}
 use Rattle.journal_rec.proofs.TextLaws.{length-text_of}
-use Rattle.row_core.specs.Plan.{with_record}
 use Rattle.shard_book.specs.ShardRows.{ShardRows, StandsFor as RowsStandFor}
 use Rattle.shard_book.proofs.ShardSteps.{stands-with}
 use Rattle.shard_book.proofs.shard.Shard.decide.Goals as goal
@@ -18,7 +16,7 @@ put_text-requires g c =
     omega (arith, ap length its, least)
 
 pub returns-clause-added : goal.returns-clause-added
-returns-clause-added g c issuer card history stands known next step_is legal =
+returns-clause-added g c issuer card history stands known next legal =
     let number : ℕ = c.args.self.now.rows.shard in
     let request = c.args.found.now.request in
     let reply = c.args.reply in
@@ -26,8 +24,7 @@ returns-clause-added g c issuer card history stands known next step_is legal =
     (c.as_slice.ensures.value ∙ c.write_decided.ensures.text) stands in
     let number_is : c.put_text.new.self.rows.shard ≡ number = ap (λ (rows : ShardRows). rows.shard) c.put_text.ensures.rows in
     let before = subst (λ (rows : ShardRows). RowsStandFor issuer rows history) (sym c.put_text.ensures.rows) stands.rows_stand in
-    let rows = subst (λ (step : Decision). RowsStandFor issuer c.apply.new.self (with_record history step)) step_is
-    (c.apply.ensures.applied issuer card history before known next (ap (λ (step : Decision). step.request) step_is)) in
+    let rows = c.apply.ensures.applied issuer card history before known next refl in
     let shard_is : c.shard.result ≡ number = c.shard.ensures ∙ c.apply.ensures.same.shard_is ∙ number_is in
     inl (
       ap (λ shard. Fresh shard c.in-Ok.place reply) shard_is ∙ ap (λ place. Fresh number place reply) put.0,
@@ -37,7 +34,7 @@ returns-clause-added g c issuer card history stands known next step_is legal =
     )
 
 pub returns-in_default-clause-added : goal.returns-in_default-clause-added
-returns-in_default-clause-added g c issuer card history stands known next step_is legal =
+returns-in_default-clause-added g c issuer card history stands known next legal =
     inr (
       refl,
       c.in_default.ensures.failed issuer history (Decided c.args.found.now.request c.args.reply) c.write_decided.ensures.record
