@@ -1,9 +1,6 @@
 //! The issuer's answer to an application cryptogram: EMV 4.3 Book 2, section 8.2.
 #![tactic(auto)]
 
-#[cfg(test)]
-mod tests;
-
 ghost use Rattle.std.specs.Prelude.{◌≡◌, ℕ, ◌+◌, ◌≤◌, List, ◌++◌, length};
 ghost use Rattle.des_block.specs.Keyed.{HasKeyPair};
 ghost use Rattle.arpc_methods.specs.Arpc.{method1, method2, value91};

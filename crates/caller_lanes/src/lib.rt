@@ -10,6 +10,3 @@ mod slots;
 
 pub use host_calls::{HostBack, LoadFault};
 pub use lanes::{BLOCK_LINES, Lanes};
-
-#[cfg(test)]
-mod tests;

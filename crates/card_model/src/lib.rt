@@ -4,8 +4,6 @@
 
 mod card;
 mod terminal;
-#[cfg(test)]
-mod tests;
 
 pub use card::{Card, LAST_COUNTER, MOST_COUNTED};
 pub use terminal::Terminal;

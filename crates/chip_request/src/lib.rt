@@ -8,8 +8,6 @@ mod line;
 mod line_parts;
 mod reading;
 mod slots;
-#[cfg(test)]
-mod tests;
 
 pub use line::{LineForm, LineKind, MAX_QUEUE_BYTES, read_line, read_line_into};
 pub use reading::{RequestFault, read_request};

@@ -9,9 +9,6 @@ use crate::line_parts::{read_byte, read_card, read_data, read_last_digit};
 use arrayvec::ArrayVec;
 use issuer_base::{MAX_CHIP_BYTES, Pan};
 
-#[cfg(test)]
-mod tests;
-
 /// The most bytes that a line gives of a command for a card's queue.
 pub const MAX_QUEUE_BYTES: usize = 128;
 

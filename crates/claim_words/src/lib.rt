@@ -13,6 +13,3 @@ mod view;
 pub use claim_words::{Claim, ClaimSeat, ClaimWords};
 pub use layout::COUNTERS;
 pub use view::{ClaimView, Claimed, Standing};
-
-#[cfg(test)]
-mod tests;

@@ -7,8 +7,6 @@ mod fault;
 mod front;
 mod json_value;
 mod parts;
-#[cfg(test)]
-mod tests;
 mod words;
 
 pub use config::{MAX_CONFIG_BYTES, read_config};

@@ -4,6 +4,3 @@
 mod counter_bits;
 
 pub use counter_bits::{COUNTERS, CounterBits};
-
-#[cfg(test)]
-mod tests;

@@ -2,8 +2,6 @@
 #![tactic(auto)]
 
 mod joined;
-#[cfg(test)]
-mod tests;
 
 ghost use Rattle.std.specs.Prelude.{◌≡◌, ◌↔◌, IsTrue};
 ghost use Rattle.key_derive.specs.SessionKey.{counter_bytes, session_ac};

@@ -4,6 +4,3 @@
 mod settlement;
 
 pub use settlement::{Flight, Settled, settle};
-
-#[cfg(test)]
-mod tests;

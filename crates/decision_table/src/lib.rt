@@ -6,6 +6,3 @@ mod table;
 
 pub use row::{MAX_AMOUNT, TableRow, tells_approval};
 pub use table::{Table, decide, first_bad_row};
-
-#[cfg(test)]
-mod tests;

@@ -231,6 +231,3 @@ impl Tdes {
         (first.word().to_be_bytes(), second.word().to_be_bytes())
     }
 }
-
-#[cfg(test)]
-mod tests;

@@ -24,8 +24,3 @@ pub use pass::{Checked, Pass};
 pub use shard_book::LoadFault;
 pub use show_text::CardView;
 pub use solo::Solo;
-
-#[cfg(test)]
-mod host_tests;
-#[cfg(test)]
-mod tests;

@@ -32,6 +32,3 @@ pub use outside::{
 pub use pan::Pan;
 pub use request::{Parts, Request};
 pub use words::Words;
-
-#[cfg(test)]
-mod tests;

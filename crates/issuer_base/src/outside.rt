@@ -14,8 +14,6 @@ mod gate;
 mod memory_sink;
 mod memory_source;
 mod store;
-#[cfg(test)]
-mod tests;
 
 use crate::faults::{ReadFault, WriteFault};
 pub use failing_calls::FailingCalls;

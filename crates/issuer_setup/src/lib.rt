@@ -14,6 +14,3 @@ pub use cards::{Cards, CardsFault};
 pub use issuer::{Issuer, IssuerFault};
 pub use key_sets::KeySets;
 pub use shard_count::ShardCount;
-
-#[cfg(test)]
-mod tests;

@@ -16,6 +16,3 @@ mod top_call;
 mod words;
 
 pub use top_call::{Ended, issue};
-
-#[cfg(test)]
-mod tests;

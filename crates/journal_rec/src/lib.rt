@@ -8,8 +8,6 @@ mod limits;
 mod line;
 mod pan;
 mod read;
-#[cfg(test)]
-mod tests;
 mod write;
 
 pub use laws::{a_text_has_one_reading, a_text_is_one_line, no_text_begins_another};

@@ -7,8 +7,6 @@ mod kept;
 mod lazy;
 mod master;
 mod session;
-#[cfg(test)]
-mod tests;
 
 pub use card::{CardKeys, KeySet, MasterCiphers, card_keys};
 pub use digits::decimal16;

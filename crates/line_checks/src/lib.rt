@@ -9,6 +9,3 @@ mod request;
 pub use checked::{Checked, CheckedCommand, CheckedRequest, CheckedStatus};
 pub use line::{check_line, check_line_in};
 pub use request::check_request;
-
-#[cfg(test)]
-mod tests;

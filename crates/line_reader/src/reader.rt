@@ -142,6 +142,3 @@ fn room_after(lines: u32, bytes: u64) -> u64
         MAX_BYTES - bytes
     }
 }
-
-#[cfg(test)]
-mod tests;

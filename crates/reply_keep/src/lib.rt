@@ -8,6 +8,3 @@ mod kept;
 
 pub use card_history::Decision as KeptEntry;
 pub use kept::Kept;
-
-#[cfg(test)]
-mod tests;

@@ -4,8 +4,6 @@
 mod chip_text;
 mod law;
 mod number;
-#[cfg(test)]
-mod tests;
 
 pub use chip_text::{MAX_REQUEST_BYTES, MAX_REQUEST_LINE, chip_data, request_line};
 pub use law::what_is_written_is_read;

@@ -8,6 +8,3 @@ mod scripts;
 
 pub use issuer_setup::{CardInfo, Cards, CardsFault, Issuer, IssuerFault, KeySets, ShardCount};
 pub use row::{Outcome, Row};
-
-#[cfg(test)]
-mod tests;

@@ -6,6 +6,3 @@
 mod queue;
 
 pub use queue::Queue;
-
-#[cfg(test)]
-mod tests;

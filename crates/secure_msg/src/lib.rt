@@ -8,8 +8,6 @@
 mod batch;
 mod reading;
 mod sealing;
-#[cfg(test)]
-mod tests;
 
 pub use batch::{Template, is_batch, template, template_of};
 pub use reading::{commands_have_one_text, read_command};

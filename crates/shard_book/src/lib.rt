@@ -11,6 +11,3 @@ mod table;
 pub use replay::LoadFault;
 pub use shard::{LoadBack, Shard};
 pub use table::has_table;
-
-#[cfg(test)]
-mod tests;

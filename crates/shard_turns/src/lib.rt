@@ -13,6 +13,3 @@ pub use held::HeldShard;
 pub use logs::{LogHead, LogItem};
 pub use turns::{ShardSeat, ShardTurns};
 pub use views::row_shown;
-
-#[cfg(test)]
-mod tests;

@@ -19,6 +19,3 @@ pub use file_store::FileStore;
 pub use memory_desk::{MemoryDesk, NEW_JOURNAL_ROOM};
 pub use memory_store::{ImageFault, MemoryStore};
 pub use room_store::RoomStore;
-
-#[cfg(test)]
-mod tests;

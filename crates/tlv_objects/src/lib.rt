@@ -5,8 +5,6 @@
 
 mod cursor;
 mod reading;
-#[cfg(test)]
-mod tests;
 mod writing;
 
 pub use cursor::{Object, Objects, TlvFault, objects_cover_the_text};

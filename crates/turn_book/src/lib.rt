@@ -18,6 +18,3 @@ pub use opening::OpeningLogs;
 pub use seat::TurnSeat;
 pub use turns::{MAX_ITEMS, Turns};
 pub use view::{Turn, TurnView};
-
-#[cfg(test)]
-mod tests;

@@ -8,8 +8,6 @@ mod law;
 mod net;
 mod parts;
 mod shard;
-#[cfg(test)]
-mod tests;
 mod world;
 
 pub use event::Event;

@@ -14,9 +14,6 @@ use issuer_setup::Issuer;
 use std::alloc::Global;
 use std::marker::Model;
 
-#[cfg(test)]
-mod tests;
-
 /// The world of an issuer: its host's shards, its cards, its callers' claims, and what was sent.
 ///
 /// A contract sees its `WorldState`. At each moment it is the end of a run, and so safe.

@@ -12,8 +12,6 @@ mod reply;
 mod run;
 mod setting;
 mod summary;
-#[cfg(test)]
-mod tests;
 mod totals;
 
 pub use run::{MAX_STEPS, play};

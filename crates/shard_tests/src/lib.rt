@@ -1,0 +1,6 @@
+#![tactic(auto)]
+
+#[cfg(test)]
+mod shards;
+#[cfg(test)]
+mod stores;
