@@ -1,9 +1,10 @@
 """Cards at terminals, a network that loses and spoils, and their issuer's host: what `world` counts (docs/FORMATS.md)."""
-from cards import application_cryptogram, issuer_data, seal, tlv
-from chip_data import Request, objects
+from cards import issuer_data, seal
+from chip_data import objects
 from configuration import MOST, CardInfo, Issuer, KeySet, TableRow
 from host import Host
 from keys import session_key_for_cryptograms, session_key_for_messages
+from terminal import line_of, purchase, signed
 
 SHARDS = 4
 COUNTS = ["taps", "fresh", "approved", "kept", "refused", "authenticated", "unauthenticated", "queued", "done", "ran", "halted"]
@@ -34,26 +35,11 @@ class Card:
     def tap(self, amount, number):
         """GENERATE AC: the request of a new transaction."""
         self.atc += 1
+        request = purchase(self.info.pan, self.atc, self.register, self.count)
         results = bytes([0xA0, 0, 0, self.count << 4 | self.failed << 3, 0])
-        data = b"\x0f\xa5\x01" + results + bytes(8) + b"\x0f" + self.register.to_bytes(2, "big") + bytes(13)
-        request = Request(
-            self.info.pan,
-            self.info.psn,
-            aip=bytes.fromhex("3900"),
-            atc=self.atc,
-            tvr=bytes.fromhex("0000008000"),
-            date=bytes.fromhex("260115"),
-            kind=b"\0",
-            amount=bytes.fromhex(f"{amount:012d}"),
-            other=bytes(6),
-            country=bytes.fromhex("0276"),
-            currency=bytes.fromhex("0978"),
-            number=number.to_bytes(4, "big"),
-            cid=0x80,
-            data=data,
-            cryptogram=bytes(8),
-        )
-        self.open = request._replace(cryptogram=application_cryptogram(self.masters[0], request))
+        data = request.data[:3] + results + request.data[8:]
+        request = request._replace(amount=bytes.fromhex(f"{amount:012d}"), number=number.to_bytes(4, "big"), data=data)
+        self.open = signed(request, self.masters[0])
         self.chain = None
         return self.open
 
@@ -80,33 +66,6 @@ class Card:
             self.count, self.chain = self.count + 1, chain
         else:
             self.failed = True
-
-
-def chip_data(request):
-    """The chip data of a request, each object in its shortest form."""
-    pan = request.pan + "f" * (len(request.pan) % 2)
-    values = [
-        ("5a", bytes.fromhex(pan)),
-        ("5f34", bytes.fromhex(request.psn)),
-        ("82", request.aip),
-        ("95", request.tvr),
-        ("9a", request.date),
-        ("9c", request.kind),
-        ("9f02", request.amount),
-        ("9f03", request.other),
-        ("9f10", request.data),
-        ("9f1a", request.country),
-        ("5f2a", request.currency),
-        ("9f26", request.cryptogram),
-        ("9f27", bytes([request.cid])),
-        ("9f36", request.atc.to_bytes(2, "big")),
-        ("9f37", request.number),
-    ]
-    return b"".join(tlv(tag, value) for tag, value in values)
-
-
-def line_of(request):
-    return b"A " + chip_data(request).hex().encode()
 
 
 class World:
