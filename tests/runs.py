@@ -70,8 +70,8 @@ class Tally:
             self.failed += 1
             print(f"wrong: {what}")
 
-    def run(self, folder, words, **more):
-        return subprocess.run([self.program, *words], capture_output=True, text=True, check=False, cwd=folder, **more)
+    def run(self, folder, words, text=True, **more):
+        return subprocess.run([self.program, *words], capture_output=True, text=text, check=False, cwd=folder, **more)
 
     def end(self):
         print(f"{self.passed} passed, {self.failed} failed")
