@@ -1,0 +1,126 @@
+"""Journal lines, version 1, and the files that keep them (docs/FORMATS.md, journal lines)."""
+import os
+import re
+
+from chip_data import Request, is_command, is_decimal, is_issuer_data
+from host import Decided, Queued, Reply, Status
+
+
+
+def padded_pan(pan):
+    return pan.ljust(20, "f")
+
+
+def request_text(request):
+    """The 85 bytes of a request, in hexadecimal."""
+    parts = [
+        bytes.fromhex(padded_pan(request.pan) + request.psn),
+        request.aip,
+        request.atc.to_bytes(2, "big"),
+        request.tvr,
+        request.date,
+        request.kind,
+        request.amount,
+        request.other,
+        request.country,
+        request.currency,
+        request.number,
+        bytes([request.cid]),
+        request.data,
+        request.cryptogram,
+    ]
+    return b"".join(parts).hex()
+
+
+def record_line(record):
+    """The line of a record, with its newline."""
+    match record:
+        case Decided(request, reply):
+            text = f"d {request_text(request)} {reply.code.hex()} {int(reply.approve)} {reply.data.hex()}"
+        case Queued(pan, psn, command):
+            text = f"q {padded_pan(pan)} {psn} {command.hex()}"
+        case Status(pan, psn, status):
+            text = f"s {padded_pan(pan)} {psn} {status}"
+    return text.encode() + b"\n"
+
+
+# The sizes in bytes of a request's fields in a record, after the PAN.
+SIZES = [1, 2, 2, 5, 3, 1, 6, 6, 2, 2, 4, 1, 32, 8]
+
+HEX = "[0-9a-f]"
+LINE = re.compile(
+    rf"d (?P<request>{HEX}{{170}}) (?P<code>{HEX}{{4}}) (?P<approve>[01]) (?P<data>({HEX}{HEX}){{1,160}})"
+    rf"|q (?P<queue_pan>[0-9]{{8,19}}f+) (?P<queue_psn>[0-9]{{2}}) (?P<command>({HEX}{HEX}){{4,68}})"
+    rf"|s (?P<set_pan>[0-9]{{8,19}}f+) (?P<set_psn>[0-9]{{2}}) (?P<status>[0-9])".encode()
+)
+
+
+def read_pan(text):
+    """The PAN that is filled up to 20 characters, or None."""
+    return text.rstrip("f") if len(text) == 20 and re.fullmatch("[0-9]{8,19}f+", text) else None
+
+
+def read_request(text):
+    """The request of these 85 bytes in hexadecimal, or None where they are none."""
+    pan, rest, values = read_pan(text[:20]), bytes.fromhex(text[20:]), []
+    for size in SIZES:
+        values.append(rest[:size])
+        rest = rest[size:]
+    psn, aip, atc, tvr, date, kind, amount, other, country, currency, number, cid, data, cryptogram = values
+    if pan is None or not is_decimal(psn) or not is_decimal(amount) or not is_issuer_data(data):
+        return None
+    counter = int.from_bytes(atc, "big")
+    return Request(
+        pan, psn.hex(), aip, counter, tvr, date, kind, amount, other, country, currency, number, cid[0], data, cryptogram
+    )
+
+
+def read_record(line):
+    """The record whose line this is, without its newline, or None."""
+    whole = LINE.fullmatch(line)
+    if whole is None:
+        return None
+    part = {name: text.decode() for name, text in whole.groupdict().items() if text is not None}
+    if "request" in part:
+        request = read_request(part["request"])
+        reply = Reply(bytes.fromhex(part["code"]), part["approve"] == "1", bytes.fromhex(part["data"]))
+        return request and Decided(request, reply)
+    if "command" in part:
+        pan, command = read_pan(part["queue_pan"]), bytes.fromhex(part["command"])
+        return Queued(pan, part["queue_psn"], command) if pan and is_command(command) else None
+    pan = read_pan(part["set_pan"])
+    return Status(pan, part["set_psn"], int(part["status"])) if pan else None
+
+
+class BadLine(Exception):
+    """The shard and the line, from 1, that is no record or may not come there."""
+
+
+class Journals:
+    """The journals of all shards, as files. It neither locks nor syncs them: it says what they hold, not when that is safe."""
+
+    def __init__(self):
+        self.files = []
+
+    def open(self, name):
+        """Opens one more shard's journal; one that isn't there is made."""
+        self.files.append(os.fdopen(os.open(name, os.O_RDWR | os.O_CREAT, 0o666), "r+b"))
+
+    def load(self, host, shard):
+        """Gives a shard's records to the host, and cuts away bytes behind the last newline."""
+        file = self.files[shard]
+        text = file.read()
+        whole = text.rfind(b"\n") + 1
+        for number, line in enumerate(text[:whole].split(b"\n")[:-1], 1):
+            record = read_record(line)
+            if record is None or not host.accepts(shard, record):
+                raise BadLine(shard, number)
+        file.truncate(whole)
+        file.seek(whole)
+
+    def append(self, shard, record):
+        self.files[shard].write(record_line(record))
+
+    def close(self):
+        for file in self.files:
+            file.close()

@@ -1,0 +1,114 @@
+"""The program's words, statuses and last lines (docs/FORMATS.md, words and statuses)."""
+import re
+
+from configuration import LIMIT, Fault, read_configuration
+from host import Host
+from journals import BadLine, Journals
+from world import play
+
+LINES = 1_048_576
+BYTES = 2_147_483_648
+
+COMMANDS = {
+    "serve": ({"--config", "--requests", "--journal"}, {"--callers"}),
+    "show": ({"--config", "--journal"}, set()),
+    "world": ({"--cards", "--steps", "--seed"}, set()),
+}
+
+
+class Stop(Exception):
+    """A run ends with this status, and this last line after `stop`."""
+
+    def __init__(self, status, *more):
+        super().__init__(status)
+        self.status = status
+        self.last_line = f"stop {' '.join(map(str, (status, *more)))}\n"
+
+
+def number(options, name, least, most, default=None):
+    text = options.get(name, default)
+    if not re.fullmatch("0|[1-9][0-9]*", text) or not least <= int(text) <= most:
+        raise Stop(1)
+    return int(text)
+
+
+def read_words(words):
+    """The command and its options by name."""
+    command, *pairs = words or [None]
+    if command not in COMMANDS or len(pairs) % 2:
+        raise Stop(1)
+    needed, possible = COMMANDS[command]
+    names, values = pairs[::2], pairs[1::2]
+    if len(set(names)) < len(names) or not needed <= set(names) <= needed | possible:
+        raise Stop(1)
+    if any(value == "" or value.startswith("-") for value in values):
+        raise Stop(1)
+    return command, dict(zip(names, values))
+
+
+def load(options, journals):
+    """The host as it stands after its configuration and its journals."""
+    try:
+        with open(options["--config"], "rb") as file:
+            data = file.read(LIMIT + 1)
+    except OSError as fault:
+        raise Stop(3) from fault
+    try:
+        issuer = read_configuration(data)
+    except Fault as fault:
+        raise Stop(2, *fault.args) from fault
+    host = Host(issuer, journals.append)
+    for shard in range(issuer.shards):
+        try:
+            journals.open(f"{options['--journal']}.{shard:02d}")
+        except OSError as fault:
+            raise Stop(5, shard) from fault
+    for shard in range(issuer.shards):
+        try:
+            journals.load(host, shard)
+        except BadLine as fault:
+            raise Stop(6, *fault.args) from fault
+    return host
+
+
+def answer_all(host, name, out):
+    """Answers the lines of the request file. Several callers would give the same answers where no two of them ask of one shard."""
+    try:
+        with open(name, "rb") as file:
+            taken = 0
+            for line_number, line in enumerate(file, 1):
+                taken += len(line)
+                if line_number > LINES or taken > BYTES:
+                    raise Stop(8, line_number)
+                out.write(host.answer(line.removesuffix(b"\n")).encode() + b"\n")
+    except OSError as fault:
+        raise Stop(3) from fault
+
+
+def run_command(words, out):
+    command, options = read_words(words)
+    if command == "world":
+        cards = number(options, "--cards", 1, 4096)
+        steps = number(options, "--steps", 0, min(200_000, 65_535 * cards))
+        out.write(play(cards, steps, number(options, "--seed", 0, 2**32 - 1)).encode())
+        return
+    number(options, "--callers", 1, 16, "1")
+    journals = Journals()
+    try:
+        host = load(options, journals)
+        if command == "show":
+            out.write(host.show().encode())
+        else:
+            answer_all(host, options["--requests"], out)
+    finally:
+        journals.close()
+
+
+def run(words, out):
+    """Runs a command, writes its text, and gives its status."""
+    try:
+        run_command(words, out)
+    except Stop as stop:
+        out.write(stop.last_line.encode())
+        return stop.status
+    return 0

@@ -1,0 +1,86 @@
+"""What the scripts of this folder share: their words, an issuer of four cards over two shards, status lines for them, and a tally."""
+import argparse
+import json
+import os
+import subprocess
+import sys
+
+HOME = os.path.dirname(os.path.dirname(os.path.abspath(__file__)))
+# Where `rt ci` leaves the program, and where `./issuer prove` does.
+PROGRAMS = ("crates/issuer_main/out/issuer_main", ".build/issuer")
+SHARDS = 2
+PANS = [f"4{card:015d}" for card in range(4)]
+
+
+def built_program():
+    """The path of the built program: the later one where both places have one."""
+    paths = [os.path.join(HOME, it) for it in PROGRAMS]
+    return max(paths, key=lambda it: os.path.getmtime(it) if os.path.exists(it) else 0)
+
+
+def options_of(usage, **more):
+    """The words of a script: the program's path, whether to run the short form, and others."""
+    options = argparse.ArgumentParser(usage=usage)
+    options.add_argument("--program", default=built_program(), type=os.path.abspath)
+    options.add_argument("--short", action="store_true")
+    for name, default in more.items():
+        options.add_argument(f"--{name}", default=default, type=type(default))
+    options = options.parse_args()
+    if not os.access(options.program, os.X_OK):
+        sys.exit("build the program first: ./issuer prove, or rt ci")
+    return options
+
+
+def configuration():
+    zeros = "0" * 10
+    row = {"tvr_mask": zeros, "tvr_value": zeros, "cvr_mask": zeros, "cvr_value": zeros, "least": 0, "most": 999_999_999_999}
+    row |= {"status": None, "arc": "3035", "approve": False, "csu": "00000000"}
+    keys = [{"dki": 1, "option": "A", "ac": "0" * 32, "smi": "0" * 32}]
+    cards = [{"pan": pan, "psn": "00", "method": 1} for pan in PANS]
+    return json.dumps({"shards": SHARDS, "keys": keys, "cards": cards, "table": [row]})
+
+
+def status_line(number):
+    """A status for one of the cards, and the record that it has to leave."""
+    pan, status = PANS[number % len(PANS)], number // len(PANS) % 10
+    return f"S {pan} 00 {status}\n", f"s {pan}ffff 00 {status}"
+
+
+def serve(journal, callers=1, requests="requests"):
+    return ["serve", "--config", "config", "--requests", requests, "--journal", journal, "--callers", str(callers)]
+
+
+def show(journal):
+    return ["show", "--config", "config", "--journal", journal]
+
+
+def path_of(folder, journal, shard):
+    return os.path.join(folder, f"{journal}.{shard:02d}")
+
+
+def whole_lines(folder, journal, shard):
+    """The whole lines of a shard's journal, and what stands behind them; none where there is no journal."""
+    if not os.path.exists(path_of(folder, journal, shard)):
+        return [], ""
+    with open(path_of(folder, journal, shard)) as text:
+        *whole, rest = text.read().split("\n")
+    return whole, rest
+
+
+class Tally:
+    def __init__(self, program):
+        self.program = program
+        self.passed = self.failed = 0
+
+    def check(self, holds, what):
+        self.passed += bool(holds)
+        if not holds:
+            self.failed += 1
+            print(f"wrong: {what}")
+
+    def run(self, folder, words, text=True, **more):
+        return subprocess.run([self.program, *words], capture_output=True, text=text, check=False, cwd=folder, **more)
+
+    def end(self):
+        print(f"{self.passed} passed, {self.failed} failed")
+        sys.exit(self.failed > 0)
