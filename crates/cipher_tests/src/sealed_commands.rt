@@ -1,8 +1,8 @@
 //! Commands and templates sealed by another program, which was compared with OpenSSL, and a command that is opened again. Keys
 //! and chains are numbers, the first byte the highest.
 
-use super::*;
 use des_block::Key16;
+use secure_msg::{is_batch, read_command, seal, template, template_of, unseal};
 use std::test::Fail;
 
 /// The key, the chain, the command, and what it is sealed to.
