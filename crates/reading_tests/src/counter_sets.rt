@@ -1,5 +1,5 @@
 //! Sets of counters at their limits.
-use super::CounterBits;
+use counter_bits::CounterBits;
 use std::test::Fail;
 
 #[test]

@@ -1,7 +1,7 @@
 //! Texts with their objects, and objects with their texts.
-use crate::{Full, Object, Objects, ROOM, TlvFault, put, tag_bytes};
 use arrayvec::ArrayVec;
 use std::test::Fail;
+use tlv_objects::{Full, Object, Objects, ROOM, TlvFault, put, tag_bytes};
 
 struct Text {
     name: &'static str,
@@ -121,7 +121,7 @@ const TEXTS: [Text; 14] = [
 ];
 
 #[test]
-fn reads_objects(rt: HostRuntime) {
+fn objects_are_read_up_to_the_torn_place(rt: HostRuntime) {
     for text in &TEXTS {
         let name = text.name;
         let mut objects = Objects::new(text.bytes);
@@ -136,7 +136,7 @@ fn reads_objects(rt: HostRuntime) {
 }
 
 #[test]
-fn puts_objects(rt: HostRuntime) -> Result<(), Fail> {
+fn objects_are_written_in_their_shortest_form(rt: HostRuntime) -> Result<(), Fail> {
     assert_eq!(rt; tag_bytes(0x9F02).as_slice(), [0x9F, 0x02].as_slice());
     let mut out: ArrayVec<u8, ROOM> = ArrayVec::new();
     assert_eq!(rt; put(&mut out, 0x8A, b"00"), Ok(()));
