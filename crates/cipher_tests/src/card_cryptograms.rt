@@ -53,7 +53,9 @@ fn cryptograms_are_those_of_another_program(rt: HostRuntime) -> Result<(), Fail>
         let Ok(LineKind::Ask(objects)) = read_line(line) else {
             return Err(Fail::from("a line of another form"));
         };
-        let request = read_request(objects.as_slice()).map_err(|_| "a refused request")?;
+        let Ok(request) = read_request(objects.as_slice()) else {
+            return Err(Fail::from("a refused request"));
+        };
         let mk = Key16(mk.to_be_bytes());
         let want = want.to_be_bytes();
         assert_eq!(rt; input(&request), data);

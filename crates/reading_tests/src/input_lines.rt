@@ -20,7 +20,8 @@ fn lines_are_the_same_in_pieces_of_any_size(rt: HostRuntime) -> Result<(), Fail>
     for step in [1, 100, 1_000_000] {
         let mut text = Vec::new(rt.alloc());
         for (byte, count) in LINES {
-            text.resize(text.len() + count, byte)?;
+            let line = vec![in rt.alloc(); byte; count]?;
+            text.extend_from_slice(&line)?;
             text.push(b'\n')?;
         }
         text.extend_from_slice(b"last")?;

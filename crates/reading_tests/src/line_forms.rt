@@ -42,34 +42,35 @@ const LINES: [(&str, usize, &str, u32); 32] = [
 fn a_line_is_refused_at_the_column_where_it_stops_being_one(rt: HostRuntime) -> Result<(), Fail> {
     for (front, pairs, end, column) in LINES {
         let mut line = Vec::from_slice(rt.alloc(), front.as_bytes())?;
-        line.resize(line.len() + 2 * pairs, b'5')?;
+        for _ in 0..pairs {
+            line.extend_from_slice(b"5a")?;
+        }
         line.extend_from_slice(end.as_bytes())?;
         let refused = read_line(&line).err().unwrap_or(0);
-        assert_eq!(rt; refused, column, "{front} and {pairs} pairs");
+        assert_eq!(rt; refused, column, "{front}");
     }
     Ok(())
 }
 
 #[test]
 fn each_form_is_read(rt: HostRuntime) -> Result<(), Fail> {
-    let LineKind::Ask(bytes) = read_line(b"A 0aBc").map_err(|_| "refused")? else {
-        return Err("no request")?;
+    let Ok(LineKind::Ask(bytes)) = read_line(b"A 0aBc") else {
+        return Err(Fail::from("no request"));
     };
     assert_eq!(rt; bytes.as_slice(), [0x0A, 0xBC].as_slice());
 
-    let line = read_line(b"Q 40000002 12 8416");
-    let LineKind::Queue { pan, psn, bytes } = line.map_err(|_| "refused")? else {
-        return Err("no command")?;
+    let Ok(LineKind::Queue { pan, psn, bytes }) = read_line(b"Q 40000002 12 8416") else {
+        return Err(Fail::from("no command"));
     };
     assert_eq!(rt; pan.digits(), [4, 0, 0, 0, 0, 0, 0, 2].as_slice());
     assert_eq!(rt; psn, 0x12);
     assert_eq!(rt; bytes.as_slice(), [0x84, 0x16].as_slice());
 
-    let line = read_line(b"S 40000002 09 7");
-    let LineKind::Set { pan, psn, status } = line.map_err(|_| "refused")? else {
-        return Err("no status")?;
+    let Ok(LineKind::Set { pan, psn, status }) = read_line(b"S 40000002 09 7") else {
+        return Err(Fail::from("no status"));
     };
     assert_eq!(rt; pan.digits(), [4, 0, 0, 0, 0, 0, 0, 2].as_slice());
-    assert_eq!(rt; (psn, status), (0x09, 7));
+    assert_eq!(rt; psn, 0x09);
+    assert_eq!(rt; status, 7);
     Ok(())
 }

@@ -81,20 +81,19 @@ fn records_are_read_and_written(rt: HostRuntime) -> Result<(), Fail> {
         command,
     };
     let lines: [&[u8]; 4] = [APPROVED, DECLINED, STATUS, QUEUED];
-    for (i, line) in lines.iter().enumerate() {
+    for line in lines {
         let Ok(entry) = read_entry(line) else {
             return Err(Fail::from("a line of no record"));
         };
         match &entry {
             Entry::Decided { request, reply } => {
-                assert_eq!(rt; request.parts().atc as usize, 7 + i);
-                assert_eq!(rt; reply.approve, i == 0);
+                assert_eq!(rt; reply.approve, request.parts().atc == 7);
             }
             Entry::Status { .. } => assert!(rt; entry.is_same(&status)),
             Entry::Queued { .. } => assert!(rt; entry.is_same(&queued)),
         }
         let text = write_entry(&entry);
-        assert_eq!(rt; text.as_slice().strip_suffix(b"\n"), Some(*line));
+        assert_eq!(rt; text.as_slice().strip_suffix(b"\n"), Some(line));
     }
     Ok(())
 }
@@ -112,6 +111,6 @@ fn lines_of_no_record_are_refused(rt: HostRuntime) {
     // The reply has no bytes, no space stands before it, or it ends with half a byte.
     for length in [180, 179, 211] {
         let (front, _) = APPROVED.split_at(length);
-        assert!(rt; read_entry(front).is_err(), "{length} bytes");
+        assert!(rt; read_entry(front).is_err());
     }
 }
