@@ -1,14 +1,15 @@
+//! Tests of the ciphers, the keys and the secured messages against published values and those of other programs.
 #![tactic(auto)]
 
 #[cfg(test)]
-mod answers;
+mod block_ciphers;
 #[cfg(test)]
-mod blocks;
+mod card_cryptograms;
 #[cfg(test)]
-mod cryptograms;
+mod derived_keys;
 #[cfg(test)]
-mod keys;
+mod response_cryptograms;
 #[cfg(test)]
-mod macs;
+mod sealed_commands;
 #[cfg(test)]
-mod sealing;
+mod text_macs;

@@ -1,28 +1,23 @@
+//! Tests of what the host reads and prints: data objects, lines, records, configurations, answers and cards.
 #![tactic(auto)]
 
 #[cfg(test)]
-mod answers_answer_line;
+mod chip_values;
 #[cfg(test)]
-mod answers_stop_line;
+mod configuration_texts;
 #[cfg(test)]
-mod cards_card_line;
+mod counter_sets;
 #[cfg(test)]
-mod configurations;
+mod data_objects;
 #[cfg(test)]
-mod counters;
+mod input_lines;
 #[cfg(test)]
-mod lines_reader;
+mod line_forms;
 #[cfg(test)]
-mod objects;
+mod printed_lines;
 #[cfg(test)]
-mod plain_types;
+mod record_lines;
 #[cfg(test)]
-mod plain_types_outside;
+mod request_data;
 #[cfg(test)]
-mod records;
-#[cfg(test)]
-mod request_lines;
-#[cfg(test)]
-mod requests;
-#[cfg(test)]
-mod requests_line;
+mod written_requests;

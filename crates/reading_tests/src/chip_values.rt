@@ -1,0 +1,103 @@
+//! Account numbers, requests, words, and sources and sinks in memory, on values that were read off the formats by hand.
+
+use issuer_base::{
+    MemorySink, MemorySource, Pan, Parts, ReadFault, Request, Source, Words, WriteFault, write_all,
+};
+use std::test::Fail;
+
+const DIGITS: [u8; 16] = [4, 0, 0, 0, 0, 0, 0, 0, 0, 0, 0, 0, 0, 0, 0, 2];
+
+/// Digits, and whether they are those of an account number.
+const NUMBERS: [(&[u8], bool); 6] = [
+    (&[4, 0, 0, 0, 0, 0, 0], false),
+    (&[4, 0, 0, 0, 0, 0, 0, 0], true),
+    (&DIGITS, true),
+    (&[9; 19], true),
+    (&[9; 20], false),
+    (&[4, 0, 0, 0, 0, 0, 0, 10], false),
+];
+
+#[test]
+fn account_numbers_have_8_to_19_digits(rt: HostRuntime) {
+    for (digits, valid) in NUMBERS {
+        match Pan::new(digits) {
+            Some(pan) => assert!(rt; valid && pan.digits() == digits),
+            None => assert!(rt; !valid),
+        }
+    }
+}
+
+#[test]
+fn requests_have_the_form_of_chip_data(rt: HostRuntime) -> Result<(), Fail> {
+    let mut iad = [0; 32];
+    iad[0] = 0x0F;
+    iad[1] = 0xA5;
+    iad[2] = 0x01;
+    iad[3] = 0xA0;
+    iad[6] = 0x30;
+    iad[16] = 0x0F;
+    iad[17] = 0x01;
+    iad[18] = 0x02;
+    let parts = Parts {
+        pan: Pan::new(&DIGITS).ok_or("an account number")?,
+        psn: 0x00,
+        aip: [0x39, 0x00],
+        atc: 7,
+        tvr: [0x00, 0x00, 0x00, 0x80, 0x00],
+        date: [0x26, 0x01, 0x15],
+        kind: 0x00,
+        amount: [0x00, 0x00, 0x00, 0x01, 0x23, 0x45],
+        other: [0; 6],
+        country: [0x02, 0x76],
+        currency: [0x09, 0x78],
+        un: [0x1A, 0x2B, 0x3C, 0x4D],
+        cid: 0x80,
+        iad,
+        ac: [0; 8],
+    };
+    let request = Request::new(parts.copy()).ok_or("a request")?;
+    assert!(rt; request.is_arqc());
+    assert_eq!(rt; request.cvr(), [0xA0, 0x00, 0x00, 0x30, 0x00]);
+    assert_eq!(rt; request.dki(), 1);
+    assert_eq!(rt; request.script_count(), 3);
+    assert_eq!(rt; request.last_online(), 0x0102);
+    assert_eq!(rt; request.amount_value(), 12345);
+
+    let mut other = parts.copy();
+    other.psn = 0x1A;
+    assert!(rt; Request::new(other).is_none());
+    let mut other = parts.copy();
+    other.amount[5] = 0xA0;
+    assert!(rt; Request::new(other).is_none());
+    for index in [0, 1, 16] {
+        let mut other = parts.copy();
+        other.iad[index] = 0x10;
+        assert!(rt; Request::new(other).is_none());
+    }
+    Ok(())
+}
+
+#[test]
+fn words_and_pieces_in_memory_are_kept(rt: HostRuntime) -> Result<(), Fail> {
+    let mut words = Words::new(rt.alloc());
+    words.push("serve")?;
+    words.push("--config")?;
+    assert_eq!(rt; words.count(), 2);
+    assert_eq!(rt; words.word(1), "--config");
+
+    // The second call of each fails, and a piece past the room is refused.
+    let bytes = Vec::from_slice(rt.alloc(), b"abc")?;
+    let mut source = MemorySource::new(bytes, vec![in rt.alloc(); 1]?);
+    let mut into = [0; 2];
+    assert_eq!(rt; source.read(&mut into), Ok(2));
+    assert_eq!(rt; &into, b"ab");
+    assert_eq!(rt; source.read(&mut into), Err(ReadFault));
+    assert_eq!(rt; source.read(&mut into), Ok(1));
+    let mut sink = MemorySink::new(rt.alloc(), 4, vec![in rt.alloc(); 1]?)?;
+    assert_eq!(rt; write_all(&mut sink, b"ab"), Ok(()));
+    assert_eq!(rt; write_all(&mut sink, b"c"), Err(WriteFault));
+    assert_eq!(rt; write_all(&mut sink, b"cde"), Err(WriteFault));
+    assert_eq!(rt; write_all(&mut sink, b"cd"), Ok(()));
+    assert_eq!(rt; sink.bytes(), b"abcd".as_slice());
+    Ok(())
+}
