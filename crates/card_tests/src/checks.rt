@@ -1,239 +1,109 @@
 //! What lines say to an issuer. The cryptograms are those of another program, which works with OpenSSL.
 
-use super::*;
-use arrayvec::ArrayVec;
-use decision_table::{Table, TableRow};
-use des_block::Key16;
-use issuer_base::{MAX_CHIP_BYTES, MasterOption, Method, Pan, Refusal};
-use issuer_setup::{CardInfo, Issuer};
-use key_derive::KeySet;
-use std::alloc::{AllocError, Global};
+use issuer_base::{MAX_CHIP_BYTES, Refusal};
+use line_checks::{Checked, check_line, check_line_in};
+use sample_issuer::{CARDS, REQUEST, deciding_table, issuer};
 use std::test::Fail;
 
-/// What differs among the request lines.
-#[derive(Clone, Copy)]
-struct Asked {
-    /// The last two digits of the card.
-    card: u8,
-    counter: u16,
-    number: u32,
-    cryptogram: u64,
+/// What a line was found to be: its first letter, and the number of its card.
+type Found = Result<(u8, u32), Refusal>;
 
-    /// The cryptogram information data.
-    cid: u8,
-    key_index: u8,
-
-    /// The amount in twelve digits.
-    amount: u64,
-}
-
-const FIRST: Asked = Asked {
-    card: 0x02,
-    counter: 7,
-    number: 0x1A2B_3C4D,
-    cryptogram: 0x6317DE17_856BF19A,
-    cid: 0x80,
-    key_index: 0x01,
-    amount: 0x12345,
-};
-
-struct Case {
-    name: &'static str,
-    asked: Asked,
-    expected: &'static str,
-}
-
-const CASES: [Case; 6] = [
-    Case {
-        name: "the right cryptogram",
-        asked: FIRST,
-        expected: "decide for card 0",
-    },
-    Case {
-        name: "a wrong cryptogram",
-        asked: Asked {
-            cryptogram: 0x6317DE17_856BF19B,
-            ..FIRST
-        },
-        expected: "BadCryptogram",
-    },
-    Case {
-        name: "a card of nobody",
-        asked: Asked {
-            card: 0x28,
-            cryptogram: 0xA49AE555_34D26CB3,
-            ..FIRST
-        },
-        expected: "UnknownCard",
-    },
-    Case {
-        name: "no ARQC",
-        asked: Asked { cid: 0x40, ..FIRST },
-        expected: "NotArqc",
-    },
-    Case {
-        name: "a key of nobody",
-        asked: Asked {
-            key_index: 0x09,
-            cryptogram: 0x4F250431_C9D926B5,
-            ..FIRST
-        },
-        expected: "UnknownKey(9)",
-    },
-    Case {
-        name: "no decimal amount",
-        asked: Asked {
-            amount: 0xA23,
-            ..FIRST
-        },
-        expected: "BadField(40706)",
-    },
+/// Request lines: a part of the sample line, what stands there, and what is found.
+const REQUESTS: [(&str, &str, &str, Found); 6] = [
+    ("the right cryptogram", "", "", Ok((b'A', 0))),
+    (
+        "a wrong cryptogram",
+        "6317DE17856BF19A",
+        "6317DE17856BF19B",
+        Err(Refusal::BadCryptogram),
+    ),
+    (
+        "a card of nobody",
+        "000000029F26086317DE17856BF19A",
+        "000000289F2608A49AE55534D26CB3",
+        Err(Refusal::UnknownCard),
+    ),
+    ("no ARQC", "9F270180", "9F270140", Err(Refusal::NotArqc)),
+    (
+        "a key of nobody",
+        "6317DE17856BF19A9F2701809F10200FA501",
+        "4F250431C9D926B59F2701809F10200FA509",
+        Err(Refusal::UnknownKey(9)),
+    ),
+    (
+        "no decimal amount",
+        "000000012345",
+        "000000000A23",
+        Err(Refusal::BadField(40706)),
+    ),
 ];
 
 /// Lines that say no request, and what is found in each.
-const LINES: [(&str, &str); 14] = [
-    ("X", "BadLine(1)"),
-    ("A 9F3602", "BadTlv(0)"),
-    ("A 9F36020007", "Missing(90)"),
-    ("A 0000", "Missing(90)"),
-    ("A 5A08400000", "BadTlv(0)"),
-    ("A 5A084000000000000002", "Missing(130)"),
-    ("A 5A0840000000000000029F2608", "BadTlv(10)"),
-    ("A 1F8181810100", "BadTlv(0)"),
-    ("A 9F10830000010F", "BadTlv(0)"),
-    ("Q 4000000000000010 00 84160000", "queue for card 1"),
-    ("Q 4000000000000010 0 84160000", "BadLine(21)"),
-    ("Q 4000000000000010 01 84", "UnknownCard"),
-    ("Q 4000000000000010 00 84", "BadCommand"),
-    ("S 4000000000000010 00 3", "status for card 1"),
+const LINES: [(&str, Found); 14] = [
+    ("X", Err(Refusal::BadLine(1))),
+    ("A 9F3602", Err(Refusal::BadTlv(0))),
+    ("A 9F36020007", Err(Refusal::Missing(90))),
+    ("A 0000", Err(Refusal::Missing(90))),
+    ("A 5A08400000", Err(Refusal::BadTlv(0))),
+    ("A 5A084000000000000002", Err(Refusal::Missing(130))),
+    ("A 5A0840000000000000029F2608", Err(Refusal::BadTlv(10))),
+    ("A 1F8181810100", Err(Refusal::BadTlv(0))),
+    ("A 9F10830000010F", Err(Refusal::BadTlv(0))),
+    ("Q 4000000000000010 00 84160000", Ok((b'Q', 1))),
+    ("Q 4000000000000010 0 84160000", Err(Refusal::BadLine(21))),
+    ("Q 4000000000000010 01 84", Err(Refusal::UnknownCard)),
+    ("Q 4000000000000010 00 84", Err(Refusal::BadCommand)),
+    ("S 4000000000000010 00 3", Ok((b'S', 1))),
 ];
 
-fn line(alloc: Global, asked: Asked) -> Result<String, AllocError> {
-    let Asked {
-        card,
-        counter,
-        number,
-        cryptogram,
-        cid,
-        key_index,
-        amount,
-    } = asked;
-    format!(in alloc;
-        "A 5A0840000000000000{card:02X}9F2608{cryptogram:016X}9F2701{cid:02X}9F10200FA5{key_index:02X}A00000000000000000000000000F0000000000000000000000000000009F3704{number:08X}9F3602{counter:04X}950500000080009A032601159C01009F0206{amount:012X}5F2A020978820239009F1A020276"
-    )
-}
-
-fn card(last: u8, method: Method) -> Result<CardInfo, Fail> {
-    Ok(CardInfo {
-        pan: Pan::new(&[
-            4,
-            0,
-            0,
-            0,
-            0,
-            0,
-            0,
-            0,
-            0,
-            0,
-            0,
-            0,
-            0,
-            0,
-            last / 10,
-            last % 10,
-        ])
-        .ok_or("a number")?,
-        psn: 0x00,
-        method,
-    })
-}
-
-/// The table of one row, which declines every request.
-fn table() -> Option<Table> {
-    let mut rows = ArrayVec::new();
-    rows.push(TableRow {
-        most: 999_999_999_999,
-        arc: [0x30, 0x35],
-        ..TableRow::default()
-    });
-    Table::new(rows)
-}
-
-/// An issuer of two cards.
-fn issuer(alloc: Global) -> Result<Issuer, Fail> {
-    let mut keys = ArrayVec::new();
-    keys.push(KeySet {
-        dki: 0x01,
-        option: MasterOption::A,
-        ac: Key16(0x00010203_04050607_08090A0B_0C0D0E0F_u128.to_be_bytes()),
-        smi: Key16(0x10111213_14151617_18191A1B_1C1D1E1F_u128.to_be_bytes()),
-    });
-    let mut cards = Vec::new(alloc);
-    cards.push(card(2, Method::One)?)?;
-    cards.push(card(10, Method::Two)?)?;
-    let table = table().ok_or("a table")?;
-    Ok(Issuer::new(alloc, 2, keys, cards, table).map_err(|_| "an issuer")?)
-}
-
-/// What was found, in words.
-fn told(alloc: Global, found: Result<Checked, Refusal>) -> Result<String, AllocError> {
-    match found {
-        Ok(Checked::Decide(found)) => format!(in alloc; "decide for card {}", found.card),
-        Ok(Checked::Queue(found)) => format!(in alloc; "queue for card {}", found.card),
-        Ok(Checked::Status(found)) => format!(in alloc; "status for card {}", found.card),
-        Err(refusal) => format!(in alloc; "{refusal:?}"),
+fn found(checked: Result<Checked, Refusal>) -> Found {
+    match checked? {
+        Checked::Decide(asked) => Ok((b'A', asked.card)),
+        Checked::Queue(asked) => Ok((b'Q', asked.card)),
+        Checked::Status(asked) => Ok((b'S', asked.card)),
     }
 }
 
+/// A card's key is derived at its first request and found at the next, or all cards' keys are derived at once.
 #[test]
-fn checks_requests(rt: HostRuntime) -> Result<(), Fail> {
-    let issuer = issuer(rt.alloc())?;
-    for case in &CASES {
-        let name = case.name;
-        let line = line(rt.alloc(), case.asked)?;
-        let found = told(rt.alloc(), check_line(&issuer, line.as_bytes()))?;
-        assert_eq!(rt; found.as_str(), case.expected, "{name}");
-    }
-    Ok(())
-}
-
-/// A card's key is derived at its first request and found at the second.
-#[test]
-fn checks_requests_again(rt: HostRuntime) -> Result<(), Fail> {
-    let mut issuer = issuer(rt.alloc())?;
+fn finds_what_is_wrong_with_requests(rt: HostRuntime) -> Result<(), Fail> {
+    let table = deciding_table().ok_or("a table")?;
+    let mut issuer = issuer(rt.alloc(), 2, &CARDS[..2], table).ok_or("an issuer")?;
     let mut data = [0; MAX_CHIP_BYTES];
-    for turn in 0..2 {
-        for case in &CASES {
-            let name = case.name;
-            let line = line(rt.alloc(), case.asked)?;
-            let checked = check_line_in(&mut issuer, line.as_bytes(), &mut data);
-            let found = told(rt.alloc(), checked)?;
-            assert_eq!(rt; found.as_str(), case.expected, "{name}, turn {turn}");
+    for (name, from, to, expected) in &REQUESTS {
+        let line = if from.is_empty() {
+            String::from_str(rt.alloc(), REQUEST)?
+        } else {
+            REQUEST.replace(rt.alloc(), *from, to)?
+        };
+        let without_key = found(check_line(&issuer, line.as_bytes()));
+        assert!(rt; without_key == *expected, "{name}");
+        for _ in 0..2 {
+            let with_key = found(check_line_in(&mut issuer, line.as_bytes(), &mut data));
+            assert!(rt; with_key == *expected, "{name}, the key kept");
         }
     }
-    Ok(())
-}
-
-#[test]
-fn checks_other_lines(rt: HostRuntime) -> Result<(), Fail> {
-    let issuer = issuer(rt.alloc())?;
-    for (line, expected) in &LINES {
-        let found = told(rt.alloc(), check_line(&issuer, line.as_bytes()))?;
-        assert_eq!(rt; found.as_str(), *expected, "{line}");
-    }
+    issuer.keep_all();
+    assert!(rt; found(check_line(&issuer, REQUEST.as_bytes())) == Ok((b'A', 0)));
     Ok(())
 }
 
 /// A byte more than chip data may have is refused at its own column.
 #[test]
-fn checks_the_longest_line(rt: HostRuntime) -> Result<(), Fail> {
-    let issuer = issuer(rt.alloc())?;
+fn finds_what_is_wrong_with_other_lines(rt: HostRuntime) -> Result<(), Fail> {
+    let table = deciding_table().ok_or("a table")?;
+    let issuer = issuer(rt.alloc(), 2, &CARDS[..2], table).ok_or("an issuer")?;
+    for (line, expected) in &LINES {
+        assert!(rt;
+            found(check_line(&issuer, line.as_bytes())) == *expected,
+            "{line}"
+        );
+    }
     let mut line = String::from_str(rt.alloc(), "A ")?;
     for _ in 0..=MAX_CHIP_BYTES {
         line.push_str("00")?;
     }
-    let found = told(rt.alloc(), check_line(&issuer, line.as_bytes()))?;
-    assert_eq!(rt; found.as_str(), "BadLine(2051)");
+    let longest = found(check_line(&issuer, line.as_bytes()));
+    assert!(rt; longest == Err(Refusal::BadLine(2051)));
     Ok(())
 }

@@ -1,3 +1,4 @@
+//! Tests of a card's model, its row and script queue, the decision table, the issuer's parts, and the checks of lines.
 #![tactic(auto)]
 
 #[cfg(test)]

@@ -1,13 +1,12 @@
 //! Transactions of two cards, whose cryptograms, answers and sealed commands are another program's.
-
 ghost use Rattle.std.specs.Prelude.{IsTrue};
 ghost use Rattle.std.specs.List.{list_all};
 ghost use Rattle.issuer_base.specs.ChipData.{is_bcd};
 
-use super::*;
-use des_block::Key16;
-use issuer_base::{Method, Pan};
-use key_derive::{KeySet, card_keys};
+use card_model::{Card, Terminal};
+use issuer_setup::CardInfo;
+use key_derive::card_keys;
+use sample_issuer::{CARDS, CRYPTOGRAM, SampleCard, card, key_set};
 use std::alloc::Global;
 use std::test::Fail;
 
@@ -55,20 +54,17 @@ fn purchase() -> Terminal
     }
 }
 
-/// A new card whose account number ends with these two digits.
+/// A new card.
 #[tactic(auto, unfolding(issuer_base::specs::ChipData::is_bcd))]
-fn card(alloc: Global, tens: u8, ones: u8, method: Method) -> Result<Card, Fail> {
-    let pan = Pan::new(&[4, 0, 0, 0, 0, 0, 0, 0, 0, 0, 0, 0, 0, 0, tens, ones]).ok_or(
-        "an account number",
-    )?;
-    let set = KeySet {
-        dki: 1,
-        ac: Key16(0x00010203_04050607_08090A0B_0C0D0E0F_u128.to_be_bytes()),
-        smi: Key16(0x10111213_14151617_18191A1B_1C1D1E1F_u128.to_be_bytes()),
-        ..KeySet::default()
-    };
+fn new_card(alloc: Global, (last, method): SampleCard) -> Option<Card> {
+    let CardInfo {
+        pan,
+        psn: _,
+        method,
+    } = card(last, method)?;
+    let set = key_set();
     let keys = card_keys(&set, &pan, 0);
-    Ok(Card::new(alloc, pan, 0, set.dki, method, keys))
+    Some(Card::new(alloc, pan, 0, set.dki, method, keys))
 }
 
 /// The cryptogram of the last of some taps, and byte 4 of its card verification results.
@@ -81,60 +77,46 @@ fn tapped(card: &mut Card, taps: u32) -> Option<(u64, u8)> {
     Some((u64::from_be_bytes(request.parts().ac), request.cvr()[3]))
 }
 
-fn run(card: &mut Card, bytes: &[u8]) -> Result<bool, Fail> {
-    Ok(card.run(bytes).map_err(|_| "memory")?)
-}
-
 #[test]
 fn runs_commands_in_order_and_counts_them(rt: HostRuntime) -> Result<(), Fail> {
-    let mut card = card(rt.alloc(), 0, 2, Method::One)?;
-    assert_eq!(rt; tapped(&mut card, 7), Some((0x6317DE17_856BF19A, 0x00)));
+    let mut card = new_card(rt.alloc(), CARDS[0]).ok_or("a card")?;
+    assert_eq!(rt; tapped(&mut card, 7), Some((CRYPTOGRAM, 0x00)));
     assert!(rt; card.authenticate(&FIRST_ANSWER, ARC));
-    assert!(rt; run(&mut card, &COMMANDS[0])?);
-    assert!(rt; run(&mut card, &COMMANDS[1])?);
-    assert!(rt;
-        card.ran()
-            .iter()
-            .map(|command| command.body.len())
-            .eq([20, 20])
-    );
+    assert!(rt; card.run(&COMMANDS[0]) == Ok(true));
+    assert!(rt; card.run(&COMMANDS[1]) == Ok(true));
+    assert_eq!(rt; card.ran().len(), 2);
     assert_eq!(rt; tapped(&mut card, 1), Some((0x537FA27E_450BDDAC, 0x20)));
     Ok(())
 }
 
 #[test]
 fn refuses_answers_and_commands_out_of_place(rt: HostRuntime) -> Result<(), Fail> {
-    let mut card = card(rt.alloc(), 0, 2, Method::One)?;
+    let mut card = new_card(rt.alloc(), CARDS[0]).ok_or("a card")?;
     assert!(rt; !card.authenticate(&FIRST_ANSWER, ARC));
     tapped(&mut card, 7).ok_or("a request")?;
-    assert!(rt; !run(&mut card, &COMMANDS[0])?);
+    assert!(rt; card.run(&COMMANDS[0]) == Ok(false));
     assert!(rt; !card.authenticate(&FIRST_ANSWER, [0x30, 0x35]));
     assert!(rt; card.authenticate(&FIRST_ANSWER, ARC));
     assert!(rt; !card.authenticate(&FIRST_ANSWER, ARC));
-    assert!(rt; run(&mut card, &COMMANDS[0])?);
-    for (name, command) in [("twice", &COMMANDS[0]), ("too early", &COMMANDS[2])] {
-        assert!(rt; !run(&mut card, command)?, "{name}");
+    for (name, command, runs) in [
+        ("in its turn", &COMMANDS[0], true),
+        ("twice", &COMMANDS[0], false),
+        ("too early", &COMMANDS[2], false),
+    ] {
+        assert!(rt; card.run(command) == Ok(runs), "{name}");
     }
     let (_, results) = tapped(&mut card, 1).ok_or("a request")?;
     assert_eq!(rt; results, 0x18);
     assert!(rt; !card.authenticate(&FIRST_ANSWER, ARC));
-    assert!(rt; !run(&mut card, &COMMANDS[1])?);
+    assert!(rt; card.run(&COMMANDS[1]) == Ok(false));
     Ok(())
 }
 
 #[test]
 fn takes_an_answer_by_method_2(rt: HostRuntime) -> Result<(), Fail> {
-    let mut card = card(rt.alloc(), 1, 0, Method::Two)?;
+    let mut card = new_card(rt.alloc(), CARDS[1]).ok_or("a card")?;
     assert_eq!(rt; tapped(&mut card, 7), Some((0x1DE2D48E_1E32FA1B, 0x00)));
     assert!(rt; !card.authenticate(&SECOND_ANSWER[..7], ARC));
     assert!(rt; card.authenticate(&SECOND_ANSWER, ARC));
-    Ok(())
-}
-
-#[test]
-fn makes_no_request_past_its_last_counter(rt: HostRuntime) -> Result<(), Fail> {
-    let mut card = card(rt.alloc(), 0, 2, Method::One)?;
-    assert!(rt; tapped(&mut card, u32::from(LAST_COUNTER)).is_some());
-    assert!(rt; card.tap(&purchase()).is_none());
     Ok(())
 }

@@ -1,6 +1,6 @@
 //! Each outcome, at its borders.
 
-use super::*;
+use cvr_settle::{Flight, Settled, settle};
 use std::test::Fail;
 
 #[test]

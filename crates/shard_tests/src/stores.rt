@@ -1,14 +1,10 @@
-//! The stores and the desks through their traits, with the faults that they were told to have.
-mod desks;
-
-use super::*;
+//! The stores in memory through their trait, with the faults that they were told to have.
 use issuer_base::{Store, StoreFail};
-use std::fs;
-use std::fs::File;
 use std::test::Fail;
+use store_edge::{MemoryStore, RoomStore};
 
 // The bytes from a place on, at most four, as numbers and how many there are.
-fn read<S: Store + Send>(store: &mut S, at: u64) -> Result<(usize, [u8; 4]), StoreFail> {
+pub(crate) fn read<S: Store + Send>(store: &mut S, at: u64) -> Result<(usize, [u8; 4]), StoreFail> {
     let mut into = [0; 4];
     let count = store.read_at(at, &mut into)?;
     Ok((count, into))
@@ -63,24 +59,5 @@ fn a_room_store_fails_past_its_room(rt: HostRuntime) -> Result<(), Fail> {
     assert_eq!(rt; store.sync(), Ok(()));
     assert_eq!(rt; read(&mut store, 1), Ok((1, *b"b\0\0\0")));
     assert_eq!(rt; store.len(), 2);
-    Ok(())
-}
-
-#[test]
-fn a_file_store_keeps_what_it_was_given(rt: HostRuntime) -> Result<(), Fail> {
-    let path = "store_edge.test";
-    fs::write(&rt, path, "ab")?;
-    let mut store = FileStore::over(File::options().read(true).write(true).open(&rt, path)?)?;
-    assert_eq!(rt; store.append(b"cde"), Ok(()));
-    assert_eq!(rt; store.len(), 5);
-    assert_eq!(rt; store.cut(4), Ok(()));
-    assert_eq!(rt; store.sync(), Ok(()));
-    assert_eq!(rt; read(&mut store, 1), Ok((3, *b"bcd\0")));
-    assert_eq!(rt; read(&mut store, 4), Ok((0, [0; 4])));
-    // another hand cuts the file
-    fs::write(&rt, path, "a")?;
-    assert_eq!(rt; read(&mut store, 1), Err(StoreFail));
-    assert_eq!(rt; store.len(), 4);
-    fs::remove_file(&rt, path)?;
     Ok(())
 }

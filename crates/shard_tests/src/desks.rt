@@ -1,7 +1,10 @@
 //! Desks in memory and over files, and what they open.
-use super::*;
-use issuer_base::{Desk, DeskFault, ReadFault, Sink, Source};
+use crate::stores::read;
+use issuer_base::{Desk, DeskFault, ReadFault, Sink, Source, Store, StoreFail};
 use std::alloc::{AllocError, Global};
+use std::fs;
+use std::test::Fail;
+use store_edge::{FileDesk, FileSink, MemoryDesk};
 
 // The first byte of the input under a name, or none where it is empty.
 fn first_byte<D: Desk>(desk: &mut D, name: &str) -> Result<Result<Option<u8>, ReadFault>, DeskFault>
@@ -128,6 +131,25 @@ fn a_journal_over_a_file_is_opened_once_at_a_time(rt: HostRuntime) -> Result<(),
         first_bytes(&mut FileDesk::new(rt), "store_edge.none/log"),
         Err(DeskFault::Fault)
     );
+    Ok(())
+}
+
+#[test]
+fn a_store_over_a_file_keeps_what_it_was_given(rt: HostRuntime) -> Result<(), Fail> {
+    let path = "store_edge.test";
+    fs::write(&rt, path, "ab")?;
+    let mut store = FileDesk::new(rt).log(path)?;
+    assert_eq!(rt; store.append(b"cde"), Ok(()));
+    assert_eq!(rt; store.len(), 5);
+    assert_eq!(rt; store.cut(4), Ok(()));
+    assert_eq!(rt; store.sync(), Ok(()));
+    assert_eq!(rt; read(&mut store, 1), Ok((3, *b"bcd\0")));
+    assert_eq!(rt; read(&mut store, 4), Ok((0, [0; 4])));
+    // another hand cuts the file
+    fs::write(&rt, path, "a")?;
+    assert_eq!(rt; read(&mut store, 1), Err(StoreFail));
+    assert_eq!(rt; store.len(), 4);
+    fs::remove_file(&rt, path)?;
     Ok(())
 }
 

@@ -1,0 +1,8 @@
+//! Sample values that tests and benches share: an issuer with its keys, cards and decision table, and purchases of its first card.
+#![tactic(auto)]
+
+mod purchases;
+mod setup;
+
+pub use purchases::{CRYPTOGRAM, REQUEST, purchase, purchase_parts};
+pub use setup::{CARDS, SampleCard, card, deciding_table, declining_table, issuer, key_set};

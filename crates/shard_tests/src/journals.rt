@@ -1,0 +1,282 @@
+//! Journals that are loaded, or not, a record that is in doubt, and what a crash leaves.
+ghost use Rattle.std.specs.Prelude.{◌≡◌, ◌<◌, ◌%◌, length, IfOk, IsTrue};
+ghost use Rattle.shard_book.specs.Shards.{number_in, IsUnder};
+
+use issuer_base::{Answer, Refusal, Store};
+use issuer_setup::Issuer;
+use line_checks::{Checked, check_line, check_request};
+use sample_issuer::{CARDS, CRYPTOGRAM, declining_table, issuer, purchase};
+use shard_book::{LoadBack, LoadFault, Shard};
+use std::alloc::Global;
+use std::test::Fail;
+use store_edge::MemoryStore;
+
+const STATUS: &str = "s 4000000000000002ffff 00 3\n";
+
+const COMMAND: &str = "q 4000000000000002ffff 00 84160000\n";
+
+/// An issuer of one shard and one card, whose table declines every request.
+fn one_card(alloc: Global) -> Result<Issuer, Fail>
+    ensures { IfOk result (λ issuer. issuer.shards ≡ 1) }
+{
+    let table = declining_table().ok_or("a table")?;
+    match issuer(alloc, 1, &CARDS[..1], table) {
+        Some(issuer) => Ok(issuer),
+        None => Err("an issuer".into()),
+    }
+}
+
+/// A store with this text and room for more, that fails at the listed calls.
+fn store(alloc: Global, text: Vec<u8>, fails: &[u64]) -> Result<MemoryStore, Fail> {
+    let fails = fails.to_vec(alloc)?;
+    Ok(MemoryStore::new(alloc, text, 4_096, fails).map_err(|_| "a store")?)
+}
+
+fn load(
+    alloc: Global,
+    issuer: &Issuer,
+    store: MemoryStore,
+) -> Result<Shard<MemoryStore>, LoadBack<MemoryStore>>
+    requires { issuer.now.shards ≡ 1 }
+    ensures under { IfOk result (IsUnder issuer.now) }
+    ensures number { IfOk result (λ loaded. number_in loaded ≡ 0) }
+{
+    Shard::load(alloc, store, 0, issuer)
+}
+
+/// How many records a store with this text is loaded with and how many bytes it has then, or why it isn't loaded.
+fn loaded(
+    alloc: Global,
+    issuer: &Issuer,
+    text: Vec<u8>,
+) -> Result<Result<(u64, u64), LoadFault>, Fail>
+    requires { issuer.now.shards ≡ 1 }
+{
+    match load(alloc, issuer, store(alloc, text, &[])?) {
+        Ok(shard) => {
+            let records = shard.places();
+            Ok(Ok((records, shard.into_store().len())))
+        }
+        Err(LoadBack { fault, store: _ }) => Ok(Err(fault)),
+    }
+}
+
+/// Whether the number is that of a card of the first shard.
+fn is_home(issuer: &Issuer, card: u32) -> bool
+    ensures within { IsTrue result → card < length issuer.now.cards }
+    ensures home { IsTrue result → card % issuer.now.shards ≡ 0 }
+{
+    card < issuer.cards() && issuer.shard_of(card) == 0
+}
+
+/// What a shard answers to the card's request, whose claim was won.
+fn decide(shard: &mut Shard<MemoryStore>, issuer: &Issuer) -> Option<Answer>
+    requires under { IsUnder issuer.now shard.old }
+    requires number { number_in shard.old ≡ 0 }
+    ensures under { IsUnder issuer.now shard.new }
+    ensures number { number_in shard.new ≡ 0 }
+{
+    let asked = purchase(7, 0x1A2B_3C4D, CRYPTOGRAM)?;
+    let found = check_request(issuer, asked).ok()?;
+    if !is_home(issuer, found.card) {
+        return None;
+    }
+    Some(shard.answer(issuer, &found, true))
+}
+
+/// What a shard answers to a status of the card.
+fn set_status(shard: &mut Shard<MemoryStore>, issuer: &Issuer) -> Option<Answer>
+    requires under { IsUnder issuer.now shard.old }
+    requires number { number_in shard.old ≡ 0 }
+    ensures under { IsUnder issuer.now shard.new }
+    ensures number { number_in shard.new ≡ 0 }
+{
+    let Ok(Checked::Status(found)) = check_line(issuer, b"S 4000000000000002 00 3") else {
+        return None;
+    };
+    if !is_home(issuer, found.card) {
+        return None;
+    }
+    Some(shard.set_status(issuer, found))
+}
+
+/// So many statuses, from an empty store whose call of this number fails.
+#[derive(Drop)]
+struct Run {
+    store: MemoryStore,
+    acknowledged: u64,
+
+    /// Whether the last status was answered with a fault of the store.
+    in_doubt: bool,
+}
+
+fn run_statuses(alloc: Global, issuer: &Issuer, lines: u8, fails: u64) -> Result<Run, Fail>
+    requires { issuer.now.shards ≡ 1 }
+{
+    let store = store(alloc, Vec::new(alloc), &[fails])?;
+    match load(alloc, issuer, store) {
+        Ok(mut shard) => {
+            let mut acknowledged = 0u64;
+            let mut in_doubt = false;
+            for line in 0..lines {
+                let answer = set_status(&mut shard, issuer);
+                in_doubt = answer == Some(Answer::Refused(Refusal::StoreFault));
+                acknowledged = acknowledged.wrapping_add(u64::from(!in_doubt));
+            }
+            Ok(Run {
+                store: shard.into_store(),
+                acknowledged,
+                in_doubt,
+            })
+        }
+        Err(LoadBack { fault: _, store }) => Ok(Run {
+            store,
+            acknowledged: 0,
+            in_doubt: false,
+        }),
+    }
+}
+
+/// Whether each image of a run's store has its acknowledged records, or these and the one in doubt.
+fn is_kept(alloc: Global, issuer: &Issuer, run: &Run) -> Result<bool, Fail>
+    requires { issuer.now.shards ≡ 1 }
+{
+    for length in 0..=run.store.len() {
+        let Some(image) = run.store.image(length).map_err(|_| "an image")? else {
+            continue;
+        };
+        let Ok((records, _)) = loaded(alloc, issuer, image)? else {
+            return Ok(false);
+        };
+        if records.wrapping_sub(run.acknowledged) > u64::from(run.in_doubt) {
+            return Ok(false);
+        }
+    }
+    Ok(true)
+}
+
+#[test]
+fn truncates_a_torn_record(rt: HostRuntime) -> Result<(), Fail> {
+    let alloc = rt.alloc();
+    let issuer = one_card(alloc)?;
+    for torn in 0..COMMAND.len() + 1 {
+        let mut text = STATUS.as_bytes().to_vec(alloc)?;
+        text.extend_from_slice(&COMMAND.as_bytes()[..torn])?;
+        let expected = if torn == COMMAND.len() {
+            (2, 63)
+        } else {
+            (1, 28)
+        };
+        assert!(rt; loaded(alloc, &issuer, text)? == Ok(expected), "{torn}");
+    }
+    Ok(())
+}
+
+/// The record of the card's request, declined with the response code 05.
+const DECISION: &str =
+    "d 4000000000000002ffff0039000007000000800026011500000000012345000000000000027609781a2b3c4d800fa501a00000000000000000000000000f0000000000000000000000000000006317de17856bf19a 3035 0 8a023035910aeef4417ade8587933035\n";
+
+/// The same with another last digit of the cryptogram.
+const FORGERY: &str =
+    "d 4000000000000002ffff0039000007000000800026011500000000012345000000000000027609781a2b3c4d800fa501a00000000000000000000000000f0000000000000000000000000000006317de17856bf19b 3035 0 8a023035910aeef4417ade8587933035\n";
+
+const UNKNOWN_CARD: &str = "s 4000000000000010ffff 00 3\n";
+
+#[test]
+fn names_the_first_bad_line(rt: HostRuntime) -> Result<(), Fail> {
+    let alloc = rt.alloc();
+    let issuer = one_card(alloc)?;
+    let rows: [(&str, &[&str], Result<(u64, u64), LoadFault>); 6] = [
+        ("three records", &[STATUS, DECISION, STATUS], Ok((3, 269))),
+        ("an empty line", &[STATUS, "\n"], Err(LoadFault::BadLine(2))),
+        ("no records", &["x\nx\n"], Err(LoadFault::BadLine(1))),
+        (
+            "a card of nobody",
+            &[UNKNOWN_CARD],
+            Err(LoadFault::BadRecord(1)),
+        ),
+        (
+            "a wrong cryptogram",
+            &[STATUS, FORGERY, STATUS],
+            Err(LoadFault::BadRecord(2)),
+        ),
+        (
+            "a decision twice",
+            &[DECISION, DECISION, STATUS],
+            Err(LoadFault::BadRecord(2)),
+        ),
+    ];
+    for (name, lines, expected) in rows {
+        let mut text = Vec::new(alloc);
+        for line in lines {
+            text.extend_from_slice(line.as_bytes())?;
+        }
+        assert!(rt; loaded(alloc, &issuer, text)? == expected, "{name}");
+    }
+    Ok(())
+}
+
+#[test]
+fn a_crash_leaves_what_was_acknowledged(rt: HostRuntime) -> Result<(), Fail> {
+    let alloc = rt.alloc();
+    let issuer = one_card(alloc)?;
+    // a load and three lines make seven calls where none fails
+    for fails in 0..8 {
+        for lines in 1..4 {
+            let run = run_statuses(alloc, &issuer, lines, fails)?;
+            assert!(rt; is_kept(alloc, &issuer, &run)?, "{fails} {lines}");
+            if fails == 7 {
+                assert_eq!(rt; run.acknowledged, u64::from(lines));
+            }
+        }
+    }
+    Ok(())
+}
+
+/// The call that fails is the sync of the decision's record. The list of recorded counters has a pair before.
+#[test]
+fn decides_afresh_what_was_in_doubt_and_keeps_it(rt: HostRuntime) -> Result<(), Fail> {
+    let alloc = rt.alloc();
+    let issuer = one_card(alloc)?;
+    let mut list = Vec::new(alloc);
+    list.push((9, 8))?;
+    let text = STATUS.as_bytes().to_vec(alloc)?;
+    let mut shard = match load(alloc, &issuer, store(alloc, text, &[3])?) {
+        Ok(shard) => shard,
+        Err(LoadBack { fault: _, store: _ }) => return Err("a shard".into()),
+    };
+    let refused = decide(&mut shard, &issuer);
+    assert!(rt; refused == Some(Answer::Refused(Refusal::StoreFault)));
+    assert!(rt; shard.recorded(&mut list).is_ok() && list.len() == 1);
+    let fresh = decide(&mut shard, &issuer);
+    assert!(rt;
+        matches!(
+            fresh,
+            Some(Answer::Fresh {
+                shard: 0,
+                place: 1,
+                ..
+            })
+        )
+    );
+    assert!(rt; shard.recorded(&mut list).is_ok() && shard.faults() == 1);
+    let mut again = match load(alloc, &issuer, shard.into_store()) {
+        Ok(shard) => shard,
+        Err(LoadBack { fault: _, store: _ }) => return Err("a shard".into()),
+    };
+    let kept = decide(&mut again, &issuer);
+    assert!(rt;
+        matches!(
+            kept,
+            Some(Answer::Kept {
+                shard: 0,
+                place: 1,
+                ..
+            })
+        )
+    );
+    assert!(rt; again.recorded(&mut list).is_ok() && again.places() == 2);
+    assert_eq!(rt; list.as_slice(), [(9, 8), (0, 7), (0, 7)].as_slice());
+    again.into_store();
+    Ok(())
+}
