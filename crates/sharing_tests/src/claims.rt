@@ -7,7 +7,7 @@ ghost use Rattle.claim_words.specs.ClaimViews.{newcomer};
 ghost use Rattle.claim_words.specs.Contest.{wins_of, HasTried, HaveTried};
 ghost use Rattle.claim_words.specs.Seats.{cards_of, recorded_in, view_of, IsOf};
 
-use crate::{COUNTERS, Claim, ClaimSeat, ClaimWords};
+use claim_words::{COUNTERS, Claim, ClaimSeat, ClaimWords};
 use issuer_base::NoMemory;
 use std::alloc::Global;
 use std::test::Fail;

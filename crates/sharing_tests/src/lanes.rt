@@ -1,92 +1,82 @@
-//! Lines that are dealt to several callers over a store in memory, and their answers in order.
-ghost use Rattle.std.specs.Prelude.{◌≡◌, ◌<◌, ◌≤◌, length, IfOk, IfSome};
+//! Lines that are dealt to several callers in threads of their own, over stores in memory, and their answers in order.
+ghost use Rattle.std.specs.Prelude.{◌≡◌, ◌<◌, ◌≤◌, IfOk};
 ghost use Rattle.issuer_base.specs.declared.limits.TheConstants.{MAX_CALLERS};
 ghost use Rattle.caller_lanes.specs.Lanes.{waiting_in, due_in};
 
-use super::*;
-use arrayvec::ArrayVec;
-use decision_table::{Table, TableRow};
-use des_block::Key16;
-use issuer_base::{Answer, KEPT_BYTES, MasterOption, Method, OpenGate, Pan, Refusal};
-use issuer_setup::{CardInfo, Issuer};
-use key_derive::KeySet;
+use crate::hosts::{sample, store};
+use crate::passes::{NINTH, SIXTH};
+use caller_lanes::{BLOCK_LINES, HostBack, Lanes};
+use issuer_base::{Answer, KEPT_BYTES, OpenGate, Refusal};
+use sample_issuer::REQUEST;
 use std::alloc::Global;
 use std::sync::Wait;
 use std::test::Fail;
 use std::thread::Threads;
 use store_edge::MemoryStore;
 
-/// A request of the card, whose cryptogram is that of another program, which works with OpenSSL.
-const REQUEST: &str =
-    "A 5A0840000000000000029F26086317DE17856BF19A9F2701809F10200FA501A00000000000000000000000000F0000000000000000000000000000009F37041A2B3C4D9F36020007950500000080009A032601159C01009F02060000000123455F2A020978820239009F1A020276";
+/// A status of each of the issuer's cards.
+const STATUS: [&str; 4] = [
+    "S 4000000000000002 00 3",
+    "S 4000000000000010 00 3",
+    "S 4000000000000028 00 3",
+    "S 4000000000000036 00 3",
+];
 
-/// A line that sets the card's status, one for a card that the issuer doesn't have, and one that has no form of a line.
-const STATUS: &str = "S 4000000000000002 00 3";
-
-const UNKNOWN: &str = "S 4000000000000010 00 3";
+/// A line for a card that the issuer doesn't have, and one that has no form of a line.
+const UNKNOWN: &str = "S 4000000000000044 00 3";
 
 const BAD: &str = "X";
 
-/// The letters of answers, in their order.
-type Letters = ArrayVec<u8, 16>;
+/// A card block for the second card.
+const COMMAND: &str = "Q 4000000000000010 00 84160000";
 
-/// An issuer of one shard and one card, whose table declines every request.
-fn issuer(alloc: Global) -> Result<Issuer, Fail>
-    ensures { IfOk result (λ issuer. issuer.shards ≡ 1) }
-{
-    let mut rows = ArrayVec::new();
-    rows.push(TableRow {
-        most: 999_999_999_999,
-        arc: [0x30, 0x35],
-        ..TableRow::default()
-    });
-    let table = Table::new(rows).ok_or("a table")?;
-    let mut keys = ArrayVec::new();
-    keys.push(KeySet {
-        dki: 0x01,
-        option: MasterOption::A,
-        ac: Key16(0x00010203_04050607_08090A0B_0C0D0E0F_u128.to_be_bytes()),
-        smi: Key16(0x10111213_14151617_18191A1B_1C1D1E1F_u128.to_be_bytes()),
-    });
-    let mut cards = Vec::new(alloc);
-    cards.push(CardInfo {
-        pan: Pan::new(&[4, 0, 0, 0, 0, 0, 0, 0, 0, 0, 0, 0, 0, 0, 0, 2]).ok_or("a number")?,
-        psn: 0x00,
-        method: Method::One,
-    })?;
-    match Issuer::new(alloc, 1, keys, cards, table) {
-        Ok(issuer) => Ok(issuer),
-        Err(_) => Err("an issuer".into()),
-    }
-}
-
-/// So many callers of a host over an empty store, where it can be loaded.
-fn open(alloc: Global, callers: u8) -> Result<Option<Lanes<MemoryStore>>, Fail>
+/// So many callers of a host over empty stores, one for each shard.
+fn open(alloc: Global, callers: u8, shards: u8) -> Result<Lanes<MemoryStore>, Fail>
     requires { (0 < callers) × (callers ≤ MAX_CALLERS) }
-    ensures { IfOk result (λ made. IfSome made (λ lanes. (waiting_in lanes ≡ 0) × (due_in lanes ≡ 0))) }
+    ensures { IfOk result (λ lanes. (waiting_in lanes ≡ 0) × (due_in lanes ≡ 0)) }
 {
-    let issuer = issuer(alloc)?;
+    let issuer = sample(alloc, shards)?;
     let mut stores = Vec::new(alloc);
-    let text = Vec::new(alloc);
-    stores.push(MemoryStore::new(alloc, text, 65_536, Vec::new(alloc)).map_err(|_| "a store")?)?;
+    for _ in 0..shards {
+        stores.push(store(alloc, "", &[])?)?;
+    }
+    if stores.len() != usize::from(shards) {
+        return Err("a store for each shard".into());
+    }
     match Lanes::load(alloc, stores, issuer, callers) {
-        Ok(lanes) => Ok(Some(lanes)),
+        Ok(lanes) => Ok(lanes),
         Err(
             HostBack {
                 fault: _,
                 shard: _,
                 stores: _,
             },
-        ) => Ok(None),
+        ) => Err("lanes".into()),
     }
 }
 
-/// Deals a line, where it fits.
-fn deal(lanes: &mut Lanes<MemoryStore>, line: &str)
-    ensures { due_in lanes.new ≡ due_in lanes.old }
+/// Deals these lines again and again, so many in all, as long as the lanes take one. Lets all callers answer them at once, and adds their
+/// answers as far as the list has room.
+fn answer<R: Threads + Wait + Sync>(
+    rt: &R,
+    lanes: &mut Lanes<MemoryStore>,
+    lines: &[&str],
+    count: usize,
+    answers: &mut Vec<Answer>,
+)
+    requires { due_in lanes.old ≡ 0 }
+    ensures { (due_in lanes.new ≡ 0) × (waiting_in lanes.new ≡ 0) }
 {
-    if !lanes.is_full() && line.len() <= KEPT_BYTES {
-        lanes.deal(line.as_bytes());
+    for line in lines.iter().cycle().take(count) {
+        if !lanes.is_full() && line.len() <= KEPT_BYTES {
+            lanes.deal(line.as_bytes());
+        }
+    }
+    lanes.answer(rt, &OpenGate);
+    while let Some(answer) = lanes.next_answer() {
+        if answers.len() < answers.capacity() {
+            answers.push_reserved(answer);
+        }
     }
 }
 
@@ -104,65 +94,79 @@ fn letter(answer: &Answer) -> u8 {
     }
 }
 
-/// Answers what waits, puts the answers' letters behind the others as far as they fit, and counts the answers.
-fn answer<R: Threads + Wait + Sync>(
-    rt: &R,
-    lanes: &mut Lanes<MemoryStore>,
-    letters: &mut Letters,
-) -> usize
-    requires { due_in lanes.old ≡ 0 }
-    ensures { (due_in lanes.new ≡ 0) × (waiting_in lanes.new ≡ 0) }
-{
-    let mut count = 0usize;
-    lanes.answer(rt, &OpenGate);
-    while let Some(answer) = lanes.next_answer() {
-        count = count.saturating_add(1);
-        if !letters.is_full() {
-            letters.push(letter(&answer));
-        }
-    }
-    count
-}
-
-#[test]
-fn one_of_two_callers_decides_a_request(rt: HostRuntime) -> Result<(), Fail> {
-    let mut lanes = open(rt.alloc(), 2)?.ok_or("lanes")?;
-    let mut letters = Letters::new();
-    deal(&mut lanes, REQUEST);
-    deal(&mut lanes, REQUEST);
-    answer(&rt, &mut lanes, &mut letters);
-    lanes.close();
-    assert!(rt; matches!(letters.as_slice(), b"FK" | b"KF" | b"FP" | b"PF"));
-    Ok(())
-}
-
 #[test]
 fn answers_come_in_the_order_of_lines(rt: HostRuntime) -> Result<(), Fail> {
-    let mut lanes = open(rt.alloc(), 3)?.ok_or("lanes")?;
-    let mut letters = Letters::new();
-    for line in [BAD, STATUS, UNKNOWN, STATUS] {
-        deal(&mut lanes, line);
-    }
-    answer(&rt, &mut lanes, &mut letters);
-    for line in [UNKNOWN, BAD] {
-        deal(&mut lanes, line);
-    }
-    answer(&rt, &mut lanes, &mut letters);
+    let mut answers = Vec::with_capacity(rt.alloc(), BLOCK_LINES)?;
+    let mut lanes = open(rt.alloc(), 3, 1)?;
+    answer(
+        &rt,
+        &mut lanes,
+        &[BAD, STATUS[0], UNKNOWN, COMMAND],
+        4,
+        &mut answers,
+    );
+    answer(&rt, &mut lanes, &[UNKNOWN, BAD], 2, &mut answers);
     lanes.close();
-    assert!(rt; matches!(letters.as_slice(), b"BSUSUB"));
+    assert_eq!(rt; answers.len(), 6);
+    for (answer, expected) in answers.as_slice().iter().zip(b"BSUQUB") {
+        assert_eq!(rt; letter(answer), *expected);
+    }
     Ok(())
 }
 
 #[test]
 fn full_lanes_are_answered(rt: HostRuntime) -> Result<(), Fail> {
-    let mut lanes = open(rt.alloc(), 3)?.ok_or("lanes")?;
-    let mut letters = Letters::new();
-    for _ in 0..BLOCK_LINES {
-        deal(&mut lanes, STATUS);
-    }
-    let count = answer(&rt, &mut lanes, &mut letters);
+    let mut answers = Vec::with_capacity(rt.alloc(), BLOCK_LINES)?;
+    let mut lanes = open(rt.alloc(), 3, 1)?;
+    answer(&rt, &mut lanes, &STATUS, BLOCK_LINES, &mut answers);
     lanes.close();
-    assert_eq!(rt; count, BLOCK_LINES / 3 * 3);
-    assert!(rt; matches!(letters.as_slice(), b"SSSSSSSSSSSSSSSS"));
+    assert_eq!(rt; answers.len(), BLOCK_LINES / 3 * 3);
+    for answer in answers.as_slice() {
+        assert!(rt; matches!(answer, Answer::Set { shard: 0, .. }));
+    }
+    Ok(())
+}
+
+/// Four callers ask the same three requests again and again, and set a status in between.
+#[test]
+fn callers_at_one_shard_decide_each_request_once(rt: HostRuntime) -> Result<(), Fail> {
+    let mut answers = Vec::with_capacity(rt.alloc(), BLOCK_LINES)?;
+    let mut lanes = open(rt.alloc(), 4, 1)?;
+    let lines = [
+        REQUEST, REQUEST, REQUEST, REQUEST, STATUS[0], STATUS[0], STATUS[1], STATUS[2], NINTH,
+        NINTH, NINTH, NINTH, SIXTH, SIXTH, SIXTH, SIXTH,
+    ];
+    answer(&rt, &mut lanes, &lines, 800, &mut answers);
+    lanes.close();
+    let mut fresh = 0usize;
+    let mut known = 0usize;
+    let mut set = 0usize;
+    for answer in answers.as_slice() {
+        match letter(answer) {
+            b'F' => fresh = fresh.saturating_add(1),
+            b'K' | b'P' => known = known.saturating_add(1),
+            b'S' => set = set.saturating_add(1),
+            _ => {}
+        }
+    }
+    assert!(rt; fresh == 3 && known == 597 && set == 200);
+    Ok(())
+}
+
+/// Each of four callers sets the status of the card of a shard of its own.
+#[test]
+fn callers_at_a_shard_each_fill_its_places(rt: HostRuntime) -> Result<(), Fail> {
+    let mut answers = Vec::with_capacity(rt.alloc(), BLOCK_LINES)?;
+    let mut lanes = open(rt.alloc(), 4, 4)?;
+    answer(&rt, &mut lanes, &STATUS, 800, &mut answers);
+    lanes.close();
+    assert_eq!(rt; answers.len(), 800);
+    for (index, answer) in answers.as_slice().iter().enumerate() {
+        let expected = Answer::Set {
+            shard: (index % 4) as u8,
+            place: (index / 4) as u64,
+        };
+        assert!(rt; *answer == expected, "{index}");
+    }
     Ok(())
 }

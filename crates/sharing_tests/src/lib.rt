@@ -1,7 +1,6 @@
+//! Tests of callers at once: who wins a claim, whose turn it is, and what each caller of a host is answered.
 #![tactic(auto)]
 
-#[cfg(test)]
-mod callers_of_hosts;
 #[cfg(test)]
 mod claims;
 #[cfg(test)]
@@ -9,6 +8,6 @@ mod hosts;
 #[cfg(test)]
 mod lanes;
 #[cfg(test)]
-mod shards;
+mod passes;
 #[cfg(test)]
 mod turns;

@@ -10,7 +10,6 @@ ghost use Rattle.turn_book.specs.TurnRule.{between};
 ghost use Rattle.turn_book.specs.Seats.{opening_of, shards_of, view_of, IsOf};
 ghost use Rattle.turn_book.specs.Counting.{CountsItems, count_at, HasAdded, HaveAdded, IsReady, IsDone};
 
-use crate::{Item, Logged, MAX_ITEMS, TurnSeat, Turns};
 use issuer_base::NoMemory;
 use std::alloc::Global;
 use std::marker::Brand;
@@ -18,6 +17,7 @@ use std::sync::Wait;
 use std::test::Fail;
 use std::thread;
 use std::thread::Threads;
+use turn_book::{Item, Logged, MAX_ITEMS, TurnSeat, Turns};
 
 /// How many shards there are.
 const SHARDS: u8 = 4;

@@ -1,8 +1,13 @@
+//! Tests of worlds of cards and callers: events one by one and at random, and small runs of the large world.
 #![tactic(auto)]
 
 #[cfg(test)]
+mod drawn_events;
+#[cfg(test)]
+mod plain_world;
+#[cfg(test)]
 mod plays;
 #[cfg(test)]
-mod worlds;
+mod random_events;
 #[cfg(test)]
-mod worlds_world;
+mod restarts;

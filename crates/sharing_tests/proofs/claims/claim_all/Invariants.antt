@@ -3,7 +3,7 @@ use Rattle.std.proofs.Common.{◌≡◌, ◌≤◌, vec_len, vec_capacity}
 use Rattle.claim_words.specs.declared.layout.TheConstants.{COUNTERS}
 use Rattle.claim_words.specs.Contest.{HasTried}
 use Rattle.claim_words.specs.Seats.{view_of, IsOf}
-use Rattle.claim_words.proofs.tests.claim_all.Given as goal
+use Rattle.sharing_tests.proofs.claims.claim_all.Given as goal
 
 abbrev pub invariant-loop-counter : goal.invariant-loop-counter
 invariant-loop-counter l = record {

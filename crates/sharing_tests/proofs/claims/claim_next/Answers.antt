@@ -1,7 +1,7 @@
 -- A counter that is won is one more that was tried, and stands in the caller's list.
 use Rattle.claim_words.specs.Seats.{view_of}
 use Rattle.claim_words.proofs.ContestLemmas.{tried_won}
-use Rattle.claim_words.proofs.tests.claim_next.Goals as goal
+use Rattle.sharing_tests.proofs.claims.claim_next.Goals as goal
 
 pub returns-in-Won-clause-tried : goal.returns-in-Won-clause-tried
 returns-in-Won-clause-tried c =

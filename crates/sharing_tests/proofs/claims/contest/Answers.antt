@@ -2,10 +2,10 @@
 use Rattle.std.proofs.Common.{ℕ, ◌<◌, ap, List, length, map, Vec, Global, arith}
 use Rattle.std.proofs.lemmas.List.{length-map}
 use Rattle.seat_names.proofs.ManySeats.{whole_lent}
-use Rattle.claim_words.specs.declared.tests.Caller.{Caller}
+use Rattle.sharing_tests.specs.declared.claims.Caller.{Caller}
 use Rattle.claim_words.specs.Seats.{view_of, recorded_in}
 use Rattle.claim_words.proofs.ContestLemmas.{each_won_once}
-use Rattle.claim_words.proofs.tests.contest.Goals as goal
+use Rattle.sharing_tests.proofs.claims.contest.Goals as goal
 
 pub join_all-requires-clause-whole : goal.join_all-requires-clause-whole
 join_all-requires-clause-whole g c =

@@ -1,7 +1,7 @@
 -- So many lists are made, each empty and with room for all counters.
 use Rattle.std.proofs.Common.{◌≡◌, ◌≤◌, [], All, vec_len, vec_capacity}
 use Rattle.claim_words.specs.declared.layout.TheConstants.{COUNTERS}
-use Rattle.claim_words.proofs.tests.empty_lists.Given as goal
+use Rattle.sharing_tests.proofs.claims.empty_lists.Given as goal
 
 abbrev pub invariant-loop : goal.invariant-loop
 invariant-loop l = record {

@@ -3,12 +3,12 @@ use Rattle.std.proofs.Common.{rules, ◌≡◌, ◌++◌, ◌∷◌, []}
 use Rattle.seat_names.proofs.Totals.{map-snoc}
 use Rattle.std.proofs.lemmas.List.Elements.{All-pop}
 use Rattle.claim_words.specs.declared.layout.TheConstants.{COUNTERS}
-use Rattle.claim_words.specs.declared.tests.Caller.{Caller}
+use Rattle.sharing_tests.specs.declared.claims.Caller.{Caller}
 use Rattle.claim_words.specs.Seats.{view_of, IsOf}
 use Rattle.claim_words.specs.Contest.{HasTried}
 use Rattle.claim_words.proofs.ContestLemmas.{have_tried_joined}
 use Rattle.seat_names.proofs.ManySeats.{whole_popped}
-use Rattle.claim_words.proofs.tests.join_all.Goals as goal
+use Rattle.sharing_tests.proofs.claims.join_all.Goals as goal
 
 pub loop-caller-preserved : goal.loop-caller-preserved
 loop-caller-preserved c =

@@ -3,12 +3,12 @@ use Rattle.std.proofs.Common.{rules, ◌≡◌, ◌≤◌, ℕ, [], Vec, vec_cap
 use Rattle.std.proofs.Common.{Global}
 use Rattle.std.proofs.lemmas.List.Elements.{All-pop, All-push}
 use Rattle.claim_words.specs.declared.layout.TheConstants.{COUNTERS}
-use Rattle.claim_words.specs.declared.tests.Caller.{Caller}
+use Rattle.sharing_tests.specs.declared.claims.Caller.{Caller}
 use Rattle.claim_words.specs.Seats.{view_of, IsOf}
 use Rattle.claim_words.specs.Contest.{HasTried}
 use Rattle.claim_words.proofs.ContestLemmas.{tried_none, have_tried_parent}
 use Rattle.seat_names.proofs.ManySeats.{flat_map-snoc, whole_seated}
-use Rattle.claim_words.proofs.tests.seat_all.Goals as goal
+use Rattle.sharing_tests.proofs.claims.seat_all.Goals as goal
 
 pub loop-won-preserved : goal.loop-won-preserved
 loop-won-preserved c =

@@ -5,7 +5,7 @@ use Rattle.seat_names.specs.SeatNames.{IsWhole}
 use Rattle.claim_words.specs.declared.layout.TheConstants.{COUNTERS}
 use Rattle.claim_words.specs.Contest.{HasTried, HaveTried}
 use Rattle.claim_words.specs.Seats.{view_of, IsOf}
-use Rattle.claim_words.proofs.tests.seat_all.Given as goal
+use Rattle.sharing_tests.proofs.claims.seat_all.Given as goal
 
 abbrev pub invariant-loop-won : goal.invariant-loop-won
 invariant-loop-won l = record {

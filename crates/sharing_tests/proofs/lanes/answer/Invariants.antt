@@ -1,7 +1,12 @@
--- Fewer answers are due after each, and no line waits.
+-- While lines are dealt no answer is due. Then fewer are due after each, and no line waits.
 use Rattle.std.proofs.Common.{◌≡◌, ℕ}
 use Rattle.caller_lanes.specs.Lanes.{waiting_in, due_in}
-use Rattle.caller_lanes.proofs.tests.answer.Given as goal
+use Rattle.sharing_tests.proofs.lanes.answer.Given as goal
+
+abbrev pub invariant-loop-line : goal.invariant-loop-line
+invariant-loop-line g l = record {
+  none_due : due_in l.lanes ≡ 0;
+}
 
 abbrev pub invariant-loop-answer : goal.invariant-loop-answer
 invariant-loop-answer g l = record {

@@ -1,10 +1,10 @@
 -- The tally counts the item, whose place is noted.
 use Rattle.std.proofs.Common.{arith, refl, ◌≡◌, ℕ, ◌+◌, length, length-append, ◌++◌, ◌∷◌, []}
-use Rattle.turn_book.specs.declared.tests.Tally.{Tally}
+use Rattle.sharing_tests.specs.declared.turns.Tally.{Tally}
 use Rattle.turn_book.specs.Logs.{items_at}
 use Rattle.turn_book.specs.Seats.{view_of}
 use Rattle.turn_book.proofs.CountingLemmas.{count_is, counts_more, added_more}
-use Rattle.turn_book.proofs.tests.count_item.Goals as goal
+use Rattle.sharing_tests.proofs.turns.count_item.Goals as goal
 
 pub added-requires-clause-room : goal.added-requires-clause-room
 added-requires-clause-room c =

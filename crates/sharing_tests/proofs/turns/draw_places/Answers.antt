@@ -4,13 +4,13 @@ use Rattle.std.specs.List.{flat_map}
 use Rattle.seat_names.specs.SeatNames.{IsWhole}
 use Rattle.seat_names.specs.declared.seat_name.SeatName.{SeatName}
 use Rattle.seat_names.proofs.ManySeats.{flat_map-kept, lent_whole}
-use Rattle.turn_book.specs.declared.tests.Caller.{Caller}
-use Rattle.turn_book.specs.declared.tests.Tally.{Tally}
+use Rattle.sharing_tests.specs.declared.turns.Caller.{Caller}
+use Rattle.sharing_tests.specs.declared.turns.Tally.{Tally}
 use Rattle.turn_book.specs.Logs.{items_at}
 use Rattle.turn_book.specs.TurnRule.{between}
 use Rattle.turn_book.specs.Seats.{view_of}
 use Rattle.turn_book.proofs.CountingLemmas.{counts_are}
-use Rattle.turn_book.proofs.tests.draw_places.Goals as goal
+use Rattle.sharing_tests.proofs.turns.draw_places.Goals as goal
 
 pub join_all-requires-clause-whole : goal.join_all-requires-clause-whole
 join_all-requires-clause-whole g c =

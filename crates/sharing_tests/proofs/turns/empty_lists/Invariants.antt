@@ -1,7 +1,7 @@
 -- The lists so far are empty and have room.
 use Rattle.std.proofs.Common.{◌≡◌, ◌≤◌, [], All, vec_len, vec_capacity}
-use Rattle.turn_book.specs.declared.tests.TheConstants.{ITEMS}
-use Rattle.turn_book.proofs.tests.empty_lists.Given as goal
+use Rattle.sharing_tests.specs.declared.turns.TheConstants.{ITEMS}
+use Rattle.sharing_tests.proofs.turns.empty_lists.Given as goal
 
 abbrev pub invariant-loop : goal.invariant-loop
 invariant-loop l = record {

@@ -1,7 +1,7 @@
 -- The tallies so far count nothing.
 use Rattle.std.proofs.Common.{◌≡◌, ◌≤◌, All, vec_len, vec_capacity}
-use Rattle.turn_book.specs.declared.tests.TheConstants.{SHARDS}
-use Rattle.turn_book.proofs.tests.fresh_tallies.Given as goal
+use Rattle.sharing_tests.specs.declared.turns.TheConstants.{SHARDS}
+use Rattle.sharing_tests.proofs.turns.fresh_tallies.Given as goal
 
 abbrev pub invariant-loop-shard : goal.invariant-loop-shard
 invariant-loop-shard l = record {

@@ -6,11 +6,11 @@ use Rattle.seat_names.specs.SeatNames.{IsWhole}
 use Rattle.seat_names.specs.declared.seat_name.SeatName.{SeatName}
 use Rattle.seat_names.proofs.Totals.{map-snoc}
 use Rattle.seat_names.proofs.ManySeats.{flat_map-snoc, whole_joined}
-use Rattle.turn_book.specs.declared.tests.Caller.{Caller}
+use Rattle.sharing_tests.specs.declared.turns.Caller.{Caller}
 use Rattle.turn_book.specs.Seats.{view_of}
 use Rattle.turn_book.specs.Counting.{IsReady}
 use Rattle.turn_book.proofs.CountingLemmas.{have_added_joined}
-use Rattle.turn_book.proofs.tests.join_all.Goals as goal
+use Rattle.sharing_tests.proofs.turns.join_all.Goals as goal
 
 pub loop-caller-preserved : goal.loop-caller-preserved
 loop-caller-preserved c =

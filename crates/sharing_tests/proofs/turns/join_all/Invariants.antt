@@ -4,7 +4,7 @@ use Rattle.std.specs.List.{flat_map}
 use Rattle.seat_names.specs.SeatNames.{IsWhole}
 use Rattle.turn_book.specs.Seats.{view_of}
 use Rattle.turn_book.specs.Counting.{IsReady, IsDone}
-use Rattle.turn_book.proofs.tests.join_all.Given as goal
+use Rattle.sharing_tests.proofs.turns.join_all.Given as goal
 
 abbrev pub invariant-loop-caller : goal.invariant-loop-caller
 invariant-loop-caller l = record {

@@ -1,11 +1,11 @@
 -- Tallies that count nothing stand for empty logs.
 use Rattle.std.proofs.Common.{arith, ◌≡◌, ℕ, length, sym, ap, ◌∙◌}
 use Rattle.std.proofs.lemmas.List.{length-map}
-use Rattle.turn_book.specs.declared.tests.TheConstants.{SHARDS}
-use Rattle.turn_book.specs.declared.tests.Tally.{Tally}
+use Rattle.sharing_tests.specs.declared.turns.TheConstants.{SHARDS}
+use Rattle.sharing_tests.specs.declared.turns.Tally.{Tally}
 use Rattle.turn_book.specs.Logs.{items_at}
 use Rattle.turn_book.proofs.CountingLemmas.{log_of, fresh_stand, fresh_items, fresh_counts}
-use Rattle.turn_book.proofs.tests.open.Goals as goal
+use Rattle.sharing_tests.proofs.turns.open.Goals as goal
 
 pub load-requires : goal.load-requires
 load-requires c =

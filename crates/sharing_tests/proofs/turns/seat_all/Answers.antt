@@ -2,11 +2,11 @@
 use Rattle.std.proofs.Common.{rules, ◌≡◌, ◌≤◌, ℕ, [], Vec, vec_capacity, Global, sym, refl, ap, ◌∙◌, subst}
 use Rattle.std.proofs.lemmas.List.Elements.{All-pop, All-push}
 use Rattle.seat_names.proofs.ManySeats.{flat_map-snoc, whole_seated}
-use Rattle.turn_book.specs.declared.tests.TheConstants.{ITEMS}
-use Rattle.turn_book.specs.declared.tests.Caller.{Caller}
+use Rattle.sharing_tests.specs.declared.turns.TheConstants.{ITEMS}
+use Rattle.sharing_tests.specs.declared.turns.Caller.{Caller}
 use Rattle.turn_book.specs.Seats.{view_of}
 use Rattle.turn_book.specs.Counting.{HasAdded, IsReady}
-use Rattle.turn_book.proofs.tests.seat_all.Goals as goal
+use Rattle.sharing_tests.proofs.turns.seat_all.Goals as goal
 
 pub loop-places-preserved : goal.loop-places-preserved
 loop-places-preserved c =

@@ -2,10 +2,10 @@
 use Rattle.std.proofs.Common.{◌≡◌, ◌+◌, ◌≤◌, [], ◌++◌, All, vec_len, vec_capacity}
 use Rattle.std.specs.List.{flat_map}
 use Rattle.seat_names.specs.SeatNames.{IsWhole}
-use Rattle.turn_book.specs.declared.tests.TheConstants.{ITEMS}
+use Rattle.sharing_tests.specs.declared.turns.TheConstants.{ITEMS}
 use Rattle.turn_book.specs.Seats.{view_of}
 use Rattle.turn_book.specs.Counting.{IsReady}
-use Rattle.turn_book.proofs.tests.seat_all.Given as goal
+use Rattle.sharing_tests.proofs.turns.seat_all.Given as goal
 
 abbrev pub invariant-loop-places : goal.invariant-loop-places
 invariant-loop-places l = record {

@@ -1,5 +1,5 @@
 -- There is a tally less each time.
-use Rattle.turn_book.proofs.tests.sum_counts.Given as goal
+use Rattle.sharing_tests.proofs.turns.sum_counts.Given as goal
 
 abbrev pub decreases-loop-tally : goal.decreases-loop-tally
 decreases-loop-tally l = goal.left-loop-tally l

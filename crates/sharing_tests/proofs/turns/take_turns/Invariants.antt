@@ -1,9 +1,9 @@
 -- After each turn the caller is ready for the next, and has noted a place a turn at most.
 use Rattle.std.proofs.Common.{◌≡◌, ◌≤◌, vec_len, vec_capacity}
-use Rattle.turn_book.specs.declared.tests.TheConstants.{ITEMS}
+use Rattle.sharing_tests.specs.declared.turns.TheConstants.{ITEMS}
 use Rattle.turn_book.specs.Seats.{view_of}
 use Rattle.turn_book.specs.Counting.{IsReady}
-use Rattle.turn_book.proofs.tests.take_turns.Given as goal
+use Rattle.sharing_tests.proofs.turns.take_turns.Given as goal
 
 abbrev pub invariant-loop-turn : goal.invariant-loop-turn
 invariant-loop-turn g l = record {

@@ -3,8 +3,8 @@ use Rattle.std.proofs.Common.{[], arith}
 use Rattle.seat_names.specs.SeatNames.{first_names}
 use Rattle.seat_names.proofs.ManySeats.{whole_seated}
 use Rattle.seat_names.proofs.SeatNameLemmas.{whole_first}
-use Rattle.host_calls.proofs.host_tests.close_both.Goals as goal
+use Rattle.sharing_tests.proofs.passes.close.Goals as goal
 
 pub close-requires-clause-whole : goal.close-requires-clause-whole
 close-requires-clause-whole c =
-    rw (c.join.ensures.claims, c.requires.first, c.requires.second) (whole_seated first_names [] (omega arith) whole_first)
+    rw (c.join.ensures.claims, c.requires.first, c.requires.other) (whole_seated first_names [] (omega arith) whole_first)

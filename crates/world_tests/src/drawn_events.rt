@@ -1,0 +1,149 @@
+//! Events that are drawn at random, alike in each run. A deck's own cards make the requests that callers claim.
+ghost use Rattle.std.specs.Prelude.{◌≤◌, ◌<◌};
+
+use crate::plain_world::{CALLERS, CARDS, SHARDS};
+use crate::restarts::PURCHASE;
+use arrayvec::ArrayVec;
+use card_model::Card;
+use issuer_base::{Command, MAX_CHIP_BYTES, NoMemory, are_decimal};
+use key_derive::card_keys;
+use request_text::chip_data;
+use sample_issuer::{SampleCard, card, key_set};
+use std::alloc::Global;
+use world_net::Event;
+
+/// What events are drawn from: the state of a linear congruential generator, cards, and the chip data of the requests that they made.
+#[derive(Drop)]
+pub(crate) struct Deck {
+    state: u64,
+    cards: Vec<Card>,
+    requests: Vec<ArrayVec<u8, MAX_CHIP_BYTES>>,
+}
+
+impl Deck {
+    /// A deck with these cards.
+    pub(crate) fn new(alloc: Global, names: &[SampleCard]) -> Result<Deck, NoMemory> {
+        let mut cards = Vec::new(alloc);
+        for (last, method) in names {
+            if let Some(info) = card(*last, *method) {
+                let keys = card_keys(&key_set(), &info.pan, 0x00);
+                cards.push(Card::new(alloc, info.pan, 0x00, 0x01, info.method, keys))?;
+            }
+        }
+        Ok(Deck {
+            state: 20_260_115,
+            cards,
+            requests: Vec::new(alloc),
+        })
+    }
+
+    /// An event, whether it may happen or not, in a world with so many records.
+    pub(crate) fn draw(&mut self, records: u64) -> Result<Event, NoMemory> {
+        match self.below(32) {
+            0..=3 => self.tap(),
+            4..=11 => Ok(self.claim()),
+            12 => Ok(Event::Release {
+                caller: self.below(u32::from(CALLERS)) as u8,
+            }),
+            13..=20 => Ok(Event::Write {
+                caller: self.below(u32::from(CALLERS)) as u8,
+                stored: self.below(4) > 0,
+            }),
+            21..=24 => Ok(Event::Send {
+                shard: self.below(u32::from(SHARDS) + 1) as u8,
+                place: u64::from(self.below(6_000)) % (records / 2).max(1),
+            }),
+            25 => Ok(Event::Authenticate {
+                card: self.card(),
+                value91: ArrayVec::new(),
+                arc: [0x30, 0x30],
+            }),
+            26 => Ok(Event::Run {
+                card: self.card(),
+                bytes: ArrayVec::new(),
+            }),
+            27..=29 => Ok(self.queue()),
+            30 => Ok(Event::Status {
+                card: self.card(),
+                status: self.below(12) as u8,
+            }),
+            _ => Ok(Event::Restart {
+                kept: self.below(2) == 0,
+            }),
+        }
+    }
+
+    /// A number below the limit.
+    fn below(&mut self, limit: u32) -> u32
+        requires { 1 ≤ limit }
+        ensures { result < limit }
+    {
+        self.state = self
+            .state
+            .wrapping_mul(6_364_136_223_846_793_005)
+            .wrapping_add(1_442_695_040_888_963_407);
+        (self.state >> 33) as u32 % limit
+    }
+
+    /// The number of a card, or the one past the last.
+    fn card(&mut self) -> u32 {
+        self.below(CARDS + 1)
+    }
+
+    /// A tap, which the deck's own card follows.
+    fn tap(&mut self) -> Result<Event, NoMemory> {
+        let card = self.card();
+        let mut terminal = PURCHASE;
+        terminal.amount[2] = self.below(10) as u8;
+        if self.below(16) == 0 {
+            terminal.amount[5] = 0x0A;
+        }
+        if are_decimal(&terminal.amount) {
+            if let Some(known) = self.cards.get_mut(card as usize) {
+                if let Some(request) = known.tap(&terminal) {
+                    let data = chip_data(&request);
+                    self.requests
+                        .push(ArrayVec::try_from(data.as_slice()).unwrap_or_default())?;
+                }
+            }
+        }
+        Ok(Event::Tap { card, terminal })
+    }
+
+    /// A claim of one of the last three requests or of any, which may have a wrong byte.
+    fn claim(&mut self) -> Event {
+        let caller = self.below(u32::from(CALLERS)) as u8;
+        let most = if self.below(4) == 0 { 10_000 } else { 3 };
+        let count = self.requests.len();
+        let back = self.below(most) as usize % count.max(1);
+        let mut bytes = ArrayVec::new();
+        if let Some(known) = self.requests.get(count.saturating_sub(back + 1)) {
+            bytes = ArrayVec::try_from(known.as_slice()).unwrap_or_default();
+        }
+        if self.below(6) == 0 {
+            let place = self.below(125) as usize;
+            let change = self.below(256) as u8;
+            if let Some(byte) = bytes.as_mut_slice().get_mut(place) {
+                *byte ^= change;
+            }
+        }
+        Event::Claim { caller, bytes }
+    }
+
+    /// A command, one that the host doesn't send now and then.
+    fn queue(&mut self) -> Event {
+        let card = self.card();
+        let cla = if self.below(8) == 0 { 0x80 } else { 0x84 };
+        let p2 = self.below(256) as u8;
+        Event::Queue {
+            card,
+            command: Command {
+                cla,
+                ins: 0xDA,
+                p1: 0x00,
+                p2,
+                body: ArrayVec::new(),
+            },
+        }
+    }
+}

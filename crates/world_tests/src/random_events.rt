@@ -1,0 +1,45 @@
+//! Random events on a world and on a plain model of it, which have the same answers.
+
+use crate::drawn_events::Deck;
+use crate::plain_world::{PlainWorld, SHARDS};
+use issuer_base::Method;
+use issuer_setup::Issuer;
+use sample_issuer::{SampleCard, deciding_table, issuer};
+use std::alloc::Global;
+use std::test::Fail;
+use world_net::World;
+
+/// How many events are tried.
+const EVENTS: u32 = 6_000;
+
+/// The cards, by both ways to make a cryptogram of the answer.
+const NAMES: [SampleCard; 5] = [
+    ([1, 0], Method::One),
+    ([1, 1], Method::Two),
+    ([1, 2], Method::One),
+    ([1, 3], Method::Two),
+    ([1, 4], Method::One),
+];
+
+/// An issuer of the cards.
+fn five_cards(alloc: Global) -> Result<Issuer, Fail> {
+    let table = deciding_table().ok_or("a table")?;
+    Ok(issuer(alloc, SHARDS, &NAMES, table).ok_or("an issuer")?)
+}
+
+#[test]
+fn answers_random_events_as_a_plain_model_does(rt: HostRuntime) -> Result<(), Fail> {
+    let issuer = five_cards(rt.alloc())?;
+    let mut world = World::new(rt.alloc(), five_cards(rt.alloc())?)?;
+    let mut model = PlainWorld::new(rt.alloc());
+    let mut deck = Deck::new(rt.alloc(), &NAMES)?;
+    let mut allowed = 0u32;
+    for index in 0..EVENTS {
+        let event = deck.draw(model.size())?;
+        let expected = model.step(&issuer, &event)?;
+        assert!(rt; world.step(&event)? == expected, "event {index}");
+        allowed = allowed.saturating_add(u32::from(expected));
+    }
+    assert!(rt; allowed > 2_000);
+    Ok(())
+}
