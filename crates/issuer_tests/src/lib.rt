@@ -1,4 +1,15 @@
+//! Whole runs of the top call: over desks, stores and sinks in memory, with failing devices, and with several callers.
 #![tactic(auto)]
 
 #[cfg(test)]
-mod runs;
+mod callers;
+#[cfg(test)]
+mod failing_devices;
+#[cfg(test)]
+mod own_devices;
+#[cfg(test)]
+mod running;
+#[cfg(test)]
+mod samples;
+#[cfg(test)]
+mod worked_rows;

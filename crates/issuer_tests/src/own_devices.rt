@@ -1,0 +1,308 @@
+//! Runs over devices of the tests' own: inputs in small pieces, a sink that takes a byte a call, and stores that wait for each other.
+ghost use Rattle.std.specs.Prelude.{None, length};
+
+use crate::callers::looks_for;
+use crate::running::{SERVE, run_over, words_of};
+use crate::samples::{CONFIG, FRESH_EACH, SEVENTH_EACH, TWO_SHARDS};
+use issuer_base::{
+    Desk, DeskFault, MemorySink, NoMemory, OpenGate, ReadFault, Sink, Source, Store, StoreFail,
+    WriteFault,
+};
+use std::alloc::Global;
+use std::sync::Arc;
+use std::sync::atomic::{AtomicBool, Ordering};
+use std::test::Fail;
+use store_edge::RoomStore;
+
+/// A text, so many times, in pieces of so many bytes at most, whose reads fail after so many.
+#[derive(Clone, Copy, Drop)]
+struct Pieces {
+    text: &'static str,
+    at: usize,
+    times: u32,
+    piece: usize,
+    reads: u64,
+    faults: u64,
+}
+
+impl Pieces {
+    fn new(text: &'static str, times: u32, piece: usize, reads: u64) -> Pieces {
+        Pieces {
+            text,
+            at: text.len(),
+            times,
+            piece,
+            reads,
+            faults: 0,
+        }
+    }
+}
+
+impl Source for Pieces {
+    ghost faults = { λ s. s.faults };
+
+    fn read(&mut self, into: &mut [u8]) -> Result<usize, ReadFault> {
+        if self.reads == 0 {
+            self.faults = self.faults.saturating_add(1);
+            return Err(ReadFault);
+        }
+        self.reads -= 1;
+        if self.at >= self.text.len() {
+            if self.times == 0 {
+                return Ok(0);
+            }
+            self.times -= 1;
+            self.at = 0;
+        }
+        let rest = &self.text.as_bytes()[self.at..];
+        let count = rest.len().min(self.piece).min(into.len());
+        into[..count].copy_from_slice(&rest[..count]);
+        self.at += count;
+        Ok(count)
+    }
+}
+
+/// A sink that takes one byte a call, and fails after so many, 16 at most.
+#[derive(Drop)]
+struct Bytes {
+    text: [u8; 16],
+    taken: usize,
+    room: usize,
+    faults: u64,
+}
+
+impl Bytes {
+    fn new(room: usize) -> Bytes {
+        Bytes {
+            text: [0; 16],
+            taken: 0,
+            room,
+            faults: 0,
+        }
+    }
+}
+
+impl Sink for Bytes {
+    ghost faults = { λ s. s.faults };
+
+    fn write(&mut self, piece: &[u8]) -> Result<usize, WriteFault> {
+        if self.taken >= self.room || self.taken >= self.text.len() {
+            self.faults = self.faults.saturating_add(1);
+            return Err(WriteFault);
+        }
+        self.text[self.taken] = piece[0];
+        self.taken += 1;
+        Ok(1)
+    }
+}
+
+/// Of each shard, whether its store was asked to take a decision, and whether it saw that the other one was.
+#[derive(Drop)]
+struct Meeting {
+    asked: [AtomicBool; 2],
+    seen: [AtomicBool; 2],
+}
+
+/// How often a store looks for the other one.
+const MOST_LOOKS: u32 = 100_000_000;
+
+/// A store that tells none of its bytes, and takes a decision only once it has looked for the other store's.
+#[derive(Drop)]
+struct MeetingStore {
+    second: bool,
+    meeting: Arc<Meeting>,
+    store: RoomStore,
+}
+
+impl Store for MeetingStore {
+    ghost size = { λ s. length s.store.held };
+
+    ghost faults = { λ s. s.store.faults };
+
+    ghost told_size = { λ _. tt };
+
+    ghost told_bytes = { λ _. tt };
+
+    fn len(&self) -> u64 {
+        self.store.len()
+    }
+
+    fn read_at(&mut self, at: u64, into: &mut [u8]) -> Result<usize, StoreFail> {
+        self.store.read_at(at, into)
+    }
+
+    fn append(&mut self, piece: &[u8]) -> Result<(), StoreFail> {
+        if piece.starts_with(b"d") {
+            let (own, other) = if self.second { (1, 0) } else { (0, 1) };
+            self.meeting.asked[own].store(true, Ordering::SeqCst);
+            if looks_for(&self.meeting.asked[other], MOST_LOOKS) {
+                self.meeting.seen[own].store(true, Ordering::SeqCst);
+            }
+        }
+        self.store.append(piece)
+    }
+
+    fn cut(&mut self, len: u64) -> Result<(), StoreFail> {
+        self.store.cut(len)
+    }
+
+    fn sync(&mut self) -> Result<(), StoreFail> {
+        self.store.sync()
+    }
+}
+
+/// A desk that tells nothing of what its names hold, over a configuration, requests and stores that meet.
+#[derive(Drop)]
+struct OwnDesk {
+    alloc: Global,
+    config: &'static str,
+    requests: Pieces,
+    meeting: Arc<Meeting>,
+}
+
+impl OwnDesk {
+    fn new(alloc: Global, config: &'static str, requests: Pieces) -> Result<OwnDesk, Fail> {
+        let meeting = Meeting {
+            asked: [AtomicBool::new(false), AtomicBool::new(false)],
+            seen: [AtomicBool::new(false), AtomicBool::new(false)],
+        };
+        Ok(OwnDesk {
+            alloc,
+            config,
+            requests,
+            meeting: Arc::new(alloc, meeting)?,
+        })
+    }
+}
+
+impl Desk for OwnDesk {
+    type Input = Pieces;
+
+    type Journal = MeetingStore;
+
+    ghost faults = { λ _. 0 };
+
+    ghost last_fault = { λ _. None };
+
+    fn read(&mut self, name: &str) -> Result<Pieces, DeskFault> {
+        if name == "config" {
+            Ok(Pieces::new(self.config, 1, 4_096, 10))
+        } else {
+            Ok(self.requests)
+        }
+    }
+
+    fn log(&mut self, name: &str) -> Result<MeetingStore, DeskFault> {
+        let Ok(meeting) = Arc::try_clone(&self.meeting) else {
+            return Err(DeskFault::NoMemory);
+        };
+        match RoomStore::new(self.alloc, 65_536) {
+            Ok(store) => Ok(MeetingStore {
+                second: name.ends_with("1"),
+                meeting,
+                store,
+            }),
+            Err(NoMemory) => Err(DeskFault::NoMemory),
+        }
+    }
+}
+
+/// Of each read of one byte that fails, how many lines were read whole before it. The ninth isn't asked for.
+#[test]
+fn answers_the_lines_read_whole_before_a_fault(rt: HostRuntime) -> Result<(), Fail> {
+    let alloc = rt.alloc();
+    let words = words_of(alloc, SERVE)?;
+    let mut reads = 0;
+    for (expected, status) in [
+        ("stop 3\n", 3),
+        ("stop 3\n", 3),
+        ("refused 1 1\nstop 3\n", 3),
+        ("refused 1 1\nstop 3\n", 3),
+        ("refused 1 1\nstop 3\n", 3),
+        ("refused 1 1\nrefused 1 1\nstop 3\n", 3),
+        ("refused 1 1\nrefused 1 1\nrefused 1 1\nstop 3\n", 3),
+        ("refused 1 1\nrefused 1 1\nrefused 1 1\nstop 3\n", 3),
+        ("refused 1 1\nrefused 1 1\nrefused 1 1\nrefused 1 1\n", 0),
+    ] {
+        let desk = OwnDesk::new(alloc, CONFIG, Pieces::new("X\nXY\n\nZ", 1, 1, reads))?;
+        let mut out = MemorySink::new(alloc, 1_024, Vec::new(alloc))?;
+        let (found, _requests, _stores) = run_over(&rt, &words, desk, &mut out, &OpenGate);
+        assert_eq!(rt; out.bytes(), expected.as_bytes(), "after {reads}");
+        assert_eq!(rt; found, status, "after {reads}");
+        reads += 1;
+    }
+    Ok(())
+}
+
+/// What the sink takes of an answer and of a last line, where it has room for so many bytes.
+#[test]
+fn stops_where_the_sink_fails(rt: HostRuntime) -> Result<(), Fail> {
+    let alloc = rt.alloc();
+    for (line, room, text, status) in [
+        (SERVE, 0, "", 4),
+        (SERVE, 1, "r", 4),
+        (SERVE, 11, "refused 1 1", 4),
+        (SERVE, 12, "refused 1 1\n", 0),
+        ("serve", 0, "", 4),
+        ("serve", 6, "stop 1", 4),
+        ("serve", 7, "stop 1\n", 1),
+    ] {
+        let words = words_of(alloc, line)?;
+        let desk = OwnDesk::new(alloc, CONFIG, Pieces::new("X", 1, 1, 10))?;
+        let mut out = Bytes::new(room);
+        let (ended, _requests, _stores) = run_over(&rt, &words, desk, &mut out, &OpenGate);
+        assert_eq!(rt; ended, status, "{line} after {room}");
+        assert_eq!(rt;
+            out.text.get(..out.taken),
+            Some(text.as_bytes()),
+            "{line} after {room}"
+        );
+    }
+    Ok(())
+}
+
+#[test]
+fn stops_at_a_line_too_many(rt: HostRuntime) -> Result<(), Fail> {
+    let alloc = rt.alloc();
+    let desk = OwnDesk::new(alloc, CONFIG, Pieces::new("x\n", 1_048_577, 2, 2_000_000))?;
+    let mut out = MemorySink::new(alloc, 16_777_216, Vec::new(alloc))?;
+    let words = words_of(alloc, SERVE)?;
+    let (status, _requests, _stores) = run_over(&rt, &words, desk, &mut out, &OpenGate);
+    assert_eq!(rt; status, 8);
+    // 1,048,576 times `refused 1 1`, and then the last line.
+    assert_eq!(rt; out.bytes().len(), 12 * 1_048_576 + 15);
+    assert!(rt; out.bytes().ends_with(b"refused 1 1\nstop 8 1048577\n"));
+    Ok(())
+}
+
+/// The source gives a line a read, and the sink fails at the first answer.
+#[test]
+fn answers_before_it_waits_for_more(rt: HostRuntime) -> Result<(), Fail> {
+    let alloc = rt.alloc();
+    let desk = OwnDesk::new(alloc, CONFIG, Pieces::new("x\n", 3, 2, 10))?;
+    let mut out = Bytes::new(0);
+    let words = words_of(alloc, SERVE)?;
+    let (status, requests, _stores) = run_over(&rt, &words, desk, &mut out, &OpenGate);
+    assert_eq!(rt; status, 4);
+    assert_eq!(rt; requests.map(|source| source.times), Some(2));
+    Ok(())
+}
+
+/// Each store takes its decision while the other one is asked for one, which only callers at once can do.
+#[test]
+fn appends_to_two_journals_at_once(rt: HostRuntime) -> Result<(), Fail> {
+    let alloc = rt.alloc();
+    let desk = OwnDesk::new(alloc, TWO_SHARDS, Pieces::new(SEVENTH_EACH, 1, 4_096, 10))?;
+    let meeting = Arc::try_clone(&desk.meeting)?;
+    let mut out = MemorySink::new(alloc, 65_536, Vec::new(alloc))?;
+    let words = words_of(
+        alloc,
+        "serve --config config --requests requests --journal journal --callers 2",
+    )?;
+    let (status, _requests, _stores) = run_over(&rt, &words, desk, &mut out, &OpenGate);
+    assert_eq!(rt; status, 0);
+    assert_eq!(rt; out.bytes(), FRESH_EACH.as_bytes());
+    assert!(rt; meeting.seen[0].load(Ordering::SeqCst));
+    assert!(rt; meeting.seen[1].load(Ordering::SeqCst));
+    Ok(())
+}

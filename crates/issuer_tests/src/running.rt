@@ -1,0 +1,144 @@
+//! A run of the top call over a desk in memory.
+
+use issuer_base::{Desk, Gate, MemorySink, Sink, Store, Words};
+use issuer_top::{Ended, issue};
+use std::alloc::Global;
+use std::sync::Wait;
+use std::test::Fail;
+use std::thread::Threads;
+use store_edge::{MemoryDesk, MemoryStore};
+
+pub(crate) const SERVE: &str = "serve --config config --requests requests --journal journal";
+
+pub(crate) const SHOW: &str = "show --config config --journal journal";
+
+/// Of each device the call that fails, counted from 0: configuration, requests, desk, sink, store.
+pub(crate) type Fails = [Option<u64>; 5];
+
+pub(crate) const NONE_FAILS: Fails = [None; 5];
+
+/// What a run is given, and what comes of it. Texts are in parts.
+pub(crate) struct Run {
+    pub(crate) name: &'static str,
+
+    /// The command-line arguments, parted by spaces.
+    pub(crate) words: &'static str,
+    pub(crate) config: &'static str,
+    pub(crate) requests: &'static [&'static str],
+
+    /// The journal of shard 0; none: the journals that the last run left.
+    pub(crate) before: Option<&'static [&'static str]>,
+    pub(crate) fails: Fails,
+    pub(crate) answers: &'static [&'static str],
+    pub(crate) status: u8,
+
+    /// The journal of shard 0, where it is compared.
+    pub(crate) after: Option<&'static [&'static str]>,
+}
+
+/// The status of a run, the request file as far as it was read, and the stores.
+pub(crate) type Left<D> = (u8, Option<<D as Desk>::Input>, Vec<<D as Desk>::Journal>);
+
+/// Runs the top call.
+pub(crate) fn run_over<R, D, W, G>(rt: &R, words: &Words, desk: D, out: &mut W, gate: &G) -> Left<D>
+where
+    R: AllocGlobal + Threads + Wait + Sync,
+    D: Desk + Drop,
+    D::Input: Drop,
+    D::Journal: Send,
+    W: Sink,
+    G: Gate + Sync,
+{
+    let Ended {
+        status,
+        desk: _desk,
+        config: _config,
+        requests,
+        stores,
+    } = issue(rt, words, desk, out, gate);
+    (status, requests, stores)
+}
+
+/// The status of a run over a desk in memory, and what it writes. The journals are those that it finds, and then those that it leaves.
+pub(crate) fn run_at<R, G>(
+    rt: &R,
+    run: &Run,
+    fails: &Fails,
+    journals: &mut Vec<Vec<u8>>,
+    gate: &G,
+) -> Result<(u8, String), Fail>
+where
+    R: AllocGlobal + Threads + Wait + Sync,
+    G: Gate + Sync,
+{
+    let alloc = rt.alloc();
+    let [config, requests, desk, sink, store] = *fails;
+    let mut memory = MemoryDesk::new(alloc, listed(alloc, desk)?);
+    let name = String::from_str(alloc, "config")?;
+    memory.input(
+        name,
+        run.config.as_bytes().to_vec(alloc)?,
+        listed(alloc, config)?,
+    )?;
+    let name = String::from_str(alloc, "requests")?;
+    memory.input(
+        name,
+        joined(alloc, run.requests)?.into_bytes(),
+        listed(alloc, requests)?,
+    )?;
+    for (name, journal) in ["journal.00", "journal.01"].iter().zip(journals.iter()) {
+        let name = String::from_str(alloc, name)?;
+        memory.journal(name, journal.clone()?, 65_536, listed(alloc, store)?)?;
+    }
+    let mut out = MemorySink::new(alloc, 65_536, listed(alloc, sink)?)?;
+    let words = words_of(alloc, run.words)?;
+    let (status, _requests, stores) = run_over(rt, &words, memory, &mut out, gate);
+    *journals = left_in(alloc, &stores)?;
+    Ok((status, String::from_utf8(out.bytes().to_vec(alloc)?)?))
+}
+
+/// The words of a command line.
+pub(crate) fn words_of(alloc: Global, line: &str) -> Result<Words, Fail> {
+    let mut words = Words::new(alloc);
+    for word in line.split(' ') {
+        words.push(word)?;
+    }
+    Ok(words)
+}
+
+/// The text of these parts.
+pub(crate) fn joined(alloc: Global, parts: &[&str]) -> Result<String, Fail> {
+    let mut text = String::new(alloc);
+    for part in parts {
+        text.push_str(part)?;
+    }
+    Ok(text)
+}
+
+/// The journal of shard 0 alone.
+pub(crate) fn one_journal(alloc: Global, parts: &[&str]) -> Result<Vec<Vec<u8>>, Fail> {
+    let mut journals = Vec::new(alloc);
+    journals.push(joined(alloc, parts)?.into_bytes())?;
+    Ok(journals)
+}
+
+/// A list of this call, if any.
+fn listed(alloc: Global, call: Option<u64>) -> Result<Vec<u64>, Fail> {
+    let mut fails = Vec::new(alloc);
+    if let Some(call) = call {
+        fails.push(call)?;
+    }
+    Ok(fails)
+}
+
+/// The bytes of each store, all of which a crash may leave.
+fn left_in(alloc: Global, stores: &[MemoryStore]) -> Result<Vec<Vec<u8>>, Fail> {
+    let mut journals = Vec::new(alloc);
+    for store in stores {
+        match store.image(store.len()) {
+            Ok(Some(bytes)) => journals.push(bytes)?,
+            _ => return Err(Fail::from("no such image")),
+        }
+    }
+    Ok(journals)
+}
