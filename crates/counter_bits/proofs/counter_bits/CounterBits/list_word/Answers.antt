@@ -1,6 +1,5 @@
 -- One counter of the word more is listed where it is in the set.
-use Rattle.std.proofs.Common.{ℕ, ◌≡◌, ◌+◌, ◌*◌, ◌/◌, ◌&&◌, Bool, ap, sym, ◌∙◌, eqb, arith}
-use Rattle.std.proofs.lemmas.Bool.{and_right}
+use Rattle.std.proofs.Common.{◌≡◌, ◌+◌, ◌/◌, ◌&&◌, Bool, ap, ◌∙◌, eqb, arith}
 use Rattle.counter_bits.specs.declared.counter_bits.TheConstants.{WORD_COUNTERS}
 use Rattle.counter_bits.specs.CounterSets.{times, has, one_if}
 use Rattle.counter_bits.proofs.Listing.{below-more, in-word-none, in-word-here, in-word-all, in-word-empty, none-added, kept-same, kept-more}
