@@ -6,6 +6,7 @@ import subprocess
 import sys
 
 HOME = os.path.dirname(os.path.dirname(os.path.abspath(__file__)))
+MEMORY = "/dev/shm" if os.path.isdir("/dev/shm") else None
 SHARDS = 2
 PANS = [f"4{card:015d}" for card in range(4)]
 
