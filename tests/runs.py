@@ -8,6 +8,7 @@ import sys
 HOME = os.path.dirname(os.path.dirname(os.path.abspath(__file__)))
 # Where `rt ci` leaves the program, and where `./issuer prove` does.
 PROGRAMS = ("crates/issuer_main/out/issuer_main", ".build/issuer")
+MEMORY = "/dev/shm" if os.path.isdir("/dev/shm") else None
 SHARDS = 2
 PANS = [f"4{card:015d}" for card in range(4)]
 
