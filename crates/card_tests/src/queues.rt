@@ -37,28 +37,30 @@ fn takes_sixty_four_and_goes_on_where_some_are_done(rt: HostRuntime) -> Result<(
     Ok(())
 }
 
+/// The sizes of the data of some commands, and how many of them fit into one template.
+const TEMPLATES: [(&str, &[usize], u8); 7] = [
+    ("none", &[], 0),
+    ("one of the longest", &[64], 1),
+    ("128 bytes", &[64, 25], 2),
+    ("129 bytes", &[64, 26], 1),
+    ("a short one behind one that doesn't fit", &[64, 64, 0], 1),
+    ("seven in 128 bytes", &[2, 2, 2, 2, 2, 2, 2, 0], 7),
+    (
+        "six, and 129 bytes with the next",
+        &[2, 2, 2, 2, 2, 2, 3],
+        6,
+    ),
+];
+
 #[test]
 fn counts_the_commands_of_a_template(rt: HostRuntime) -> Result<(), Fail> {
-    let cases: [(&str, &[usize], u8); 7] = [
-        ("none", &[], 0),
-        ("one of the longest", &[64], 1),
-        ("128 bytes", &[64, 25], 2),
-        ("129 bytes", &[64, 26], 1),
-        ("a short one behind one that doesn't fit", &[64, 64, 0], 1),
-        ("seven in 128 bytes", &[2, 2, 2, 2, 2, 2, 2, 0], 7),
-        (
-            "six, and 129 bytes with the next",
-            &[2, 2, 2, 2, 2, 2, 3],
-            6,
-        ),
-    ];
-    for (name, sizes, expected) in cases {
+    for (name, sizes, expected) in &TEMPLATES {
         let mut queue = Queue::new(rt.alloc()).map_err(|_| "memory")?;
-        for bytes in sizes {
+        for bytes in *sizes {
             let given = queue.push(command(0, *bytes)?);
             assert!(rt; given.is_ok(), "{name}");
         }
-        assert_eq!(rt; queue.fitting(), expected, "{name}");
+        assert_eq!(rt; queue.fitting(), *expected, "{name}");
     }
     Ok(())
 }

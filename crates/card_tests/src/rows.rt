@@ -4,11 +4,9 @@
 use cvr_settle::Flight;
 use decision_table::Table;
 use issuer_base::{Method, Reply, Request};
-use key_derive::{CardKeys, LazyKeys, SessionKey, card_keys};
+use key_derive::{CardKeys, card_keys};
 use row_core::{Outcome, Row};
-use sample_issuer::{
-    CRYPTOGRAM, card, deciding_table, declining_table, key_set, purchase, purchase_parts,
-};
+use sample_issuer::{CRYPTOGRAM, card, deciding_table, key_set, purchase, purchase_parts};
 use secure_msg::read_command;
 use std::alloc::Global;
 use std::test::Fail;
@@ -26,12 +24,18 @@ fn record(
     table: &Table,
     asked: &Request,
     place: u64,
-) -> Result<Reply, Fail> {
+) -> Option<Reply> {
     let Outcome::Fresh(reply, place) = row.plan(keys, table, asked, place) else {
-        return Err("a request that isn't fresh".into());
+        return None;
     };
     row.apply(asked, &reply, place);
-    Ok(reply)
+    Some(reply)
+}
+
+/// Whether these hexadecimal digits are the reply's bytes.
+fn has_bytes(alloc: Global, reply: &Reply, digits: &str) -> Result<bool, Fail> {
+    let text = hex::encode(alloc, reply.bytes.as_slice())?;
+    Ok(text.as_str() == digits)
 }
 
 /// Whether the outcome has this name, and this place or greatest counter.
@@ -44,7 +48,19 @@ fn is_outcome(outcome: &Outcome<'_>, name: &str, number: u64) -> bool {
     }
 }
 
-/// The row decided the even counters from 0 to 298 in order, and then 251.
+/// A counter and an unpredictable number, and the outcome with its place or greatest counter, after the even counters from 0 to 298 and
+/// 251 were decided.
+const OUTCOMES: [(&str, u16, u32, &str, u64); 8] = [
+    ("above", 299, 1, "fresh", 151),
+    ("in the window", 253, 1, "fresh", 151),
+    ("63 below", 235, 1, "fresh", 151),
+    ("64 below", 234, 1, "below", 298),
+    ("a repeat of the oldest", 236, 1, "kept", 118),
+    ("a repeat of the last", 251, 1, "kept", 150),
+    ("a repeat of the greatest", 298, 1, "kept", 149),
+    ("another request", 298, 2, "taken", 149),
+];
+
 #[test]
 fn plans_by_the_decisions_in_the_window(rt: HostRuntime) -> Result<(), Fail> {
     let table = deciding_table().ok_or("a table")?;
@@ -53,78 +69,67 @@ fn plans_by_the_decisions_in_the_window(rt: HostRuntime) -> Result<(), Fail> {
     assert!(rt; row.hi().is_none() && row.status() == 0 && row.queue().undone() == 0);
     for place in 0..150u16 {
         let asked = purchase(2 * place, 1, 0).ok_or("a request")?;
-        record(&mut row, &keys, &table, &asked, u64::from(place))?;
+        record(&mut row, &keys, &table, &asked, u64::from(place)).ok_or("a record")?;
     }
     let below_the_greatest = purchase(251, 1, 0).ok_or("a request")?;
-    record(&mut row, &keys, &table, &below_the_greatest, 150)?;
+    record(&mut row, &keys, &table, &below_the_greatest, 150).ok_or("a record")?;
     row.set_status(9);
     assert!(rt; row.hi() == Some(298) && row.status() == 9);
-    for (name, counter, number, outcome, expected) in [
-        ("above", 299, 1, "fresh", 151),
-        ("in the window", 253, 1, "fresh", 151),
-        ("63 below", 235, 1, "fresh", 151),
-        ("64 below", 234, 1, "below", 298),
-        ("a repeat of the oldest", 236, 1, "kept", 118),
-        ("a repeat of the last", 251, 1, "kept", 150),
-        ("a repeat of the greatest", 298, 1, "kept", 149),
-        ("another request", 298, 2, "taken", 149),
-    ] {
-        let asked = purchase(counter, number, 0).ok_or("a request")?;
+    for (name, counter, number, outcome, expected) in &OUTCOMES {
+        let asked = purchase(*counter, *number, 0).ok_or("a request")?;
         let planned = row.plan(&keys, &table, &asked, 151);
-        assert!(rt; is_outcome(&planned, outcome, expected), "{name}");
+        assert!(rt; is_outcome(&planned, outcome, *expected), "{name}");
     }
     Ok(())
 }
 
-/// The card's keys are the sample key set's own, and the request has no cryptogram.
+/// Method, amount, whether the reply approves, and its bytes. The card's keys are those of the sample key set, and the request has no
+/// cryptogram.
+const REPLIES: [(Method, [u8; 6], bool, &str); 4] = [
+    (
+        Method::One,
+        [0x00, 0x00, 0x00, 0x50, 0x00, 0x00],
+        true,
+        "8a023030910a493a7c568120383e3030",
+    ),
+    (
+        Method::One,
+        [0x00, 0x00, 0x00, 0x50, 0x00, 0x01],
+        false,
+        "8a023035910a79d9c2792903f1ba3035",
+    ),
+    (
+        Method::Two,
+        [0x00, 0x00, 0x00, 0x50, 0x00, 0x00],
+        true,
+        "8a0230309108d8b8a6af00800000",
+    ),
+    (
+        Method::Two,
+        [0x00, 0x00, 0x00, 0x50, 0x00, 0x01],
+        false,
+        "8a02303591088f3af6f400000000",
+    ),
+];
+
 #[test]
 fn replies_by_the_method(rt: HostRuntime) -> Result<(), Fail> {
     let table = deciding_table().ok_or("a table")?;
     let set = key_set();
-    let session = SessionKey::for_cryptograms(&set.ac, 7);
-    let limit = [0x00, 0x00, 0x00, 0x50, 0x00, 0x00];
-    let above = [0x00, 0x00, 0x00, 0x50, 0x00, 0x01];
-    for (method, amount, approve, expected) in [
-        (Method::One, limit, true, "8a023030910a493a7c568120383e3030"),
-        (
-            Method::One,
-            above,
-            false,
-            "8a023035910a79d9c2792903f1ba3035",
-        ),
-        (Method::Two, limit, true, "8a0230309108d8b8a6af00800000"),
-        (Method::Two, above, false, "8a02303591088f3af6f400000000"),
-    ] {
-        let row = Row::new(rt.alloc(), method).map_err(|_| "memory")?;
+    let keys = CardKeys {
+        ac: set.ac,
+        smi: set.smi,
+    };
+    for (method, amount, approve, expected) in &REPLIES {
+        let mut row = Row::new(rt.alloc(), *method).map_err(|_| "memory")?;
         let mut parts = purchase_parts(7, 1, 0).ok_or("a request")?;
+        let amount = *amount;
         parts.amount = amount;
         let asked = Request::new(parts).ok_or("a request")?;
-        let keys = LazyKeys::from(CardKeys {
-            ac: set.ac,
-            smi: set.smi,
-        });
-        let Outcome::Fresh(reply, _) = row.plan_under(&session, &keys, &table, &asked, 0) else {
-            return Err("a request that isn't fresh".into());
-        };
-        let bytes = hex::encode(rt.alloc(), reply.bytes.as_slice())?;
-        assert_eq!(rt; bytes.as_str(), expected);
-        assert_eq!(rt; reply.approve, approve, "{expected}");
+        let reply = record(&mut row, &keys, &table, &asked, 0).ok_or("a reply")?;
+        assert_eq!(rt; reply.approve, *approve, "{expected}");
+        assert!(rt; has_bytes(rt.alloc(), &reply, expected)?, "{expected}");
     }
-    Ok(())
-}
-
-#[test]
-fn gives_the_kept_reply_whatever_the_table_is_now(rt: HostRuntime) -> Result<(), Fail> {
-    let approving = deciding_table().ok_or("a table")?;
-    let declining = declining_table().ok_or("a table")?;
-    let keys = derived_keys().ok_or("keys")?;
-    let mut row = Row::new(rt.alloc(), Method::One).map_err(|_| "memory")?;
-    let asked = purchase(7, 1, 0).ok_or("a request")?;
-    let given = record(&mut row, &keys, &approving, &asked, 3)?;
-    let Outcome::Kept(reply, place) = row.plan(&keys, &declining, &asked, 4) else {
-        return Err("a request that isn't kept".into());
-    };
-    assert!(rt; reply.is_same(&given) && place == 3);
     Ok(())
 }
 
@@ -161,35 +166,37 @@ fn row_of_five_commands(alloc: Global) -> Result<Row, Fail> {
     Ok(row)
 }
 
+/// The register that the card tells on counter 9 with two commands, its cryptogram, how many commands are done, and the reply.
+const SECOND_REPLIES: [(u8, u64, u32, &str); 2] = [
+    (7, 0xEBA261CB_1FC8AF7D, 2, AFTER_TWO_RAN),
+    (5, 0x7AEEB7E0_0D9CE6BF, 0, AFTER_NONE_RAN),
+];
+
 #[test]
 fn sends_commands_until_the_card_ran_them(rt: HostRuntime) -> Result<(), Fail> {
     let table = deciding_table().ok_or("a table")?;
     let keys = derived_keys().ok_or("keys")?;
-    for (name, register, ac, done, expected) in [
-        ("two ran", 7, 0xEBA261CB_1FC8AF7D, 2, AFTER_TWO_RAN),
-        ("none ran", 5, 0x7AEEB7E0_0D9CE6BF, 0, AFTER_NONE_RAN),
-    ] {
+    for (register, ac, done, expected) in &SECOND_REPLIES {
         let mut row = row_of_five_commands(rt.alloc())?;
         let asked = purchase(7, 1, CRYPTOGRAM).ok_or("a request")?;
-        let first = record(&mut row, &keys, &table, &asked, 5)?;
-        let bytes = hex::encode(rt.alloc(), first.bytes.as_slice())?;
-        assert_eq!(rt; bytes.as_str(), WITH_THREE_COMMANDS, "{name}");
-
-        // the card counts two commands since the transaction of its register
-        let mut parts = purchase_parts(9, 1, ac).ok_or("a request")?;
+        let first = record(&mut row, &keys, &table, &asked, 5).ok_or("a reply")?;
+        assert!(rt;
+            has_bytes(rt.alloc(), &first, WITH_THREE_COMMANDS)?,
+            "{register}"
+        );
+        let mut parts = purchase_parts(9, 1, *ac).ok_or("a request")?;
         parts.iad[6] = 0x20;
-        parts.iad[18] = register;
+        parts.iad[18] = *register;
         let asked = Request::new(parts).ok_or("a request")?;
-        let second = record(&mut row, &keys, &table, &asked, 6)?;
-        let bytes = hex::encode(rt.alloc(), second.bytes.as_slice())?;
-        assert_eq!(rt; bytes.as_str(), expected, "{name}");
+        let second = record(&mut row, &keys, &table, &asked, 6).ok_or("a reply")?;
+        assert!(rt; has_bytes(rt.alloc(), &second, expected)?, "{register}");
         let flight = Some(Flight {
             counter: 9,
             size: 3,
         });
         assert!(rt;
-            row.done() == done && row.flight() == flight && !row.halted(),
-            "{name}"
+            row.done() == *done && row.flight() == flight && !row.halted(),
+            "{register}"
         );
     }
     Ok(())
@@ -209,22 +216,15 @@ fn adopts_a_decision_of_another_row_once(rt: HostRuntime) -> Result<(), Fail> {
     let asked = purchase(7, 0x1A2B_3C4D, CRYPTOGRAM).ok_or("a request")?;
     let forged = purchase(7, 0x1A2B_3C4D, CRYPTOGRAM + 1).ok_or("a request")?;
     let mut row = Row::new(rt.alloc(), Method::Two).map_err(|_| "memory")?;
-    let reply = record(&mut row, &keys, &table, &asked, 5)?;
+    let reply = record(&mut row, &keys, &table, &asked, 5).ok_or("a reply")?;
     let mut altered = reply.copy();
     let last = altered.bytes.pop().ok_or("a byte")?;
     altered.bytes.push(last ^ 0x01);
     let mut other = Row::new(rt.alloc(), Method::Two).map_err(|_| "memory")?;
-    for (name, asked, reply, adopted) in [
-        ("a reply with another last byte", &asked, &altered, false),
-        ("a forged request", &forged, &reply, false),
-        ("the decision", &asked, &reply, true),
-        ("the decision again", &asked, &reply, false),
-    ] {
-        assert!(rt;
-            adopts(&mut other, &keys, asked, reply) == Some(adopted),
-            "{name}"
-        );
-    }
+    assert_eq!(rt; adopts(&mut other, &keys, &asked, &altered), Some(false));
+    assert_eq!(rt; adopts(&mut other, &keys, &forged, &reply), Some(false));
+    assert_eq!(rt; adopts(&mut other, &keys, &asked, &reply), Some(true));
+    assert_eq!(rt; adopts(&mut other, &keys, &asked, &reply), Some(false));
     assert_eq!(rt; other.hi(), Some(7));
     Ok(())
 }

@@ -64,82 +64,76 @@ fn request(amount: [u8; 6], tvr: [u8; 5]) -> Option<Request> {
     Request::new(parts)
 }
 
+const LIMIT: [u8; 6] = [0x00, 0x00, 0x00, 0x50, 0x00, 0x00];
+
+const ABOVE_LIMIT: [u8; 6] = [0x00, 0x00, 0x00, 0x50, 0x00, 0x01];
+
+/// A card's status, an amount, and the last digit of the response code.
+const BY_AMOUNT: [(&str, u8, [u8; 6], u8); 4] = [
+    ("the limit", 0, LIMIT, 0x30),
+    ("above the limit", 0, ABOVE_LIMIT, 0x35),
+    ("a status of its own", 1, LIMIT, 0x36),
+    ("another status", 2, [0x99; 6], 0x35),
+];
+
 #[test]
-fn decides_by_the_first_row_that_fits(rt: HostRuntime) -> Result<(), Fail> {
-    let by_amount = deciding_table().ok_or("a table")?;
-    let rows = ArrayVec::try_from([BY_TERMINAL, BY_CARD, OTHERWISE].as_slice())?;
-    let by_bits = Table::new(rows).ok_or("a table")?;
-    let limit = [0x00, 0x00, 0x00, 0x50, 0x00, 0x00];
-    let above = [0x00, 0x00, 0x00, 0x50, 0x00, 0x01];
-    assert_eq!(rt; by_amount.rows().len(), 3);
-    for (name, table, status, amount, tvr, digit) in [
-        ("the limit", &by_amount, 0, limit, [0; 5], 0x30),
-        ("above the limit", &by_amount, 0, above, [0; 5], 0x35),
-        ("a status of its own", &by_amount, 1, limit, [0; 5], 0x36),
-        ("another status", &by_amount, 2, [0x99; 6], [0; 5], 0x35),
-        (
-            "bits as wanted",
-            &by_bits,
-            0,
-            [0; 6],
-            [0x80, 0, 0, 0, 0x00],
-            0x31,
-        ),
-        (
-            "other bits too",
-            &by_bits,
-            0,
-            [0; 6],
-            [0xC0, 0xFF, 0, 0, 0x02],
-            0x31,
-        ),
-        (
-            "one bit of two",
-            &by_bits,
-            0,
-            [0; 6],
-            [0x80, 0, 0, 0, 0x01],
-            0x32,
-        ),
-        ("no bit", &by_bits, 0, [0; 6], [0; 5], 0x32),
-    ] {
-        let asked = request(amount, tvr).ok_or("a request")?;
-        let row = decide(table, status, &asked);
-        assert_eq!(rt; row.arc, [0x30, digit], "{name}");
+fn decides_by_status_and_amount(rt: HostRuntime) -> Result<(), Fail> {
+    let table = deciding_table().ok_or("a table")?;
+    assert_eq!(rt; table.rows().len(), 3);
+    for (name, status, amount, digit) in &BY_AMOUNT {
+        let asked = request(*amount, [0; 5]).ok_or("a request")?;
+        assert_eq!(rt; decide(&table, *status, &asked).arc[1], *digit, "{name}");
     }
     Ok(())
 }
 
+/// Terminal verification results, and the last digit of the response code.
+const BY_BITS: [(&str, [u8; 5], u8); 4] = [
+    ("as wanted", [0x80, 0, 0, 0, 0x00], 0x31),
+    ("other bits too", [0xC0, 0xFF, 0, 0, 0x02], 0x31),
+    ("one bit of two", [0x80, 0, 0, 0, 0x01], 0x32),
+    ("no bit", [0; 5], 0x32),
+];
+
+#[test]
+fn decides_by_the_masked_bits(rt: HostRuntime) -> Result<(), Fail> {
+    let rows = ArrayVec::try_from([BY_TERMINAL, BY_CARD, OTHERWISE].as_slice())?;
+    let table = Table::new(rows).ok_or("a table")?;
+    for (name, tvr, digit) in &BY_BITS {
+        let asked = request([0; 6], *tvr).ok_or("a request")?;
+        assert_eq!(rt; decide(&table, 0, &asked).arc[1], *digit, "{name}");
+    }
+    Ok(())
+}
+
+/// Rows, and the index of the first bad one.
+const TABLES: [(&str, &[TableRow], Option<usize>); 4] = [
+    ("a table", &[BY_CARD, APPROVAL, OTHERWISE], None),
+    (
+        "an approval that isn't said",
+        &[BY_CARD, UNSAID_APPROVAL, SHORT_LAST],
+        Some(1),
+    ),
+    (
+        "a last row that isn't for all",
+        &[BY_CARD, APPROVAL, SHORT_LAST],
+        Some(2),
+    ),
+    (
+        "an approval alone",
+        &[UNSAID_APPROVAL, APPROVAL, OTHERWISE],
+        Some(0),
+    ),
+];
+
 #[test]
 fn names_the_first_bad_row(rt: HostRuntime) -> Result<(), Fail> {
-    let cases: [(&str, &[TableRow], Option<usize>); 5] = [
-        ("a table", &[BY_CARD, APPROVAL, OTHERWISE], None),
-        (
-            "an approval that isn't said",
-            &[BY_CARD, UNSAID_APPROVAL, SHORT_LAST],
-            Some(1),
-        ),
-        (
-            "a last row that isn't for all",
-            &[BY_CARD, APPROVAL, SHORT_LAST],
-            Some(2),
-        ),
-        (
-            "an approval alone",
-            &[UNSAID_APPROVAL, APPROVAL, OTHERWISE],
-            Some(0),
-        ),
-        ("no row", &[], None),
-    ];
-    for (name, rows, bad) in cases {
-        let table = Table::new(ArrayVec::try_from(rows)?);
-        assert_eq!(rt; first_bad_row(rows), bad, "{name}");
-        assert_eq!(rt;
-            table.is_some(),
-            bad.is_none() && !rows.is_empty(),
-            "{name}"
-        );
+    for (name, rows, bad) in &TABLES {
+        let table = Table::new(ArrayVec::try_from(*rows)?);
+        assert_eq!(rt; first_bad_row(rows), *bad, "{name}");
+        assert_eq!(rt; table.is_some(), bad.is_none(), "{name}");
     }
+    assert!(rt; first_bad_row(&[]).is_none() && Table::new(ArrayVec::new()).is_none());
     assert!(rt; tells_approval(&APPROVAL) && !tells_approval(&UNSAID_APPROVAL));
     assert!(rt; TableRow::default().most == 0);
     Ok(())

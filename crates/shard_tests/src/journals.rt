@@ -182,36 +182,38 @@ const FORGERY: &str =
 
 const UNKNOWN_CARD: &str = "s 4000000000000010ffff 00 3\n";
 
+/// Lines, and how many records and bytes they are loaded with, or why they aren't loaded.
+const JOURNALS: [(&str, &[&str], Result<(u64, u64), LoadFault>); 6] = [
+    ("three records", &[STATUS, DECISION, STATUS], Ok((3, 269))),
+    ("an empty line", &[STATUS, "\n"], Err(LoadFault::BadLine(2))),
+    ("no records", &["x\nx\n"], Err(LoadFault::BadLine(1))),
+    (
+        "a card of nobody",
+        &[UNKNOWN_CARD],
+        Err(LoadFault::BadRecord(1)),
+    ),
+    (
+        "a wrong cryptogram",
+        &[STATUS, FORGERY, STATUS],
+        Err(LoadFault::BadRecord(2)),
+    ),
+    (
+        "a decision twice",
+        &[DECISION, DECISION, STATUS],
+        Err(LoadFault::BadRecord(2)),
+    ),
+];
+
 #[test]
 fn names_the_first_bad_line(rt: HostRuntime) -> Result<(), Fail> {
     let alloc = rt.alloc();
     let issuer = one_card(alloc)?;
-    let rows: [(&str, &[&str], Result<(u64, u64), LoadFault>); 6] = [
-        ("three records", &[STATUS, DECISION, STATUS], Ok((3, 269))),
-        ("an empty line", &[STATUS, "\n"], Err(LoadFault::BadLine(2))),
-        ("no records", &["x\nx\n"], Err(LoadFault::BadLine(1))),
-        (
-            "a card of nobody",
-            &[UNKNOWN_CARD],
-            Err(LoadFault::BadRecord(1)),
-        ),
-        (
-            "a wrong cryptogram",
-            &[STATUS, FORGERY, STATUS],
-            Err(LoadFault::BadRecord(2)),
-        ),
-        (
-            "a decision twice",
-            &[DECISION, DECISION, STATUS],
-            Err(LoadFault::BadRecord(2)),
-        ),
-    ];
-    for (name, lines, expected) in rows {
+    for (name, lines, expected) in &JOURNALS {
         let mut text = Vec::new(alloc);
-        for line in lines {
+        for line in *lines {
             text.extend_from_slice(line.as_bytes())?;
         }
-        assert!(rt; loaded(alloc, &issuer, text)? == expected, "{name}");
+        assert!(rt; loaded(alloc, &issuer, text)? == *expected, "{name}");
     }
     Ok(())
 }
