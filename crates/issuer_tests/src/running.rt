@@ -36,18 +36,29 @@ pub(crate) struct Run {
     pub(crate) after: Option<&'static [&'static str]>,
 }
 
-/// The status of a run, the request file as far as it was read, and the stores.
-pub(crate) type Left<D> = (u8, Option<<D as Desk>::Input>, Vec<<D as Desk>::Journal>);
-
-/// Runs the top call.
-pub(crate) fn run_over<R, D, W, G>(rt: &R, words: &Words, desk: D, out: &mut W, gate: &G) -> Left<D>
+/// Runs the top call. All runs go through here, since each function that calls it carries its whole contract.
+pub(crate) fn run_over<R, D, W, G>(
+    rt: &R,
+    words: &Words,
+    desk: D,
+    out: &mut W,
+    gate: &G,
+) -> Ended<D>
 where
     R: AllocGlobal + Threads + Wait + Sync,
-    D: Desk + Drop,
-    D::Input: Drop,
+    D: Desk,
     D::Journal: Send,
     W: Sink,
     G: Gate + Sync,
+{
+    issue(rt, words, desk, out, gate)
+}
+
+/// The status of a run, the request file as far as it was read, and the stores.
+pub(crate) fn left_by<D>(ended: Ended<D>) -> (u8, Option<D::Input>, Vec<D::Journal>)
+where
+    D: Desk + Drop,
+    D::Input: Drop,
 {
     let Ended {
         status,
@@ -55,7 +66,7 @@ where
         config: _config,
         requests,
         stores,
-    } = issue(rt, words, desk, out, gate);
+    } = ended;
     (status, requests, stores)
 }
 
@@ -92,7 +103,7 @@ where
     }
     let mut out = MemorySink::new(alloc, 65_536, listed(alloc, sink)?)?;
     let words = words_of(alloc, run.words)?;
-    let (status, _requests, stores) = run_over(rt, &words, memory, &mut out, gate);
+    let (status, _requests, stores) = left_by(run_over(rt, &words, memory, &mut out, gate));
     *journals = left_in(alloc, &stores)?;
     Ok((status, String::from_utf8(out.bytes().to_vec(alloc)?)?))
 }
