@@ -247,6 +247,11 @@ const NO_OBJECTS: [(&str, &[u8], ConfigFault); 17] = [
     ("a surrogate in UTF-8", b"{\"a\":\"\xED\xA0\x80\"}", NotJson),
 ];
 
+/// What a configuration is refused for, or none.
+fn fault(rt: HostRuntime, bytes: &[u8]) -> Option<ConfigFault> {
+    read_config(rt.alloc(), bytes).err()
+}
+
 #[test]
 fn reads_the_good_one(rt: HostRuntime) -> Result<(), Fail> {
     let issuer = read_config(rt.alloc(), GOOD.as_bytes())?;
@@ -295,8 +300,10 @@ fn a_change_is_named_by_the_first_broken_place(rt: HostRuntime) -> Result<(), Fa
             part: *part & 15,
             index: u32::from(*index & 15),
         };
-        let fault = read_config(rt.alloc(), &text).err();
-        assert!(rt; fault == (*part > b'0').then_some(wanted), "{change}");
+        assert!(rt;
+            fault(rt, &text) == (*part > b'0').then_some(wanted),
+            "{change}"
+        );
     }
     Ok(())
 }
@@ -312,8 +319,7 @@ fn the_first_broken_element_is_named(rt: HostRuntime) -> Result<(), Fail> {
             text.push(b',')?;
         }
         text.extend_from_slice(back.as_bytes())?;
-        let fault = read_config(rt.alloc(), &text).err();
-        assert!(rt; fault == Some(At { part, index }), "{name}");
+        assert!(rt; fault(rt, &text) == Some(At { part, index }), "{name}");
     }
     Ok(())
 }
@@ -321,10 +327,7 @@ fn the_first_broken_element_is_named(rt: HostRuntime) -> Result<(), Fail> {
 #[test]
 fn what_is_no_object_is_told_from_what_is_no_json(rt: HostRuntime) -> Result<(), Fail> {
     for (name, bytes, wanted) in NO_OBJECTS {
-        assert!(rt;
-            read_config(rt.alloc(), bytes).err() == Some(wanted),
-            "{name}"
-        );
+        assert!(rt; fault(rt, bytes) == Some(wanted), "{name}");
     }
 
     // 127 levels are read, and one more is not.
@@ -334,7 +337,7 @@ fn what_is_no_object_is_told_from_what_is_no_json(rt: HostRuntime) -> Result<(),
         text.resize(5 + lists, b'[')?;
         text.resize(5 + 2 * lists, b']')?;
         text.push(b'}')?;
-        assert!(rt; read_config(rt.alloc(), &text).err() == Some(wanted));
+        assert!(rt; fault(rt, &text) == Some(wanted));
     }
     Ok(())
 }
@@ -344,14 +347,14 @@ fn the_length_is_tested_first(rt: HostRuntime) -> Result<(), Fail> {
     let whole = Some(At { part: 1, index: 0 });
     let mut text = Vec::from_slice(rt.alloc(), GOOD.as_bytes())?;
     text.resize(4_194_304, b' ')?;
-    assert!(rt; read_config(rt.alloc(), &text).is_ok());
+    assert!(rt; fault(rt, &text).is_none());
     text.push(b' ')?;
-    assert!(rt; read_config(rt.alloc(), &text).err() == whole);
+    assert!(rt; fault(rt, &text) == whole);
     text.clear();
     text.resize(4_194_304, b'[')?;
-    assert!(rt; read_config(rt.alloc(), &text).err() == Some(NotJson));
+    assert!(rt; fault(rt, &text) == Some(NotJson));
     text.push(b'[')?;
-    assert!(rt; read_config(rt.alloc(), &text).err() == whole);
+    assert!(rt; fault(rt, &text) == whole);
     Ok(())
 }
 
@@ -395,7 +398,7 @@ fn the_elements_are_counted(rt: HostRuntime) -> Result<(), Fail> {
         text.pop();
         text.extend_from_slice(b"]}")?;
         let wanted = (part > 0).then_some(At { part, index: 0 });
-        assert!(rt; read_config(rt.alloc(), &text).err() == wanted);
+        assert!(rt; fault(rt, &text) == wanted);
     }
     Ok(())
 }
