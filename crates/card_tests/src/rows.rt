@@ -160,8 +160,12 @@ fn row_of_five_commands(alloc: Global) -> Result<Row, Fail> {
     for number in 0..5 {
         let mut bytes = [number; 24];
         bytes[..4].copy_from_slice(&[0x84, 0xDA, 0x00, 0x00]);
-        let command = read_command(&bytes).map_err(|_| "a command")?;
-        row.push(command).map_err(|_| "a full queue")?;
+        let Ok(command) = read_command(&bytes) else {
+            return Err("a command".into());
+        };
+        if row.push(command) != Ok(u32::from(number)) {
+            return Err("another number".into());
+        }
     }
     Ok(row)
 }

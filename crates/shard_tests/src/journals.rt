@@ -77,7 +77,9 @@ fn decide(shard: &mut Shard<MemoryStore>, issuer: &Issuer) -> Option<Answer>
     ensures number { number_in shard.new ≡ 0 }
 {
     let asked = purchase(7, 0x1A2B_3C4D, CRYPTOGRAM)?;
-    let found = check_request(issuer, asked).ok()?;
+    let Ok(found) = check_request(issuer, asked) else {
+        return None;
+    };
     if !is_home(issuer, found.card) {
         return None;
     }
@@ -118,10 +120,14 @@ fn run_statuses(alloc: Global, issuer: &Issuer, lines: u8, fails: u64) -> Result
         Ok(mut shard) => {
             let mut acknowledged = 0u64;
             let mut in_doubt = false;
-            for line in 0..lines {
-                let answer = set_status(&mut shard, issuer);
-                in_doubt = answer == Some(Answer::Refused(Refusal::StoreFault));
-                acknowledged = acknowledged.wrapping_add(u64::from(!in_doubt));
+            'statuses: for _ in 0..lines {
+                in_doubt = matches!(
+                    set_status(&mut shard, issuer),
+                    Some(Answer::Refused(Refusal::StoreFault))
+                );
+                if !in_doubt {
+                    acknowledged = acknowledged.wrapping_add(1);
+                }
             }
             Ok(Run {
                 store: shard.into_store(),
@@ -248,7 +254,7 @@ fn decides_afresh_what_was_in_doubt_and_keeps_it(rt: HostRuntime) -> Result<(), 
         Err(LoadBack { fault: _, store: _ }) => return Err("a shard".into()),
     };
     let refused = decide(&mut shard, &issuer);
-    assert!(rt; refused == Some(Answer::Refused(Refusal::StoreFault)));
+    assert!(rt; matches!(refused, Some(Answer::Refused(Refusal::StoreFault))));
     assert!(rt; shard.recorded(&mut list).is_ok() && list.len() == 1);
     let fresh = decide(&mut shard, &issuer);
     assert!(rt;
