@@ -51,7 +51,7 @@ impl Deck {
             }),
             21..=24 => Ok(Event::Send {
                 shard: self.below(u32::from(SHARDS) + 1) as u8,
-                place: u64::from(self.below(6_000)) % (records / 2).max(1),
+                place: u64::from(self.below(6_000)) % (records / 2 + 1),
             }),
             25 => Ok(Event::Authenticate {
                 card: self.card(),
@@ -115,9 +115,9 @@ impl Deck {
         let caller = self.below(u32::from(CALLERS)) as u8;
         let most = if self.below(4) == 0 { 10_000 } else { 3 };
         let count = self.requests.len();
-        let back = self.below(most) as usize % count.max(1);
+        let back = (self.below(most) as usize + 1) % (count + 1);
         let mut bytes = ArrayVec::new();
-        if let Some(known) = self.requests.get(count.saturating_sub(back + 1)) {
+        if let Some(known) = self.requests.get(count.saturating_sub(back)) {
             bytes = ArrayVec::try_from(known.as_slice()).unwrap_or_default();
         }
         if self.below(6) == 0 {

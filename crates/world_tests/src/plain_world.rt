@@ -1,4 +1,5 @@
 //! A world of five cards, two shards and three callers by plain lists, whose records tell only whose they are.
+ghost use Rattle.std.specs.Prelude.{◌<◌};
 
 use chip_request::read_request;
 use issuer_base::{Command, MAX_STATUS, MAX_UNDONE, NoMemory, WINDOW, are_decimal};
@@ -87,7 +88,7 @@ impl PlainWorld {
         if self.claims[at].is_some() || self.is_ruled_out(spot, 65_536) {
             return false;
         }
-        for claim in self.claims {
+        for claim in self.claims.iter() {
             if matches!(claim, Some(other) if other.card == spot.card && other.counter == spot.counter)
             {
                 return false;
@@ -183,7 +184,9 @@ impl PlainWorld {
 }
 
 /// The number of the card's shard.
-fn home(card: u32) -> usize {
+fn home(card: u32) -> usize
+    ensures { result < SHARDS }
+{
     (card % u32::from(SHARDS)) as usize
 }
 
