@@ -80,6 +80,10 @@ impl Bytes {
             faults: 0,
         }
     }
+
+    fn has_taken(&self, text: &str) -> bool {
+        self.text.get(..self.taken) == Some(text.as_bytes())
+    }
 }
 
 impl Sink for Bytes {
@@ -234,29 +238,22 @@ fn answers_the_lines_read_whole_before_a_fault(rt: HostRuntime) -> Result<(), Fa
     Ok(())
 }
 
-/// What the sink takes of an answer and of a last line, where it has room for so many bytes.
+/// What a sink takes of an answer that has room for so many bytes.
 #[test]
 fn stops_where_the_sink_fails(rt: HostRuntime) -> Result<(), Fail> {
     let alloc = rt.alloc();
-    for (line, room, text, status) in [
-        (SERVE, 0, "", 4),
-        (SERVE, 1, "r", 4),
-        (SERVE, 11, "refused 1 1", 4),
-        (SERVE, 12, "refused 1 1\n", 0),
-        ("serve", 0, "", 4),
-        ("serve", 6, "stop 1", 4),
-        ("serve", 7, "stop 1\n", 1),
+    let words = words_of(alloc, SERVE)?;
+    for (room, text, status) in [
+        (0, "", 4),
+        (1, "r", 4),
+        (11, "refused 1 1", 4),
+        (12, "refused 1 1\n", 0),
     ] {
-        let words = words_of(alloc, line)?;
         let desk = OwnDesk::new(alloc, CONFIG, Pieces::new("X", 1, 1, 10))?;
         let mut out = Bytes::new(room);
         let (ended, _requests, _stores) = left_by(run_over(&rt, &words, desk, &mut out, &OpenGate));
-        assert_eq!(rt; ended, status, "{line} after {room}");
-        assert_eq!(rt;
-            out.text.get(..out.taken),
-            Some(text.as_bytes()),
-            "{line} after {room}"
-        );
+        assert!(rt; out.has_taken(text), "{room}");
+        assert_eq!(rt; ended, status, "{room}");
     }
     Ok(())
 }
