@@ -1,8 +1,6 @@
-//! Account numbers, requests, words, and sources and sinks in memory, on values that were read off the formats by hand.
+//! Account numbers, a request and words, on values that were read off the formats by hand.
 
-use issuer_base::{
-    MemorySink, MemorySource, Pan, Parts, ReadFault, Request, Source, Words, WriteFault, write_all,
-};
+use issuer_base::{Pan, Parts, Request, Words};
 use std::test::Fail;
 
 const DIGITS: [u8; 16] = [4, 0, 0, 0, 0, 0, 0, 0, 0, 0, 0, 0, 0, 0, 0, 2];
@@ -28,7 +26,7 @@ fn account_numbers_have_8_to_19_digits(rt: HostRuntime) {
 }
 
 #[test]
-fn requests_have_the_form_of_chip_data(rt: HostRuntime) -> Result<(), Fail> {
+fn a_requests_fields_are_read(rt: HostRuntime) -> Result<(), Fail> {
     let mut iad = [0; 32];
     iad[0] = 0x0F;
     iad[1] = 0xA5;
@@ -55,49 +53,22 @@ fn requests_have_the_form_of_chip_data(rt: HostRuntime) -> Result<(), Fail> {
         iad,
         ac: [0; 8],
     };
-    let request = Request::new(parts.copy()).ok_or("a request")?;
+    let request = Request::new(parts).ok_or("a request")?;
     assert!(rt; request.is_arqc());
     assert_eq!(rt; request.cvr(), [0xA0, 0x00, 0x00, 0x30, 0x00]);
     assert_eq!(rt; request.dki(), 1);
     assert_eq!(rt; request.script_count(), 3);
     assert_eq!(rt; request.last_online(), 0x0102);
     assert_eq!(rt; request.amount_value(), 12345);
-
-    let mut other = parts.copy();
-    other.psn = 0x1A;
-    assert!(rt; Request::new(other).is_none());
-    let mut other = parts.copy();
-    other.amount[5] = 0xA0;
-    assert!(rt; Request::new(other).is_none());
-    for index in [0, 1, 16] {
-        let mut other = parts.copy();
-        other.iad[index] = 0x10;
-        assert!(rt; Request::new(other).is_none());
-    }
     Ok(())
 }
 
 #[test]
-fn words_and_pieces_in_memory_are_kept(rt: HostRuntime) -> Result<(), Fail> {
+fn words_are_kept(rt: HostRuntime) -> Result<(), Fail> {
     let mut words = Words::new(rt.alloc());
     words.push("serve")?;
     words.push("--config")?;
     assert_eq!(rt; words.count(), 2);
     assert_eq!(rt; words.word(1), "--config");
-
-    // The second call of each fails, and a piece past the room is refused.
-    let bytes = Vec::from_slice(rt.alloc(), b"abc")?;
-    let mut source = MemorySource::new(bytes, vec![in rt.alloc(); 1]?);
-    let mut into = [0; 2];
-    assert_eq!(rt; source.read(&mut into), Ok(2));
-    assert_eq!(rt; &into, b"ab");
-    assert_eq!(rt; source.read(&mut into), Err(ReadFault));
-    assert_eq!(rt; source.read(&mut into), Ok(1));
-    let mut sink = MemorySink::new(rt.alloc(), 4, vec![in rt.alloc(); 1]?)?;
-    assert_eq!(rt; write_all(&mut sink, b"ab"), Ok(()));
-    assert_eq!(rt; write_all(&mut sink, b"c"), Err(WriteFault));
-    assert_eq!(rt; write_all(&mut sink, b"cde"), Err(WriteFault));
-    assert_eq!(rt; write_all(&mut sink, b"cd"), Ok(()));
-    assert_eq!(rt; sink.bytes(), b"abcd".as_slice());
     Ok(())
 }

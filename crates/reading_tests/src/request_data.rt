@@ -29,7 +29,7 @@ const BASE: [&str; 21] = [
 ];
 
 /// Two objects of the base request and what replaces them, 21 for none, and what the request is refused for.
-const CASES: [(&str, usize, &str, usize, &str, Option<RequestFault>); 17] = [
+const CASES: [(&str, usize, &str, usize, &str, Option<RequestFault>); 19] = [
     ("base request", 21, "", 21, "", None),
     (
         "sequence number and other amount",
@@ -127,6 +127,22 @@ const CASES: [(&str, usize, &str, usize, &str, Option<RequestFault>); 17] = [
         21,
         "",
         Some(RequestFault::BadField(0x9F02)),
+    ),
+    (
+        "another length of application data",
+        3,
+        "9F102010A501A00000000000000000000000000F000000000000000000000000000000",
+        21,
+        "",
+        Some(RequestFault::BadField(0x9F10)),
+    ),
+    (
+        "another second length of them",
+        3,
+        "9F10200FA501A000000000000000000000000010000000000000000000000000000000",
+        21,
+        "",
+        Some(RequestFault::BadField(0x9F10)),
     ),
     (
         "another core identifier",
