@@ -83,29 +83,41 @@ where
     G: Gate + Sync,
 {
     let alloc = rt.alloc();
-    let [config, requests, desk, sink, store] = *fails;
+    let desk = memory_desk(alloc, run, fails, journals.as_slice())?;
+    let words = words_of(alloc, run.words)?;
+    let [_config, _requests, _desk, sink, _store] = *fails;
+    let mut out = MemorySink::new(alloc, 65_536, listed(alloc, sink)?)?;
+    let (status, _requests, stores) = left_by(run_over(rt, &words, desk, &mut out, gate));
+    *journals = left_in(alloc, &stores)?;
+    Ok((status, String::from_utf8(out.bytes().to_vec(alloc)?)?))
+}
+
+/// The desk of a run.
+fn memory_desk(
+    alloc: Global,
+    run: &Run,
+    fails: &Fails,
+    journals: &[Vec<u8>],
+) -> Result<MemoryDesk, Fail> {
+    let [config, requests, desk, _sink, store] = *fails;
     let mut memory = MemoryDesk::new(alloc, listed(alloc, desk)?);
-    let name = String::from_str(alloc, "config")?;
+    let text = run.config.as_bytes().to_vec(alloc)?;
     memory.input(
-        name,
-        run.config.as_bytes().to_vec(alloc)?,
+        String::from_str(alloc, "config")?,
+        text,
         listed(alloc, config)?,
     )?;
-    let name = String::from_str(alloc, "requests")?;
+    let text = joined(alloc, run.requests)?.into_bytes();
     memory.input(
-        name,
-        joined(alloc, run.requests)?.into_bytes(),
+        String::from_str(alloc, "requests")?,
+        text,
         listed(alloc, requests)?,
     )?;
     for (name, journal) in ["journal.00", "journal.01"].iter().zip(journals.iter()) {
         let name = String::from_str(alloc, name)?;
         memory.journal(name, journal.clone()?, 65_536, listed(alloc, store)?)?;
     }
-    let mut out = MemorySink::new(alloc, 65_536, listed(alloc, sink)?)?;
-    let words = words_of(alloc, run.words)?;
-    let (status, _requests, stores) = left_by(run_over(rt, &words, memory, &mut out, gate));
-    *journals = left_in(alloc, &stores)?;
-    Ok((status, String::from_utf8(out.bytes().to_vec(alloc)?)?))
+    Ok(memory)
 }
 
 /// The words of a command line.
