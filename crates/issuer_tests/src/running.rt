@@ -147,11 +147,10 @@ pub(crate) fn one_journal(alloc: Global, parts: &[&str]) -> Result<Vec<Vec<u8>>,
 
 /// A list of this call, if any.
 fn listed(alloc: Global, call: Option<u64>) -> Result<Vec<u64>, Fail> {
-    let mut fails = Vec::new(alloc);
-    if let Some(call) = call {
-        fails.push(call)?;
+    match call {
+        Some(call) => Ok([call].as_slice().to_vec(alloc)?),
+        None => Ok(Vec::new(alloc)),
     }
-    Ok(fails)
 }
 
 /// The bytes of each store, all of which a crash may leave.
