@@ -1,8 +1,6 @@
-//! Tests of a card's model, its row and script queue, the decision table, the issuer's parts, and the checks of lines.
+//! Tests of a card's model, its script queue and stored replies, the settlement, the decision table, and the issuer's parts.
 #![tactic(auto)]
 
-#[cfg(test)]
-mod checks;
 #[cfg(test)]
 mod issuers;
 #[cfg(test)]
@@ -11,8 +9,6 @@ mod model;
 mod queues;
 #[cfg(test)]
 mod replies;
-#[cfg(test)]
-mod rows;
 #[cfg(test)]
 mod settlement;
 #[cfg(test)]

@@ -1,10 +1,8 @@
-//! Tests of what the host reads and prints: data objects, lines, records, configurations, answers and cards.
+//! Tests of what the host reads and writes: data objects, fields, lines, records and requests.
 #![tactic(auto)]
 
 #[cfg(test)]
 mod chip_values;
-#[cfg(test)]
-mod configuration_texts;
 #[cfg(test)]
 mod counter_sets;
 #[cfg(test)]
@@ -12,12 +10,6 @@ mod data_objects;
 #[cfg(test)]
 mod input_lines;
 #[cfg(test)]
-mod line_forms;
-#[cfg(test)]
-mod printed_lines;
-#[cfg(test)]
 mod record_lines;
-#[cfg(test)]
-mod request_data;
 #[cfg(test)]
 mod written_requests;

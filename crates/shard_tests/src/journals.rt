@@ -1,11 +1,11 @@
-//! Journals that are loaded, or not, a record that is in doubt, and what a crash leaves.
+//! Journals that end in a torn record, and what a crash leaves.
 ghost use Rattle.std.specs.Prelude.{◌≡◌, ◌<◌, ◌%◌, length, IfOk, IsTrue};
 ghost use Rattle.shard_book.specs.Shards.{number_in, IsUnder};
 
 use issuer_base::{Answer, Refusal, Store};
 use issuer_setup::Issuer;
-use line_checks::{Checked, check_line, check_request};
-use sample_issuer::{CARDS, CRYPTOGRAM, declining_table, issuer, purchase};
+use line_checks::{Checked, check_line};
+use sample_issuer::{CARDS, declining_table, issuer};
 use shard_book::{LoadBack, LoadFault, Shard};
 use std::alloc::Global;
 use std::test::Fail;
@@ -67,23 +67,6 @@ fn is_home(issuer: &Issuer, card: u32) -> bool
     ensures home { IsTrue result → card % issuer.now.shards ≡ 0 }
 {
     card < issuer.cards() && issuer.shard_of(card) == 0
-}
-
-/// What a shard answers to the card's request, whose claim was won.
-fn decide(shard: &mut Shard<MemoryStore>, issuer: &Issuer) -> Option<Answer>
-    requires under { IsUnder issuer.now shard.old }
-    requires number { number_in shard.old ≡ 0 }
-    ensures under { IsUnder issuer.now shard.new }
-    ensures number { number_in shard.new ≡ 0 }
-{
-    let asked = purchase(7, 0x1A2B_3C4D, CRYPTOGRAM)?;
-    let Ok(found) = check_request(issuer, asked) else {
-        return None;
-    };
-    if !is_home(issuer, found.card) {
-        return None;
-    }
-    Some(shard.answer(issuer, &found, true))
 }
 
 /// What a shard answers to a status of the card.
@@ -178,52 +161,6 @@ fn truncates_a_torn_record(rt: HostRuntime) -> Result<(), Fail> {
     Ok(())
 }
 
-/// The record of the card's request, declined with the response code 05.
-const DECISION: &str =
-    "d 4000000000000002ffff0039000007000000800026011500000000012345000000000000027609781a2b3c4d800fa501a00000000000000000000000000f0000000000000000000000000000006317de17856bf19a 3035 0 8a023035910aeef4417ade8587933035\n";
-
-/// The same with another last digit of the cryptogram.
-const FORGERY: &str =
-    "d 4000000000000002ffff0039000007000000800026011500000000012345000000000000027609781a2b3c4d800fa501a00000000000000000000000000f0000000000000000000000000000006317de17856bf19b 3035 0 8a023035910aeef4417ade8587933035\n";
-
-const UNKNOWN_CARD: &str = "s 4000000000000010ffff 00 3\n";
-
-/// Lines, and how many records and bytes they are loaded with, or why they aren't loaded.
-const JOURNALS: [(&str, &[&str], Result<(u64, u64), LoadFault>); 6] = [
-    ("three records", &[STATUS, DECISION, STATUS], Ok((3, 269))),
-    ("an empty line", &[STATUS, "\n"], Err(LoadFault::BadLine(2))),
-    ("no records", &["x\nx\n"], Err(LoadFault::BadLine(1))),
-    (
-        "a card of nobody",
-        &[UNKNOWN_CARD],
-        Err(LoadFault::BadRecord(1)),
-    ),
-    (
-        "a wrong cryptogram",
-        &[STATUS, FORGERY, STATUS],
-        Err(LoadFault::BadRecord(2)),
-    ),
-    (
-        "a decision twice",
-        &[DECISION, DECISION, STATUS],
-        Err(LoadFault::BadRecord(2)),
-    ),
-];
-
-#[test]
-fn names_the_first_bad_line(rt: HostRuntime) -> Result<(), Fail> {
-    let alloc = rt.alloc();
-    let issuer = one_card(alloc)?;
-    for (name, lines, expected) in &JOURNALS {
-        let mut text = Vec::new(alloc);
-        for line in *lines {
-            text.extend_from_slice(line.as_bytes())?;
-        }
-        assert!(rt; loaded(alloc, &issuer, text)? == *expected, "{name}");
-    }
-    Ok(())
-}
-
 #[test]
 fn a_crash_leaves_what_was_acknowledged(rt: HostRuntime) -> Result<(), Fail> {
     let alloc = rt.alloc();
@@ -238,53 +175,5 @@ fn a_crash_leaves_what_was_acknowledged(rt: HostRuntime) -> Result<(), Fail> {
             }
         }
     }
-    Ok(())
-}
-
-/// The call that fails is the sync of the decision's record. The list of recorded counters has a pair before.
-#[test]
-fn decides_afresh_what_was_in_doubt_and_keeps_it(rt: HostRuntime) -> Result<(), Fail> {
-    let alloc = rt.alloc();
-    let issuer = one_card(alloc)?;
-    let mut list = Vec::new(alloc);
-    list.push((9, 8))?;
-    let text = STATUS.as_bytes().to_vec(alloc)?;
-    let mut shard = match load(alloc, &issuer, store(alloc, text, &[3])?) {
-        Ok(shard) => shard,
-        Err(LoadBack { fault: _, store: _ }) => return Err("a shard".into()),
-    };
-    let refused = decide(&mut shard, &issuer);
-    assert!(rt; matches!(refused, Some(Answer::Refused(Refusal::StoreFault))));
-    assert!(rt; shard.recorded(&mut list).is_ok() && list.len() == 1);
-    let fresh = decide(&mut shard, &issuer);
-    assert!(rt;
-        matches!(
-            fresh,
-            Some(Answer::Fresh {
-                shard: 0,
-                place: 1,
-                ..
-            })
-        )
-    );
-    assert!(rt; shard.recorded(&mut list).is_ok() && shard.faults() == 1);
-    let mut again = match load(alloc, &issuer, shard.into_store()) {
-        Ok(shard) => shard,
-        Err(LoadBack { fault: _, store: _ }) => return Err("a shard".into()),
-    };
-    let kept = decide(&mut again, &issuer);
-    assert!(rt;
-        matches!(
-            kept,
-            Some(Answer::Kept {
-                shard: 0,
-                place: 1,
-                ..
-            })
-        )
-    );
-    assert!(rt; again.recorded(&mut list).is_ok() && again.places() == 2);
-    assert_eq!(rt; list.as_slice(), [(9, 8), (0, 7), (0, 7)].as_slice());
-    again.into_store();
     Ok(())
 }

@@ -1,8 +1,6 @@
-//! Tests of the stores and desks in memory and over files, and of a shard over a store in memory.
+//! Tests of the stores in memory, and of a shard over one.
 #![tactic(auto)]
 
-#[cfg(test)]
-mod desks;
 #[cfg(test)]
 mod journals;
 #[cfg(test)]
