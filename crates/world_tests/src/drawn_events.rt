@@ -22,6 +22,7 @@ pub(crate) struct Deck {
 
 impl Deck {
     /// A deck with these cards.
+    #[tactic(auto, unfolding(issuer_base::specs::ChipData::is_bcd))]
     pub(crate) fn new(alloc: Global, names: &[SampleCard]) -> Result<Deck, NoMemory> {
         let mut cards = Vec::new(alloc);
         for (last, method) in names {

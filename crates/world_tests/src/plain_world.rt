@@ -2,7 +2,7 @@
 ghost use Rattle.std.specs.Prelude.{◌<◌};
 
 use chip_request::read_request;
-use issuer_base::{Command, MAX_STATUS, MAX_UNDONE, NoMemory, WINDOW, are_decimal};
+use issuer_base::{Command, MAX_CHIP_BYTES, MAX_STATUS, MAX_UNDONE, NoMemory, WINDOW, are_decimal};
 use issuer_setup::Issuer;
 use line_checks::check_request;
 use std::alloc::Global;
@@ -192,6 +192,9 @@ fn home(card: u32) -> usize
 
 /// The card and counter of the request that chip data say, where the issuer decides it.
 fn asked(issuer: &Issuer, bytes: &[u8]) -> Option<Spot> {
+    if bytes.len() > MAX_CHIP_BYTES {
+        return None;
+    }
     let request = read_request(bytes).ok()?;
     let found = check_request(issuer, request).ok()?;
     Some(Spot {
