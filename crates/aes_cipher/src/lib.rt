@@ -41,7 +41,7 @@ impl Aes {
     }
 
     /// Enciphers a block in its columns.
-    #[inline]
+    #[inline(always)]
     pub(crate) fn encipher_columns(&self, block: &Columns) -> Columns
         ensures { (key : List ℕ) → HasKey self.now key → state_bytes result ≡ aes_encipher key (state_bytes block.now) }
     {
@@ -49,7 +49,6 @@ impl Aes {
     }
 
     /// The chain of CBC over the first `count` blocks of a text.
-    #[inline]
     pub(crate) fn chained(&self, start: &Columns, text: &[u8], count: usize) -> Columns
         requires { 16 * count ≤ length text.now }
         ensures { (key : List ℕ) → HasKey self.now key

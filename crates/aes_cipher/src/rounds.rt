@@ -16,7 +16,7 @@ pub(crate) struct Columns {
 }
 
 /// The four bytes at `at` as a word, the first the highest.
-#[inline]
+#[inline(always)]
 fn word_at(text: &[u8], at: usize) -> u32
     requires { at + 4 ≤ length text.now }
     ensures { word_bytes result ≡ take 4 (drop at text.now) }
@@ -26,7 +26,7 @@ fn word_at(text: &[u8], at: usize) -> u32
 
 impl Columns {
     /// The state of the block of sixteen bytes at `at`.
-    #[inline]
+    #[inline(always)]
     pub(crate) fn at(text: &[u8], at: usize) -> Columns
         requires { at + 16 ≤ length text.now }
         ensures { state_bytes result ≡ take 16 (drop at text.now) }
@@ -60,7 +60,7 @@ impl Columns {
     }
 
     /// The state joined by xor with another.
-    #[inline]
+    #[inline(always)]
     pub(crate) fn xor(&self, other: &Columns) -> Columns
         ensures { state_bytes result ≡ xor_bytes (state_bytes self.now) (state_bytes other.now) }
     {
@@ -126,13 +126,19 @@ fn last_round(state: &Columns, key: &Columns) -> Columns
 }
 
 /// The state after the ten rounds.
-#[inline]
+#[inline(always)]
 pub(crate) fn enciphered(keys: &[Columns; 11], block: &Columns) -> Columns
     ensures { state_bytes result ≡ ciphered (map state_bytes keys.now) (state_bytes block.now) }
 {
-    let mut state = block.xor(&keys[0]);
-    for i in 1..10 {
-        state = round(&state, &keys[i]);
-    }
-    last_round(&state, &keys[10])
+    let start = block.xor(&keys[0]);
+    let first = round(&start, &keys[1]);
+    let second = round(&first, &keys[2]);
+    let third = round(&second, &keys[3]);
+    let fourth = round(&third, &keys[4]);
+    let fifth = round(&fourth, &keys[5]);
+    let sixth = round(&fifth, &keys[6]);
+    let seventh = round(&sixth, &keys[7]);
+    let eighth = round(&seventh, &keys[8]);
+    let ninth = round(&eighth, &keys[9]);
+    last_round(&ninth, &keys[10])
 }
