@@ -4,3 +4,4 @@ pub mod MergedTables
 pub mod ScheduleSteps
 pub mod Blocks
 pub mod Pieces
+pub mod Laws

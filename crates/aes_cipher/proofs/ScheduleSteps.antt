@@ -68,7 +68,7 @@ four_words n i a b c d first =
     ∙ ap (λ x. e ∷ f ∷ xor_bytes c x ∷ words_from (suc (4 * n)) (i + 1 + 1 + 1) d e f (xor_bytes c x)) (two f)
     ∙ ap (λ x. e ∷ f ∷ g ∷ xor_bytes d x ∷ words_from (4 * n) (i + 1 + 1 + 1 + 1) e f g (xor_bytes d x)) (three g)
 
-fours_more : (n : ℕ) (a b c d : List ℕ) (rest : List (List ℕ)) → in_fours (suc n) (a ∷ b ∷ c ∷ d ∷ rest) ≡ (a ++ (b ++ (c ++ (d ++ [])))) ∷ in_fours n rest
+pub fours_more : (n : ℕ) (a b c d : List ℕ) (rest : List (List ℕ)) → in_fours (suc n) (a ∷ b ∷ c ∷ d ∷ rest) ≡ (a ++ (b ++ (c ++ (d ++ [])))) ∷ in_fours n rest
 unfolding in_fours
 fours_more n a b c d rest = refl
 
@@ -76,7 +76,7 @@ fours_none : (words : List (List ℕ)) → in_fours 0 words ≡ []
 unfolding in_fours
 fours_none words = refl
 
-fours_from : (n j : ℕ) (a b c d : List ℕ) → in_fours n (words_from (4 * n) (4 * j) a b c d) ≡ keys_from n j a b c d
+pub fours_from : (n j : ℕ) (a b c d : List ℕ) → in_fours n (words_from (4 * n) (4 * j) a b c d) ≡ keys_from n j a b c d
 unfolding keys_from
 fours_from zero j a b c d = fours_none (words_from (4 * 0) (4 * j) a b c d)
 fours_from (suc n) j a b c d =
