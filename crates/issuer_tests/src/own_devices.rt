@@ -1,5 +1,5 @@
 //! Runs over devices of the tests' own: inputs in small pieces, a sink that takes a byte a call, and stores that wait for each other.
-ghost use Rattle.std.specs.Prelude.{None, length};
+ghost use Rattle.std.specs.Prelude.{◌≡◌, None, length};
 
 use crate::callers::looks_for;
 use crate::running::{SERVE, left_by, run_over, words_of};
@@ -26,7 +26,9 @@ struct Pieces {
 }
 
 impl Pieces {
-    fn new(text: &'static str, times: u32, piece: usize, reads: u64) -> Pieces {
+    fn new(text: &'static str, times: u32, piece: usize, reads: u64) -> Pieces
+        ensures { result.faults ≡ 0 }
+    {
         Pieces {
             text,
             at: text.len(),
@@ -192,7 +194,10 @@ impl Desk for OwnDesk {
         if name == "config" {
             Ok(Pieces::new(self.config, 1, 4_096, 10))
         } else {
-            Ok(self.requests)
+            Ok(Pieces {
+                faults: 0,
+                ..self.requests
+            })
         }
     }
 
@@ -216,24 +221,22 @@ impl Desk for OwnDesk {
 fn answers_the_lines_read_whole_before_a_fault(rt: HostRuntime) -> Result<(), Fail> {
     let alloc = rt.alloc();
     let words = words_of(alloc, SERVE)?;
-    let mut reads = 0;
-    for (expected, status) in [
-        ("stop 3\n", 3),
-        ("stop 3\n", 3),
-        ("refused 1 1\nstop 3\n", 3),
-        ("refused 1 1\nstop 3\n", 3),
-        ("refused 1 1\nstop 3\n", 3),
-        ("refused 1 1\nrefused 1 1\nstop 3\n", 3),
-        ("refused 1 1\nrefused 1 1\nrefused 1 1\nstop 3\n", 3),
-        ("refused 1 1\nrefused 1 1\nrefused 1 1\nstop 3\n", 3),
-        ("refused 1 1\nrefused 1 1\nrefused 1 1\nrefused 1 1\n", 0),
+    for (reads, expected, status) in [
+        (0, "stop 3\n", 3),
+        (1, "stop 3\n", 3),
+        (2, "refused 1 1\nstop 3\n", 3),
+        (3, "refused 1 1\nstop 3\n", 3),
+        (4, "refused 1 1\nstop 3\n", 3),
+        (5, "refused 1 1\nrefused 1 1\nstop 3\n", 3),
+        (6, "refused 1 1\nrefused 1 1\nrefused 1 1\nstop 3\n", 3),
+        (7, "refused 1 1\nrefused 1 1\nrefused 1 1\nstop 3\n", 3),
+        (8, "refused 1 1\nrefused 1 1\nrefused 1 1\nrefused 1 1\n", 0),
     ] {
         let desk = OwnDesk::new(alloc, CONFIG, Pieces::new("X\nXY\n\nZ", 1, 1, reads))?;
         let mut out = MemorySink::new(alloc, 1_024, Vec::new(alloc))?;
         let (found, _requests, _stores) = left_by(run_over(&rt, &words, desk, &mut out, &OpenGate));
         assert_eq!(rt; out.bytes(), expected.as_bytes(), "after {reads}");
         assert_eq!(rt; found, status, "after {reads}");
-        reads += 1;
     }
     Ok(())
 }

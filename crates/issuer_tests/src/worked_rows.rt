@@ -9,7 +9,9 @@ use crate::samples::{
     REQUEST_9_UNKNOWN, REQUEST_65, REQUEST_65535, SECOND_UNTOUCHED,
 };
 use issuer_base::OpenGate;
+use std::sync::Wait;
 use std::test::Fail;
+use std::thread::Threads;
 
 /// The record of the first card's decision on ATC 7.
 const DECIDED_7: &str =
@@ -537,22 +539,33 @@ static RUNS: [Run; 41] = [
     },
 ];
 
+/// Whether a run comes to what is expected of it. The journals are those that the run before left, unless it begins with its own.
+fn comes_to_the_expected<R: AllocGlobal + Threads + Wait + Sync>(
+    rt: &R,
+    run: &Run,
+    journals: &mut Vec<Vec<u8>>,
+) -> Result<bool, Fail> {
+    let alloc = rt.alloc();
+    if let Some(before) = run.before {
+        *journals = one_journal(alloc, before)?;
+    }
+    let (status, text) = run_at(rt, run, &run.fails, journals, &OpenGate)?;
+    let expected = joined(alloc, run.answers)?;
+    if status != run.status || text != expected {
+        return Ok(false);
+    }
+    match run.after {
+        Some(after) => Ok(*journals == one_journal(alloc, after)?),
+        None => Ok(true),
+    }
+}
+
 #[test]
 fn answers_as_another_program_does(rt: HostRuntime) -> Result<(), Fail> {
-    let alloc = rt.alloc();
-    let mut journals = Vec::new(alloc);
+    let mut journals = Vec::new(rt.alloc());
     for run in &RUNS {
-        if let Some(before) = run.before {
-            journals = one_journal(alloc, before)?;
-        }
-        let (status, text) = run_at(&rt, run, &run.fails, &mut journals, &OpenGate)?;
-        let expected = joined(alloc, run.answers)?;
-        assert_eq!(rt; text, expected, "{}", run.name);
-        assert_eq!(rt; status, run.status, "{}", run.name);
-        if let Some(after) = run.after {
-            let expected = one_journal(alloc, after)?;
-            assert_eq!(rt; journals, expected, "{}", run.name);
-        }
+        let is_right = comes_to_the_expected(&rt, run, &mut journals)?;
+        assert!(rt; is_right, "{}", run.name);
     }
     Ok(())
 }
