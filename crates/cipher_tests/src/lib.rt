@@ -2,6 +2,8 @@
 #![tactic(auto)]
 
 #[cfg(test)]
+mod aes_blocks;
+#[cfg(test)]
 mod block_ciphers;
 #[cfg(test)]
 mod card_cryptograms;
