@@ -560,10 +560,15 @@ fn comes_to_the_expected<R: AllocGlobal + Threads + Wait + Sync>(
     }
 }
 
+/// The runs. The one place that names them, since a checker writes out what it is told of a table at each use.
+fn all_runs() -> &'static [Run] {
+    &RUNS
+}
+
 #[test]
 fn answers_as_another_program_does(rt: HostRuntime) -> Result<(), Fail> {
     let mut journals = Vec::new(rt.alloc());
-    for run in &RUNS {
+    for run in all_runs() {
         let is_right = comes_to_the_expected(&rt, run, &mut journals)?;
         assert!(rt; is_right, "{}", run.name);
     }
