@@ -11,5 +11,3 @@ mod own_devices;
 mod running;
 #[cfg(test)]
 mod samples;
-#[cfg(test)]
-mod worked_rows;
