@@ -3,15 +3,25 @@
 
 use issuer_base::{NoMemory, OpenGate, Words};
 use issuer_top::{Ended, issue};
-use std::env;
+use std::fs::File;
 use std::io::ErrorKind;
 use std::process::ExitCode;
+use std::{env, io};
 use store_edge::{FileDesk, FileSink};
+
+/// The status of a run that has no output.
+const NO_OUTPUT: u8 = 4;
 
 /// The status of a run that has no memory for its words.
 const NO_MEMORY: u8 = 7;
 
+/// The device that gives no byte.
+const EMPTY_DEVICE: &str = "/dev/null";
+
 fn main(rt: HostRuntime) -> ExitCode {
+    let Ok(_held) = hold_standard_descriptors(&rt) else {
+        return ExitCode::from(NO_OUTPUT);
+    };
     let words = match read_words(&rt) {
         Ok(words) => words,
         Err(NoMemory) => return ExitCode::from(NO_MEMORY),
@@ -26,6 +36,19 @@ fn main(rt: HostRuntime) -> ExitCode {
         stores: _stores,
     } = ended;
     ExitCode::from(status)
+}
+
+/// Handles of the empty device, which take the place of the standard descriptors that are closed.
+///
+/// A file that is opened gets the lowest free descriptor. With these held no configuration, request file or
+/// journal becomes the standard input, the output or the error output. The handles are for reading alone, so a
+/// write to an output that was closed is a fault.
+fn hold_standard_descriptors(rt: &HostRuntime) -> io::Result<[File; 3]> {
+    Ok([
+        File::open(rt, EMPTY_DEVICE)?,
+        File::open(rt, EMPTY_DEVICE)?,
+        File::open(rt, EMPTY_DEVICE)?,
+    ])
 }
 
 /// The words after the program's name, and none where one of them isn't text.

@@ -9,6 +9,7 @@ use crate::named_call::NamedCall;
 use issuer_base::{Desk, DeskCall, DeskFault};
 use std::fs::File;
 use std::io;
+use std::os::unix::fs::{FileExt, OpenOptionsExt};
 use std::path::Path;
 
 /// Opens files by their paths. It tells nothing of what they hold, and counts its faults.
@@ -31,7 +32,7 @@ impl FileDesk {
         }
     }
 
-    // Counts a call that fails, and keeps it with its name.
+    /// Counts a call that fails, and keeps it with its name.
     fn fail(&mut self, call: DeskCall, name: String) -> DeskFault
         ensures fault { result ≡ Fault }
         ensures last { self.new.last_fault ≡ Some (record { call = call; name = string_bytes name }) }
@@ -63,8 +64,10 @@ impl Desk for FileDesk {
 
     /// Opens the file at this path for reading and writing, and makes it where it isn't there.
     ///
-    /// The file is locked for as long as the store over it lives: a second `log` of it, of this program or
-    /// of another, is a fault. The store's bytes and the file's entry in its directory are safe at first.
+    /// A file that it makes can be read and written by its owner alone, since records hold whole card
+    /// numbers. The file is locked for as long as the store over it lives: a second `log` of it, of this
+    /// program or of another, is a fault. The store's bytes and the file's entry in its directory are safe
+    /// at first.
     fn log(&mut self, name: &str) -> Result<FileStore, DeskFault> {
         let asked = String::from_str(self.rt.alloc(), name)?;
         match open_journal(&self.rt, name) {
@@ -74,7 +77,13 @@ impl Desk for FileDesk {
     }
 }
 
-// A store over the file at this path, locked, with its bytes and its entry in the directory on the disk.
+/// What a journal that is made may be used for, and by whom: its owner reads and writes it.
+const OWNER_ALONE: u32 = 0o600;
+
+/// How many bytes at the end of a journal are written again as it is opened: more than one record has.
+const REWRITTEN_BYTES: usize = 4_096;
+
+/// A store over the file at this path, locked, with its bytes and its entry in the directory durable.
 fn open_journal(rt: &HostRuntime, name: &str) -> io::Result<FileStore>
     ensures { IfOk result (λ store. store.faults ≡ 0) }
 {
@@ -82,14 +91,29 @@ fn open_journal(rt: &HostRuntime, name: &str) -> io::Result<FileStore>
         .read(true)
         .write(true)
         .create(true)
+        .mode(OWNER_ALONE)
         .open(rt, name)?;
     file.try_lock()?;
+    rewrite_end(&file)?;
     file.sync_all()?;
     sync_directory(rt, name)?;
     FileStore::over(file)
 }
 
-// Waits until the directory of this path stands on the disk.
+/// Writes the last bytes of a file again as they are, so that the sync that follows makes them durable.
+///
+/// Where a sync fails, the system may drop what it could not write from its list, and the next sync is
+/// answered well without it. At most one record of a journal is in doubt, and it is the last.
+fn rewrite_end(file: &File) -> io::Result<()> {
+    let len = file.metadata()?.len();
+    let mut end = [0; REWRITTEN_BYTES];
+    let count = len.min(REWRITTEN_BYTES as u64);
+    let end = &mut end[..count as usize];
+    file.read_exact_at(end, len - count)?;
+    file.write_all_at(end, len - count)
+}
+
+/// Waits until the directory of this path is durable.
 fn sync_directory(rt: &HostRuntime, name: &str) -> io::Result<()> {
     let directory = match Path::new(name).parent() {
         Some(directory) if !directory.as_str().is_empty() => directory,

@@ -1,10 +1,8 @@
 //! The standard output as a sink.
 ghost use Rattle.std.specs.Prelude.{◌≡◌};
-ghost use Rattle.std.specs.Io.{WritesAtMost};
 
+use crate::retry;
 use issuer_base::{Sink, WriteFault};
-use std::io;
-use std::io::Write;
 
 /// The standard output. It tells nothing of its bytes, and counts its faults.
 #[derive(Drop)]
@@ -26,7 +24,7 @@ impl Sink for FileSink {
     ghost faults = { λ s. s.faults };
 
     fn write(&mut self, piece: &[u8]) -> Result<usize, WriteFault> {
-        match write_out(&self.rt, piece) {
+        match retry::write_out(&self.rt, piece) {
             Ok(count) if count > 0 => Ok(count),
             _ => {
                 self.faults = self.faults.saturating_add(1);
@@ -34,14 +32,4 @@ impl Sink for FileSink {
             }
         }
     }
-}
-
-/// Writes a front of the piece, and passes it on to the system.
-fn write_out(rt: &HostRuntime, piece: &[u8]) -> io::Result<usize>
-    ensures { WritesAtMost result piece.now }
-{
-    let mut writer = io::writer(rt);
-    let count = writer.write(piece)?;
-    writer.flush()?;
-    Ok(count)
 }

@@ -1,9 +1,9 @@
 //! An input that is a file.
 ghost use Rattle.std.specs.Prelude.{◌≡◌};
 
+use crate::retry;
 use issuer_base::{ReadFault, Source};
 use std::fs::File;
-use std::io::Read;
 
 /// A file that is read from front to end. It tells nothing of its bytes, and counts its faults.
 #[derive(Drop)]
@@ -25,7 +25,7 @@ impl Source for FileSource {
     ghost faults = { λ s. s.faults };
 
     fn read(&mut self, into: &mut [u8]) -> Result<usize, ReadFault> {
-        match self.file.read(into) {
+        match retry::read(&mut self.file, into) {
             Ok(count) => Ok(count),
             Err(_) => {
                 self.faults = self.faults.saturating_add(1);

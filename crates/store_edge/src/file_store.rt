@@ -2,11 +2,11 @@
 ghost use Rattle.std.specs.Prelude.{◌≡◌, ◌⊎◌, ◌+◌, ◌≤◌, true, length, IfOk, OnOk};
 ghost use Rattle.issuer_base.specs.OutsideFaults.{CountsFaults};
 
+use crate::retry;
 use issuer_base::{MAX_STORE_BYTES, Store, StoreFail};
 use std::fs::File;
 use std::io;
 use std::io::ErrorKind;
-use std::os::unix::fs::FileExt;
 
 /// A file as a store. It tells nothing of its bytes, and counts its faults.
 ///
@@ -31,7 +31,7 @@ impl FileStore {
         })
     }
 
-    // Counts a fault, which is the answer then.
+    /// Counts a fault, which is the answer then.
     fn fault(&mut self) -> StoreFail
         ensures len { self.new.len ≡ self.old.len }
         ensures count { CountsFaults self.old.faults self.new.faults true }
@@ -58,7 +58,7 @@ impl Store for FileStore {
         if at >= self.len {
             return Ok(0);
         }
-        match self.file.read_at(into, at) {
+        match retry::read_at(&self.file, into, at) {
             Ok(count) if count > 0 => Ok(count),
             _ => Err(self.fault()),
         }
@@ -86,7 +86,7 @@ impl Store for FileStore {
     }
 }
 
-// Writes a piece at the end, and counts into the length what was taken of it.
+/// Appends a piece, and counts into the length what was taken of it.
 fn write_behind(file: &File, len: &mut u64, piece: &[u8]) -> io::Result<()>
     ensures limit { OnOk result (len.new ≤ MAX_STORE_BYTES) }
     ensures ok { OnOk result (len.new ≡ len.old + length piece.now) }
@@ -97,7 +97,7 @@ fn write_behind(file: &File, len: &mut u64, piece: &[u8]) -> io::Result<()>
     }
     let mut written = 0;
     while written < piece.len() {
-        let count = file.write_at(&piece[written..], *len)?;
+        let count = retry::write_at(file, &piece[written..], *len)?;
         if count == 0 {
             return Err(ErrorKind::WriteZero.into());
         }
@@ -107,7 +107,7 @@ fn write_behind(file: &File, len: &mut u64, piece: &[u8]) -> io::Result<()>
     Ok(())
 }
 
-// Sets the length of a file, and waits until it stands on the disk.
+/// Sets the length of a file, and waits until it is durable.
 fn cut_to(file: &File, len: &mut u64, new_len: u64) -> io::Result<()>
     ensures ok { OnOk result (len.new ≡ new_len) }
     ensures err { (len.new ≡ len.old) ⊎ (len.new ≡ new_len) }

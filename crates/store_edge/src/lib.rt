@@ -10,6 +10,7 @@ mod kept_disk;
 mod memory_desk;
 mod memory_store;
 mod named_call;
+mod retry;
 mod room_store;
 
 pub use file_desk::FileDesk;

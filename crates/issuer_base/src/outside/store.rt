@@ -9,7 +9,7 @@ use crate::limits::MAX_STORE_BYTES;
 
 /// Bytes that outlive the program: they are read anywhere, and change at their end alone.
 ///
-/// A crash leaves a front of the bytes that has at least the safe ones; a sync makes all of them
+/// A crash leaves a prefix of the bytes that has at least the safe ones; a sync makes all of them
 /// safe. An implementor tells its disk, its bytes alone or neither, and counts its faults: the
 /// count never falls, and a call answers its fault only where the count rose.
 pub trait Store {
@@ -25,9 +25,10 @@ pub trait Store {
     // How many of its calls failed, counted up to 2^64 - 1.
     ghost faults: { Self → ℕ };
 
-    /// How many bytes it has.
+    /// How many bytes it has. The safe ones are among them.
     fn len(&self) -> u64
-        ensures { result ≡ size self.now };
+        ensures size { result ≡ size self.now }
+        ensures safe { IfSome (disk self.now) (λ told. told.now.safe ≤ length told.now.bytes) };
 
     /// Gives the bytes that stand from `at` on, as many as it answers, in the front of `into`.
     ///

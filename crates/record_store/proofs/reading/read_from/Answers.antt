@@ -7,7 +7,7 @@ use Rattle.record_store.proofs.reading.read_from.Goals as goal
 pub loop-count-init : goal.loop-count-init
 loop-count-init g c = record {
   within = omega arith;
-  room_is = omega (arith, c.min-room.ensures, c.len.ensures);
+  room_is = omega (arith, c.min-room.ensures, c.len.ensures.size);
   size_is = refl;
   bytes_are = refl;
   given = told-nothing c.args.at c.args.into.now _;

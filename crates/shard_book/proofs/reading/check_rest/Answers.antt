@@ -10,12 +10,12 @@ returns-then-len-from-clause-disk g c = reads-none _
 pub returns-then-len-from-clause-rest : goal.returns-then-len-from-clause-rest
 returns-then-len-from-clause-rest g c front =
     rest-short _ c.args.taken.bytes (length c.args.buffer.now) (g.S.Store.size c.args.store.now) (g.met.S.Store.told_size c.args.store.now)
-    (omega (arith, c.if-len-from.true, c.len.ensures)) front
+    (omega (arith, c.if-len-from.true, c.len.ensures.size)) front
 
 pub returns-then-found-clause-stopped : goal.returns-then-found-clause-stopped
 returns-then-found-clause-stopped g c issuer shard rows reads front =
     stops-long issuer shard _ rows c.args.taken (length c.args.buffer.now) (g.S.Store.size c.args.store.now) reads
-    (g.met.S.Store.told_size c.args.store.now) (omega (arith, c.if-len-from.false, c.len.ensures)) c.requires.room front
+    (g.met.S.Store.told_size c.args.store.now) (omega (arith, c.if-len-from.false, c.len.ensures.size)) c.requires.room front
     (found-as _ _ _ true c.if-found.true c.in-Ok.ensures.found)
 
 pub returns-clause-rest : goal.returns-clause-rest

@@ -45,4 +45,4 @@ parts-preserved g c = record {
 pub returns-clause-found : goal.returns-clause-found
 returns-clause-found g c =
     passed-all c.args.from c.parts.at 0 (g.S.Store.size c.parts.store) [] c.parts.invariant.above _ _ c.parts.invariant.bytes_are
-    (g.met.S.Store.told_size c.parts.store) (omega (arith, c.parts-test.false, c.len.ensures)) c.parts.invariant.passed
+    (g.met.S.Store.told_size c.parts.store) (omega (arith, c.parts-test.false, c.len.ensures.size)) c.parts.invariant.passed

@@ -52,4 +52,4 @@ returns-clause-end g c =
     subst (λ (bytes : Option (List ℕ)). IfSome bytes (λ text. IsUnbroken (take (length c.args.buffer.now) (drop c.parts.taken.bytes text))))
     c.parts.invariant.bytes_are
     (rest-none _ c.parts.taken.bytes (length c.args.buffer.now) (g.S.Store.size c.parts.store) (g.met.S.Store.told_size c.parts.store)
-    (omega (arith, c.parts-test.false, c.len.ensures)))
+    (omega (arith, c.parts-test.false, c.len.ensures.size)))
