@@ -11,3 +11,5 @@ mod own_devices;
 mod running;
 #[cfg(test)]
 mod samples;
+#[cfg(test)]
+mod worked_rows;

@@ -23,6 +23,20 @@ pub(crate) const CONFIG: &str = configuration!("1", "1", "4000000000000010", "99
 /// The same with a shard for each card.
 pub(crate) const TWO_SHARDS: &str = configuration!("2", "1", "4000000000000010", "999999999999");
 
+/// A key index of more than a byte.
+pub(crate) const LARGE_KEY_INDEX: &str = configuration!(
+    "1",
+    "256",
+    "4000000000000010",
+    "999999999999"
+);
+
+/// A card that occurs twice.
+pub(crate) const CARD_TWICE: &str = configuration!("1", "1", "4000000000000002", "999999999999");
+
+/// A table whose last row leaves amounts out.
+pub(crate) const PARTIAL_TABLE: &str = configuration!("1", "1", "4000000000000010", "1");
+
 /// Request lines: account number, ATC, cryptogram, script count, register, unpredictable number, amount.
 macro_rules! requests {
     ($($pan:literal $atc:literal $ac:literal $count:literal $register:literal $number:literal $amount:literal),+ $(,)?) => {
@@ -55,6 +69,48 @@ macro_rules! request {
     };
 }
 
+/// One that reports on script commands too: script count, register.
+macro_rules! reporting {
+    ($atc:literal $ac:literal $count:literal $register:literal) => {
+        requests!("4000000000000002" $atc $ac $count $register "1A2B3C4D" "000000012345")
+    };
+}
+
+/// One of another amount.
+macro_rules! paying {
+    ($atc:literal $ac:literal $amount:literal) => {
+        requests!("4000000000000002" $atc $ac "0" "0000" "1A2B3C4D" $amount)
+    };
+}
+
+/// A record of the first card's decision, up to the reply: ATC, cryptogram, script count, register, amount, response code and approval.
+macro_rules! decision {
+    ($atc:literal $ac:literal $count:literal $register:literal $amount:literal $decided:literal) => {
+        concat!(
+            "d 4000000000000002ffff003900",
+            $atc,
+            "000000800026011500",
+            $amount,
+            "000000000000027609781a2b3c4d800fa501a00000",
+            $count,
+            "00000000000000000000f",
+            $register,
+            "00000000000000000000000000",
+            $ac,
+            " ",
+            $decided,
+            " "
+        )
+    };
+}
+
+/// One of an approval that reports on no script commands: ATC, cryptogram.
+macro_rules! approval {
+    ($atc:literal $ac:literal) => {
+        decision!($atc $ac "0" "0000" "000000012345" "3030 1")
+    };
+}
+
 /// Request lines of the two cards in turns: ATC, cryptogram of the first, cryptogram of the second.
 macro_rules! in_turns {
     ($($atc:literal $first:literal $second:literal),+ $(,)?) => {
@@ -67,7 +123,59 @@ macro_rules! in_turns {
     };
 }
 
+/// The first card's request on an ATC.
+pub(crate) const REQUEST_0: &str = request!("0000" "3E3303B6A6EF1E00");
+
+pub(crate) const REQUEST_1: &str = request!("0001" "7C5104B1CE25F56E");
+
+pub(crate) const REQUEST_2: &str = request!("0002" "CBFA5F912723FC48");
+
 pub(crate) const REQUEST_7: &str = request!("0007" "6317DE17856BF19A");
+
+pub(crate) const REQUEST_8: &str = request!("0008" "09B47BE3DCCA54C3");
+
+pub(crate) const REQUEST_9: &str = request!("0009" "07332ABBD4FE880C");
+
+pub(crate) const REQUEST_65: &str = request!("0041" "93EED1B2ED608C61");
+
+pub(crate) const REQUEST_65535: &str = request!("FFFF" "1E18E39C18AB6CAF");
+
+/// The last bit of the cryptogram is another.
+pub(crate) const REQUEST_7_FORGED: &str = request!("0007" "6317DE17856BF19B");
+
+/// Another unpredictable number.
+pub(crate) const REQUEST_7_OTHER: &str =
+    requests!("4000000000000002" "0007" "CF0ED6665D446E24" "0" "0000" "00000000" "000000012345");
+
+/// The length of the ATC in two bytes.
+pub(crate) const REQUEST_7_LONG_LENGTH: &str =
+    "A 5A0840000000000000029F26086317DE17856BF19A9F2701809F10200FA501A00000000000000000000000000F0000000000000000000000000000009F37041A2B3C4D9F3681020007950500000080009A032601159C01009F02060000000123455F2A020978820239009F1A0202769F3303E0F8C89F34031E03009F3501229F1E0831323334353637388407A00000000410109F090200029F41040000012300\n";
+
+/// The greatest amount that the table approves, and one more.
+pub(crate) const REQUEST_7_GREATEST: &str = paying!("0007" "4768C8FA75F31625" "000000500000");
+
+pub(crate) const REQUEST_8_MORE: &str = paying!("0008" "1386B7992D51CD70" "000000500001");
+
+/// The card ran two commands of the reply on ATC 7.
+pub(crate) const REQUEST_9_RAN_TWO: &str = reporting!("0009" "EBA261CB1FC8AF7D" "2" "0007");
+
+pub(crate) const REQUEST_8_RAN_TWO: &str = reporting!("0008" "537FA27E450BDDAC" "2" "0007");
+
+/// The card counts commands of an older reply.
+pub(crate) const REQUEST_9_OLDER: &str = reporting!("0009" "7AEEB7E00D9CE6BF" "2" "0005");
+
+/// The card names a transaction that had no reply.
+pub(crate) const REQUEST_9_UNKNOWN: &str = reporting!("0009" "974A9CC02B8ECBA3" "0" "0008");
+
+/// An amount with a digit that isn't decimal, the ATC twice, a cryptogram of another type, a key index and a card that the issuer
+/// doesn't have.
+pub(crate) const BROKEN_FIELDS: &str = concat!(
+    "A 5A0840000000000000029F260800000000000000009F2701809F10200FA501A00000000000000000000000000F0000000000000000000000000000009F37041A2B3C4D9F36020007950500000080009A032601159C01009F02060000000A23455F2A020978820239009F1A0202769F3303E0F8C89F34031E03009F3501229F1E0831323334353637388407A00000000410109F090200029F41040000012300\n",
+    "A 5A0840000000000000029F26086317DE17856BF19A9F2701809F10200FA501A00000000000000000000000000F0000000000000000000000000000009F37041A2B3C4D9F36020007950500000080009A032601159C01009F02060000000123455F2A020978820239009F1A0202769F3303E0F8C89F34031E03009F3501229F1E0831323334353637388407A00000000410109F090200029F4104000001239F3602000700\n",
+    "A 5A0840000000000000029F26086317DE17856BF19A9F2701409F10200FA501A00000000000000000000000000F0000000000000000000000000000009F37041A2B3C4D9F36020007950500000080009A032601159C01009F02060000000123455F2A020978820239009F1A0202769F3303E0F8C89F34031E03009F3501229F1E0831323334353637388407A00000000410109F090200029F41040000012300\n",
+    "A 5A0840000000000000029F26084F250431C9D926B59F2701809F10200FA509A00000000000000000000000000F0000000000000000000000000000009F37041A2B3C4D9F36020007950500000080009A032601159C01009F02060000000123455F2A020978820239009F1A0202769F3303E0F8C89F34031E03009F3501229F1E0831323334353637388407A00000000410109F090200029F41040000012300\n",
+    "A 5A0840000000000000289F2608A49AE55534D26CB39F2701809F10200FA501A00000000000000000000000000F0000000000000000000000000000009F37041A2B3C4D9F36020007950500000080009A032601159C01009F02060000000123455F2A020978820239009F1A0202769F3303E0F8C89F34031E03009F3501229F1E0831323334353637388407A00000000410109F090200029F41040000012300\n",
+);
 
 /// Each card's request on ATC 7.
 pub(crate) const SEVENTH_EACH: &str = in_turns!("0007" "6317DE17856BF19A" "1DE2D48E1E32FA1B");
@@ -96,6 +204,105 @@ pub(crate) const TWENTY_EACH: &str = in_turns!(
     "0014" "A75292EAC6A03495" "2396922005710C53",
 );
 
+/// Commands for the first card with 20 bytes of data each, and with 64.
+pub(crate) const FIVE_COMMANDS: &str =
+    "Q 4000000000000002 00 84DA00000000000000000000000000000000000000000000\nQ 4000000000000002 00 84DA00000101010101010101010101010101010101010101\nQ 4000000000000002 00 84DA00000202020202020202020202020202020202020202\nQ 4000000000000002 00 84DA00000303030303030303030303030303030303030303\nQ 4000000000000002 00 84DA00000404040404040404040404040404040404040404\n";
+
+pub(crate) const LONG_COMMAND: &str =
+    "Q 4000000000000002 00 84DA000000000000000000000000000000000000000000000000000000000000000000000000000000000000000000000000000000000000000000000000000000000000\n";
+
+/// Commands that aren't under secure messaging, and with more data than a command may have.
+pub(crate) const BAD_COMMANDS: &str =
+    "Q 4000000000000002 00 80160000\nQ 4000000000000010 00 04DA0000ABABABABABABABABABABABABABABABABABABABABABABABABABABABABABABABABABABABABABABABABABABABABABABABABABABABABABABABABABABABABABABABABAB\n";
+
+/// The answers to a request on ATC 7 at position 0, and to its repeat.
+pub(crate) const FRESH_7: &str = "fresh 0 0 yes 3030 8a023030910a02369be26b4161bc3030\n";
+
+pub(crate) const KEPT_7: &str = "kept 0 0 yes 3030 8a023030910a02369be26b4161bc3030\n";
+
 /// The answers to each card's request on ATC 7, with a shard for each card.
 pub(crate) const FRESH_EACH: &str =
     "fresh 0 0 yes 3030 8a023030910a02369be26b4161bc3030\nfresh 1 0 yes 3030 8a02303091087095934c00800000\n";
+
+/// The answers to five commands, and to 64.
+pub(crate) const FIVE_QUEUED: &str = "queued 0 0\nqueued 0 1\nqueued 0 2\nqueued 0 3\nqueued 0 4\n";
+
+pub(crate) const SIXTY_FOUR_QUEUED: &str =
+    "queued 0 0\nqueued 0 1\nqueued 0 2\nqueued 0 3\nqueued 0 4\nqueued 0 5\nqueued 0 6\nqueued 0 7\nqueued 0 8\nqueued 0 9\nqueued 0 10\nqueued 0 11\nqueued 0 12\nqueued 0 13\nqueued 0 14\nqueued 0 15\nqueued 0 16\nqueued 0 17\nqueued 0 18\nqueued 0 19\nqueued 0 20\nqueued 0 21\nqueued 0 22\nqueued 0 23\nqueued 0 24\nqueued 0 25\nqueued 0 26\nqueued 0 27\nqueued 0 28\nqueued 0 29\nqueued 0 30\nqueued 0 31\nqueued 0 32\nqueued 0 33\nqueued 0 34\nqueued 0 35\nqueued 0 36\nqueued 0 37\nqueued 0 38\nqueued 0 39\nqueued 0 40\nqueued 0 41\nqueued 0 42\nqueued 0 43\nqueued 0 44\nqueued 0 45\nqueued 0 46\nqueued 0 47\nqueued 0 48\nqueued 0 49\nqueued 0 50\nqueued 0 51\nqueued 0 52\nqueued 0 53\nqueued 0 54\nqueued 0 55\nqueued 0 56\nqueued 0 57\nqueued 0 58\nqueued 0 59\nqueued 0 60\nqueued 0 61\nqueued 0 62\nqueued 0 63\n";
+
+/// The replies to approvals of the first card.
+pub(crate) const REPLY_0: &str = "8a023030910a7689da1068630d733030\n";
+
+pub(crate) const REPLY_1: &str = "8a023030910a21aa145ef9f7fca43030\n";
+
+pub(crate) const REPLY_2: &str = "8a023030910a8c25c52ab4d925d93030\n";
+
+pub(crate) const REPLY_3: &str = "8a023030910aeebfc442869f933d3030\n";
+
+pub(crate) const REPLY_7: &str = "8a023030910a02369be26b4161bc3030\n";
+
+pub(crate) const REPLY_65: &str = "8a023030910a2460f3fa6de401fa3030\n";
+
+pub(crate) const REPLY_65535: &str = "8a023030910ad85c87f2f624e6e23030\n";
+
+/// The reply on ATC 7 to the greatest amount that the table approves.
+pub(crate) const REPLY_7_GREATEST: &str = "8a023030910a8022f687d456485e3030\n";
+
+/// The reply on ATC 7 with the first three of five commands.
+pub(crate) const REPLY_7_THREE: &str =
+    "8a023030910a02369be26b4161bc303072709f180400000000862184da00001c0000000000000000000000000000000000000000385ae2d8a0aac9f0862184da00001c0101010101010101010101010101010101010101a888dbfacdb153e9862184da00001c0202020202020202020202020202020202020202e27e3941b91c3eef\n";
+
+/// The records of these decisions, up to the reply.
+pub(crate) const DECISION_0: &str = approval!("0000" "3e3303b6a6ef1e00");
+
+pub(crate) const DECISION_1: &str = approval!("0001" "7c5104b1ce25f56e");
+
+pub(crate) const DECISION_2: &str = approval!("0002" "cbfa5f912723fc48");
+
+pub(crate) const DECISION_3: &str = approval!("0003" "749e114d39716009");
+
+pub(crate) const DECISION_7: &str = approval!("0007" "6317de17856bf19a");
+
+pub(crate) const DECISION_9: &str = approval!("0009" "07332abbd4fe880c");
+
+pub(crate) const DECISION_65: &str = approval!("0041" "93eed1b2ed608c61");
+
+pub(crate) const DECISION_65535: &str = approval!("ffff" "1e18e39c18ab6caf");
+
+/// A digit of the cryptogram is another.
+pub(crate) const DECISION_2_CHANGED: &str = approval!("0002" "cbfa5f912723fc40");
+
+pub(crate) const DECISION_7_GREATEST: &str =
+    decision!("0007" "4768c8fa75f31625" "0" "0000" "000000500000" "3030 1");
+
+pub(crate) const DECISION_8_BLOCKED: &str =
+    decision!("0008" "09b47be3dcca54c3" "0" "0000" "000000012345" "3036 0");
+
+pub(crate) const DECISION_8_MORE: &str =
+    decision!("0008" "1386b7992d51cd70" "0" "0000" "000000500001" "3035 0");
+
+pub(crate) const DECISION_8_RAN_TWO: &str =
+    decision!("0008" "537fa27e450bddac" "2" "0007" "000000012345" "3030 1");
+
+pub(crate) const DECISION_9_RAN_TWO: &str =
+    decision!("0009" "eba261cb1fc8af7d" "2" "0007" "000000012345" "3030 1");
+
+pub(crate) const DECISION_9_OLDER: &str =
+    decision!("0009" "7aeeb7e00d9ce6bf" "2" "0005" "000000012345" "3030 1");
+
+pub(crate) const DECISION_9_UNKNOWN: &str =
+    decision!("0009" "974a9cc02b8ecba3" "0" "0008" "000000012345" "3030 1");
+
+/// The records of five commands, and of one with 64 bytes of data.
+pub(crate) const FIVE_RECORDED: &str =
+    "q 4000000000000002ffff 00 84da00000000000000000000000000000000000000000000\nq 4000000000000002ffff 00 84da00000101010101010101010101010101010101010101\nq 4000000000000002ffff 00 84da00000202020202020202020202020202020202020202\nq 4000000000000002ffff 00 84da00000303030303030303030303030303030303030303\nq 4000000000000002ffff 00 84da00000404040404040404040404040404040404040404\n";
+
+pub(crate) const LONG_RECORDED: &str =
+    "q 4000000000000002ffff 00 84da000000000000000000000000000000000000000000000000000000000000000000000000000000000000000000000000000000000000000000000000000000000000\n";
+
+/// What is shown of the first and of the second card where nothing was recorded.
+pub(crate) const FIRST_UNTOUCHED: &str =
+    "4000000000000002 00 hi - status 0 queued 0 done 0 flight - ok\n";
+
+pub(crate) const SECOND_UNTOUCHED: &str =
+    "4000000000000010 00 hi - status 0 queued 0 done 0 flight - ok\n";

@@ -1,0 +1,696 @@
+//! Worked rows: runs with their words, configuration, request lines, journal and failing calls, and what comes of each.
+//!
+//! The rows are in groups, since the checker writes out a whole table wherever it is named.
+
+use crate::running::{NONE_FAILS, Run, SERVE, SHOW, joined, one_journal, run_at};
+use crate::samples::*;
+use issuer_base::OpenGate;
+use std::sync::Wait;
+use std::test::Fail;
+use std::thread::Threads;
+
+/// A row without request lines, over an empty journal.
+const SERVED: Run = Run {
+    name: "",
+    words: SERVE,
+    config: CONFIG,
+    requests: &[],
+    before: Some(&[]),
+    fails: NONE_FAILS,
+    answers: &[],
+    status: 0,
+    after: None,
+};
+
+/// A row that shows the cards of the last row's journal.
+const SHOWN: Run = Run {
+    words: SHOW,
+    before: None,
+    ..SERVED
+};
+
+/// Lines that are refused for their text.
+static LINES: [Run; 4] = [
+    Run {
+        name: "no lines",
+        after: Some(&[]),
+        ..SERVED
+    },
+    Run {
+        name: "lines that are none",
+        requests: &["\nX\nA\nA 9F3\nA 9G\nQ 4000000000000002 0 84160000\n"],
+        answers: &[
+            "refused 1 1\nrefused 1 1\nrefused 1 2\nrefused 1 6\nrefused 1 4\nrefused 1 21\n",
+        ],
+        after: Some(&[]),
+        ..SERVED
+    },
+    Run {
+        name: "chip data that breaks off",
+        requests: &["A 9F3602\nA 9F36810207\nA 9F3681020007\n"],
+        answers: &["refused 2 0\nrefused 2 0\nrefused 3 5a\n"],
+        after: Some(&[]),
+        ..SERVED
+    },
+    Run {
+        name: "broken fields",
+        requests: &[BROKEN_FIELDS],
+        answers: &["refused 4 9f02\nrefused 5 9f36\nrefused 7\nrefused 8 09\nrefused 6\n"],
+        after: Some(&[]),
+        ..SERVED
+    },
+];
+
+fn lines() -> &'static [Run] {
+    &LINES
+}
+
+/// Decisions, repeats and conflicts.
+static DECISIONS: [Run; 9] = [
+    Run {
+        name: "another spelling of a request",
+        requests: &[REQUEST_7, REQUEST_7_LONG_LENGTH],
+        answers: &[FRESH_7, KEPT_7],
+        after: Some(&[DECISION_7, REPLY_7]),
+        ..SERVED
+    },
+    Run {
+        name: "a forged cryptogram",
+        requests: &[REQUEST_7_FORGED, REQUEST_7],
+        answers: &["refused 9\n", FRESH_7],
+        after: Some(&[DECISION_7, REPLY_7]),
+        ..SERVED
+    },
+    Run {
+        name: "another request on a used counter",
+        requests: &[REQUEST_7, REQUEST_7_OTHER],
+        answers: &[FRESH_7, "refused 11 0 0\n"],
+        after: Some(&[DECISION_7, REPLY_7]),
+        ..SERVED
+    },
+    Run {
+        name: "a repeat",
+        requests: &[REQUEST_7, REQUEST_7],
+        answers: &[FRESH_7, KEPT_7],
+        after: Some(&[DECISION_7, REPLY_7]),
+        ..SERVED
+    },
+    Run {
+        name: "a repeat in the next run",
+        requests: &[REQUEST_7],
+        before: None,
+        answers: &[KEPT_7],
+        after: Some(&[DECISION_7, REPLY_7]),
+        ..SERVED
+    },
+    Run {
+        name: "counters out of order",
+        requests: &[REQUEST_1, REQUEST_65, REQUEST_1, REQUEST_2],
+        answers: &[
+            "fresh 0 0 yes 3030 ",
+            REPLY_1,
+            "fresh 0 1 yes 3030 ",
+            REPLY_65,
+            "refused 10 65\nfresh 0 2 yes 3030 ",
+            REPLY_2,
+        ],
+        after: Some(&[
+            DECISION_1,
+            REPLY_1,
+            DECISION_65,
+            REPLY_65,
+            DECISION_2,
+            REPLY_2,
+        ]),
+        ..SERVED
+    },
+    Run {
+        name: "the first and the last counter",
+        requests: &[REQUEST_0, REQUEST_65535],
+        answers: &[
+            "fresh 0 0 yes 3030 ",
+            REPLY_0,
+            "fresh 0 1 yes 3030 ",
+            REPLY_65535,
+        ],
+        after: Some(&[DECISION_0, REPLY_0, DECISION_65535, REPLY_65535]),
+        ..SERVED
+    },
+    Run {
+        name: "a status",
+        requests: &[REQUEST_7_GREATEST, "S 4000000000000002 00 1\n", REQUEST_8],
+        answers: &[
+            "fresh 0 0 yes 3030 ",
+            REPLY_7_GREATEST,
+            "set 0 1\nfresh 0 2 no 3036 8a023036910a902d3107893ef92b3036\n",
+        ],
+        after: Some(&[
+            DECISION_7_GREATEST,
+            REPLY_7_GREATEST,
+            "s 4000000000000002ffff 00 1\n",
+            DECISION_8_BLOCKED,
+            "8a023036910a902d3107893ef92b3036\n",
+        ]),
+        ..SERVED
+    },
+    Run {
+        name: "the greatest amount and one more",
+        requests: &[REQUEST_7_GREATEST, REQUEST_8_MORE],
+        answers: &[
+            "fresh 0 0 yes 3030 ",
+            REPLY_7_GREATEST,
+            "fresh 0 1 no 3035 8a023035910a3ab012c7d40cd2803035\n",
+        ],
+        after: Some(&[
+            DECISION_7_GREATEST,
+            REPLY_7_GREATEST,
+            DECISION_8_MORE,
+            "8a023035910a3ab012c7d40cd2803035\n",
+        ]),
+        ..SERVED
+    },
+];
+
+fn decisions() -> &'static [Run] {
+    &DECISIONS
+}
+
+/// The replies to what cards report of five commands, of which the first three were sent.
+const LAST_THREE_SENT: &str =
+    "8a023030910a0e00cd522aa6de7d303072709f180400000002862184da00001c0202020202020202020202020202020202020202d39224f7ef0200d3862184da00001c030303030303030303030303030303030303030338992183d3173ae9862184da00001c0404040404040404040404040404040404040404468f684393492633\n";
+
+const FIRST_THREE_SENT: &str =
+    "8a023030910aa98839ce18246b46303072709f180400000000862184da00001c000000000000000000000000000000000000000070cf017b350f1a6f862184da00001c01010101010101010101010101010101010101013482f0101fa5b515862184da00001c02020202020202020202020202020202020202024b010426dfb28ee2\n";
+
+const SENT_AGAIN: &str =
+    "8a023030910a418413b0a1361b42303072709f180400000000862184da00001c00000000000000000000000000000000000000008ba61ea7da7e2b53862184da00001c01010101010101010101010101010101010101019e8902d18533ffb5862184da00001c0202020202020202020202020202020202020202313cb67bc485d652\n";
+
+/// Five commands, and what a card reports of them.
+static REPORTS: [Run; 4] = [
+    Run {
+        name: "two of three commands ran",
+        requests: &[FIVE_COMMANDS, REQUEST_7, REQUEST_9_RAN_TWO],
+        answers: &[
+            FIVE_QUEUED,
+            "fresh 0 5 yes 3030 ",
+            REPLY_7_THREE,
+            "fresh 0 6 yes 3030 ",
+            LAST_THREE_SENT,
+        ],
+        after: Some(&[
+            FIVE_RECORDED,
+            DECISION_7,
+            REPLY_7_THREE,
+            DECISION_9_RAN_TWO,
+            LAST_THREE_SENT,
+        ]),
+        ..SERVED
+    },
+    Run {
+        name: "two of three commands ran, shown",
+        answers: &[
+            "4000000000000002 00 hi 9 status 0 queued 5 done 2 flight 9 3 ok\n",
+            SECOND_UNTOUCHED,
+        ],
+        ..SHOWN
+    },
+    Run {
+        name: "a count of an older reply",
+        requests: &[FIVE_COMMANDS, REQUEST_7, REQUEST_9_OLDER],
+        answers: &[
+            FIVE_QUEUED,
+            "fresh 0 5 yes 3030 ",
+            REPLY_7_THREE,
+            "fresh 0 6 yes 3030 ",
+            FIRST_THREE_SENT,
+        ],
+        after: Some(&[
+            FIVE_RECORDED,
+            DECISION_7,
+            REPLY_7_THREE,
+            DECISION_9_OLDER,
+            FIRST_THREE_SENT,
+        ]),
+        ..SERVED
+    },
+    Run {
+        name: "a count of an older reply, shown",
+        answers: &[
+            "4000000000000002 00 hi 9 status 0 queued 5 done 0 flight 9 3 ok\n",
+            SECOND_UNTOUCHED,
+        ],
+        ..SHOWN
+    },
+];
+
+fn reports() -> &'static [Run] {
+    &REPORTS
+}
+
+/// Reports that send no further commands.
+static HALTS: [Run; 4] = [
+    Run {
+        name: "a reply that was never sent",
+        requests: &[FIVE_COMMANDS, REQUEST_7, REQUEST_9_UNKNOWN],
+        answers: &[
+            FIVE_QUEUED,
+            "fresh 0 5 yes 3030 ",
+            REPLY_7_THREE,
+            "fresh 0 6 yes 3030 8a023030910a1ea2038d63149b603030\n",
+        ],
+        after: Some(&[
+            FIVE_RECORDED,
+            DECISION_7,
+            REPLY_7_THREE,
+            DECISION_9_UNKNOWN,
+            "8a023030910a1ea2038d63149b603030\n",
+        ]),
+        ..SERVED
+    },
+    Run {
+        name: "a reply that was never sent, shown",
+        answers: &[
+            "4000000000000002 00 hi 9 status 0 queued 5 done 0 flight - halt\n",
+            SECOND_UNTOUCHED,
+        ],
+        ..SHOWN
+    },
+    Run {
+        name: "an older counter",
+        requests: &[FIVE_COMMANDS, REQUEST_7, REQUEST_9, REQUEST_8_RAN_TWO],
+        answers: &[
+            FIVE_QUEUED,
+            "fresh 0 5 yes 3030 ",
+            REPLY_7_THREE,
+            "fresh 0 6 yes 3030 ",
+            SENT_AGAIN,
+            "fresh 0 7 yes 3030 8a023030910adf8630a0b3cfc0f53030\n",
+        ],
+        after: Some(&[
+            FIVE_RECORDED,
+            DECISION_7,
+            REPLY_7_THREE,
+            DECISION_9,
+            SENT_AGAIN,
+            DECISION_8_RAN_TWO,
+            "8a023030910adf8630a0b3cfc0f53030\n",
+        ]),
+        ..SERVED
+    },
+    Run {
+        name: "an older counter, shown",
+        answers: &[
+            "4000000000000002 00 hi 9 status 0 queued 5 done 0 flight 9 3 ok\n",
+            SECOND_UNTOUCHED,
+        ],
+        ..SHOWN
+    },
+];
+
+fn halts() -> &'static [Run] {
+    &HALTS
+}
+
+/// More commands than may wait for a card.
+static FULL_QUEUE: [Run; 3] = [
+    Run {
+        name: "65 commands",
+        requests: &[LONG_COMMAND; 65],
+        answers: &[SIXTY_FOUR_QUEUED, "refused 13\n"],
+        after: Some(&[LONG_RECORDED; 64]),
+        ..SERVED
+    },
+    Run {
+        name: "a full queue",
+        requests: &[REQUEST_7, BAD_COMMANDS],
+        before: None,
+        answers: &[
+            "fresh 0 64 yes 3030 8a023030910a02369be26b4161bc303072569f180400000000864d84da00004800000000000000000000000000000000000000000000000000000000000000000000000000000000000000000000000000000000000000000000000000000000f28bed5cf8405670\nrefused 14\nrefused 14\n",
+        ],
+        ..SERVED
+    },
+    Run {
+        name: "a full queue, shown",
+        answers: &[
+            "4000000000000002 00 hi 7 status 0 queued 64 done 0 flight 7 1 ok\n",
+            SECOND_UNTOUCHED,
+        ],
+        ..SHOWN
+    },
+];
+
+fn full_queue() -> &'static [Run] {
+    &FULL_QUEUE
+}
+
+/// Calls of the store that fail while a decision is recorded or the journal is loaded.
+static STORE_FAULTS: [Run; 8] = [
+    Run {
+        name: "a sync that fails",
+        requests: &[REQUEST_7, REQUEST_7],
+        fails: [None, None, None, None, Some(2)],
+        answers: &["refused 15\n", FRESH_7],
+        after: Some(&[DECISION_7, REPLY_7]),
+        ..SERVED
+    },
+    Run {
+        name: "a repeat after a sync that failed",
+        requests: &[REQUEST_7],
+        before: None,
+        answers: &[KEPT_7],
+        after: Some(&[DECISION_7, REPLY_7]),
+        ..SERVED
+    },
+    Run {
+        name: "a sync that fails at the last line",
+        requests: &[REQUEST_7],
+        fails: [None, None, None, None, Some(2)],
+        answers: &["refused 15\n"],
+        after: Some(&[DECISION_7, REPLY_7]),
+        ..SERVED
+    },
+    Run {
+        name: "a record in doubt that the next run finds",
+        requests: &[REQUEST_7],
+        before: None,
+        answers: &[KEPT_7],
+        after: Some(&[DECISION_7, REPLY_7]),
+        ..SERVED
+    },
+    Run {
+        name: "an append that fails",
+        requests: &[REQUEST_7, REQUEST_7],
+        fails: [None, None, None, None, Some(1)],
+        answers: &["refused 15\n", FRESH_7],
+        after: Some(&[DECISION_7, REPLY_7]),
+        ..SERVED
+    },
+    Run {
+        name: "a journal that can't be opened",
+        requests: &["X\n"],
+        fails: [None, None, Some(1), None, None],
+        answers: &["stop 5 0\n"],
+        status: 5,
+        ..SERVED
+    },
+    Run {
+        name: "an empty journal that can't be read",
+        requests: &["X\n"],
+        fails: [None, None, None, None, Some(0)],
+        answers: &["stop 5 0\n"],
+        status: 5,
+        after: Some(&[]),
+        ..SERVED
+    },
+    Run {
+        name: "a journal that can't be read",
+        requests: &["X\n"],
+        before: Some(&[DECISION_7, REPLY_7]),
+        fails: [None, None, None, None, Some(0)],
+        answers: &["stop 5 0\n"],
+        status: 5,
+        after: Some(&[DECISION_7, REPLY_7]),
+        ..SERVED
+    },
+];
+
+fn store_faults() -> &'static [Run] {
+    &STORE_FAULTS
+}
+
+/// Calls of the other devices that fail.
+static OTHER_FAULTS: [Run; 6] = [
+    Run {
+        name: "a configuration that can't be opened",
+        fails: [None, None, Some(0), None, None],
+        answers: &["stop 3\n"],
+        status: 3,
+        ..SERVED
+    },
+    Run {
+        name: "a configuration that can't be read",
+        fails: [Some(0), None, None, None, None],
+        answers: &["stop 3\n"],
+        status: 3,
+        ..SERVED
+    },
+    Run {
+        name: "requests that can't be read",
+        requests: &["X\n"],
+        fails: [None, Some(0), None, None, None],
+        answers: &["stop 3\n"],
+        status: 3,
+        after: Some(&[]),
+        ..SERVED
+    },
+    Run {
+        name: "a sink that fails",
+        requests: &["X\n"],
+        fails: [None, None, None, Some(0), None],
+        status: 4,
+        after: Some(&[]),
+        ..SERVED
+    },
+    Run {
+        name: "a sink that fails at a decision",
+        requests: &[REQUEST_7],
+        fails: [None, None, None, Some(0), None],
+        status: 4,
+        after: Some(&[DECISION_7, REPLY_7]),
+        ..SERVED
+    },
+    Run {
+        name: "a repeat of a decision that was never written",
+        requests: &[REQUEST_7],
+        before: None,
+        answers: &[KEPT_7],
+        after: Some(&[DECISION_7, REPLY_7]),
+        ..SERVED
+    },
+];
+
+fn other_faults() -> &'static [Run] {
+    &OTHER_FAULTS
+}
+
+/// Decisions on ATCs 1, 2 and 3, with a digit of the second cryptogram changed, and with the first record again for the second.
+const CHANGED: &[&str] = &[
+    DECISION_1,
+    REPLY_1,
+    DECISION_2_CHANGED,
+    REPLY_2,
+    DECISION_3,
+    REPLY_3,
+];
+
+const REPEATED: &[&str] = &[
+    DECISION_1, REPLY_1, DECISION_1, REPLY_1, DECISION_3, REPLY_3,
+];
+
+/// Journals that are torn or bad.
+static JOURNALS: [Run; 6] = [
+    Run {
+        name: "a record with a digit changed",
+        requests: &["X\n"],
+        before: Some(CHANGED),
+        answers: &["stop 6 0 2\n"],
+        status: 6,
+        after: Some(CHANGED),
+        ..SERVED
+    },
+    Run {
+        name: "a record twice",
+        requests: &["X\n"],
+        before: Some(REPEATED),
+        answers: &["stop 6 0 2\n"],
+        status: 6,
+        after: Some(REPEATED),
+        ..SERVED
+    },
+    Run {
+        name: "a record twice, to be shown",
+        before: Some(REPEATED),
+        answers: &["stop 6 0 2\n"],
+        status: 6,
+        after: Some(REPEATED),
+        ..SHOWN
+    },
+    Run {
+        name: "a status and a command",
+        requests: &["S 4000000000000002 00 3\nQ 4000000000000002 00 84160000\n"],
+        answers: &["set 0 0\nqueued 0 1\n"],
+        after: Some(&[
+            "s 4000000000000002ffff 00 3\n",
+            "q 4000000000000002ffff 00 84160000\n",
+        ]),
+        ..SERVED
+    },
+    Run {
+        name: "a torn last line",
+        before: Some(&["s 4000000000000002ffff 00 3\nq 4000000000000002ffff 00 84160000"]),
+        answers: &[
+            "4000000000000002 00 hi - status 3 queued 0 done 0 flight - ok\n",
+            SECOND_UNTOUCHED,
+        ],
+        after: Some(&["s 4000000000000002ffff 00 3\n"]),
+        ..SHOWN
+    },
+    Run {
+        name: "cards that nothing is known of",
+        before: Some(&[]),
+        answers: &[FIRST_UNTOUCHED, SECOND_UNTOUCHED],
+        after: Some(&[]),
+        ..SHOWN
+    },
+];
+
+fn journals_found() -> &'static [Run] {
+    &JOURNALS
+}
+
+/// Words that are no command, and configurations with a broken place.
+static SETTINGS: [Run; 10] = [
+    Run {
+        name: "words that are no command",
+        words: "serve --config",
+        answers: &["stop 1\n"],
+        status: 1,
+        ..SERVED
+    },
+    Run {
+        name: "an option twice",
+        words: "serve --config config --config config --requests requests --journal journal",
+        answers: &["stop 1\n"],
+        status: 1,
+        ..SERVED
+    },
+    Run {
+        name: "an option and its value in one word",
+        words: "serve --config=config --requests requests --journal journal",
+        answers: &["stop 1\n"],
+        status: 1,
+        ..SERVED
+    },
+    Run {
+        name: "a value with a dash in front",
+        words: "serve --config -c --requests requests --journal journal",
+        answers: &["stop 1\n"],
+        status: 1,
+        ..SERVED
+    },
+    Run {
+        name: "words in another order",
+        words: "serve --journal journal --requests requests --config config",
+        requests: &["X\n"],
+        answers: &["refused 1 1\n"],
+        after: Some(&[]),
+        ..SERVED
+    },
+    Run {
+        name: "a configuration that is a list",
+        config: "[]",
+        answers: &["stop 2 1 0\n"],
+        status: 2,
+        ..SERVED
+    },
+    Run {
+        name: "a configuration without members",
+        config: "{}",
+        answers: &["stop 2 2 0\n"],
+        status: 2,
+        ..SERVED
+    },
+    Run {
+        name: "a key index of more than a byte",
+        config: LARGE_KEY_INDEX,
+        answers: &["stop 2 3 1\n"],
+        status: 2,
+        ..SERVED
+    },
+    Run {
+        name: "a card twice",
+        config: CARD_TWICE,
+        answers: &["stop 2 4 2\n"],
+        status: 2,
+        ..SERVED
+    },
+    Run {
+        name: "a last row that leaves amounts out",
+        config: PARTIAL_TABLE,
+        answers: &["stop 2 5 3\n"],
+        status: 2,
+        ..SERVED
+    },
+];
+
+fn settings() -> &'static [Run] {
+    &SETTINGS
+}
+
+/// Worlds that are played, of one card and of 200.
+static WORLDS: [Run; 2] = [
+    Run {
+        name: "a world of eight steps",
+        words: "world --cards 1 --steps 8 --seed 0",
+        answers: &[
+            "taps 8\nfresh 7\napproved 4\nkept 1\nrefused 1\nauthenticated 4\nunauthenticated 2\nqueued 3\ndone 3\nran 3\nhalted 0\n",
+        ],
+        ..SERVED
+    },
+    Run {
+        name: "a world of 20,000 steps",
+        words: "world --cards 200 --steps 20000 --seed 7",
+        answers: &[
+            "taps 20000\nfresh 17475\napproved 8750\nkept 2500\nrefused 2500\nauthenticated 10000\nunauthenticated 4975\nqueued 7500\ndone 7175\nran 7300\nhalted 0\n",
+        ],
+        ..SERVED
+    },
+];
+
+fn worlds() -> &'static [Run] {
+    &WORLDS
+}
+
+/// Whether a run comes to what is expected of it. The journals are those that the run before left, unless it begins with its own.
+fn comes_to_the_expected<R: AllocGlobal + Threads + Wait + Sync>(
+    rt: &R,
+    run: &Run,
+    journals: &mut Vec<Vec<u8>>,
+) -> Result<bool, Fail> {
+    let alloc = rt.alloc();
+    if let Some(before) = run.before {
+        *journals = one_journal(alloc, before)?;
+    }
+    let (status, text) = run_at(rt, run, &run.fails, journals, &OpenGate)?;
+    let expected = joined(alloc, run.answers)?;
+    if status != run.status || text != expected {
+        return Ok(false);
+    }
+    match run.after {
+        Some(after) => Ok(*journals == one_journal(alloc, after)?),
+        None => Ok(true),
+    }
+}
+
+#[test]
+fn comes_to_the_worked_rows(rt: HostRuntime) -> Result<(), Fail> {
+    let mut journals = Vec::new(rt.alloc());
+    for runs in [
+        lines(),
+        decisions(),
+        reports(),
+        halts(),
+        full_queue(),
+        store_faults(),
+        other_faults(),
+        journals_found(),
+        settings(),
+        worlds(),
+    ] {
+        for run in runs {
+            let is_right = comes_to_the_expected(&rt, run, &mut journals)?;
+            assert!(rt; is_right, "{}", run.name);
+        }
+    }
+    Ok(())
+}
