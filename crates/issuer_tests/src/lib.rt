@@ -8,8 +8,12 @@ mod failing_devices;
 #[cfg(test)]
 mod own_devices;
 #[cfg(test)]
+mod pieces;
+#[cfg(test)]
 mod running;
 #[cfg(test)]
 mod samples;
+#[cfg(test)]
+mod watched;
 #[cfg(test)]
 mod worked_rows;

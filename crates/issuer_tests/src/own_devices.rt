@@ -2,67 +2,17 @@
 ghost use Rattle.std.specs.Prelude.{◌≡◌, None, length};
 
 use crate::callers::looks_for;
+use crate::pieces::Pieces;
 use crate::running::{SERVE, left_by, run_over, words_of};
 use crate::samples::{CONFIG, FRESH_EACH, SEVENTH_EACH, TWO_SHARDS};
 use issuer_base::{
-    Desk, DeskFault, MemorySink, NoMemory, OpenGate, ReadFault, Sink, Source, Store, StoreFail,
-    WriteFault,
+    Desk, DeskFault, MemorySink, NoMemory, OpenGate, Sink, Store, StoreFail, WriteFault,
 };
 use std::alloc::Global;
 use std::sync::Arc;
 use std::sync::atomic::{AtomicBool, Ordering};
 use std::test::Fail;
 use store_edge::RoomStore;
-
-/// A text, so many times, in pieces of so many bytes at most, whose reads fail after so many.
-#[derive(Clone, Copy, Drop)]
-struct Pieces {
-    text: &'static str,
-    at: usize,
-    times: u32,
-    piece: usize,
-    reads: u64,
-    faults: u64,
-}
-
-impl Pieces {
-    fn new(text: &'static str, times: u32, piece: usize, reads: u64) -> Pieces
-        ensures { result.faults ≡ 0 }
-    {
-        Pieces {
-            text,
-            at: text.len(),
-            times,
-            piece,
-            reads,
-            faults: 0,
-        }
-    }
-}
-
-impl Source for Pieces {
-    ghost faults = { λ s. s.faults };
-
-    fn read(&mut self, into: &mut [u8]) -> Result<usize, ReadFault> {
-        if self.reads == 0 {
-            self.faults = self.faults.saturating_add(1);
-            return Err(ReadFault);
-        }
-        self.reads -= 1;
-        if self.at >= self.text.len() {
-            if self.times == 0 {
-                return Ok(0);
-            }
-            self.times -= 1;
-            self.at = 0;
-        }
-        let rest = &self.text.as_bytes()[self.at..];
-        let count = rest.len().min(self.piece).min(into.len());
-        into[..count].copy_from_slice(&rest[..count]);
-        self.at += count;
-        Ok(count)
-    }
-}
 
 /// A sink that takes one byte a call, and fails after so many, 16 at most.
 #[derive(Drop)]

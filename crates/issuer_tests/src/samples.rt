@@ -37,9 +37,9 @@ pub(crate) const CARD_TWICE: &str = configuration!("1", "1", "4000000000000002",
 /// A table whose last row leaves amounts out.
 pub(crate) const PARTIAL_TABLE: &str = configuration!("1", "1", "4000000000000010", "1");
 
-/// Request lines: account number, ATC, cryptogram, script count, register, unpredictable number, amount.
+/// Request lines: account number, ATC, cryptogram, script count, register, unpredictable number, amount, and the lines that follow.
 macro_rules! requests {
-    ($($pan:literal $atc:literal $ac:literal $count:literal $register:literal $number:literal $amount:literal),+ $(,)?) => {
+    ($($pan:literal $atc:literal $ac:literal $count:literal $register:literal $number:literal $amount:literal $following:literal),+ $(,)?) => {
         concat!(
             $(
                 "A 5A08",
@@ -56,7 +56,8 @@ macro_rules! requests {
                 $atc,
                 "950500000080009A032601159C01009F0206",
                 $amount,
-                "5F2A020978820239009F1A0202769F3303E0F8C89F34031E03009F3501229F1E0831323334353637388407A00000000410109F090200029F41040000012300\n"
+                "5F2A020978820239009F1A0202769F3303E0F8C89F34031E03009F3501229F1E0831323334353637388407A00000000410109F090200029F41040000012300\n",
+                $following
             ),+
         )
     };
@@ -65,21 +66,21 @@ macro_rules! requests {
 /// A request line of the first card: ATC, cryptogram.
 macro_rules! request {
     ($atc:literal $ac:literal) => {
-        requests!("4000000000000002" $atc $ac "0" "0000" "1A2B3C4D" "000000012345")
+        requests!("4000000000000002" $atc $ac "0" "0000" "1A2B3C4D" "000000012345" "")
     };
 }
 
 /// One that reports on script commands too: script count, register.
 macro_rules! reporting {
     ($atc:literal $ac:literal $count:literal $register:literal) => {
-        requests!("4000000000000002" $atc $ac $count $register "1A2B3C4D" "000000012345")
+        requests!("4000000000000002" $atc $ac $count $register "1A2B3C4D" "000000012345" "")
     };
 }
 
 /// One of another amount.
 macro_rules! paying {
     ($atc:literal $ac:literal $amount:literal) => {
-        requests!("4000000000000002" $atc $ac "0" "0000" "1A2B3C4D" $amount)
+        requests!("4000000000000002" $atc $ac "0" "0000" "1A2B3C4D" $amount "")
     };
 }
 
@@ -116,8 +117,8 @@ macro_rules! in_turns {
     ($($atc:literal $first:literal $second:literal),+ $(,)?) => {
         requests!(
             $(
-                "4000000000000002" $atc $first "0" "0000" "1A2B3C4D" "000000012345",
-                "4000000000000010" $atc $second "0" "0000" "1A2B3C4D" "000000012345"
+                "4000000000000002" $atc $first "0" "0000" "1A2B3C4D" "000000012345" "",
+                "4000000000000010" $atc $second "0" "0000" "1A2B3C4D" "000000012345" ""
             ),+
         )
     };
@@ -145,7 +146,7 @@ pub(crate) const REQUEST_7_FORGED: &str = request!("0007" "6317DE17856BF19B");
 
 /// Another unpredictable number.
 pub(crate) const REQUEST_7_OTHER: &str =
-    requests!("4000000000000002" "0007" "CF0ED6665D446E24" "0" "0000" "00000000" "000000012345");
+    requests!("4000000000000002" "0007" "CF0ED6665D446E24" "0" "0000" "00000000" "000000012345" "");
 
 /// The length of the ATC in two bytes.
 pub(crate) const REQUEST_7_LONG_LENGTH: &str =
@@ -179,6 +180,18 @@ pub(crate) const BROKEN_FIELDS: &str = concat!(
 
 /// Each card's request on ATC 7.
 pub(crate) const SEVENTH_EACH: &str = in_turns!("0007" "6317DE17856BF19A" "1DE2D48E1E32FA1B");
+
+/// Each card's requests on ATCs 1 to 4, and among them a line that is none, a command of the first card and a status of the second.
+pub(crate) const ELEVEN_LINES: &str = requests!(
+    "4000000000000002" "0001" "7C5104B1CE25F56E" "0" "0000" "1A2B3C4D" "000000012345" "",
+    "4000000000000010" "0001" "45D69C7336B6E5C0" "0" "0000" "1A2B3C4D" "000000012345" "X\n",
+    "4000000000000002" "0002" "CBFA5F912723FC48" "0" "0000" "1A2B3C4D" "000000012345" "",
+    "4000000000000010" "0002" "2C4E3F1E12B97372" "0" "0000" "1A2B3C4D" "000000012345" "Q 4000000000000002 00 84160000\nS 4000000000000010 00 3\n",
+    "4000000000000002" "0003" "749E114D39716009" "0" "0000" "1A2B3C4D" "000000012345" "",
+    "4000000000000010" "0003" "DBC6B3477D1DAF52" "0" "0000" "1A2B3C4D" "000000012345" "",
+    "4000000000000002" "0004" "213ED3B67E8C32DA" "0" "0000" "1A2B3C4D" "000000012345" "",
+    "4000000000000010" "0004" "C269DAC4867D52F7" "0" "0000" "1A2B3C4D" "000000012345" "",
+);
 
 /// Each card's requests on ATCs 1 to 20.
 pub(crate) const TWENTY_EACH: &str = in_turns!(
