@@ -24,13 +24,12 @@ use Rattle.shard_book.specs.declared.replay.LoadFault.TheVariants.{BadLine, BadR
 use Rattle.shard_book.specs.declared.replay.Taken.{Taken}
 use Rattle.shard_book.specs.declared.shard.Shard.{Shard}
 use Rattle.shard_book.specs.declared.shard.LoadBack.{LoadBack}
-use Rattle.shard_book.specs.Grounds.{HasTable, grounds_now, grounds_of}
+use Rattle.shard_book.specs.Grounds.{HasTable, grounds_of}
 use Rattle.shard_book.specs.Loading.{IsOutside, StopsAt, StopsText, ReadsText, is_store_failure}
 use Rattle.shard_book.specs.ShardRows.{ShardRows, StandsFor as RowsStandFor}
 use Rattle.shard_book.specs.Shards.{IsCutToText, IsImageLeft, IsLoaded, IsSettled, IsTextOf, LeavesBytes, LeavesDisk, StandsFor, StandsForLeft}
 use Rattle.shard_book.proofs.Lines.{legal-more}
 use Rattle.shard_book.proofs.LoadCrash.{cut-to_text}
-use Rattle.shard_book.proofs.OwnDecisions.{legal-then}
 use Rattle.shard_book.proofs.ShardSteps.{texts-more}
 
 -- ---- lines in front of anything
@@ -168,7 +167,7 @@ module _ (issuer : Setup) (shard : ℕ) (bytes : Option (List ℕ)) (history : L
 
 -- ---- images
 
-unbroken-front : (entry : Entry) (tail : List ℕ) (kept : ℕ) → IsRecord entry → tail ≡ text_of entry → kept < length tail → IsUnbroken (take kept tail)
+pub unbroken-front : (entry : Entry) (tail : List ℕ) (kept : ℕ) → IsRecord entry → tail ≡ text_of entry → kept < length tail → IsUnbroken (take kept tail)
 unbroken-front entry tail kept valid its below =
     let line = text_of-IsLine entry valid in
     let whole : tail ≡ line.0 ++ newline ∷ [] = its ∙ line.2 in
@@ -176,80 +175,79 @@ unbroken-front entry tail kept valid its below =
     subst IsUnbroken (sym (ap (take kept) whole ∙ take-append-le kept line.0 (newline ∷ []) short))
     (All-take (λ byte. byte ≢ newline) kept line.0 line.1)
 
-module _ (issuer : Setup) (table : HasTable issuer) (shard : ℕ) (bytes : Option (List ℕ)) (history : List Entry) (left : IsImageLeft issuer shard bytes history)
-  where
-    -- the bytes are the text of the history, or of the history and one record
-    abbrev IsTextLeft : Type 0
-    IsTextLeft = IsTextOf (grounds_of issuer) shard bytes history
-        ⊎ ((entry : Entry) × IsLegal (grounds_now issuer) shard history entry × (bytes ≡ Some (texts_of (history ++ entry ∷ [])))
-        × IsTextOf (grounds_of issuer) shard bytes (history ++ entry ∷ []))
+module _ (issuer : Setup) (shard : ℕ) (bytes : Option (List ℕ)) (history : List Entry) (left : IsImageLeft issuer shard bytes history) where
+  -- the bytes are the text of the history, or of the history and one record
+  abbrev IsTextLeft : Type 0
+  IsTextLeft = IsTextOf (grounds_of issuer) shard bytes history
+      ⊎ ((entry : Entry) × IsLegal (grounds_of issuer) shard history entry × (bytes ≡ Some (texts_of (history ++ entry ∷ [])))
+      × IsTextOf (grounds_of issuer) shard bytes (history ++ entry ∷ []))
 
-    -- the rest is no whole record
-    torn : (rest : List ℕ) → left.image ≡ texts_of history ++ rest → IsUnbroken rest → IsTextLeft
-    torn rest image_is unbroken = inl (record {
-      rest = rest;
-      text_is = left.told ∙ ap Some image_is;
-      unbroken = unbroken;
-      records = left.records;
-      legal = left.legal;
-    })
+  -- the rest is no whole record
+  torn : (rest : List ℕ) → left.image ≡ texts_of history ++ rest → IsUnbroken rest → IsTextLeft
+  torn rest image_is unbroken = inl (record {
+    rest = rest;
+    text_is = left.told ∙ ap Some image_is;
+    unbroken = unbroken;
+    records = left.records;
+    legal = left.legal;
+  })
 
-    -- the rest is one
-    whole : (entry : Entry) → IsRecord entry → IsLegal (grounds_now issuer) shard history entry → left.image ≡ texts_of history ++ text_of entry → IsTextLeft
-    whole entry valid legal image_is =
-        let bytes_are : bytes ≡ Some (texts_of (history ++ entry ∷ [])) = left.told ∙ ap Some (image_is ∙ texts-more history entry) in
-        inr (
-          entry,
-          legal,
-          bytes_are,
-          record {
-            rest = [];
-            text_is = bytes_are ∙ ap Some (sym (append-nil (texts_of (history ++ entry ∷ []))));
-            unbroken = All-nil (λ byte. byte ≢ newline);
-            records = All-push IsRecord history entry left.records valid;
-            legal = legal-more (grounds_of issuer) shard history entry left.legal (legal-then issuer table shard history entry valid legal);
-          },
-        )
+  -- the rest is one
+  whole : (entry : Entry) → IsRecord entry → IsLegal (grounds_of issuer) shard history entry → left.image ≡ texts_of history ++ text_of entry → IsTextLeft
+  whole entry valid legal image_is =
+      let bytes_are : bytes ≡ Some (texts_of (history ++ entry ∷ [])) = left.told ∙ ap Some (image_is ∙ texts-more history entry) in
+      inr (
+        entry,
+        legal,
+        bytes_are,
+        record {
+          rest = [];
+          text_is = bytes_are ∙ ap Some (sym (append-nil (texts_of (history ++ entry ∷ []))));
+          unbroken = All-nil (λ byte. byte ≢ newline);
+          records = All-push IsRecord history entry left.records valid;
+          legal = legal-more (grounds_of issuer) shard history entry left.legal legal;
+        },
+      )
 
-    text-left : IsTextLeft
-    text-left =
-        let tail = left.left.0 in
-        let kept : ℕ = left.left.2.0 in
-        let image_is : left.image ≡ texts_of history ++ take kept tail = left.left.2.1 in
-        ⊎_elim
-        (λ (none : tail ≡ []). torn (take kept tail) image_is (All-take (λ byte. byte ≢ newline) kept tail
-        (subst IsUnbroken (sym none) (All-nil (λ byte. byte ≢ newline)))))
-        (λ (one : (entry : Entry) × IsRecord entry × IsLegal (grounds_now issuer) shard history entry × (tail ≡ text_of entry)).
-        elim (cases_lt kept (length tail)) [
-          | inl below ↦ torn (take kept tail) image_is (unbroken-front one.0 tail kept one.1 one.3 below)
-          | inr above ↦ whole one.0 one.1 one.2 (image_is ∙ ap (λ l. texts_of history ++ l) (take_all kept tail above ∙ one.3))
-        ])
-        left.left.1
+  text-left : IsTextLeft
+  text-left =
+      let tail = left.left.0 in
+      let kept : ℕ = left.left.2.0 in
+      let image_is : left.image ≡ texts_of history ++ take kept tail = left.left.2.1 in
+      ⊎_elim
+      (λ (none : tail ≡ []). torn (take kept tail) image_is (All-take (λ byte. byte ≢ newline) kept tail
+      (subst IsUnbroken (sym none) (All-nil (λ byte. byte ≢ newline)))))
+      (λ (one : (entry : Entry) × IsRecord entry × IsLegal (grounds_of issuer) shard history entry × (tail ≡ text_of entry)).
+      elim (cases_lt kept (length tail)) [
+        | inl below ↦ torn (take kept tail) image_is (unbroken-front one.0 tail kept one.1 one.3 below)
+        | inr above ↦ whole one.0 one.1 one.2 (image_is ∙ ap (λ l. texts_of history ++ l) (take_all kept tail above ∙ one.3))
+      ])
+      left.left.1
 
-    -- nothing but what is outside stops the load of an image
-    pub image-outside : (fault : LoadFault) → StopsText issuer shard bytes fault → IsOutside fault
-    image-outside fault stops = ⊎_elim
-        (λ (text : IsTextOf (grounds_of issuer) shard bytes history). stops-outside issuer shard bytes history text fault stops)
-        (λ (one : (entry : Entry) × IsLegal (grounds_now issuer) shard history entry × (bytes ≡ Some (texts_of (history ++ entry ∷ [])))
+  -- nothing but what is outside stops the load of an image
+  pub image-outside : (fault : LoadFault) → StopsText issuer shard bytes fault → IsOutside fault
+  image-outside fault stops = ⊎_elim
+      (λ (text : IsTextOf (grounds_of issuer) shard bytes history). stops-outside issuer shard bytes history text fault stops)
+      (λ (one : (entry : Entry) × IsLegal (grounds_of issuer) shard history entry × (bytes ≡ Some (texts_of (history ++ entry ∷ [])))
+      × IsTextOf (grounds_of issuer) shard bytes (history ++ entry ∷ [])).
+      stops-outside issuer shard bytes (history ++ one.0 ∷ []) one.3 fault stops)
+      text-left
+
+  module _ {S : Type 0} {G : Ghosts S} where
+    -- it is loaded to its history, or to it and the record whose text is whole
+    settles-image : (loaded : Shard S G) → IsLoaded issuer shard bytes loaded → StandsForLeft issuer shard bytes history loaded
+    settles-image loaded is = ⊎_elim
+        (λ (text : IsTextOf (grounds_of issuer) shard bytes history). inl (loads-settled issuer shard bytes history text loaded is))
+        (λ (one : (entry : Entry) × IsLegal (grounds_of issuer) shard history entry × (bytes ≡ Some (texts_of (history ++ entry ∷ [])))
         × IsTextOf (grounds_of issuer) shard bytes (history ++ entry ∷ [])).
-        stops-outside issuer shard bytes (history ++ one.0 ∷ []) one.3 fault stops)
+        inr (one.0, one.1, one.2, loads-settled issuer shard bytes (history ++ one.0 ∷ []) one.3 loaded is))
         text-left
 
-    module _ {S : Type 0} {G : Ghosts S} where
-      -- it is loaded to its history, or to it and the record whose text is whole
-      settles-image : (loaded : Shard S G) → IsLoaded issuer shard bytes loaded → StandsForLeft issuer shard bytes history loaded
-      settles-image loaded is = ⊎_elim
-          (λ (text : IsTextOf (grounds_of issuer) shard bytes history). inl (loads-settled issuer shard bytes history text loaded is))
-          (λ (one : (entry : Entry) × IsLegal (grounds_now issuer) shard history entry × (bytes ≡ Some (texts_of (history ++ entry ∷ [])))
-          × IsTextOf (grounds_of issuer) shard bytes (history ++ entry ∷ [])).
-          inr (one.0, one.1, one.2, loads-settled issuer shard bytes (history ++ one.0 ∷ []) one.3 loaded is))
-          text-left
-
-      pub loads-image : (result : Result (Shard S G) (LoadBack S)) → IfOk result (IsLoaded issuer shard bytes)
-          → IfErr result (λ back. StopsText issuer shard bytes back.fault)
-          → MatchResult result (StandsForLeft issuer shard bytes history) (λ back. IsOutside back.fault)
-      loads-image (Ok loaded) is stops = settles-image loaded is
-      loads-image (Err back) is stops = image-outside back.fault stops
+    pub loads-image : (result : Result (Shard S G) (LoadBack S)) → IfOk result (IsLoaded issuer shard bytes)
+        → IfErr result (λ back. StopsText issuer shard bytes back.fault)
+        → MatchResult result (StandsForLeft issuer shard bytes history) (λ back. IsOutside back.fault)
+    loads-image (Ok loaded) is stops = settles-image loaded is
+    loads-image (Err back) is stops = image-outside back.fault stops
 
 -- ---- what a load that failed leaves
 

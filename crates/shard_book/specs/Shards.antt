@@ -102,11 +102,11 @@ pub record IsTextOf (grounds : Grounds) (shard : ℕ) (bytes : Option (List ℕ)
   pub records : All IsRecord history
   pub legal : IsLegalHistory grounds shard history
 
--- the bytes are told, and are an image of this history, which is legal for a later run
+-- the bytes are told, and are an image of this history, which is legal whatever decision table an earlier run had
 pub record IsImageLeft (issuer : Setup) (shard : ℕ) (bytes : Option (List ℕ)) (history : List Entry) : Type 0 where
   pub image : List ℕ
   pub told : bytes ≡ Some image
-  pub left : IsImageOf (grounds_now issuer) shard history image
+  pub left : IsImageOf (grounds_of issuer) shard history image
   pub records : All IsRecord history
   pub legal : IsLegalHistory (grounds_of issuer) shard history
 
@@ -119,7 +119,7 @@ pub record IsSettled {S : Type 0} {G : Ghosts S} (issuer : Setup) (shard : Shard
 abbrev pub StandsForLeft : {S : Type 0} {G : Ghosts S} → Setup → ℕ → Option (List ℕ) → List Entry → Shard S G → Type 0
 StandsForLeft issuer number bytes history shard =
     IsSettled issuer shard history
-    ⊎ ((entry : Entry) × IsLegal (grounds_now issuer) number history entry × (bytes ≡ Some (texts_of (history ++ entry ∷ [])))
+    ⊎ ((entry : Entry) × IsLegal (grounds_of issuer) number history entry × (bytes ≡ Some (texts_of (history ++ entry ∷ [])))
     × IsSettled issuer shard (history ++ entry ∷ []))
 
 -- the bytes were those of records and a rest without a newline, and now are those of the records alone

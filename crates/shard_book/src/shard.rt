@@ -79,7 +79,7 @@ impl<S: Store> Shard<S> {
         ensures exact { (history : List Entry) → IsTextOf (grounds_of issuer.now) shard (S.bytes store) history
             → MatchResult result (λ loaded. IsSettled issuer.now loaded history) (λ back. IsOutside back.fault) }
 
-        // So is what a crash left of a history: to the history, or to it and the one record whose text is whole.
+        // So is what a crash left of a history, under whatever decision table: to the history, or to it and the one record whose text is whole.
         ensures image { (history : List Entry) → IsImageLeft issuer.now shard (S.bytes store) history
             → MatchResult result (StandsForLeft issuer.now shard (S.bytes store) history) (λ back. IsOutside back.fault) }
         ensures table { HasTable issuer.now }

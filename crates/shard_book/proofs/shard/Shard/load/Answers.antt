@@ -25,8 +25,7 @@ returns-in-Ok-clause-exact g c history text =
 pub returns-in-Ok-clause-image : goal.returns-in-Ok-clause-image
 returns-in-Ok-clause-image g c history left =
     let reads = c.in-Ok.ensures.taken in
-    let table = c.has_table.ensures in
-    loads-image c.args.issuer.now table c.args.shard (g.S.Store.bytes c.args.store) history left c.open.result
+    loads-image c.args.issuer.now c.args.shard (g.S.Store.bytes c.args.store) history left c.open.result
     (opens-loaded c.args.issuer.now c.args.shard (g.S.Store.bytes c.args.store) (g.S.Store.bytes c.take_over.new.store) c.in-Ok.field-0.rows
     c.in-Ok.field-0.taken reads c.open.result c.in-Ok.ensures.bytes c.in-Ok.ensures.rows.1 c.open.ensures.rows c.open.ensures.holds)
     (opens-stopped c.args.issuer.now c.args.shard (g.S.Store.bytes c.args.store) (g.S.Store.bytes c.take_over.new.store) c.in-Ok.field-0.rows
@@ -67,8 +66,7 @@ returns-in-Err-clause-exact g c history text =
 
 pub returns-in-Err-clause-image : goal.returns-in-Err-clause-image
 returns-in-Err-clause-image g c history left =
-    let table = c.has_table.ensures in
-    image-outside c.args.issuer.now table c.args.shard (g.S.Store.bytes c.args.store) history left c.in-Err.fault c.in-Err.ensures.stopped
+    image-outside c.args.issuer.now c.args.shard (g.S.Store.bytes c.args.store) history left c.in-Err.fault c.in-Err.ensures.stopped
 
 pub returns-in-Err-clause-table : goal.returns-in-Err-clause-table
 returns-in-Err-clause-table g c = c.has_table.ensures
