@@ -12,3 +12,4 @@ pub mod Loaded
 pub mod LoadCrash
 pub mod OwnDecisions
 pub mod Exactly
+pub mod Restarts

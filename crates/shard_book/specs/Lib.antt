@@ -7,3 +7,5 @@ pub mod Recorded
 pub mod Answering
 pub mod LineAhead
 pub mod Loading
+pub mod Histories
+pub mod Restarts

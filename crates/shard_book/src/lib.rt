@@ -2,12 +2,14 @@
 #![tactic(auto)]
 
 mod adopting;
+mod law;
 mod reading;
 mod replay;
 mod rows;
 mod shard;
 mod table;
 
+pub use law::every_image_loads_again;
 pub use replay::LoadFault;
 pub use shard::{LoadBack, Shard};
 pub use table::has_table;
