@@ -5,3 +5,15 @@ pub mod Giving
 pub mod EmptyBooks
 pub mod Steps
 pub mod Text
+pub mod PlayedCards
+pub mod PlayedReplies
+pub mod PlayedRequests
+pub mod PlayedWorlds
+pub mod PlayedAnswers
+pub mod PlayedQueues
+pub mod PlayedRuns
+pub mod PlayedHands
+pub mod PlayedMoves
+pub mod PlayedFates
+pub mod PlayedStates
+pub mod PlayedCounts

@@ -5,3 +5,4 @@ pub mod Handing
 pub mod Moves
 pub mod Play
 pub mod Reaching
+pub mod Genuine

@@ -4,6 +4,7 @@
 
 mod handing;
 mod house;
+mod law;
 mod moves;
 mod opening;
 mod player;
@@ -14,5 +15,6 @@ mod setting;
 mod summary;
 mod totals;
 
+pub use law::{every_played_world_is_genuine, every_played_world_is_in_order};
 pub use run::{MAX_STEPS, play};
 pub use summary::{SUMMARY_ROOM, Summary, write_summary};
