@@ -1,5 +1,7 @@
 -- What a played run comes to is in order, since its last state is the end of a genuine run.
-use Rattle.std.proofs.Common.{◌≡◌, ℕ, zero, suc, ◌+◌, ◌%◌, ◌<◌, ◌≤◌, Bool, false, List, [], ◌∷◌, length, get_or, Option, Some, refl, ap, sym, ◌∙◌, subst, arith}
+use Rattle.std.proofs.Common.{◌≡◌, ℕ, zero, suc, ◌+◌, ◌%◌, ◌<◌, ◌≤◌, Bool, false, List, [], ◌∷◌, length, get_or, Option, Some, refl, ap, sym, ◌∙◌, subst, arith, Result, IfOk, ◌*◌}
+use Rattle.std.proofs.lemmas.Result.{IfOk-weaker}
+use Rattle.issuer_base.specs.declared.limits.TheConstants.{MAX_CARDS}
 use Rattle.std.specs.Prelude.{slice_get, sum_by}
 use Rattle.std.proofs.lemmas.List.Sums.{sum_by-cons}
 use Rattle.std.proofs.lemmas.Option.{same_Some, slice_get_within}
@@ -96,3 +98,10 @@ every-order cards steps seed summary can comes =
     let valid = issuer-valid cards can.some can.few in
     let it = states cards seed valid can.some steps can.counters comes.last comes.is_after in
     subst AreInOrder (sym comes.summary_is) (state-order cards steps it.0 comes.last valid it.1)
+
+-- whatever is played
+pub played-order : {E : Type 0} (result : Result Summary E) (cards steps seed : ℕ) → 1 ≤ cards → cards ≤ MAX_CARDS → steps ≤ 65535 * cards
+    → IfOk result (ComesTo cards steps seed) → IfOk result AreInOrder
+played-order result cards steps seed some few counters comes =
+    IfOk-weaker result (ComesTo cards steps seed) AreInOrder
+    (λ summary. every-order cards steps seed summary (record { some = some; few = few; counters = counters })) comes

@@ -1,6 +1,7 @@
 //! A run: its steps, one after another, and what it comes to.
 ghost use Rattle.std.specs.Prelude.{◌≡◌, ◌*◌, ◌≤◌, length, IfOk};
 ghost use Rattle.issuer_base.specs.declared.limits.TheConstants.{MAX_CARDS};
+ghost use Rattle.world_play.specs.Genuine.{AreInOrder};
 ghost use Rattle.world_play.specs.Play.{ComesTo};
 ghost use Rattle.world_play.specs.Reaching.{IsAt};
 
@@ -18,8 +19,8 @@ use world_net::fate;
 /// How many steps a run has at most.
 pub const MAX_STEPS: u32 = 200_000;
 
-/// Plays so many steps of so many cards: what it comes to. The seed turns the fates of the steps, and stands in
-/// their unpredictable numbers.
+/// Plays so many steps of so many cards: what it comes to, and that its counts are in order. The seed turns the fates of
+/// the steps, and stands in their unpredictable numbers.
 ///
 /// Where no memory is left nothing is told. All of the stores' memory is taken at first; later only what the cards
 /// run takes any.
@@ -27,7 +28,8 @@ pub fn play(alloc: Global, cards: u32, steps: u32, seed: u32) -> Result<Summary,
     requires cards { (1 ≤ cards) × (cards ≤ MAX_CARDS) }
     requires steps { steps ≤ MAX_STEPS }
     requires counters { steps ≤ 65_535 * cards }
-    ensures { IfOk result (ComesTo cards steps seed) }
+    ensures comes_to { IfOk result (ComesTo cards steps seed) }
+    ensures in_order { IfOk result AreInOrder }
 {
     let mut players = new_players(alloc, cards)?;
     let mut house = new_house(alloc, cards, steps)?;
