@@ -1,9 +1,9 @@
 -- What the host's answer to a request makes of a world of a played run: a new decision is claimed, written and sent, and a kept reply is sent again.
-use Rattle.std.proofs.Common.{◌≡◌, ◌≢◌, ℕ, zero, suc, ◌+◌, ◌%◌, ◌<◌, ◌≤◌, Bool, true, false, List, [], ◌∷◌, ◌++◌, length, set, map, get_or, take, Option, Some, None, Ok, IsTrue}
-use Rattle.std.proofs.Common.{Contains, refl, ap, sym, ◌∙◌, subst, inl, inr, ◌⊎◌, arith}
+use Rattle.std.proofs.Common.{◌≡◌, ℕ, zero, suc, ◌<◌, true, false, List, [], ◌∷◌, ◌++◌, length, set, get_or, Option, Some, None, IsTrue}
+use Rattle.std.proofs.Common.{Contains, refl, ap, sym, ◌∙◌, subst}
 use Rattle.std.specs.Prelude.{slice_get, slice_set}
 use Rattle.std.specs.Option.{option_map, option_map_or}
-use Rattle.std.proofs.lemmas.Bool.{true≢false, false≢true}
+use Rattle.std.proofs.lemmas.Bool.{true≢false}
 use Rattle.std.proofs.lemmas.List.{map-set}
 use Rattle.std.proofs.lemmas.List.Elements.{Contains-push}
 use Rattle.std.proofs.lemmas.Option.{same_Some, none-some, slice_get-map, get_or_from_slice_get}
@@ -19,19 +19,18 @@ use Rattle.issuer_base.specs.declared.entry.Entry.{Entry}
 use Rattle.issuer_base.specs.declared.entry.Entry.TheVariants.{Decided}
 use Rattle.issuer_base.specs.ChipData.{amount_value}
 use Rattle.issuer_base.proofs.ChipDataLemmas.{amount_value-below}
-use Rattle.card_history.specs.declared.decision.Decision.{Decision}
 use Rattle.card_history.specs.LegalRecords.{IsLegalDecision}
 use Rattle.card_history.specs.OneReply.{reply_in}
 use Rattle.card_history.specs.Records.{CardName, card_of, status_of}
 use Rattle.card_history.specs.Scripts.{scripts_of}
-use Rattle.card_history.specs.Turns.{IsUnused, IsUsed, decided_for}
+use Rattle.card_history.specs.Turns.{IsUnused, decided_for}
 use Rattle.card_history.proofs.RecordPlaces.{decided-recorded}
 use Rattle.decision_table.specs.declared.row.TableRow.{TableRow}
 use Rattle.decision_table.specs.Fitting.{decision}
 use Rattle.decision_table.specs.Tables.{is_table, tells_approval, takes_all}
 use Rattle.decision_table.proofs.DecisionLemmas.{decides, decision-table}
 use Rattle.issuer_setup.specs.declared.card.CardInfo.{CardInfo}
-use Rattle.issuer_setup.specs.CardList.{name_of, number_of}
+use Rattle.issuer_setup.specs.CardList.{number_of}
 use Rattle.issuer_setup.specs.IssuerSetup.{Setup, shard_of, keys_of}
 use Rattle.issuer_setup.proofs.Shards.{shard_of-known}
 use Rattle.key_derive.specs.CardKey.{card_keys}

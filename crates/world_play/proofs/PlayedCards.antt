@@ -1,18 +1,16 @@
 -- The issuer of a played run is one, and each of its cards has the number that it is made for.
-use Rattle.std.proofs.Common.{◌≡◌, ◌≢◌, ℕ, ◌+◌, ◌*◌, ◌/◌, ◌%◌, ◌<◌, ◌≤◌, true, List, length, map, All, Some, IsTrue, refl, ap, sym, subst, ◌∙◌, inl, inr, arith}
+use Rattle.std.proofs.Common.{◌≡◌, ◌≢◌, ℕ, ◌+◌, ◌*◌, ◌/◌, ◌%◌, ◌<◌, ◌≤◌, length, All, Some, IsTrue, refl, ap, sym, subst, ◌∙◌, arith}
 use Rattle.std.specs.Prelude.{slice_get, slice_index, slice_index_or, AllPairs}
-use Rattle.std.specs.List.{range_with_len}
 use Rattle.std.proofs.lemmas.List.FromFn.{length-map-range_with_len, get_or-map-range_with_len}
 use Rattle.std.proofs.lemmas.Option.{slice_get_within, slice_get-get_or, get_or_from_slice_get}
 use Rattle.issuer_base.specs.declared.limits.TheConstants.{MAX_CARDS}
 use Rattle.issuer_base.specs.ChipData.{is_bcd}
 use Rattle.card_history.specs.Records.{CardName}
 use Rattle.issuer_setup.specs.declared.card.CardInfo.{CardInfo}
-use Rattle.issuer_setup.specs.CardList.{AreCards, name_of, number_of}
-use Rattle.issuer_setup.specs.Shards.{are_shards}
+use Rattle.issuer_setup.specs.CardList.{name_of, number_of}
 use Rattle.world_net.specs.WorldRuns.{IsIssuer}
 use Rattle.world_net.proofs.KeptWorlds.{number_of-own}
-use Rattle.world_play.specs.Setting.{six_digits, card_info, issuer}
+use Rattle.world_play.specs.Setting.{card_info, issuer}
 
 -- a number is told by its last six digits
 from_digits : (n : ℕ) → n < 1000000

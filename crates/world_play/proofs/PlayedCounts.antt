@@ -1,19 +1,17 @@
 -- What a played run comes to is in order, since its last state is the end of a genuine run.
-use Rattle.std.proofs.Common.{◌≡◌, ℕ, zero, suc, ◌+◌, ◌%◌, ◌<◌, ◌≤◌, Bool, false, List, [], ◌∷◌, length, get_or, Option, Some, refl, ap, sym, ◌∙◌, subst, arith, Result, IfOk, ◌*◌}
+use Rattle.std.proofs.Common.{◌≡◌, ℕ, suc, ◌%◌, ◌<◌, ◌≤◌, List, [], ◌∷◌, length, get_or, Some, refl, ap, sym, ◌∙◌, subst, arith, Result, IfOk, ◌*◌}
 use Rattle.std.proofs.lemmas.Result.{IfOk-weaker}
 use Rattle.issuer_base.specs.declared.limits.TheConstants.{MAX_CARDS}
 use Rattle.std.specs.Prelude.{slice_get, sum_by}
 use Rattle.std.proofs.lemmas.List.Sums.{sum_by-cons}
-use Rattle.std.proofs.lemmas.Option.{same_Some, slice_get_within}
 use Rattle.issuer_base.specs.declared.entry.Entry.{Entry}
-use Rattle.card_history.specs.Scripts.{scripts_of}
 use Rattle.issuer_setup.specs.declared.card.CardInfo.{CardInfo}
 use Rattle.issuer_setup.specs.CardList.{name_of}
 use Rattle.issuer_setup.specs.IssuerSetup.{Setup, shard_of}
 use Rattle.issuer_setup.proofs.Shards.{shard_of-known}
 use Rattle.host_calls.specs.Books.{histories_of as book_histories}
 use Rattle.host_calls.proofs.Places.{read-within}
-use Rattle.world_net.specs.WorldState.{WorldState, shard_at, histories_of}
+use Rattle.world_net.specs.WorldState.{WorldState, shard_at}
 use Rattle.world_net.specs.WorldRuns.{IsIssuer}
 use Rattle.world_net.specs.Safety.{RanInOrder}
 use Rattle.world_net.proofs.Hosts.{histories-at}
@@ -24,7 +22,7 @@ use Rattle.world_play.specs.Genuine.{CanBePlayed, AreInOrder}
 use Rattle.world_play.specs.Play.{State, ComesTo, shown, one_if, summed}
 use Rattle.world_play.specs.Setting.{card_info, issuer}
 use Rattle.world_play.proofs.PlayedCards.{issuer-valid, card-at, card-is, cards-count, number-known}
-use Rattle.world_play.proofs.PlayedWorlds.{IsPlayed, played-kept}
+use Rattle.world_play.proofs.PlayedWorlds.{played-kept}
 use Rattle.world_play.proofs.PlayedStates.{IsStateOf, states}
 
 -- sums of numbers of which each is within another

@@ -1,5 +1,5 @@
 -- The steps of a played run, fate by fate.
-use Rattle.std.proofs.Common.{◌≡◌, ℕ, zero, suc, ◌+◌, ◌<◌, ◌≤◌, ◌==◌, Bool, true, false, List, [], ◌∷◌, Option, Some, None, refl, ap, sym, ◌∙◌, subst, arith}
+use Rattle.std.proofs.Common.{◌≡◌, ℕ, ◌+◌, ◌<◌, ◌==◌, Bool, true, false, List, [], ◌∷◌, Option, Some, None, refl, sym, subst, arith}
 use Rattle.std.specs.Prelude.{if◌then◌else◌}
 use Rattle.issuer_base.specs.declared.request.Request.{Request}
 use Rattle.world_net.specs.WorldState.{WorldState}
@@ -8,7 +8,7 @@ use Rattle.world_play.specs.declared.moves.Move.{Move}
 use Rattle.world_play.specs.declared.moves.Move.TheVariants.{Queue, Tap, Ask, AskSpoiled, Hold, TakeHeld, Hand, HandFirst, HandSpoiled}
 use Rattle.world_play.specs.declared.setting.Step.{Step}
 use Rattle.world_play.specs.Moves.{moves_of}
-use Rattle.world_play.specs.Play.{Stage, Makes, MakesAll}
+use Rattle.world_play.specs.Play.{Stage, MakesAll}
 use Rattle.world_play.specs.Setting.{issuer}
 use Rattle.world_play.proofs.PlayedWorlds.{later-same, later-then}
 use Rattle.world_play.proofs.PlayedMoves.{IsIdle, IsAsking, IsTapped, IsReplying, GoesTo, queue-move, tap-move, ask-move, ask-newest, spoil-move, hand-move}

@@ -1,10 +1,10 @@
 -- A reply that reaches a card of a played run: the issuer's answer, and the script commands behind it.
-use Rattle.std.proofs.Common.{◌≡◌, ◌≢◌, ℕ, zero, suc, ◌+◌, ◌%◌, ◌<◌, ◌≤◌, Bool, true, false, List, [], ◌∷◌, ◌++◌, length, take, drop, Option, Some, None}
-use Rattle.std.proofs.Common.{Contains, refl, ap, ap₂, sym, ◌∙◌, subst, inl, inr, ◌⊎◌, arith, append_assoc, cond}
+use Rattle.std.proofs.Common.{◌≡◌, ℕ, zero, suc, Bool, true, false, List, [], ◌∷◌, length, take, drop, Option, Some, None}
+use Rattle.std.proofs.Common.{Contains, refl, ap, ap₂, sym, ◌∙◌, subst, inl, inr, ◌⊎◌, cond}
 use Rattle.std.specs.Prelude.{slice_get}
 use Rattle.std.specs.Option.{option_map_or}
-use Rattle.std.proofs.lemmas.Bool.{false≢true, cases_Bool}
-use Rattle.std.proofs.lemmas.Option.{same_Some, none-some}
+use Rattle.std.proofs.lemmas.Bool.{false≢true}
+use Rattle.std.proofs.lemmas.Option.{same_Some}
 use Rattle.issuer_base.specs.declared.answer.Method.{Method}
 use Rattle.issuer_base.specs.declared.answer.Reply.{Reply}
 use Rattle.issuer_base.specs.declared.command.Command.{Command}
@@ -15,43 +15,36 @@ use Rattle.cvr_settle.specs.declared.settlement.Flight.{Flight}
 use Rattle.cvr_settle.specs.declared.settlement.Settled.TheVariants.{Ran, Nothing, Halt}
 use Rattle.cvr_settle.specs.Settlement.{settled}
 use Rattle.issuer_base.specs.ChipData.{last_online, script_count}
-use Rattle.card_history.specs.Records.{CardName, card_of, is_of, queue, has_numbers}
+use Rattle.card_history.specs.Records.{CardName, card_of, queue, has_numbers}
 use Rattle.card_history.specs.Scripts.{Scripts, scripts_of, batch_of, first_of, is_newest, in_flight, with_newest, launched, settled_by, undone}
 use Rattle.card_history.specs.ScriptOrder.{IsSentAt}
-use Rattle.card_history.specs.LegalRecords.{IsLegalDecision}
 use Rattle.card_history.proofs.CardNames.{is_of-card_of}
 use Rattle.card_history.proofs.ScriptSteps.{scripts-queue}
 use Rattle.issuer_setup.specs.declared.card.CardInfo.{CardInfo}
 use Rattle.issuer_setup.specs.CardList.{number_of}
-use Rattle.issuer_setup.specs.IssuerSetup.{Setup, shard_of, keys_of}
+use Rattle.issuer_setup.specs.IssuerSetup.{Setup, keys_of}
 use Rattle.key_derive.specs.CardKey.{card_keys}
 use Rattle.key_derive.specs.SessionKey.{session_ac, session_sm}
 use Rattle.key_derive.specs.declared.card.CardKeys.{CardKeys}
-use Rattle.tlv_objects.specs.Writing.{object_text}
 use Rattle.arpc_methods.specs.Arpc.{value91}
 use Rattle.secure_msg.specs.Batch.{sealed_commands}
 use Rattle.row_core.specs.Accepting.{told_update}
 use Rattle.row_core.specs.Replying.{script_bytes}
-use Rattle.shard_book.specs.Grounds.{IsMadeBy, grounds_of}
 use Rattle.card_model.specs.Application.{CardState, is_answer}
 use Rattle.card_model.specs.CardSteps.{CardStep, Authenticate as IsAuthenticate, authenticated, answered_at, with_answer}
 use Rattle.card_model.proofs.Steps.{answer-right, answer-wrong}
-use Rattle.world_net.specs.declared.event.Event.{Event}
 use Rattle.world_net.specs.declared.event.Event.TheVariants.{Authenticate}
-use Rattle.world_net.specs.declared.parts.Exchange.{Exchange}
-use Rattle.world_net.specs.WorldState.{WorldState, shard_at, record_in, home_of, history_for, with_card}
-use Rattle.world_net.specs.WorldRuns.{IsIssuer, HasValue}
-use Rattle.world_net.proofs.Hosts.{at}
+use Rattle.world_net.specs.WorldState.{WorldState, shard_at, home_of, history_for, with_card}
+use Rattle.world_net.specs.WorldRuns.{IsIssuer}
 use Rattle.world_net.proofs.NetWrites.{home-shard}
 use Rattle.world_play.specs.Handing.{answer_in, commands_in, spoil_first, after_commands, where_right, after_answer}
-use Rattle.world_play.specs.Play.{given_card}
 use Rattle.world_play.specs.Setting.{key_set, card_info, issuer}
 use Rattle.world_play.proofs.PlayedCards.{card-at}
 use Rattle.world_play.proofs.PlayedReplies.{reply_text, answer-found, commands-found, answer_to, answer-accepted, spoiled-wrong}
 use Rattle.world_play.proofs.PlayedRequests.{IsIssued, IsRight, issued-answer}
-use Rattle.world_play.proofs.PlayedWorlds.{IsPlayed, IsSendable, IsLater, played-sound}
+use Rattle.world_play.proofs.PlayedWorlds.{IsPlayed, IsSendable, played-sound}
 use Rattle.world_play.proofs.PlayedAnswers.{right-known}
-use Rattle.world_play.proofs.PlayedRuns.{IsMoved, HasMoved, moved-none, moved-once, moved-then, IsRunning, AreSendable, CanRun, run-all}
+use Rattle.world_play.proofs.PlayedRuns.{IsMoved, HasMoved, moved-once, moved-then, IsRunning, AreSendable, CanRun, run-all}
 
 -- ---- the commands of a batch can be opened
 

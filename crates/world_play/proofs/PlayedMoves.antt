@@ -1,6 +1,6 @@
 -- The moves of a step, each as events of a world of a played run.
-use Rattle.std.proofs.Common.{◌≡◌, ◌≢◌, ℕ, zero, suc, ◌+◌, ◌%◌, ◌<◌, ◌≤◌, Bool, true, false, List, [], ◌∷◌, ◌++◌, length, set, map, cond, take, Option, Some, None, Ok, Result}
-use Rattle.std.proofs.Common.{Contains, All, refl, ap, ap₂, sym, ◌∙◌, subst, inl, inr, ◌⊎◌, arith}
+use Rattle.std.proofs.Common.{◌≡◌, ◌≢◌, ℕ, ◌+◌, ◌<◌, ◌≤◌, true, false, List, [], ◌∷◌, length, map, cond, take, Option, Some, None, Result}
+use Rattle.std.proofs.Common.{Contains, refl, ap, ap₂, sym, ◌∙◌, subst, inl, inr, arith}
 use Rattle.std.specs.Prelude.{slice_get}
 use Rattle.std.proofs.lemmas.Bool.{ne_eqb, true≢false}
 use Rattle.std.proofs.lemmas.List.{take_all}
@@ -17,20 +17,18 @@ use Rattle.issuer_base.specs.declared.request.Request.{Request}
 use Rattle.issuer_base.specs.declared.entry.Entry.{Entry}
 use Rattle.issuer_base.specs.declared.entry.Entry.TheVariants.{Decided}
 use Rattle.card_history.specs.declared.decision.Asked.{Asked}
-use Rattle.card_history.specs.declared.decision.Asked.TheVariants.{Decide}
 use Rattle.card_history.specs.declared.decision.Decision.{Decision}
 use Rattle.card_history.specs.OneReply.{reply_in}
 use Rattle.card_history.specs.Records.{CardName, card_of, greatest}
-use Rattle.card_history.specs.Turns.{decided_for, IsUsed}
+use Rattle.card_history.specs.Turns.{decided_for}
 use Rattle.card_history.proofs.RecordPlaces.{decided-recorded}
 use Rattle.card_history.proofs.CardNames.{is_of-names}
 use Rattle.card_model.specs.declared.card.TheConstants.{LAST_COUNTER}
 use Rattle.card_model.specs.declared.terminal.Terminal.{Terminal}
 use Rattle.card_model.specs.Application.{CardState, next_fields, next_request}
 use Rattle.card_model.specs.CardSteps.{tapped, with_open}
-use Rattle.issuer_setup.specs.CardList.{name_of, number_of}
+use Rattle.issuer_setup.specs.CardList.{number_of}
 use Rattle.issuer_setup.specs.IssuerSetup.{Setup, shard_of}
-use Rattle.line_checks.specs.Reading.{reading}
 use Rattle.row_core.specs.Replying.{reply_to}
 use Rattle.shard_book.specs.Answering.{is_store_fault, AnswersClaimed}
 use Rattle.request_text.specs.ChipText.{request_line}
@@ -38,23 +36,22 @@ use Rattle.host_calls.specs.Books.{Book, histories_of as book_histories}
 use Rattle.host_calls.specs.Turns.{Turn, AnswersIn}
 use Rattle.host_calls.proofs.Places.{read-written, read-other}
 use Rattle.world_net.specs.declared.parts.MadeRequest.{MadeRequest}
-use Rattle.world_net.specs.WorldState.{WorldState, ShardState, shard_at, record_in, home_of, history_for, histories_of, with_card}
-use Rattle.world_net.specs.WorldRuns.{IsIssuer, IsMade}
+use Rattle.world_net.specs.WorldState.{WorldState, ShardState, shard_at, home_of, history_for, histories_of}
+use Rattle.world_net.specs.WorldRuns.{IsIssuer}
 use Rattle.world_net.proofs.Batches.{greatest-one}
 use Rattle.world_net.proofs.KeptWorlds.{Made}
-use Rattle.world_play.specs.declared.player.Player.{Player}
 use Rattle.world_play.specs.declared.setting.Step.{Step}
 use Rattle.world_play.specs.declared.summary.Summary.{Summary}
 use Rattle.world_play.specs.declared.moves.Move.TheVariants.{Queue, Tap, Ask, AskSpoiled, Hold, TakeHeld, Hand, HandFirst, HandSpoiled}
-use Rattle.world_play.specs.Handing.{answer_in, commands_in, spoil_first, after_commands, after_answer}
-use Rattle.world_play.specs.Play.{Stage, IsAnswered, IsAsked, Makes, after_tap, answered, given_card, given_tally, handed, spoiled, with_tap}
+use Rattle.world_play.specs.Handing.{answer_in, commands_in, spoil_first, after_answer}
+use Rattle.world_play.specs.Play.{Stage, IsAnswered, IsAsked, Makes, answered, given_card, given_tally, handed, spoiled, with_tap}
 use Rattle.world_play.specs.Setting.{card_info, issuer, terminal_of}
-use Rattle.world_play.proofs.PlayedCards.{card-at, number-known}
-use Rattle.world_play.proofs.PlayedRequests.{IsIssued, IsRight, issued-open, right-next, amount-decimal}
+use Rattle.world_play.proofs.PlayedCards.{card-at}
+use Rattle.world_play.proofs.PlayedRequests.{IsRight, issued-open, right-next, amount-decimal}
 use Rattle.world_play.proofs.PlayedWorlds.{IsPlayed, IsLater, later-same, later-then, played-kept, played-tapped, after_tapped}
 use Rattle.world_play.proofs.PlayedAnswers.{book-history, right-known, IsAfterAnswer, answered-world}
-use Rattle.world_play.proofs.PlayedQueues.{line-queues, queued_command, command-sendable, IsAfterQueue, queued-world}
-use Rattle.world_play.proofs.PlayedRuns.{IsMoved, HasMoved, IsRunning}
+use Rattle.world_play.proofs.PlayedQueues.{line-queues, queued_command, command-sendable, queued-world}
+use Rattle.world_play.proofs.PlayedRuns.{IsMoved, IsRunning}
 use Rattle.world_play.proofs.PlayedHands.{IsOpen, IsHanded, value_to, sealed_to, reply-made, value-found, sealed-found, handed-first, handed-some, handed-spoiled}
 
 -- ---- a world and a stage

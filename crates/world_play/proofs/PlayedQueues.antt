@@ -1,13 +1,11 @@
 -- What the line that queues a command makes of a world of a played run.
-use Rattle.std.proofs.Common.{◌≡◌, ℕ, zero, suc, ◌/◌, ◌%◌, ◌<◌, ◌≤◌, Bool, true, false, List, [], ◌∷◌, ◌++◌, length, Option, Some, None, Ok, IsTrue}
+use Rattle.std.proofs.Common.{◌≡◌, ℕ, suc, ◌/◌, ◌%◌, ◌<◌, false, List, [], ◌∷◌, Option, Some, Ok}
 use Rattle.std.proofs.Common.{Contains, refl, ap, sym, ◌∙◌, subst, arith, lit<, slice_index}
-use Rattle.std.specs.Prelude.{slice_get, slice_set}
+use Rattle.std.specs.Prelude.{slice_get}
 use Rattle.std.specs.Int.{w32, to_be_bytes}
 use Rattle.std.proofs.lemmas.Bool.{true≢false}
 use Rattle.hex.specs.Hex.{IsBytes, encode_with, encode_lower, lower_digits}
 use Rattle.hex.proofs.HexLemmas.{IsDigits-lower_digits}
-use Rattle.issuer_base.specs.ChipData.{is_bcd}
-use Rattle.issuer_base.specs.CardNumber.{is_pan}
 use Rattle.issuer_base.specs.ScriptCommand.{is_command}
 use Rattle.issuer_base.specs.declared.answer.Answer.{Answer}
 use Rattle.issuer_base.specs.declared.answer.Answer.TheVariants.{Fresh, Kept, Queued as IsQueuedAnswer, Set as IsSetAnswer, Refused}
@@ -19,7 +17,6 @@ use Rattle.issuer_base.specs.declared.entry.Entry.{Entry}
 use Rattle.issuer_base.specs.declared.entry.Entry.TheVariants.{Queued}
 use Rattle.card_history.specs.declared.decision.Asked.TheVariants.{Queue}
 use Rattle.card_history.specs.LegalRecords.{IsLegalCommand}
-use Rattle.card_history.specs.Records.{CardName, named}
 use Rattle.card_history.specs.Scripts.{waiting, scripts_of}
 use Rattle.script_queue.specs.CommandQueue.{TakesOneMore}
 use Rattle.chip_request.specs.Lines.{Spells, SpellsByte, Says}
@@ -27,8 +24,7 @@ use Rattle.chip_request.specs.LineParts.{line_of}
 use Rattle.chip_request.specs.declared.line.LineKind.TheVariants.{Queue as IsQueueLine}
 use Rattle.chip_request.proofs.LineLaws.{line_reads, reads_once}
 use Rattle.secure_msg.specs.Commands.{command_of}
-use Rattle.issuer_setup.specs.declared.card.CardInfo.{CardInfo}
-use Rattle.issuer_setup.specs.CardList.{name_of, number_of}
+use Rattle.issuer_setup.specs.CardList.{name_of}
 use Rattle.issuer_setup.specs.IssuerSetup.{Setup, shard_of}
 use Rattle.issuer_setup.proofs.Shards.{shard_of-known}
 use Rattle.line_checks.specs.Reading.{said_by, command_for, reading}

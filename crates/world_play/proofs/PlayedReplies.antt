@@ -1,13 +1,13 @@
 -- What a terminal finds in a reply of the issuer, and what its card finds right.
-use Rattle.std.proofs.Common.{◌≡◌, ◌≢◌, ℕ, zero, suc, ◌+◌, ◌≤◌, Bool, true, false, ◌&&◌, List, [], ◌∷◌, ◌++◌, length, take, drop, map, Option, Some, None}
-use Rattle.std.proofs.Common.{refl, ap, sym, inl, inr, subst, ◌∙◌, arith, length-append, append_assoc, append-nil}
+use Rattle.std.proofs.Common.{◌≡◌, ◌≢◌, ℕ, ◌+◌, ◌≤◌, true, false, ◌&&◌, List, [], ◌∷◌, ◌++◌, length, take, drop, map, Option, Some, None}
+use Rattle.std.proofs.Common.{refl, ap, sym, inl, inr, ◌∙◌, arith, length-append, append_assoc, append-nil}
 use Rattle.std.specs.Prelude.{option_map, bit_xor, nat_le, slice_index}
 use Rattle.std.specs.Str.{bytes_eq}
 use Rattle.std.specs.List.{find, filter, flat_map}
 use Rattle.std.specs.Option.{option_map_or}
 use Rattle.std.specs.Int.{w32, to_be_bytes}
 use Rattle.std.specs.Int.Bits.{xor_self, xor_assoc}
-use Rattle.std.proofs.lemmas.Bool.{false≢true, cases_Bool, and_parts, le-leb, and_from}
+use Rattle.std.proofs.lemmas.Bool.{cases_Bool, and_parts, le-leb, and_from}
 use Rattle.std.proofs.lemmas.List.{drop_at, take_all}
 use Rattle.std.proofs.lemmas.Slice.Eq.{bytes_eq-Decides}
 use Rattle.issuer_base.specs.declared.answer.Method.{Method}
@@ -19,7 +19,6 @@ use Rattle.tlv_objects.specs.Writing.{object_text}
 use Rattle.tlv_objects.proofs.Texts.{nothing_in}
 use Rattle.tlv_objects.proofs.Written.{objects_behind_text}
 use Rattle.key_derive.specs.SessionKey.{session_ac, session_sm}
-use Rattle.key_derive.specs.declared.card.CardKeys.{CardKeys}
 use Rattle.secure_msg.specs.Batch.{sealed_commands, template_bytes}
 use Rattle.arpc_methods.specs.Arpc.{value91, method1, method2}
 use Rattle.arpc_methods.proofs.Lengths.{length-method1, length-method2}

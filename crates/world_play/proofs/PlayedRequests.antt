@@ -1,8 +1,7 @@
 -- The request that a card of a played run makes: the issuer decides it, and refuses it with a changed cryptogram.
-use Rattle.std.proofs.Common.{◌≡◌, ◌≢◌, ℕ, zero, suc, ◌+◌, ◌*◌, ◌/◌, ◌%◌, ◌^◌, ◌<◌, ◌≤◌, ◌==◌, Bool, true, false, cond, List, [], ◌∷◌, ◌++◌, length, map}
-use Rattle.std.proofs.Common.{replicate, Some, None, Ok, Err, IsTrue, refl, ap, ap₂, sym, subst, ◌∙◌, inl, inr, lit<, arith, Option, Result}
+use Rattle.std.proofs.Common.{◌≡◌, ◌≢◌, ℕ, zero, suc, ◌+◌, ◌*◌, ◌/◌, ◌%◌, ◌^◌, ◌<◌, ◌≤◌, ◌==◌, Bool, true, false, List, [], ◌∷◌, ◌++◌, length, map}
+use Rattle.std.proofs.Common.{replicate, Some, Ok, Err, IsTrue, refl, ap, sym, subst, ◌∙◌, inl, inr, lit<, arith, Option, Result}
 use Rattle.std.specs.Prelude.{slice_get, slice_set, slice_index, bit_xor, if◌then◌else◌}
-use Rattle.std.specs.Str.{bytes_eq}
 use Rattle.std.specs.Int.{w32, to_be_bytes}
 use Rattle.std.specs.List.{list_all, concat}
 use Rattle.std.proofs.lemmas.Bool.{cases_Bool}
@@ -10,22 +9,16 @@ use Rattle.std.proofs.lemmas.List.{get_or-set_same, length-set}
 use Rattle.std.proofs.lemmas.Nat.{xor_lt}
 use Rattle.std.proofs.lemmas.Slice.Eq.{bytes_eq-Decides}
 use Rattle.hex.specs.Hex.{IsBytes}
-use Rattle.issuer_base.specs.ChipData.{is_bcd, is_request, has_profile, is_arqc, cvr, dki}
+use Rattle.issuer_base.specs.ChipData.{is_bcd, is_arqc, cvr, dki}
 use Rattle.issuer_base.specs.CardNumber.{is_pan, pan_from}
 use Rattle.issuer_base.proofs.CardNumberLemmas.{pan_from-some}
-use Rattle.issuer_base.specs.declared.answer.Method.{Method}
 use Rattle.issuer_base.specs.declared.answer.Refusal.{Refusal}
 use Rattle.issuer_base.specs.declared.answer.Refusal.TheVariants.{BadCryptogram, NotArqc}
 use Rattle.issuer_base.specs.declared.request.Parts.{Parts}
 use Rattle.card_history.specs.Records.{card_of}
 use Rattle.card_history.specs.declared.decision.Asked.{Asked}
 use Rattle.card_history.specs.declared.decision.Asked.TheVariants.{Decide}
-use Rattle.chip_request.specs.Reading.{request_of}
-use Rattle.chip_request.specs.LineParts.{line_of}
-use Rattle.chip_request.specs.declared.line.LineKind.{LineKind}
-use Rattle.chip_request.specs.declared.line.LineKind.TheVariants.{Ask}
 use Rattle.cryptogram_in.specs.Cryptogram.{input, cryptogram_under, application_cryptogram}
-use Rattle.key_derive.specs.SessionKey.{counter_bytes, session_ac}
 use Rattle.key_derive.specs.CardKey.{card_keys}
 use Rattle.key_derive.specs.declared.card.CardKeys.{CardKeys}
 use Rattle.retail_mac.specs.Mac.{retail_mac}
@@ -36,22 +29,21 @@ use Rattle.issuer_setup.specs.IssuerSetup.{Setup, keys_from, keys_of}
 use Rattle.issuer_setup.specs.KeyList.{key_of}
 use Rattle.issuer_setup.specs.declared.card.CardInfo.{CardInfo}
 use Rattle.journal_rec.specs.Record.{IsRequest, request_sizes}
-use Rattle.journal_rec.specs.RecordText.{pan_bytes, request_fields, request_bytes}
+use Rattle.journal_rec.specs.RecordText.{pan_bytes, request_fields}
 use Rattle.journal_rec.proofs.PanText.{IsBytes-pan_bytes, length-pan_bytes}
 use Rattle.journal_rec.proofs.Words.{IsBytes-two}
 use Rattle.line_checks.specs.Reading.{checked, checked_data, said_by, of_card, under_keys, is_right, reading}
-use Rattle.request_text.specs.ChipText.{chip_data, request_line}
+use Rattle.request_text.specs.ChipText.{request_line}
 use Rattle.request_text.proofs.RequestRead.{request_of-chip_data}
 use Rattle.request_text.proofs.LineRead.{line_of-request_line}
-use Rattle.card_model.specs.declared.terminal.Terminal.{Terminal}
 use Rattle.card_model.specs.Application.{CardState, script_results, application_data, next_fields, next_request}
 use Rattle.card_model.specs.CardSteps.{with_open, with_answer, with_command, with_failure, new_card}
-use Rattle.card_model.proofs.Requests.{is_request-fields, next_request-genuine}
+use Rattle.card_model.proofs.Requests.{is_request-fields}
 use Rattle.issuer_base.specs.declared.command.Command.{Command}
 use Rattle.world_net.specs.WorldRuns.{IsIssuer}
 use Rattle.world_play.specs.declared.setting.Step.{Step}
 use Rattle.world_play.specs.Play.{spoiled}
-use Rattle.world_play.specs.Setting.{key_set, six_digits, card_info, issuer, terminal_of}
+use Rattle.world_play.specs.Setting.{key_set, card_info, issuer, terminal_of}
 use Rattle.world_play.proofs.Numbers.{number_pan}
 use Rattle.world_play.proofs.PlayedCards.{card-at, number-known}
 use Rattle.world_play.proofs.PlayedReplies.{changed-bit}

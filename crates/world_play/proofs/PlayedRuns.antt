@@ -1,6 +1,6 @@
 -- The script commands of a reply, one after another, as events of a world of a played run.
-use Rattle.std.proofs.Common.{◌≡◌, ◌≢◌, ℕ, zero, suc, ◌+◌, ◌<◌, ◌≤◌, Bool, true, false, List, [], ◌∷◌, ◌++◌, length, set, take, drop, Option, Some, None}
-use Rattle.std.proofs.Common.{Contains, refl, ap, ap₂, sym, ◌∙◌, subst, inl, inr, arith}
+use Rattle.std.proofs.Common.{◌≡◌, ℕ, zero, suc, ◌+◌, ◌<◌, Bool, true, false, List, [], ◌∷◌, ◌++◌, take, drop, Some, None}
+use Rattle.std.proofs.Common.{refl, ap, sym, ◌∙◌, subst, inl, inr, arith}
 use Rattle.std.specs.Prelude.{slice_get, nat_lt}
 use Rattle.std.proofs.lemmas.Bool.{cases_Bool, cond-true, cond-false, false≢true, ltb-true}
 use Rattle.std.proofs.lemmas.Option.{slice_get_within}
@@ -19,9 +19,8 @@ use Rattle.card_model.proofs.Steps.{command-ran, command-refused}
 use Rattle.host_calls.proofs.Places.{read-written, read-other}
 use Rattle.world_net.specs.declared.event.Event.{Event}
 use Rattle.world_net.specs.declared.event.Event.TheVariants.{Run}
-use Rattle.world_net.specs.declared.parts.Exchange.{Exchange}
-use Rattle.world_net.specs.WorldState.{WorldState, ShardState, history_for, with_card}
-use Rattle.world_net.specs.WorldRuns.{IsIssuer, DecidesMade, IsGenuineStep}
+use Rattle.world_net.specs.WorldState.{WorldState, history_for, with_card}
+use Rattle.world_net.specs.WorldRuns.{IsIssuer, IsGenuineStep}
 use Rattle.world_play.specs.Handing.{after_commands}
 use Rattle.world_play.specs.Setting.{issuer}
 use Rattle.world_play.proofs.PlayedRequests.{IsIssued, issued-command, issued-failure}

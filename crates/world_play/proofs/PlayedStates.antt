@@ -1,39 +1,33 @@
 -- The states of a played run: each is that of a world at the end of a genuine run.
-use Rattle.std.proofs.Common.{◌≡◌, ◌≢◌, ℕ, zero, suc, ◌+◌, ◌*◌, ◌/◌, ◌%◌, ◌<◌, ◌≤◌, List, [], ◌∷◌, length, set, map, replicate, Option, None, Some}
-use Rattle.std.proofs.Common.{Contains, refl, ap, sym, ◌∙◌, subst, inl, inr, arith, length-set}
+use Rattle.std.proofs.Common.{◌≡◌, ℕ, zero, suc, ◌+◌, ◌*◌, ◌/◌, ◌%◌, ◌<◌, ◌≤◌, List, [], ◌∷◌, length, set, map, replicate, Some}
+use Rattle.std.proofs.Common.{refl, ap, sym, ◌∙◌, subst, inl, inr, arith, length-set}
 use Rattle.std.proofs.Math.Nat.{div-add-mod}
 use Rattle.std.proofs.lemmas.Nat.{mul-le}
 use Rattle.std.specs.Prelude.{slice_get}
 use Rattle.std.specs.Option.{option_map}
-use Rattle.std.specs.List.{range_with_len}
 use Rattle.std.proofs.lemmas.Bool.{cases_eq, cases_lt}
 use Rattle.std.proofs.lemmas.List.{length-map}
 use Rattle.std.proofs.lemmas.List.FromFn.{length-map-range_with_len, get_or-map-range_with_len}
-use Rattle.std.proofs.lemmas.Option.{none-some, same_Some, slice_get-map, slice_get_within, slice_get-get_or, get_or_from_slice_get}
+use Rattle.std.proofs.lemmas.Option.{none-some, same_Some, slice_get-map, slice_get_within, get_or_from_slice_get}
 use Rattle.issuer_base.specs.declared.request.Request.{Request}
-use Rattle.issuer_base.specs.declared.entry.Entry.{Entry}
-use Rattle.issuer_setup.specs.declared.card.CardInfo.{CardInfo}
 use Rattle.issuer_setup.specs.IssuerSetup.{Setup}
-use Rattle.card_model.specs.declared.card.TheConstants.{LAST_COUNTER}
 use Rattle.card_model.specs.Application.{CardState}
 use Rattle.card_model.specs.CardSteps.{new_card}
 use Rattle.host_calls.specs.Books.{histories_of as book_histories}
 use Rattle.host_calls.proofs.Places.{read-within, read-other}
 use Rattle.world_net.specs.Fate.{fate_of}
-use Rattle.world_net.specs.declared.event.Event.{Event}
-use Rattle.world_net.specs.declared.parts.MadeRequest.{MadeRequest}
-use Rattle.world_net.specs.WorldState.{WorldState, ShardState, no_shard, record_in, histories_of}
+use Rattle.world_net.specs.WorldState.{WorldState, ShardState, no_shard, histories_of}
 use Rattle.world_net.specs.WorldRuns.{IsIssuer, IsNewWorld, card_under}
-use Rattle.world_net.proofs.Hosts.{at, none-at}
+use Rattle.world_net.proofs.Hosts.{none-at}
 use Rattle.world_net.proofs.NewWorlds.{new-world}
 use Rattle.world_net.proofs.Worlds.{put-there}
 use Rattle.world_play.specs.declared.player.Player.{Player}
 use Rattle.world_play.specs.Genuine.{CanBePlayed, EndsGenuineRun}
-use Rattle.world_play.specs.Play.{State, Stage, IsStep, IsAfter, first_state, new_player, empty_book}
-use Rattle.world_play.specs.Setting.{key_set, card_info, issuer, step_of}
-use Rattle.world_play.proofs.PlayedCards.{issuer-valid, card-at, card-is, cards-count}
+use Rattle.world_play.specs.Play.{State, Stage, IsStep, IsAfter, first_state, new_player}
+use Rattle.world_play.specs.Setting.{key_set, issuer, step_of}
+use Rattle.world_play.proofs.PlayedCards.{issuer-valid, card-at, cards-count}
 use Rattle.world_play.proofs.PlayedRequests.{IsIssued, issued-new}
-use Rattle.world_play.proofs.PlayedWorlds.{IsPlayed, IsFit, IsLater, played-sound}
+use Rattle.world_play.proofs.PlayedWorlds.{IsPlayed, played-sound}
 use Rattle.world_play.proofs.PlayedMoves.{IsIdle, MadeBy}
 use Rattle.world_play.proofs.PlayedFates.{fated}
 

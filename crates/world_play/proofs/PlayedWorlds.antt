@@ -1,11 +1,10 @@
 -- What is kept of the worlds of a played run, and what one event keeps.
-use Rattle.std.proofs.Common.{◌≡◌, ◌≢◌, ℕ, zero, suc, ◌+◌, ◌%◌, ◌<◌, ◌≤◌, Bool, true, false, List, [], ◌∷◌, ◌++◌, length, set, Option, Some, None, Ok, IsTrue}
+use Rattle.std.proofs.Common.{◌≡◌, ◌≢◌, ℕ, ◌%◌, ◌<◌, ◌≤◌, true, List, [], ◌∷◌, ◌++◌, length, set, Some, None, Ok, IsTrue}
 use Rattle.std.proofs.Common.{Contains, All, refl, ap, sym, ◌∙◌, subst, inl, inr, ◌⊎◌, arith}
 use Rattle.std.specs.Prelude.{slice_get}
 use Rattle.std.proofs.lemmas.Bool.{cases_eq}
 use Rattle.std.proofs.lemmas.List.{get_or-set_same, get_or-set_other}
-use Rattle.std.proofs.lemmas.List.Elements.{Contains-append_left, Contains-push, Contains-push_cases}
-use Rattle.std.proofs.lemmas.Option.{same_Some}
+use Rattle.std.proofs.lemmas.List.Elements.{Contains-append_left, Contains-push_cases}
 use Rattle.std.specs.List.{list_all}
 use Rattle.issuer_base.specs.ChipData.{is_bcd}
 use Rattle.issuer_base.specs.ScriptCommand.{is_command}
@@ -16,11 +15,10 @@ use Rattle.issuer_base.specs.declared.answer.Reply.{Reply}
 use Rattle.issuer_base.specs.declared.entry.Entry.{Entry}
 use Rattle.issuer_base.specs.declared.entry.Entry.TheVariants.{Decided, Queued as IsQueued, Status as IsStatus}
 use Rattle.card_history.specs.declared.decision.Asked.TheVariants.{Decide}
-use Rattle.card_history.specs.LegalRecords.{IsLegal, IsLegalDecision, IsLegalCommand}
-use Rattle.card_history.specs.Records.{card_of, named}
+use Rattle.card_history.specs.LegalRecords.{IsLegalDecision}
+use Rattle.card_history.specs.Records.{card_of}
 use Rattle.card_history.proofs.LongerHistories.{slice_get-push_cases, slice_get-push}
-use Rattle.chip_request.specs.Reading.{request_of}
-use Rattle.issuer_setup.specs.CardList.{name_of, number_of}
+use Rattle.issuer_setup.specs.CardList.{number_of}
 use Rattle.issuer_setup.specs.IssuerSetup.{Setup}
 use Rattle.line_checks.specs.Reading.{checked}
 use Rattle.request_text.specs.ChipText.{chip_data}
@@ -35,10 +33,9 @@ use Rattle.world_net.specs.declared.event.Event.{Event}
 use Rattle.world_net.specs.declared.event.Event.TheVariants.{Tap, Claim, Write, Send, Queue}
 use Rattle.world_net.specs.declared.parts.MadeRequest.{MadeRequest}
 use Rattle.world_net.specs.declared.parts.OpenClaim.{OpenClaim}
-use Rattle.world_net.specs.declared.parts.Exchange.{Exchange}
 use Rattle.world_net.specs.WorldState.{WorldState, ShardState, no_shard, shard_at, record_in, home_of, history_for, claim_of, without, with_record, with_card}
-use Rattle.world_net.specs.WorldSteps.{IsStep, written}
-use Rattle.world_net.specs.WorldRuns.{IsIssuer, IsMade, DecidesMade, IsRunFrom, IsRun, IsGenuineStep, IsGenuineFrom, IsGenuineRun}
+use Rattle.world_net.specs.WorldSteps.{written}
+use Rattle.world_net.specs.WorldRuns.{IsIssuer, IsMade, DecidesMade, IsRunFrom, IsGenuineStep, IsGenuineFrom, IsGenuineRun}
 use Rattle.world_net.specs.Allowed.{CanQueue}
 use Rattle.world_net.proofs.Worlds.{IsSound, sound-run, shard-within, put-there, put-elsewhere}
 use Rattle.world_net.proofs.KeptWorlds.{WorldKept, kept-run_end}
