@@ -1,9 +1,11 @@
 -- A block that is enciphered, and a CMAC, have sixteen bytes.
-use Rattle.std.proofs.Common.{◌≡◌, ℕ, zero, suc, ◌+◌, ◌-◌, ◌*◌, ◌/◌, ◌%◌, ◌<◌, ◌==◌, if◌then◌else◌, true, false, List, [], ◌∷◌, ◌++◌, length, take, drop, get_or}
+use Rattle.std.proofs.Common.{◌≡◌, ℕ, zero, suc, ◌+◌, ◌-◌, ◌*◌, ◌/◌, ◌%◌, ◌<◌, ◌==◌, if◌then◌else◌, true, false, List}
+use Rattle.std.proofs.Common.{[], ◌∷◌, ◌++◌, length, take, drop, get_or}
 use Rattle.std.proofs.Common.{refl, sym, ap, ◌∙◌, arith, length-append, length-take, length-drop}
 use Rattle.std.proofs.lemmas.List.{length-map}
 use Rattle.aes_cipher.specs.Field.{substituted}
-use Rattle.aes_cipher.specs.Cipher.{xor_bytes, sub_bytes, shift_rows, state_of, last_round, ciphered, power_of_two, key_step, words_from, key_words}
+use Rattle.aes_cipher.specs.Cipher.{xor_bytes, sub_bytes, shift_rows, state_of, last_round, ciphered, power_of_two}
+use Rattle.aes_cipher.specs.Cipher.{key_step, words_from, key_words}
 use Rattle.aes_cipher.specs.Cipher.{round_keys, aes_encipher}
 use Rattle.aes_cipher.specs.Mac.{chained, cmac}
 use Rattle.aes_cipher.proofs.ScheduleSteps.{keys_from, fours_more, fours_from}
@@ -30,7 +32,8 @@ length-last_round state key e =
 length-rotated : (w : List ℕ) → length w ≡ 4 → length (sub_bytes (drop 1 w ++ take 1 w)) ≡ 4
 unfolding sub_bytes
 length-rotated w e =
-    length-map (drop 1 w ++ take 1 w) substituted ∙ omega (arith, length-append (drop 1 w) (take 1 w), length-drop 1 w, length-take 1 w)
+    length-map (drop 1 w ++ take 1 w) substituted
+    ∙ omega (arith, length-append (drop 1 w) (take 1 w), length-drop 1 w, length-take 1 w)
 
 length-key_step : (i : ℕ) (w : List ℕ) → length w ≡ 4 → length (key_step i w) ≡ 4
 unfolding key_step
@@ -82,9 +85,12 @@ last_key key e =
     let b : List ℕ = take 4 (drop 4 key) in
     let c : List ℕ = take 4 (drop 8 key) in
     let d : List ℕ = take 4 (drop 12 key) in
-    let part : (n : ℕ) → n < 13 → length (take 4 (drop n key)) ≡ 4 = λ n h. omega (arith, length-take 4 (drop n key), length-drop n key) in
-    ap (λ ks. length (get_or ks 10 [])) (fours_more 10 a b c d (words_from 40 4 a b c d) ∙ ap (λ r. (a ++ (b ++ (c ++ (d ++ [])))) ∷ r) (fours_from 10 1 a b c d))
-    ∙ length-keys_from 10 1 9 a b c d (omega arith) (omega (arith, length-take 4 key)) (part 4 (omega arith)) (part 8 (omega arith)) (part 12 (omega arith))
+    let part : (n : ℕ) → n < 13 → length (take 4 (drop n key)) ≡ 4 =
+    λ n h. omega (arith, length-take 4 (drop n key), length-drop n key) in
+    ap (λ ks. length (get_or ks 10 [])) (fours_more 10 a b c d (words_from 40 4 a b c d)
+    ∙ ap (λ r. (a ++ (b ++ (c ++ (d ++ [])))) ∷ r) (fours_from 10 1 a b c d))
+    ∙ length-keys_from 10 1 9 a b c d (omega arith) (omega (arith, length-take 4 key)) (part 4 (omega arith))
+    (part 8 (omega arith)) (part 12 (omega arith))
 
 pub length-aes_encipher : (key block : List ℕ) → length key ≡ 16 → length (aes_encipher key block) ≡ 16
 unfolding aes_encipher ciphered

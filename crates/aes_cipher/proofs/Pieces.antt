@@ -12,7 +12,8 @@ use Rattle.aes_cipher.specs.declared.run.CmacRun.{CmacRun}
 use Rattle.aes_cipher.proofs.Blocks.{blocks-add, blocks-append-le}
 
 -- the piece goes into the last block
-pub IsRun-kept : (run : CmacRun) (key text piece : List ℕ) (last : ArrayVec ℕ) → IsRun run key text → length run.last.items + length piece ≤ 16
+pub IsRun-kept : (run : CmacRun) (key text piece : List ℕ) (last : ArrayVec ℕ) → IsRun run key text
+    → length run.last.items + length piece ≤ 16
     → last.items ≡ run.last.items ++ piece → IsRun (record run { last = last }) key (text ++ piece)
 unfolding blocks_before_last
 IsRun-kept run key text piece last is short last_is =
@@ -30,14 +31,17 @@ IsRun-kept run key text piece last is short last_is =
       last = last_is ∙ ap (λ p. p ++ piece) is.last ∙ sym behind;
     }
 
--- the last block is filled up by the front of the piece and goes into the chain, with the blocks of the rest but for its last
-pub IsRun-more : (run : CmacRun) (key text piece front rest block : List ℕ) (filled chain : Columns) (last : ArrayVec ℕ) (m : ℕ) → IsRun run key text
+-- the last block is filled up by the front of the piece and goes into the chain, with the blocks of the rest but for
+-- its last
+pub IsRun-more : (run : CmacRun) (key text piece front rest block : List ℕ) (filled chain : Columns) (last : ArrayVec ℕ)
+    (m : ℕ) → IsRun run key text
     → piece ≡ front ++ rest → length run.last.items + length front ≡ 16 → 0 < length rest → m ≡ (length rest - 1) / 16
     → block ≡ run.last.items ++ front → state_bytes filled ≡ fold (chained key) (state_bytes run.chain) (blocks 1 block)
     → state_bytes chain ≡ fold (chained key) (state_bytes filled) (blocks m rest) → last.items ≡ drop (16 * m) rest
     → IsRun (record run { chain = chain; last = last }) key (text ++ piece)
 unfolding blocks_before_last
-IsRun-more run key text piece front rest block filled chain last m is cut full some em block_is filled_is chain_is last_is =
+IsRun-more run key text piece front rest block filled chain last m is cut full some em block_is filled_is chain_is
+    last_is =
     let n : ℕ = (length text - 1) / 16 in
     let part : List ℕ = run.last.items in
     let held : length part ≡ length text - 16 * n = ap length is.last ∙ length-drop (16 * n) text in
@@ -46,13 +50,16 @@ IsRun-more run key text piece front rest block filled chain last m is cut full s
     let count : (length (text ++ piece) - 1) / 16 ≡ n + (1 + m) = omega arith in
     let whole : length (part ++ front) ≡ 16 = length-append part front ∙ full in
     let behind : drop (16 * n) (text ++ piece) ≡ (part ++ front) ++ rest =
-    drop-append-le (16 * n) text piece (omega arith) ∙ ap₂ (λ p q. p ++ q) (sym is.last) cut ∙ sym (append_assoc part front rest) in
+    drop-append-le (16 * n) text piece (omega arith) ∙ ap₂ (λ p q. p ++ q) (sym is.last) cut
+    ∙ sym (append_assoc part front rest) in
     let after : drop (16 * 1) ((part ++ front) ++ rest) ≡ rest =
-    drop-append-le 16 (part ++ front) rest (omega arith) ∙ ap (λ r. r ++ rest) (drop_all 16 (part ++ front) (omega arith)) in
+    drop-append-le 16 (part ++ front) rest (omega arith)
+    ∙ ap (λ r. r ++ rest) (drop_all 16 (part ++ front) (omega arith)) in
     let next : blocks (1 + m) ((part ++ front) ++ rest) ≡ blocks 1 block ++ blocks m rest =
     blocks-add 1 m ((part ++ front) ++ rest) ∙ ap₂ (λ a b. a ++ blocks m b)
     (blocks-append-le 1 (part ++ front) rest (omega arith) ∙ ap (blocks 1) (sym block_is)) after in
-    let split : blocks ((length (text ++ piece) - 1) / 16) (text ++ piece) ≡ blocks n text ++ (blocks 1 block ++ blocks m rest) =
+    let split : blocks ((length (text ++ piece) - 1) / 16) (text ++ piece)
+    ≡ blocks n text ++ (blocks 1 block ++ blocks m rest) =
     ap (λ k. blocks k (text ++ piece)) count ∙ blocks-add n (1 + m) (text ++ piece)
     ∙ ap₂ (λ a b. a ++ b) (blocks-append-le n text piece (omega arith)) (ap (blocks (1 + m)) behind ∙ next) in
     let step : List ℕ → List (List ℕ) → List ℕ = fold (chained key) in
@@ -63,7 +70,8 @@ IsRun-more run key text piece front rest block filled chain last m is cut full s
     record {
       keyed = is.keyed;
       chain = chain_is ∙ ap (λ s. step s (blocks m rest)) (filled_is ∙ ap (λ s. step s (blocks 1 block)) is.chain)
-          ∙ sym (ap (step zero_block) split ∙ fold-append (chained key) zero_block (blocks n text) (blocks 1 block ++ blocks m rest)
+          ∙ sym (ap (step zero_block) split
+          ∙ fold-append (chained key) zero_block (blocks n text) (blocks 1 block ++ blocks m rest)
           ∙ fold-append (chained key) (step zero_block (blocks n text)) (blocks 1 block) (blocks m rest));
       last = last_is ∙ sym end;
     }

@@ -1,5 +1,6 @@
 -- AES-128 (FIPS 197): the state by rows and columns, the rounds, and the key's words.
-use Rattle.std.specs.Prelude.{ℕ, zero, suc, ◌+◌, ◌-◌, ◌*◌, ◌/◌, ◌%◌, ◌==◌, if◌then◌else◌, List, [], ◌∷◌, ◌++◌, map, take, drop, fold, slice_index_or, bit_xor}
+use Rattle.std.specs.Prelude.{ℕ, zero, suc, ◌+◌, ◌-◌, ◌*◌, ◌/◌, ◌%◌, ◌==◌, if◌then◌else◌, List, [], ◌∷◌, ◌++◌, map}
+use Rattle.std.specs.Prelude.{take, drop, fold, slice_index_or, bit_xor}
 use Rattle.std.specs.List.{range_with_len, flat_map}
 use Rattle.aes_cipher.specs.Field.{doubled, product, substituted}
 
@@ -58,8 +59,8 @@ unfoldable pub power_of_two : ℕ → ℕ
 power_of_two zero = 1
 power_of_two (suc n) = doubled (power_of_two n)
 
--- the word that is added to word i - 4 to give word i, from word i - 1: where 4 divides i its bytes are rotated left by one
--- place and substituted, and the first is added to a power of 02 (5.2)
+-- the word that is added to word i - 4 to give word i, from word i - 1: where 4 divides i its bytes are rotated left
+-- by one place and substituted, and the first is added to a power of 02 (5.2)
 unfoldable pub key_step : ℕ → List ℕ → List ℕ
 key_step i before =
     if i % 4 == 0

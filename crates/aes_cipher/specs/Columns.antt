@@ -9,7 +9,7 @@ use Rattle.aes_cipher.specs.declared.Aes.{Aes}
 unfoldable pub word_bytes : ℕ → List ℕ
 word_bytes n = to_be_bytes w32 n
 
--- the first byte of a, the second of b, the third of c and the fourth of d: what a rotation of the rows brings into one column
+-- the first byte of a, the second of b, the third of c and the fourth of d: a column once the rows are rotated
 unfoldable pub diagonal : ℕ → ℕ → ℕ → ℕ → List ℕ
 diagonal a b c d =
     slice_index_or (word_bytes a) 0 0 ∷ slice_index_or (word_bytes b) 1 0 ∷ slice_index_or (word_bytes c) 2 0
@@ -17,7 +17,8 @@ diagonal a b c d =
 
 -- the bytes of a state in four columns
 unfoldable pub state_bytes : Columns → List ℕ
-state_bytes state = word_bytes state.first ++ (word_bytes state.second ++ (word_bytes state.third ++ word_bytes state.fourth))
+state_bytes state = word_bytes state.first
+    ++ (word_bytes state.second ++ (word_bytes state.third ++ word_bytes state.fourth))
 
 -- the cipher holds the round keys of this key of sixteen bytes
 unfoldable pub HasKey : Aes → List ℕ → Type 0

@@ -1,4 +1,4 @@
--- Bytes as polynomials over GF(2) modulo x^8 + x^4 + x^3 + x + 1, and the substitution of a byte (FIPS 197, 4 and 5.1.1).
+-- Bytes as polynomials over GF(2) modulo x^8 + x^4 + x^3 + x + 1, and the substitution of a byte (FIPS 197, 4, 5.1.1).
 use Rattle.std.specs.Prelude.{ℕ, zero, suc, ◌+◌, ◌*◌, ◌/◌, ◌%◌, ◌^◌, ◌==◌, bit_xor, sum_by, find, unwrap_or}
 use Rattle.std.specs.List.{range_with_len}
 
@@ -6,7 +6,7 @@ use Rattle.std.specs.List.{range_with_len}
 unfoldable pub doubled : ℕ → ℕ
 doubled a = bit_xor (a * 2) (a / 128 * 0x11b)
 
--- a times the polynomial of the lowest n bits of b: the lowest bit counts a, each next one twice what the bit before counts
+-- a times the polynomial of the lowest n bits of b: the lowest bit counts a, each next one twice the one before
 unfoldable pub product_of_bits : ℕ → ℕ → ℕ → ℕ
 product_of_bits zero a b = 0
 product_of_bits (suc n) a b = bit_xor (b % 2 * a) (product_of_bits n (doubled a) (b / 2))

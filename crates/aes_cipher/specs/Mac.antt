@@ -1,5 +1,6 @@
 -- CMAC over AES-128 (NIST SP 800-38B).
-use Rattle.std.specs.Prelude.{◌≡◌, ℕ, zero, suc, ◌-◌, ◌*◌, ◌/◌, ◌%◌, ◌^◌, ◌==◌, if◌then◌else◌, List, [], ◌∷◌, ◌++◌, length, take, drop, replicate, fold, bit_xor}
+use Rattle.std.specs.Prelude.{◌≡◌, ℕ, zero, suc, ◌-◌, ◌*◌, ◌/◌, ◌%◌, ◌^◌, ◌==◌, if◌then◌else◌, List, [], ◌∷◌, ◌++◌}
+use Rattle.std.specs.Prelude.{length, take, drop, replicate, fold, bit_xor}
 use Rattle.std.specs.Int.{w128, from_be_bytes, to_be_bytes}
 use Rattle.aes_cipher.specs.Cipher.{xor_bytes, aes_encipher}
 use Rattle.aes_cipher.specs.Columns.{state_bytes, HasKey}
@@ -31,7 +32,7 @@ blocks (suc n) bytes = take 16 bytes ∷ blocks n (drop 16 bytes)
 unfoldable pub blocks_before_last : List ℕ → ℕ
 blocks_before_last text = (length text - 1) / 16
 
--- the last block: joined with K1 if it is whole, and otherwise filled by a byte 80 and bytes 00 and joined with K2 (6.2)
+-- the last block: joined with K1 if it is whole, otherwise filled by a byte 80 and bytes 00 and joined with K2 (6.2)
 unfoldable pub masked_last : List ℕ → List ℕ → List ℕ
 masked_last key last =
     if length last == 16

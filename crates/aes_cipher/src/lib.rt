@@ -37,15 +37,7 @@ impl Aes {
     pub fn encipher(&self, block: [u8; 16]) -> [u8; 16]
         ensures { (key : List ℕ) → HasKey self.now key → result ≡ aes_encipher key block }
     {
-        self.encipher_columns(&Columns::new(&block)).bytes()
-    }
-
-    /// Enciphers a block in its columns.
-    #[inline(always)]
-    pub(crate) fn encipher_columns(&self, block: &Columns) -> Columns
-        ensures { (key : List ℕ) → HasKey self.now key → state_bytes result ≡ aes_encipher key (state_bytes block.now) }
-    {
-        enciphered(&self.keys, block)
+        self.chained(&Columns::new(&[0; 16]), &block, 1).bytes()
     }
 
     /// The chain of CBC over the first `count` blocks of a text.
@@ -56,7 +48,7 @@ impl Aes {
     {
         let mut chain = *start;
         for i in 0..count {
-            chain = self.encipher_columns(&chain.xor(&Columns::at(text, 16 * i)));
+            chain = enciphered(&self.keys, &chain.xor(&Columns::at(text, 16 * i)));
         }
         chain
     }

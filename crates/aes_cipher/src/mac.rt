@@ -59,10 +59,11 @@ impl CmacKey {
     /// The CMAC of a text whose last block is this one, and the chain over the blocks before it.
     pub(crate) fn ended(&self, chain: &Columns, last: &[u8]) -> [u8; 16]
         requires { length last.now ≤ 16 }
-        ensures { (key : List ℕ) → HasCmacKey self.now key → result ≡ chained key (state_bytes chain.now) (masked_last key last.now) }
+        ensures { (key : List ℕ) → HasCmacKey self.now key
+            → result ≡ chained key (state_bytes chain.now) (masked_last key last.now) }
     {
-        let masked = self.masked(last);
-        self.cipher.encipher_columns(&chain.xor(&masked)).bytes()
+        let block = self.masked(last).bytes();
+        self.cipher.chained(chain, &block, 1).bytes()
     }
 
     /// The last block, filled if it is not whole, and joined with a subkey.

@@ -4,7 +4,7 @@ ghost use Rattle.std.specs.Prelude.{◌≡◌, ◌+◌, ◌≤◌, length, map, 
 ghost use Rattle.aes_cipher.specs.Cipher.{xor_bytes, sub_bytes, mix_column, round, last_round, ciphered};
 ghost use Rattle.aes_cipher.specs.Columns.{word_bytes, diagonal, state_bytes};
 
-use crate::tables::{BOX, COLUMNS};
+use crate::tables::{COLUMNS, UNMIXED};
 
 /// A state, or a round key, in its four columns. A column's byte in the first row is the highest byte of its word.
 #[derive(Clone, Copy)]
@@ -74,14 +74,16 @@ impl Columns {
 }
 
 /// The column of a mixed state whose bytes before the substitution are in these columns, one row in each.
+///
+/// The last row is looked up first: in this order the compiler needs the fewest registers.
 #[inline(always)]
 fn mixed_column(a: u32, b: u32, c: u32, d: u32) -> u32
     ensures { word_bytes result ≡ mix_column (sub_bytes (diagonal a b c d)) }
 {
-    COLUMNS[0][(a >> 24) as usize]
-        ^ COLUMNS[1][(b >> 16 & 255) as usize]
+    COLUMNS[3][(d & 255) as usize]
         ^ COLUMNS[2][(c >> 8 & 255) as usize]
-        ^ COLUMNS[3][(d & 255) as usize]
+        ^ COLUMNS[1][(b >> 16 & 255) as usize]
+        ^ COLUMNS[0][(a >> 24) as usize]
 }
 
 /// The column of a state whose rows were rotated, but not mixed.
@@ -89,12 +91,10 @@ fn mixed_column(a: u32, b: u32, c: u32, d: u32) -> u32
 fn substituted_column(a: u32, b: u32, c: u32, d: u32) -> u32
     ensures { word_bytes result ≡ sub_bytes (diagonal a b c d) }
 {
-    u32::from_be_bytes([
-        BOX[(a >> 24) as usize],
-        BOX[(b >> 16 & 255) as usize],
-        BOX[(c >> 8 & 255) as usize],
-        BOX[(d & 255) as usize],
-    ])
+    UNMIXED[3][(d & 255) as usize]
+        ^ UNMIXED[2][(c >> 8 & 255) as usize]
+        ^ UNMIXED[1][(b >> 16 & 255) as usize]
+        ^ UNMIXED[0][(a >> 24) as usize]
 }
 
 /// A round.
@@ -103,10 +103,10 @@ fn round(state: &Columns, key: &Columns) -> Columns
     ensures { state_bytes result ≡ round (state_bytes state.now) (state_bytes key.now) }
 {
     Columns {
-        first: mixed_column(state.first, state.second, state.third, state.fourth) ^ key.first,
-        second: mixed_column(state.second, state.third, state.fourth, state.first) ^ key.second,
-        third: mixed_column(state.third, state.fourth, state.first, state.second) ^ key.third,
-        fourth: mixed_column(state.fourth, state.first, state.second, state.third) ^ key.fourth,
+        first: key.first ^ mixed_column(state.first, state.second, state.third, state.fourth),
+        second: key.second ^ mixed_column(state.second, state.third, state.fourth, state.first),
+        third: key.third ^ mixed_column(state.third, state.fourth, state.first, state.second),
+        fourth: key.fourth ^ mixed_column(state.fourth, state.first, state.second, state.third),
     }
 }
 
@@ -116,17 +116,16 @@ fn last_round(state: &Columns, key: &Columns) -> Columns
     ensures { state_bytes result ≡ last_round (state_bytes state.now) (state_bytes key.now) }
 {
     Columns {
-        first: substituted_column(state.first, state.second, state.third, state.fourth) ^ key.first,
-        second: substituted_column(state.second, state.third, state.fourth, state.first)
-            ^ key.second,
-        third: substituted_column(state.third, state.fourth, state.first, state.second) ^ key.third,
-        fourth: substituted_column(state.fourth, state.first, state.second, state.third)
-            ^ key.fourth,
+        first: key.first ^ substituted_column(state.first, state.second, state.third, state.fourth),
+        second: key.second
+            ^ substituted_column(state.second, state.third, state.fourth, state.first),
+        third: key.third ^ substituted_column(state.third, state.fourth, state.first, state.second),
+        fourth: key.fourth
+            ^ substituted_column(state.fourth, state.first, state.second, state.third),
     }
 }
 
 /// The state after the ten rounds.
-#[inline(always)]
 pub(crate) fn enciphered(keys: &[Columns; 11], block: &Columns) -> Columns
     ensures { state_bytes result ≡ ciphered (map state_bytes keys.now) (state_bytes block.now) }
 {

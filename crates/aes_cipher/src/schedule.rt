@@ -25,7 +25,8 @@ fn rotated_and_substituted(word: u32) -> u32
 #[inline]
 fn next_key(key: &Columns, constant: u32) -> Columns
     ensures first { word_bytes result.first ≡ xor_bytes (word_bytes key.now.first)
-        (xor_bytes (sub_bytes (drop 1 (word_bytes key.now.fourth) ++ take 1 (word_bytes key.now.fourth))) (word_bytes constant)) }
+        (xor_bytes (sub_bytes (drop 1 (word_bytes key.now.fourth) ++ take 1 (word_bytes key.now.fourth)))
+        (word_bytes constant)) }
     ensures second { word_bytes result.second ≡ xor_bytes (word_bytes key.now.second) (word_bytes result.first) }
     ensures third { word_bytes result.third ≡ xor_bytes (word_bytes key.now.third) (word_bytes result.second) }
     ensures fourth { word_bytes result.fourth ≡ xor_bytes (word_bytes key.now.fourth) (word_bytes result.third) }

@@ -6,4 +6,5 @@ use Rattle.aes_cipher.proofs.Aes.chained.Given as goal
 
 abbrev pub invariant-loop-i : goal.invariant-loop-i
 invariant-loop-i l =
-    (key : List ℕ) → HasKey l.self key → state_bytes l.chain ≡ fold (chained key) (state_bytes l.initial.chain) (blocks l.i l.text)
+    (key : List ℕ) → HasKey l.self key
+    → state_bytes l.chain ≡ fold (chained key) (state_bytes l.initial.chain) (blocks l.i l.text)

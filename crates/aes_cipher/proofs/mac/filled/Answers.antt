@@ -5,4 +5,5 @@ use Rattle.aes_cipher.proofs.mac.filled.Goals as goal
 
 pub returns : goal.returns
 returns c =
-    c.new.ensures ∙ filled_is c.args.last.now c.copy_from_slice.new.self (length c.args.last.now) c.requires refl c.copy_from_slice.ensures.after
+    c.new.ensures ∙ filled_is c.args.last.now c.copy_from_slice.new.self (length c.args.last.now) c.requires refl
+    c.copy_from_slice.ensures.after

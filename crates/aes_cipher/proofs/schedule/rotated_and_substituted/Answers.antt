@@ -5,4 +5,5 @@ use Rattle.aes_cipher.proofs.schedule.rotated_and_substituted.Goals as goal
 
 pub returns : goal.returns
 unfolding word_bytes
-returns c = rotated_is c.args.word c.from_be_bytes.result c.to_be_bytes.result c.to_be_bytes.ensures c.from_be_bytes.ensures
+returns c = rotated_is c.args.word c.from_be_bytes.result c.to_be_bytes.result c.to_be_bytes.ensures
+    c.from_be_bytes.ensures

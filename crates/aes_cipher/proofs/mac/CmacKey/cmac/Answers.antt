@@ -11,5 +11,6 @@ returns c = λ key keyed.
     let text = c.args.text.now in
     c.ended.ensures key keyed
     ∙ cmac_end key text _ _ _ (ap (λ k. k / 16) c.saturating_sub-count.ensures)
-    (c.chained-chain.ensures key keyed.cipher ∙ ap (λ start. fold (chained key) start (blocks (c.saturating_sub-count.result / 16) text)) c.new-start.ensures)
+    (c.chained-chain.ensures key keyed.cipher
+    ∙ ap (λ start. fold (chained key) start (blocks (c.saturating_sub-count.result / 16) text)) c.new-start.ensures)
     (take_rest text _)

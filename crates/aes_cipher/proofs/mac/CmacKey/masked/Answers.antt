@@ -8,7 +8,8 @@ use Rattle.aes_cipher.proofs.mac.CmacKey.masked.Goals as goal
 pub returns-then-last-eq16 : goal.returns-then-last-eq16
 returns-then-last-eq16 c = λ key ready.
     let last = c.args.last.now in
-    c.xor.ensures ∙ ap₂ xor_bytes (c.at.ensures ∙ take_all 16 last (omega arith)) ready.whole ∙ masked_whole key last (omega arith)
+    c.xor.ensures ∙ ap₂ xor_bytes (c.at.ensures ∙ take_all 16 last (omega arith)) ready.whole
+    ∙ masked_whole key last (omega arith)
 
 pub returns : goal.returns
 returns c = λ key ready.

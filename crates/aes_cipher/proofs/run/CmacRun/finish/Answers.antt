@@ -6,4 +6,5 @@ use Rattle.aes_cipher.proofs.run.CmacRun.finish.Goals as goal
 
 pub returns : goal.returns
 returns c = λ key text is.
-    c.ended.ensures key is.keyed ∙ cmac_end key text _ _ (blocks_before_last text) refl is.chain (c.as_slice.ensures.value ∙ is.last)
+    c.ended.ensures key is.keyed ∙ cmac_end key text _ _ (blocks_before_last text) refl is.chain
+    (c.as_slice.ensures.value ∙ is.last)

@@ -17,10 +17,13 @@ returns c = λ key text is.
     let rest : List ℕ = c.split_at.result.1.now in
     let m : ℕ = (length rest - 1) / 16 in
     let cut : piece ≡ front ++ rest =
-    sym (ap₂ (λ a b. a ++ b) c.split_at.ensures.front c.split_at.ensures.back ∙ take-append-drop (16 - c.len-2.result) piece) in
-    let held : c.try_extend_from_slice-2.new.self.items ≡ c.clear.new.self.items ++ take (length rest - 16 * m) (drop (16 * m) rest) =
+    sym (ap₂ (λ a b. a ++ b) c.split_at.ensures.front c.split_at.ensures.back
+    ∙ take-append-drop (16 - c.len-2.result) piece) in
+    let held : c.try_extend_from_slice-2.new.self.items
+    ≡ c.clear.new.self.items ++ take (length rest - 16 * m) (drop (16 * m) rest) =
     rw c.unwrap-2.ensures at c.try_extend_from_slice-2.ensures.ok in
-    IsRun-more c.args.self.now key text piece front rest c.joined-block.result c.chained-chain.result c.chained-self.result
+    IsRun-more c.args.self.now key text piece front rest c.joined-block.result c.chained-chain.result
+    c.chained-self.result
     c.try_extend_from_slice-2.new.self m is cut (omega arith) (omega arith) refl
     (c.joined-block.ensures ∙ ap (λ p. p ++ front) c.as_slice.ensures.value)
     (c.chained-chain.ensures key is.keyed.cipher) (c.chained-self.ensures key is.keyed.cipher)
