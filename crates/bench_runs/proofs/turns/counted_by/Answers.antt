@@ -1,0 +1,24 @@
+-- The callers keep their names while they take turns.
+use Rattle.std.proofs.Common.{◌≡◌, ◌<◌, ◌++◌, ◌∙◌, sym, ap, subst, List, length, get_or, drop, take, arith}
+use Rattle.std.specs.List.{flat_map}
+use Rattle.seat_names.specs.SeatNames.{IsWhole}
+use Rattle.seat_names.specs.declared.seat_name.SeatName.{SeatName}
+use Rattle.seat_names.proofs.ManySeats.{flat_map-kept, lent_whole}
+use Rattle.turn_book.specs.Seats.{view_of}
+use Rattle.bench_runs.specs.declared.turns.Caller.{Caller}
+use Rattle.bench_runs.proofs.turns.counted_by.Goals as goal
+
+pub join_all-requires-clause-whole : goal.join_all-requires-clause-whole
+join_all-requires-clause-whole g c =
+    let names_of : Caller → List SeatName = λ caller. (view_of caller.seat).names in
+    let old : List Caller = c.seat_all.new.callers.items in
+    let new : List Caller = c.take_turns_at_once.new.callers in
+    let lent : c.as_mut_slice.result.now ≡ old = c.as_mut_slice.ensures.value in
+    let long : length new ≡ length old = omega (arith, ap length lent) in
+    let back : take c.seat_all.new.callers.len (new ++ drop (length new) old) ≡ new =
+    lent_whole c.seat_all.new.callers.len new old (omega arith) (omega arith) in
+    let same : flat_map names_of new ≡ flat_map names_of old = flat_map-kept names_of old new long (λ i d below.
+    subst (λ (callers : List Caller). i < length callers → names_of (get_or new i d) ≡ names_of (get_or callers i d)) lent
+    (c.take_turns_at_once.ensures.names i d) below) in
+    subst (λ (names : List SeatName). IsWhole ((view_of c.seat_all.new.seat).names ++ names)) (sym (ap (flat_map names_of) back ∙ same))
+    c.seat_all.ensures.whole

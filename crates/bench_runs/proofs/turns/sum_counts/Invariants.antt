@@ -1,0 +1,5 @@
+-- There is a tally less each time.
+use Rattle.bench_runs.proofs.turns.sum_counts.Given as goal
+
+abbrev pub decreases-loop-tally : goal.decreases-loop-tally
+decreases-loop-tally l = goal.left-loop-tally l

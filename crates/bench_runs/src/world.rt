@@ -1,0 +1,38 @@
+//! Large runs of the world of cards.
+
+use crate::counts::Counts;
+use issuer_base::MAX_CARDS;
+use std::alloc::Global;
+use world_play::{MAX_STEPS, Summary, play};
+
+/// How many requests a card makes at most.
+const MOST_REQUESTS: u64 = 65_535;
+
+/// What a run with so many cards and steps and this seed comes to; `None` where it is out of range, or no memory was left.
+pub(crate) fn measure(alloc: Global, numbers: [u64; 3]) -> Option<Counts> {
+    let [cards, steps, seed] = numbers;
+    if cards < 1 || cards > MAX_CARDS as u64 || steps > u64::from(MAX_STEPS) {
+        return None;
+    }
+    if steps > MOST_REQUESTS * cards {
+        return None;
+    }
+    let seed = u32::try_from(seed).ok()?;
+    Some(counts_of(&play(alloc, cards as u32, steps as u32, seed).ok()?))
+}
+
+fn counts_of(summary: &Summary) -> Counts {
+    let mut counts = Counts::new();
+    counts.push(summary.taps);
+    counts.push(summary.fresh);
+    counts.push(summary.approved);
+    counts.push(summary.kept);
+    counts.push(summary.refused);
+    counts.push(summary.authenticated);
+    counts.push(summary.unauthenticated);
+    counts.push(summary.queued);
+    counts.push(summary.done);
+    counts.push(summary.ran);
+    counts.push(summary.halted);
+    counts
+}

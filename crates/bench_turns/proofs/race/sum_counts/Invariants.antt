@@ -1,5 +1,0 @@
--- There is a tally less each time.
-use Rattle.bench_turns.proofs.race.sum_counts.Given as goal
-
-abbrev pub decreases-loop-tally : goal.decreases-loop-tally
-decreases-loop-tally l = goal.left-loop-tally l
