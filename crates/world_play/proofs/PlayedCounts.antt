@@ -18,7 +18,7 @@ use Rattle.world_net.proofs.Hosts.{histories-at}
 use Rattle.world_net.proofs.KeptWorlds.{kept-in_order}
 use Rattle.world_play.specs.declared.player.Player.{Player}
 use Rattle.world_play.specs.declared.summary.Summary.{Summary}
-use Rattle.world_play.specs.Genuine.{CanBePlayed, AreInOrder}
+use Rattle.world_play.specs.Genuine.{CanBePlayed, CountsInOrder}
 use Rattle.world_play.specs.Play.{State, ComesTo, shown, one_if, summed}
 use Rattle.world_play.specs.Setting.{card_info, issuer}
 use Rattle.world_play.proofs.PlayedCards.{issuer-valid, card-at, card-is, cards-count, number-known}
@@ -83,7 +83,7 @@ module _ (cards steps : ℕ) (world : WorldState) (state : State) (valid : IsIss
       subst (λ (info : CardInfo). one_if (shown (issuer cards) state.books info).halted ≡ 0) known.1
       (ap one_if (ran number info player.0 info_is player.1).goes_on)
 
-  pub state-order : AreInOrder (summed (issuer cards) state)
+  pub state-order : CountsInOrder (summed (issuer cards) state)
   state-order = record {
     none_halted = sums-none (λ info. one_if (shown (issuer cards) state.books info).halted) (issuer cards).cards none-halted;
     done_ran = sums-within (λ info. (shown (issuer cards) state.books info).done) (λ (player : Player). length player.card.ran) (issuer cards).cards state.players
@@ -91,15 +91,15 @@ module _ (cards steps : ℕ) (world : WorldState) (state : State) (valid : IsIss
   }
 
 -- so what the run comes to is in order
-pub every-order : (cards steps seed : ℕ) (summary : Summary) → CanBePlayed cards steps → ComesTo cards steps seed summary → AreInOrder summary
+pub every-order : (cards steps seed : ℕ) (summary : Summary) → CanBePlayed cards steps → ComesTo cards steps seed summary → CountsInOrder summary
 every-order cards steps seed summary can comes =
     let valid = issuer-valid cards can.some can.few in
     let it = states cards seed valid can.some steps can.counters comes.last comes.is_after in
-    subst AreInOrder (sym comes.summary_is) (state-order cards steps it.0 comes.last valid it.1)
+    subst CountsInOrder (sym comes.summary_is) (state-order cards steps it.0 comes.last valid it.1)
 
 -- whatever is played
 pub played-order : {E : Type 0} (result : Result Summary E) (cards steps seed : ℕ) → 1 ≤ cards → cards ≤ MAX_CARDS → steps ≤ 65535 * cards
-    → IfOk result (ComesTo cards steps seed) → IfOk result AreInOrder
+    → IfOk result (ComesTo cards steps seed) → IfOk result CountsInOrder
 played-order result cards steps seed some few counters comes =
-    IfOk-weaker result (ComesTo cards steps seed) AreInOrder
+    IfOk-weaker result (ComesTo cards steps seed) CountsInOrder
     (λ summary. every-order cards steps seed summary (record { some = some; few = few; counters = counters })) comes

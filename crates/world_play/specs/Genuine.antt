@@ -25,6 +25,6 @@ pub record EndsGenuineRun (cards : ℕ) (state : State) : Type 0 where
   pub histories_are : histories_of world ≡ book_histories state.books
 
 -- no card's scripts are halted, and the host counts no more commands as done than the cards ran
-pub record AreInOrder (summary : Summary) : Type 0 where
+pub record CountsInOrder (summary : Summary) : Type 0 where
   pub none_halted : summary.halted ≡ 0
   pub done_ran : summary.done ≤ summary.ran

@@ -2,7 +2,7 @@
 ghost use Rattle.std.specs.Prelude.{ℕ};
 ghost use Rattle.world_play.specs.declared.summary.Summary.{Summary};
 ghost use Rattle.world_play.specs.Play.{State, IsAfter, ComesTo};
-ghost use Rattle.world_play.specs.Genuine.{CanBePlayed, EndsGenuineRun, AreInOrder};
+ghost use Rattle.world_play.specs.Genuine.{CanBePlayed, EndsGenuineRun, CountsInOrder};
 
 /// After each step of a played run, its cards and the histories of its host are those at the end of a genuine run of worlds.
 ///
@@ -15,5 +15,5 @@ pub fn every_played_world_is_genuine()
 ///
 /// The contract is a theorem on every number of cards and steps that may be played, and every seed; the function does nothing.
 pub fn every_played_world_is_in_order()
-    ensures { (cards steps seed : ℕ) (summary : Summary) → CanBePlayed cards steps → ComesTo cards steps seed summary → AreInOrder summary }
+    ensures { (cards steps seed : ℕ) (summary : Summary) → CanBePlayed cards steps → ComesTo cards steps seed summary → CountsInOrder summary }
 {}

@@ -1,7 +1,7 @@
 //! A run: its steps, one after another, and what it comes to.
 ghost use Rattle.std.specs.Prelude.{◌≡◌, ◌*◌, ◌≤◌, length, IfOk};
 ghost use Rattle.issuer_base.specs.declared.limits.TheConstants.{MAX_CARDS};
-ghost use Rattle.world_play.specs.Genuine.{AreInOrder};
+ghost use Rattle.world_play.specs.Genuine.{CountsInOrder};
 ghost use Rattle.world_play.specs.Play.{ComesTo};
 ghost use Rattle.world_play.specs.Reaching.{IsAt};
 
@@ -29,7 +29,7 @@ pub fn play(alloc: Global, cards: u32, steps: u32, seed: u32) -> Result<Summary,
     requires steps { steps ≤ MAX_STEPS }
     requires counters { steps ≤ 65_535 * cards }
     ensures comes_to { IfOk result (ComesTo cards steps seed) }
-    ensures in_order { IfOk result AreInOrder }
+    ensures in_order { IfOk result CountsInOrder }
 {
     let mut players = new_players(alloc, cards)?;
     let mut house = new_house(alloc, cards, steps)?;
