@@ -20,7 +20,7 @@ use Rattle.journal_rec.specs.Record.{IsRecord}
 use Rattle.journal_rec.specs.RecordText.{newline, text_of, texts_of, IsUnbroken}
 use Rattle.journal_rec.proofs.TextLaws.{texts_of-one_reading}
 use Rattle.line_checks.specs.Reading.{of_card}
-use Rattle.record_store.specs.Images.{IsCutImage, IsImage}
+use Rattle.record_store.specs.Images.{IsCutImage}
 use Rattle.shard_book.specs.Grounds.{HasTable, IsCardOfShard, IsMadeBy, IsImageOf, IsTail, grounds_now, grounds_of}
 use Rattle.shard_book.specs.Histories.{GoesOn, IsImageBetween}
 use Rattle.shard_book.specs.Restarts.{IsHeld, LoadsBetween, LoadsPrefix, with_table}
