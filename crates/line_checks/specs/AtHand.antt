@@ -34,8 +34,8 @@ pub record HasKeysAtHand (issuer : Setup) (request : Request) (known : KnownCard
   pub online_is : is_arqc request ≡ true
   pub keys_are : keys_of issuer known.card request ≡ Some known.keys
 
--- besides, the keys are the card's master keys from the key set that the request names, and the session key is that of
--- these keys and the request's counter: EMV 4.3 Book 2, Annex A1.3.1
+-- the card is the issuer's that the request names, the keys are its master keys from the key set that the request names, and the session
+-- key is that of these keys and the request's counter: EMV 4.3 Book 2, Annex A1.3.1
 pub record IsRequestAtHand (issuer : Setup) (found : CheckedRequest) : Type 0 where
   pub card_is : IsCardAtHand issuer (card_of found.request) found.card
   pub keys_are : keys_of issuer found.card found.request ≡ Some found.keys
