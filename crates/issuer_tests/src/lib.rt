@@ -6,6 +6,8 @@ mod callers;
 #[cfg(test)]
 mod failing_devices;
 #[cfg(test)]
+mod loading_order;
+#[cfg(test)]
 mod own_devices;
 #[cfg(test)]
 mod pieces;

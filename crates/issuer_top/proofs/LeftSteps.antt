@@ -158,7 +158,7 @@ module _ {S : Type 0} {G : Ghosts S} (told : (store : S) → IfSome (G.disk stor
 -- ---- all that were opened
 
 -- a store that was seen is one of these
-seen-store : {S : Type 0} (G : Ghosts S) (stores : List S) (k : ℕ) (seen : SeenStore) → slice_get (map (store_seen G) stores) k ≡ Some seen
+pub seen-store : {S : Type 0} (G : Ghosts S) (stores : List S) (k : ℕ) (seen : SeenStore) → slice_get (map (store_seen G) stores) k ≡ Some seen
     → (store : S) × (slice_get stores k ≡ Some store) × (store_seen G store ≡ seen)
 seen-store G [] k seen is = absurd (let e : None ≡ Some seen = is in cc)
 seen-store G (store ∷ stores) zero seen is = (store, refl, (let e : Some (store_seen G store) ≡ Some seen = is in cc))

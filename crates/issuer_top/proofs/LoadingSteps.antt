@@ -1,5 +1,5 @@
 -- Why opened journals gave no host.
-use Rattle.std.proofs.Common.{◌≡◌, ℕ, ◌<◌, List, length, Option, None, Some, refl, sym, ap, ◌∙◌, subst, arith, inl, inr, ⊎_elim}
+use Rattle.std.proofs.Common.{◌≡◌, ℕ, ◌<◌, List, ◌++◌, length, Option, None, Some, refl, sym, ap, ◌∙◌, subst, arith, inl, inr, ⊎_elim}
 use Rattle.std.specs.Prelude.{slice_get, map, IfSome}
 use Rattle.std.specs.Option.{option_map}
 use Rattle.std.proofs.lemmas.Option.{slice_get-map}
@@ -8,14 +8,16 @@ use Rattle.issuer_base.specs.declared.outside.store.Store.{Ghosts}
 use Rattle.issuer_base.proofs.ManyCalls.{Rose-from_none}
 use Rattle.answer_text.specs.declared.stop_line.Stop.{Stop}
 use Rattle.issuer_setup.specs.IssuerSetup.{Setup}
+use Rattle.journal_rec.specs.RecordText.{texts_of}
 use Rattle.shard_book.specs.declared.replay.LoadFault.{LoadFault}
 use Rattle.shard_book.specs.declared.replay.LoadFault.TheVariants.{BadLine, BadRecord, StoreFault, NoMemory}
-use Rattle.host_calls.specs.Loading.{ComeBack, IsNotLoaded}
+use Rattle.host_calls.specs.Loading.{IsGivenBack, ComeBack, IsNotLoaded}
 use Rattle.host_calls.specs.OpeningLogs.{HostComesBack}
 use Rattle.issuer_top.specs.Seen.{Logged, SeenStore, store_seen}
 use Rattle.issuer_top.specs.Journals.{journal_name, IsOpened, AreOpened}
-use Rattle.issuer_top.specs.Loading.{DeskFaults, HasOpenedAll, GivesNoHost, stop_of_load}
-use Rattle.issuer_top.proofs.KeptSteps.{at-place, mapped}
+use Rattle.issuer_top.specs.Loading.{DeskFaults, HasOpenedAll, HasLoaded, HaveLoadedBelow, GivesNoHost, stop_of_load}
+use Rattle.issuer_top.proofs.KeptSteps.{at-place, mapped, held-told}
+use Rattle.issuer_top.proofs.LeftSteps.{seen-store}
 
 -- what is true of the bytes of a store is true of what the desk told of it
 told-held : (P : List ℕ → Type 0) (held bytes : Option (List ℕ)) → IfSome held (λ told. bytes ≡ Some told) → IfSome bytes P → IfSome held P
@@ -28,6 +30,19 @@ pub no_host-given : (issuer : Setup) (prefix : List ℕ) (logs : Logged) (desk :
 no_host-given issuer prefix logs desk stores given cause told same handed none =
     subst (λ (c : Stop). GivesNoHost issuer prefix logs desk stores c) (sym same)
     (subst (λ (ss : List SeenStore). GivesNoHost issuer prefix logs desk ss told) (sym handed) none)
+
+-- a store that was loaded from a new one, and is given back
+loaded-given : {S : Type 0} (G : Ghosts S) (issuer : Setup) (shard : ℕ) (held : Option (List ℕ)) (store back : S) → IsOpened G held store
+    → IsGivenBack G.bytes G.disk G.faults issuer shard store back → HasLoaded issuer shard held (store_seen G back)
+loaded-given G issuer shard held store back opened given = record {
+  history = given.history;
+  rest = given.rest;
+  held_is = held-told held (G.bytes store) (texts_of given.history ++ given.rest) opened.bytes_are given.text_is;
+  unbroken = given.unbroken;
+  records = given.records;
+  legal = given.legal;
+  no_fault = given.counts.counted ∙ opened.new;
+}
 
 module _ {S : Type 0} (G : Ghosts S) (issuer : Setup) (prefix : List ℕ) (logs : Logged) (desk : DeskFaults) (stores back : List S) (failed : ℕ)
     (opened : AreOpened G prefix logs stores) (count : length stores ≡ issuer.shards) (stood : desk.after ≡ desk.before) where
@@ -54,6 +69,15 @@ module _ {S : Type 0} (G : Ghosts S) (issuer : Setup) (prefix : List ℕ) (logs 
     seen-after : slice_get (map (store_seen G) back) failed ≡ Some (store_seen G after.0)
     seen-after = slice_get-map (store_seen G) back failed ∙ ap (option_map (store_seen G)) after.1
 
+    -- the shards before it were loaded
+    loaded-below : HaveLoadedBelow issuer prefix logs (map (store_seen G) back) failed
+    loaded-below lower seen below is =
+        let here = seen-store G back lower seen is in
+        let store = at-place stores lower (let w = come.within in omega (arith, w, below)) in
+        subst (HasLoaded issuer lower (logs (journal_name prefix lower))) here.2
+        (loaded-given G issuer lower (logs (journal_name prefix lower)) store.0 here.0 (opened lower store.0 store.1)
+        (come.before lower store.0 here.0 below store.1 here.1))
+
   pub gives-no_host : (fault : LoadFault) → ComeBack G.bytes G.disk G.faults issuer stores failed fault back
       → GivesNoHost issuer prefix logs desk (map (store_seen G) back) (stop_of_load fault failed)
   gives-no_host StoreFault come =
@@ -63,6 +87,7 @@ module _ {S : Type 0} (G : Ghosts S) (issuer : Setup) (prefix : List ℕ) (logs 
       inr (record {
         opened = all-opened StoreFault come;
         within = within StoreFault come;
+        before = loaded-below StoreFault come;
         store = store_seen G (after StoreFault come).0;
         store_is = seen-after StoreFault come;
         failed = Rose-from_none (G.faults (after StoreFault come).0) rose;
@@ -70,6 +95,7 @@ module _ {S : Type 0} (G : Ghosts S) (issuer : Setup) (prefix : List ℕ) (logs 
   gives-no_host (BadLine line) come = record {
     opened = all-opened (BadLine line) come;
     within = within (BadLine line) come;
+    before = loaded-below (BadLine line) come;
     fault = BadLine line;
     line_is = inl refl;
     stops = told-held _ _ _ (log (BadLine line) come).bytes_are (not-loaded (BadLine line) come).stops;
@@ -77,6 +103,7 @@ module _ {S : Type 0} (G : Ghosts S) (issuer : Setup) (prefix : List ℕ) (logs 
   gives-no_host (BadRecord line) come = record {
     opened = all-opened (BadRecord line) come;
     within = within (BadRecord line) come;
+    before = loaded-below (BadRecord line) come;
     fault = BadRecord line;
     line_is = inr refl;
     stops = told-held _ _ _ (log (BadRecord line) come).bytes_are (not-loaded (BadRecord line) come).stops;

@@ -1,13 +1,19 @@
 -- Why the journals of an issuer's shards gave no host.
-use Rattle.std.specs.Prelude.{◌≡◌, ℕ, ◌<◌, ◌⊎◌, Bool, true, false, List, [], length, slice_get, Option, Some, IfSome, Result, Err}
+use Rattle.std.specs.Prelude.{◌≡◌, ℕ, ◌<◌, ◌⊎◌, Bool, true, false, List, [], ◌++◌, length, slice_get, Option, Some, IfSome, Result, Err, All}
 use Rattle.issuer_base.specs.Desk.{FailedCall}
 use Rattle.issuer_base.specs.OutsideFaults.{Rose}
+use Rattle.issuer_base.specs.Tells.{Tells}
+use Rattle.issuer_base.specs.declared.entry.Entry.{Entry}
 use Rattle.issuer_base.specs.declared.outside.DeskCall.TheVariants.{Log}
 use Rattle.answer_text.specs.declared.stop_line.Stop.{Stop}
 use Rattle.answer_text.specs.declared.stop_line.Stop.TheVariants.{Usage, Config, ReadFault, StoreFault, BadJournal, NoMemory, TooLong}
+use Rattle.card_history.specs.LegalRecords.{IsLegalHistory}
 use Rattle.issuer_setup.specs.IssuerSetup.{Setup}
+use Rattle.journal_rec.specs.Record.{IsRecord}
+use Rattle.journal_rec.specs.RecordText.{texts_of, IsUnbroken}
 use Rattle.shard_book.specs.declared.replay.LoadFault.{LoadFault}
 use Rattle.shard_book.specs.declared.replay.LoadFault.TheVariants.{BadLine, BadRecord, StoreFault as FailedStore, NoMemory as NoRoom}
+use Rattle.shard_book.specs.Grounds.{grounds_of}
 use Rattle.shard_book.specs.Loading.{StopsAt}
 use Rattle.issuer_top.specs.Seen.{Logged, SeenStore}
 use Rattle.issuer_top.specs.Journals.{journal_name}
@@ -30,10 +36,27 @@ pub record HasOpenedAll (issuer : Setup) (desk : DeskFaults) (stores : List Seen
   pub stores_are : length stores ≡ issuer.shards
   pub desk_stood : desk.after ≡ desk.before
 
--- the store of this shard failed while its journal was loaded
-pub record FailsToLoad (issuer : Setup) (desk : DeskFaults) (stores : List SeenStore) (shard : ℕ) : Type 0 where
+-- the journal of this shard was loaded: where the desk told of it, it was the text of a legal history and maybe a torn last line; and its store
+-- counted no fault
+pub record HasLoaded (issuer : Setup) (shard : ℕ) (held : Option (List ℕ)) (store : SeenStore) : Type 0 where
+  pub history : List Entry
+  pub rest : List ℕ
+  pub held_is : Tells held (texts_of history ++ rest)
+  pub unbroken : IsUnbroken rest
+  pub records : All IsRecord history
+  pub legal : IsLegalHistory (grounds_of issuer) shard history
+  pub no_fault : store.faults ≡ 0
+
+-- so was that of each shard with a lower number
+abbrev pub HaveLoadedBelow : Setup → List ℕ → Logged → List SeenStore → ℕ → Type 0
+HaveLoadedBelow issuer prefix logs stores shard =
+    (lower : ℕ) (store : SeenStore) → lower < shard → slice_get stores lower ≡ Some store → HasLoaded issuer lower (logs (journal_name prefix lower)) store
+
+-- the store of this shard failed while its journal was loaded, once those of the shards before were
+pub record FailsToLoad (issuer : Setup) (prefix : List ℕ) (logs : Logged) (desk : DeskFaults) (stores : List SeenStore) (shard : ℕ) : Type 0 where
   pub opened : HasOpenedAll issuer desk stores
   pub within : shard < issuer.shards
+  pub before : HaveLoadedBelow issuer prefix logs stores shard
   pub store : SeenStore
   pub store_is : slice_get stores shard ≡ Some store
   pub failed : 0 < store.faults
@@ -42,17 +65,20 @@ pub record FailsToLoad (issuer : Setup) (desk : DeskFaults) (stores : List SeenS
 abbrev pub IsBadLine : LoadFault → ℕ → Type 0
 IsBadLine fault line = (fault ≡ BadLine line) ⊎ (fault ≡ BadRecord line)
 
--- where the desk told of this shard's journal, it had the text of a legal history, and behind it this bad line
+-- the journals of the shards before were loaded; where the desk told of this shard's journal, it had the text of a legal history, and behind it
+-- this bad line
 pub record IsBadAt (issuer : Setup) (prefix : List ℕ) (logs : Logged) (desk : DeskFaults) (stores : List SeenStore) (shard line : ℕ) : Type 0 where
   pub opened : HasOpenedAll issuer desk stores
   pub within : shard < issuer.shards
+  pub before : HaveLoadedBelow issuer prefix logs stores shard
   pub fault : LoadFault
   pub line_is : IsBadLine fault line
   pub stops : IfSome (logs (journal_name prefix shard)) (λ text. StopsAt issuer shard [] text fault)
 
 -- why there is no host
 abbrev pub GivesNoHost : Setup → List ℕ → Logged → DeskFaults → List SeenStore → Stop → Type 0
-GivesNoHost issuer prefix logs desk stores (StoreFault shard) = FailsToLog issuer prefix desk stores shard ⊎ FailsToLoad issuer desk stores shard
+GivesNoHost issuer prefix logs desk stores (StoreFault shard) =
+    FailsToLog issuer prefix desk stores shard ⊎ FailsToLoad issuer prefix logs desk stores shard
 GivesNoHost issuer prefix logs desk stores (BadJournal shard line) = IsBadAt issuer prefix logs desk stores shard line
 GivesNoHost issuer prefix logs desk stores NoMemory = desk.after ≡ desk.before
 GivesNoHost issuer prefix logs desk stores Usage = ⊥
