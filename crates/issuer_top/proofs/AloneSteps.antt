@@ -11,6 +11,7 @@ use Rattle.line_checks.specs.Reading.{reading}
 use Rattle.line_checks.proofs.KeptLines.{reading-kept}
 use Rattle.issuer_setup.specs.IssuerSetup.{Setup}
 use Rattle.answer_text.specs.AnswerText.{printed}
+use Rattle.shard_book.specs.declared.shard.Shard.{Shard}
 use Rattle.shard_book.specs.Shards.{store_in}
 use Rattle.shard_book.proofs.OwnDecisions.{legal-then}
 use Rattle.host_calls.specs.declared.solo.Solo.{Solo}
@@ -22,12 +23,14 @@ use Rattle.host_calls.proofs.OneRun.{run-one_history}
 use Rattle.host_calls.proofs.Running.{begins-legal, run-on}
 use Rattle.issuer_top.specs.Configuration.{HasSoundParts}
 use Rattle.issuer_top.specs.Hosts.{TakesLine, Settles, LeavesAnswered, LeavesLoaded, IsReadySolo, HasAnswered}
+use Rattle.issuer_top.specs.Journals.{IsReady}
+use Rattle.issuer_top.specs.Lawful.{IsLawful}
 use Rattle.issuer_top.specs.Left.{LeaveJournals}
 use Rattle.issuer_top.specs.Seen.{Logged, store_seen}
 use Rattle.issuer_top.proofs.HostRuns.{run-line, recorded}
 use Rattle.issuer_top.proofs.KeptSteps.{at-place, begins, keep-journals}
 use Rattle.issuer_top.proofs.LeftSteps.{closed-left}
-use Rattle.issuer_top.proofs.WorldLaws.{safe-worlds}
+use Rattle.issuer_top.proofs.WorldLaws.{is-lawful}
 
 -- a run over lines cut to what is kept of them is one over the lines
 run-kept : (issuer : Setup) (first : List Book) (asked : List (List ℕ)) (answers : List Answer) (last : List Book)
@@ -104,6 +107,17 @@ module _ {S : Type 0} {G : Ghosts S} where
 
   -- ---- what it leaves
 
+  -- the run is lawful where no line was answered
+  pub lawful-loaded : (issuer : Setup) (prefix : List ℕ) (logs : Logged) (loaded : List (Shard S G)) (ready : IsReady issuer prefix logs loaded)
+      (shards : AreShards issuer loaded) → HasSoundParts issuer
+      → IsLawful issuer (begins issuer prefix logs loaded ready shards).books (begins issuer prefix logs loaded ready shards).books
+  lawful-loaded issuer prefix logs loaded ready shards sound =
+      let begun = begins issuer prefix logs loaded ready shards in
+      let legal = begins-legal issuer ready.stores loaded ready.loaded begun in
+      let records = recorded begun.has_run.stand in
+      let one = run-one_history issuer (legal-then issuer sound.table) begun.books begun.books [] [] legal records refl in
+      is-lawful issuer begun.books begun.books sound (begun.has_run.stand.count_is ∙ shards.count_is) refl one.goes_on records
+
   module _ (told : (store : S) → IfSome (G.disk store) (λ disk. G.bytes store ≡ Some disk.now.bytes)) (issuer : Setup) (prefix : List ℕ)
       (logs : Logged) (first : Solo S G) (ready : IsReadySolo issuer prefix logs first) where
     -- its shards, under the issuer
@@ -131,25 +145,26 @@ module _ {S : Type 0} {G : Ghosts S} where
             last = last;
             kept = keep-journals issuer prefix logs (map (store_seen G) stores) first.shards.items now.shards.items ready.shards shards after told
                 (ap (map (store_seen G)) stores_are) last ended.1.stand ended.1.leave;
+            lawful = is-lawful issuer begun.books last sound count (run-on issuer begun.books asked so_far.answers last run).count_is one.goes_on
+                (recorded ended.1.stand);
             answered = record {
               answers = so_far.answers;
               run = run;
               printed_is = so_far.text_is;
               one = one;
-              worlds = safe-worlds issuer begun.books last sound count (run-on issuer begun.books asked so_far.answers last run).count_is one.goes_on
-                  (recorded ended.1.stand);
             };
           }
 
-    pub leaves-loaded_alone : (stores : List S) → stores ≡ map store_in first.shards.items
+    pub leaves-loaded_alone : HasSoundParts issuer → (stores : List S) → stores ≡ map store_in first.shards.items
         → LeavesLoaded 1 issuer prefix logs (map (store_seen G) stores)
-    leaves-loaded_alone stores stores_are =
+    leaves-loaded_alone sound stores stores_are =
         let begun = begins issuer prefix logs first.shards.items ready.shards shards in
         record {
           first = begun.books;
           last = begun.books;
           kept = keep-journals issuer prefix logs (map (store_seen G) stores) first.shards.items first.shards.items ready.shards shards shards told
               (ap (map (store_seen G)) stores_are) begun.books begun.has_run.stand begun.has_run.leave;
+          lawful = lawful-loaded issuer prefix logs first.shards.items ready.shards shards sound;
           none = record {
             same_histories = refl;
             none_told = λ shard book is.

@@ -31,6 +31,7 @@ use Rattle.issuer_top.specs.Opening.{GivesInput, stop_of}
 use Rattle.issuer_top.specs.Command.{RequestFile, IsWorld, IsCommand, IsNoCommand}
 use Rattle.issuer_top.specs.Loading.{GivesNoHost}
 use Rattle.issuer_top.specs.Kept.{KeepJournals}
+use Rattle.issuer_top.specs.Lawful.{IsLawful}
 use Rattle.issuer_top.specs.Left.{LeaveJournals}
 use Rattle.issuer_top.specs.Shown.{shown_text}
 use Rattle.issuer_top.specs.Serving.{ServesLines, Serves, read_failed, write_failed}
@@ -289,6 +290,7 @@ module _ (seen : Seen) (requests : RequestFile) (journal : List ℕ) (issuer : S
         opened = opened;
         set_up = set_up;
         kept = leaves.kept;
+        lawful = leaves.lawful;
         none = leaves.none;
         left = leaves.left;
         told = refl;
@@ -312,6 +314,7 @@ module _ (seen : Seen) (requests : RequestFile) (journal : List ℕ) (issuer : S
         last = leaves.last;
         set_up = set_up;
         kept = leaves.kept;
+        lawful = leaves.lawful;
         none = leaves.none;
         fails = record {
           config_is = with_config;
@@ -349,6 +352,7 @@ module _ (seen : Seen) (requests : RequestFile) (journal : List ℕ) (issuer : S
           input_is = input_is;
           set_up = set_up;
           kept = l.kept;
+          lawful = l.lawful;
           held = told-given (seen.desk.tells requests.name) left served.file given served.content;
           was_read = served.was_read;
           answered = lines_are (AreAnsweredBy requests.callers issuer l.first l.last) l.answered;
@@ -443,17 +447,18 @@ module _ (seen : Seen) (requests : RequestFile) (journal : List ℕ) (issuer : S
 
 pub ends_showing : (seen : Seen) (journal : List ℕ) (issuer : Setup) (books : List Book) (result : Result (Unit {0}) SinkFails)
     → HasOpened seen true false → IsSetUp seen None journal issuer → KeepJournals 1 issuer journal seen.desk.logs seen.stores books books
+    → IsLawful issuer books books
     → WritesAll seen.sink.held_before seen.sink.held_after result (shown_text issuer books issuer.cards)
     → CountsFaults seen.sink.faults_before seen.sink.faults_after (is_err result) → EndsBy seen (written_ending result)
-ends_showing seen journal issuer books (Ok done) opened set_up kept written counts = (
+ends_showing seen journal issuer books (Ok done) opened set_up kept lawful written counts = (
   shown_text issuer books issuer.cards,
-  inr (inl (record { journal = journal; issuer = issuer; books = books; opened = opened; set_up = set_up; kept = kept; shown = refl })),
+  inr (inl (record { journal = journal; issuer = issuer; books = books; opened = opened; set_up = set_up; kept = kept; lawful = lawful; shown = refl })),
   written,
 )
-ends_showing seen journal issuer books (Err fault) opened set_up kept written counts = record {
+ends_showing seen journal issuer books (Err fault) opened set_up kept lawful written counts = record {
   rose = counts.counted;
   text = shown_text issuer books issuer.cards;
-  due = inr (inr (inl (record { journal = journal; issuer = issuer; books = books; opened = opened; set_up = set_up; kept = kept; shown = refl })));
+  due = inr (inr (inl (record { journal = journal; issuer = issuer; books = books; opened = opened; set_up = set_up; kept = kept; lawful = lawful; shown = refl })));
   front = written;
 }
 

@@ -49,10 +49,11 @@ use Rattle.issuer_top.specs.Answers.{AreAnsweredTogether, AreBooksOf, ByCallers}
 use Rattle.issuer_top.specs.Configuration.{HasSoundParts}
 use Rattle.issuer_top.specs.Hosts.{TakesLine, Settles, LeavesAnswered, LeavesLoaded, IsReadyTogether, HaveAnswered}
 use Rattle.issuer_top.specs.Journals.{journal_name, IsOpened, AreOpened}
+use Rattle.issuer_top.specs.Lawful.{IsLawful}
 use Rattle.issuer_top.specs.Kept.{WasJournal, LeavesNow, KeepsJournal, KeepJournals}
 use Rattle.issuer_top.specs.Seen.{Logged, SeenStore, store_seen}
 use Rattle.issuer_top.proofs.KeptSteps.{at-place, mapped, held-told}
-use Rattle.issuer_top.proofs.WorldLaws.{safe-worlds}
+use Rattle.issuer_top.proofs.WorldLaws.{is-lawful}
 
 -- ---- lines as far as they are kept
 
@@ -438,6 +439,9 @@ module _ {S : Type 0} {G : Ghosts S} (count : ℕ) (issuer : Setup) (prefix : Li
         is ∙ ap (book_of log) (sym (ap (λ (b : Book). b.faults) is));
   }
 
+  lawful-together : HasSoundParts issuer → IsLawful issuer first_books last_books
+  lawful-together sound = is-lawful issuer first_books last_books sound count-first (count-last ∙ sym count-first) goes-on last-recorded
+
   module _ (more : 1 < count) (sound : HasSoundParts issuer) (asked : List (List ℕ)) (answers : List Answer) (callers : List Caller)
       (dealt : AreDealt count asked answers callers) (shared : AreCallers issuer opening logs callers)
       (explained : AreExplained issuer opening logs callers) (own : AreOwnPlaces issuer opening logs callers)
@@ -470,7 +474,6 @@ module _ {S : Type 0} {G : Ghosts S} (count : ℕ) (issuer : Setup) (prefix : Li
       opening_are = books-opened;
       logs = logs;
       logs_are = books-closed;
-      goes_on = goes-on;
       explained = explained;
       own = own;
       blamed = λ shard was is was_at is_at below few.
@@ -482,7 +485,6 @@ module _ {S : Type 0} {G : Ghosts S} (count : ℕ) (issuer : Setup) (prefix : Li
           (counted shard at.first.head.faults (G.faults at.after) at.within rises
           (subst (λ (i : Book). i.faults < 2 ^ 64 - 1) at.is_is below) few));
       settled = λ stood. settled (none-told stood);
-      worlds = safe-worlds issuer first_books last_books sound count-first (count-last ∙ sym count-first) goes-on last-recorded;
     }
 
     pub leaves-together : (text : List ℕ) → text ≡ flat_map printed answers
@@ -491,12 +493,14 @@ module _ {S : Type 0} {G : Ghosts S} (count : ℕ) (issuer : Setup) (prefix : Li
       first = first_books;
       last = last_books;
       kept = keep-together more;
+      lawful = lawful-together sound;
       answered = several count _ (AreAnsweredTogether count issuer first_books last_books asked text) more (answered-together text text_is);
     }
 
   -- ---- where no line was answered
 
-  module _ (more : 1 < count) (callers : List Caller) (dealt : AreDealt count [] [] callers) (shared : AreCallers issuer opening logs callers) where
+  module _ (more : 1 < count) (sound : HasSoundParts issuer) (callers : List Caller) (dealt : AreDealt count [] [] callers)
+      (shared : AreCallers issuer opening logs callers) where
     no-places : (shard place : ℕ) (caller : Caller) → (number : ℕ) → slice_get callers number ≡ Some caller → times_placed shard place caller.logs_now.mine ≡ 0
     no-places shard place caller number is =
         let one = shared.each number caller is in
@@ -543,6 +547,7 @@ module _ {S : Type 0} {G : Ghosts S} (count : ℕ) (issuer : Setup) (prefix : Li
       first = first_books;
       last = last_books;
       kept = keep-together more;
+      lawful = lawful-together sound;
       none = record { same_histories = same-histories; none_told = no-fault; alone = λ one. absurd (omega (arith, one, more)) };
       left = λ one. absurd (omega (arith, one, more));
     }
@@ -587,15 +592,15 @@ module _ {S : Type 0} {G : Ghosts S} (issuer : Setup) (prefix : List ℕ) (told 
       (explained issuer opening c.logs callers shared) (own issuer opening c.logs callers shared) (settled issuer opening c.logs callers shared)
       (counted issuer opening c.logs callers shared) text so_far.text_is
 
-  pub closes-loaded_together : (host : Lanes S G) (back : List S) → IsReadyTogether issuer prefix told host
+  pub closes-loaded_together : (host : Lanes S G) (back : List S) → IsReadyTogether issuer prefix told host → HasSoundParts issuer
       → ((lines : List (List ℕ)) (answers due : List Answer) → LanesServe host lines answers due []
       → HasClosed G.bytes G.disk G.faults (issuer_in host) (opening_logs host) (callers_in host) lines answers back)
       → LeavesLoaded (callers_in host) issuer prefix told (map (store_seen G) back)
-  closes-loaded_together host back ready closes =
+  closes-loaded_together host back ready sound closes =
       let c = closed-under host host back ready (record { same_issuer = refl; same_opening = refl; same_callers = refl }) [] []
       (closes [] [] [] ready.none) in
       leaves-loaded_together (callers_in host) issuer prefix told ready.stores back (opening_logs host) c.logs ready.stores_are ready.opened ready.opening
-      c.shared.same_count c.closed ready.several c.callers c.dealt c.shared
+      c.shared.same_count c.closed ready.several sound c.callers c.dealt c.shared
 
 -- ---- a line more
 

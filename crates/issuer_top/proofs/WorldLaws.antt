@@ -1,21 +1,24 @@
--- The worlds whose histories a run of turns leaves.
+-- What is sure of every run: the law of its histories, and of the worlds that come to them.
 use Rattle.std.proofs.Common.{◌≡◌, ℕ, zero, suc, List, [], ◌∷◌, length, All, None, Some, refl, ◌∙◌}
 use Rattle.std.specs.Prelude.{slice_get, slice_index_or}
 use Rattle.std.proofs.lemmas.List.{length-map}
 use Rattle.std.proofs.lemmas.List.Elements.{All-nil, All-weaker}
 use Rattle.issuer_base.specs.declared.entry.Entry.{Entry}
 use Rattle.card_history.specs.LegalRecords.{IsLegalHistory}
+use Rattle.card_history.proofs.CommandsInOrder.{in_order}
 use Rattle.issuer_setup.specs.IssuerSetup.{Setup}
 use Rattle.journal_rec.specs.Record.{IsEntry, IsRecord}
 use Rattle.shard_book.specs.Grounds.{grounds_of}
 use Rattle.host_calls.specs.Books.{Book, histories_of}
 use Rattle.host_calls.specs.OneHistory.{AreLegalBooks, AreRecorded, GoOnLegally}
+use Rattle.host_calls.proofs.LegalBooks.{legal-once}
 use Rattle.host_calls.proofs.OneRun.{on-legal}
 use Rattle.world_net.specs.Histories.{AreHeld, AreLegal}
 use Rattle.world_net.proofs.Worlds.{sound-run, sound-safe}
 use Rattle.world_net.proofs.KeptWorlds.{kept-run_end, kept-in_order}
 use Rattle.world_net.proofs.FilledRuns.{histories-run}
 use Rattle.issuer_top.specs.Configuration.{HasSoundParts}
+use Rattle.issuer_top.specs.Lawful.{IsLawful}
 use Rattle.issuer_top.specs.Worlds.{HaveSafeWorlds}
 
 -- what is true of each book's history, and of no records, is true of the history at any number
@@ -41,13 +44,23 @@ are-held books recorded shard =
     history-at books shard (All IsEntry)
     (λ book is. All-weaker IsRecord IsEntry (λ entry record_is. record_is.held) book.history (recorded shard book is)) (All-nil IsEntry)
 
--- each world of the issuer with these histories is safe, and runs its cards' commands in order where it is genuine; and there is one
-pub safe-worlds : (issuer : Setup) (first last : List Book) → HasSoundParts issuer → length first ≡ issuer.shards → length last ≡ length first
+-- each world of the issuer is safe, and runs its cards' commands in order where it is genuine; and one has these histories
+safe-worlds : (issuer : Setup) (first last : List Book) → HasSoundParts issuer → length first ≡ issuer.shards → length last ≡ length first
     → GoOnLegally issuer first last → AreRecorded last → HaveSafeWorlds issuer (histories_of last)
 safe-worlds issuer first last sound count more on recorded =
     let legal = on-legal issuer first last (record { count_is = more; on = on }) in
     record {
-      each_is_safe = λ events world run same. sound-safe world (sound-run issuer events world sound.valid run);
-      each_runs_in_order = λ events world run same. kept-in_order world (kept-run_end issuer events world sound.valid run);
+      each_is_safe = λ events world run. sound-safe world (sound-run issuer events world sound.valid run);
+      each_runs_in_order = λ events world run. kept-in_order world (kept-run_end issuer events world sound.valid run);
       some_run = histories-run issuer (histories_of last) sound.valid sound.keys (are-legal issuer last (more ∙ count) legal) (are-held last recorded);
     }
+
+-- books that go on legally are those of a lawful run
+pub is-lawful : (issuer : Setup) (first last : List Book) → HasSoundParts issuer → length first ≡ issuer.shards → length last ≡ length first
+    → GoOnLegally issuer first last → AreRecorded last → IsLawful issuer first last
+is-lawful issuer first last sound count more on recorded = record {
+  goes_on = on;
+  once = legal-once issuer last (on-legal issuer first last (record { count_is = more; on = on }));
+  in_order = λ card shard. in_order card (slice_index_or (histories_of last) shard []);
+  worlds = safe-worlds issuer first last sound count more on recorded;
+}

@@ -11,24 +11,21 @@ use Rattle.shard_turns.specs.declared.logs.LogHead.{LogHead}
 use Rattle.host_calls.specs.Books.{Book, histories_of}
 use Rattle.host_calls.specs.Closing.{book_of}
 use Rattle.host_calls.specs.Turns.{Run}
-use Rattle.host_calls.specs.OneHistory.{GoOnLegally, HasFailed, IsOneHistory}
+use Rattle.host_calls.specs.OneHistory.{HasFailed, IsOneHistory}
 use Rattle.many_callers.specs.Callers.{Caller}
 use Rattle.many_callers.specs.Explained.{AreExplained}
 use Rattle.many_callers.specs.FaultCounts.{all_answers}
 use Rattle.many_callers.specs.OwnPlaces.{AreOwnPlaces, all_faults_told}
 use Rattle.many_callers.specs.Settled.{AreSettled}
 use Rattle.caller_lanes.specs.Dealing.{AreDealt}
-use Rattle.issuer_top.specs.Worlds.{HaveSafeWorlds}
 
 -- the text of one caller's answers to these lines, one turn after another from the first books to the last: so each shard's history is one
--- legal history, no counter of a card was decided twice, and each request has one reply; and the worlds of the issuer with the last histories
--- are safe
+-- legal history, no counter of a card was decided twice, and each request has one reply
 pub record AreAnswered (issuer : Setup) (first last : List Book) (asked : List (List ℕ)) (text : List ℕ) : Type 0 where
   pub answers : List Answer
   pub run : Run issuer first asked answers last
   pub printed_is : text ≡ flat_map printed answers
   pub one : IsOneHistory issuer asked answers first last
-  pub worlds : HaveSafeWorlds issuer (histories_of last)
 
 -- these are the books of the logs of all shards
 pub record AreBooksOf (logs : List (Log LogItem LogHead)) (books : List Book) : Type 0 where
@@ -37,8 +34,7 @@ pub record AreBooksOf (logs : List (Log LogItem LogHead)) (books : List Book) : 
       → book ≡ book_of log book.faults
 
 -- the text of the answers to these lines, which were dealt in turns to so many callers of one host: each answer is explained by the histories at
--- opening and at close, and each record of this run is one answer's; so each shard's history is one legal history, no counter of a card was decided
--- twice, and each request has one reply; and the worlds of the issuer with the last histories are safe
+-- opening and at close, and each record of this run is one answer's; so no counter of a card was decided twice, and each request has one reply
 pub record AreAnsweredTogether (count : ℕ) (issuer : Setup) (first last : List Book) (asked : List (List ℕ)) (text : List ℕ) : Type 0 where
   pub answers : List Answer
   pub printed_is : text ≡ flat_map printed answers
@@ -48,7 +44,6 @@ pub record AreAnsweredTogether (count : ℕ) (issuer : Setup) (first last : List
   pub opening_are : AreBooksOf opening first
   pub logs : List (Log LogItem LogHead)
   pub logs_are : AreBooksOf logs last
-  pub goes_on : GoOnLegally issuer first last
   pub explained : AreExplained issuer opening logs callers
   pub own : AreOwnPlaces issuer opening logs callers
   -- at most as many answers are that a shard's store failed as its count rose, unless that stands at its last value
@@ -56,7 +51,6 @@ pub record AreAnsweredTogether (count : ℕ) (issuer : Setup) (first last : List
       → all_answers callers < MAX_FAULTS_TOLD → was.faults + all_faults_told issuer shard callers ≤ is.faults
   -- where no store's count of faults rose, no answer is that one failed, and each counter that a request names is settled
   pub settled : (HasFailed first last → ⊥) → AreSettled issuer opening callers
-  pub worlds : HaveSafeWorlds issuer (histories_of last)
 
 -- with one caller the one holds, and with more the other
 abbrev pub ByCallers : ℕ → Type 0 → Type 0 → Type 0

@@ -25,6 +25,7 @@ use Rattle.issuer_top.specs.Journals.{journal_name}
 use Rattle.issuer_top.specs.Loading.{GivesNoHost}
 use Rattle.issuer_top.specs.Answered.{WasRead, AllAnswered, WholeAnswered, PassedAnswered, FrontAnswered}
 use Rattle.issuer_top.specs.Kept.{KeepJournals}
+use Rattle.issuer_top.specs.Lawful.{IsLawful}
 use Rattle.issuer_top.specs.Left.{LeaveJournals}
 use Rattle.issuer_top.specs.Shown.{shown_text}
 use Rattle.issuer_top.specs.Played.{IsWorldText}
@@ -54,8 +55,8 @@ pub record IsSetUp (seen : Seen) (requests : Option RequestFile) (journal : List
   pub held : Tells (seen.desk.tells config) (Some content)
   pub says : configured content ≡ Ok issuer
 
--- lines of the request file were read and answered, and this is the text of their answers; the journals are kept meanwhile; `Answered`
--- says which lines
+-- lines of the request file were read and answered, and this is the text of their answers; the journals are kept meanwhile, and the run is lawful;
+-- `Answered` says which lines
 pub record AnswersLines (Answered : (List (List ℕ) → List ℕ → Type 0) → List ℕ → List ℕ → List ℕ → Type 0) (seen : Seen) (text : List ℕ) : Type 0 where
   pub requests : RequestFile
   pub journal : List ℕ
@@ -69,6 +70,7 @@ pub record AnswersLines (Answered : (List (List ℕ) → List ℕ → Type 0) �
   pub input_is : seen.requests ≡ Some input
   pub set_up : IsSetUp seen (Some requests) journal issuer
   pub kept : KeepJournals requests.callers issuer journal seen.desk.logs seen.stores first last
+  pub lawful : IsLawful issuer first last
   pub held : Tells (seen.desk.tells requests.name) (Some file)
   pub was_read : WasRead file read input.left
   pub answered : Answered (AreAnsweredBy requests.callers issuer first last) file read text
@@ -81,6 +83,7 @@ pub record IsShown (seen : Seen) (text : List ℕ) : Type 0 where
   pub opened : HasOpened seen true false
   pub set_up : IsSetUp seen None journal issuer
   pub kept : KeepJournals 1 issuer journal seen.desk.logs seen.stores books books
+  pub lawful : IsLawful issuer books books
   pub shown : text ≡ shown_text issuer books issuer.cards
 
 -- a world was played, and this is the text of what it came to; nothing was opened
@@ -150,6 +153,7 @@ pub record CannotOpenRequests (seen : Seen) (text : List ℕ) : Type 0 where
   pub last : List Book
   pub set_up : IsSetUp seen (Some requests) journal issuer
   pub kept : KeepJournals requests.callers issuer journal seen.desk.logs seen.stores first last
+  pub lawful : IsLawful issuer first last
   pub none : AnswersNone requests.callers first last
   pub fails : FailsToOpen seen requests.name true
   pub told : text ≡ stop_text ReadFault
@@ -209,6 +213,7 @@ pub record CannotServe (seen : Seen) (text : List ℕ) : Type 0 where
   pub opened : HasOpened seen true false
   pub set_up : IsSetUp seen (Some requests) journal issuer
   pub kept : KeepJournals requests.callers issuer journal seen.desk.logs seen.stores first last
+  pub lawful : IsLawful issuer first last
   pub none : AnswersNone requests.callers first last
   pub left : requests.callers ≡ 1 → LeaveJournals journal seen.desk.logs seen.stores
   pub told : text ≡ stop_text NoMemory

@@ -17,6 +17,7 @@ use Rattle.issuer_top.specs.Answers.{AreAnsweredBy, AnswersNone}
 use Rattle.host_calls.specs.OpeningLogs.{AreOpenedFrom}
 use Rattle.issuer_top.specs.Journals.{AreOpened, IsReady as AreReady}
 use Rattle.issuer_top.specs.Kept.{KeepJournals}
+use Rattle.issuer_top.specs.Lawful.{IsLawful}
 use Rattle.issuer_top.specs.Left.{LeaveJournals}
 use Rattle.issuer_top.specs.Seen.{Logged, SeenStore}
 
@@ -46,6 +47,7 @@ pub record LeavesAnswered (count : ℕ) (issuer : Setup) (prefix : List ℕ) (lo
   pub first : List Book
   pub last : List Book
   pub kept : KeepJournals count issuer prefix logs stores first last
+  pub lawful : IsLawful issuer first last
   pub answered : AreAnsweredBy count issuer first last lines text
 
 -- what it leaves where it answered none
@@ -53,6 +55,7 @@ pub record LeavesLoaded (count : ℕ) (issuer : Setup) (prefix : List ℕ) (logs
   pub first : List Book
   pub last : List Book
   pub kept : KeepJournals count issuer prefix logs stores first last
+  pub lawful : IsLawful issuer first last
   pub none : AnswersNone count first last
   pub left : count ≡ 1 → LeaveJournals prefix logs stores
 

@@ -7,6 +7,7 @@ pub mod Opening
 pub mod Journals
 pub mod Loading
 pub mod Worlds
+pub mod Lawful
 pub mod Answers
 pub mod Answered
 pub mod Kept

@@ -38,7 +38,7 @@ pub(crate) fn close_alone<S: Store>(host: Solo<S>) -> Vec<S>
     ensures answered { (issuer : Setup) (prefix : List ℕ) (logs : Logged) (first : Solo S S.Store) (lines : List (List ℕ)) (text : List ℕ)
         → IsReadySolo issuer prefix logs first → HasSoundParts issuer → HasAnswered first (map kept lines) text [] host
         → LeavesAnswered 1 issuer prefix logs (map (store_seen S.Store) result.items) lines text }
-    ensures loaded { (issuer : Setup) (prefix : List ℕ) (logs : Logged) → IsReadySolo issuer prefix logs host
+    ensures loaded { (issuer : Setup) (prefix : List ℕ) (logs : Logged) → IsReadySolo issuer prefix logs host → HasSoundParts issuer
         → LeavesLoaded 1 issuer prefix logs (map (store_seen S.Store) result.items) }
 {
     host.close()

@@ -89,7 +89,7 @@ impl<S: Store> LineHost<S> {
         ensures answered { (issuer : Setup) (prefix : List ℕ) (logs : Logged) (first : LineHost S S.Store) (lines : List (List ℕ)) (text : List ℕ)
             → IsReady issuer prefix logs first → HasSoundParts issuer → HasServed first (map kept lines) text [] self
             → LeavesAnswered (callers_of first) issuer prefix logs (map (store_seen S.Store) result.items) lines text }
-        ensures loaded { (issuer : Setup) (prefix : List ℕ) (logs : Logged) → IsReady issuer prefix logs self
+        ensures loaded { (issuer : Setup) (prefix : List ℕ) (logs : Logged) → IsReady issuer prefix logs self → HasSoundParts issuer
             → LeavesLoaded (callers_of self) issuer prefix logs (map (store_seen S.Store) result.items) }
     {
         match self {

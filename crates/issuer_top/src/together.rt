@@ -44,7 +44,7 @@ pub(crate) fn close_together<S: Store>(host: Lanes<S>) -> Vec<S>
     ensures answered { (issuer : Setup) (prefix : List ℕ) (logs : Logged) (first : Lanes S S.Store) (lines : List (List ℕ)) (text : List ℕ)
         → IsReadyTogether issuer prefix logs first → HasSoundParts issuer → HaveAnswered first (map kept lines) text [] host
         → LeavesAnswered (callers_in first) issuer prefix logs (map (store_seen S.Store) result.items) lines text }
-    ensures loaded { (issuer : Setup) (prefix : List ℕ) (logs : Logged) → IsReadyTogether issuer prefix logs host
+    ensures loaded { (issuer : Setup) (prefix : List ℕ) (logs : Logged) → IsReadyTogether issuer prefix logs host → HasSoundParts issuer
         → LeavesLoaded (callers_in host) issuer prefix logs (map (store_seen S.Store) result.items) }
 {
     every_answer_is_explained();

@@ -342,7 +342,7 @@ fn show_cards<D: Desk, W: Sink>(
     ensures { (words : List (List ℕ)) (desk : SeenDesk) (config : SeenInput) (journal : List ℕ) (issuer : Setup)
         → let seen = seen_of words desk (Some config) (option_map (input_seen D.Input.Source) result.requests)
         (map (store_seen D.Journal.Store) result.stores.items) (sink_seen W.Sink out.old out.new) in
-        IsSetUp seen None journal issuer → IsReadySolo issuer journal desk.logs host → desk.faults_after ≡ desk.faults_before
+        IsSetUp seen None journal issuer → IsReadySolo issuer journal desk.logs host → HasSoundParts issuer → desk.faults_after ≡ desk.faults_before
         → EndsBy seen result.ending }
 {
     let ending = end_writing(show(&host, out));

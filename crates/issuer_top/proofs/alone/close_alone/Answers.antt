@@ -8,6 +8,6 @@ returns-clause-answered g c = λ issuer prefix logs first lines text ready sound
     c.args.host lines text so_far c.close.result.items c.close.ensures
 
 pub returns-clause-loaded : goal.returns-clause-loaded
-returns-clause-loaded g c = λ issuer prefix logs ready.
+returns-clause-loaded g c = λ issuer prefix logs ready sound.
     leaves-loaded_alone g.met.S.Store.told_bytes issuer prefix logs c.args.host
-    ready c.close.result.items c.close.ensures
+    ready sound c.close.result.items c.close.ensures

@@ -9,5 +9,5 @@ returns-clause-answered g c = λ issuer prefix logs first lines text ready sound
     c.close.ensures
 
 pub returns-clause-loaded : goal.returns-clause-loaded
-returns-clause-loaded g c = λ issuer prefix logs ready.
-    closes-loaded_together issuer prefix logs c.args.host c.close.result.items ready c.close.ensures
+returns-clause-loaded g c = λ issuer prefix logs ready sound.
+    closes-loaded_together issuer prefix logs c.args.host c.close.result.items ready sound c.close.ensures

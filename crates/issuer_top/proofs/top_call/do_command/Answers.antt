@@ -12,7 +12,7 @@ pub returns-in-Ok : goal.returns-in-Ok
 returns-in-Ok g c = λ words given config set_up sound same same_logs.
     c.show_cards.ensures words _ config _ _ (rw c.in-None.is at set_up)
     (subst (λ (l : Logged). IsReadySolo c.args.issuer c.args.names.journal.now l c.in-Ok.host) same_logs c.in-Ok.ensures.ready)
-    (c.in-Ok.ensures.stood refl ∙ same.faults_are)
+    sound (c.in-Ok.ensures.stood refl ∙ same.faults_are)
 
 pub returns-in-Err : goal.returns-in-Err
 returns-in-Err g c = λ words given config set_up sound same same_logs.

@@ -7,12 +7,13 @@ use Rattle.issuer_base.specs.Sink.{WritesAll}
 use Rattle.issuer_top.specs.Seen.{store_seen}
 use Rattle.issuer_top.specs.Shown.{shown_text}
 use Rattle.issuer_top.specs.Endings.{EndsBy}
+use Rattle.issuer_top.proofs.AloneSteps.{lawful-loaded}
 use Rattle.issuer_top.proofs.KeptSteps.{begins, keep-journals}
 use Rattle.issuer_top.proofs.EndingSteps.{ends_showing}
 use Rattle.issuer_top.proofs.top_call.show_cards.Goals as goal
 
 pub returns : goal.returns
-returns g c = λ words desk config journal issuer set_up ready stood.
+returns g c = λ words desk config journal issuer set_up ready sound stood.
     let shards = subst (λ (i : Setup). AreShards i c.args.host.shards.items) ready.issuer_is c.args.host.are_shards in
     let first = begins issuer journal desk.logs c.args.host.shards.items ready.shards shards in
     let kept = keep-journals issuer journal desk.logs _ c.args.host.shards.items c.args.host.shards.items ready.shards shards shards
@@ -23,4 +24,4 @@ returns g c = λ words desk config journal issuer set_up ready stood.
     (shown_text i first.books i.cards)) ready.issuer_is (c.show.ensures.shown first.books) in
     subst (EndsBy _) (sym c.end_writing-ending.ensures)
     (ends_showing _ journal issuer first.books _ (record { config_is = refl; requests_is = refl; desk_stood = stood }) set_up kept
-    (shown first.has_run.stand) c.show.ensures.count)
+    (lawful-loaded issuer journal desk.logs c.args.host.shards.items ready.shards shards sound) (shown first.has_run.stand) c.show.ensures.count)

@@ -15,7 +15,7 @@ returns-in-Together-clause-answered g c = λ issuer prefix logs first lines text
     leaves_together first c.args.self c.in-Together.lanes _ c.in-Together.is c.close_together.ensures.answered issuer prefix logs lines text
 
 pub returns-in-Together-clause-loaded : goal.returns-in-Together-clause-loaded
-returns-in-Together-clause-loaded g c = λ issuer prefix logs ready.
+returns-in-Together-clause-loaded g c = λ issuer prefix logs ready sound.
     subst (λ (host : LineHost g.row.S.Denot g.S.Store).
     LeavesLoaded (callers_of host) issuer prefix logs (map (store_seen g.S.Store) c.close_together.result.items)) (sym c.in-Together.is)
-    (c.close_together.ensures.loaded issuer prefix logs (subst (IsReady issuer prefix logs) c.in-Together.is ready))
+    (c.close_together.ensures.loaded issuer prefix logs (subst (IsReady issuer prefix logs) c.in-Together.is ready) sound)
