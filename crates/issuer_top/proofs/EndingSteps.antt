@@ -1,5 +1,5 @@
 -- How a run ends, from what its parts did.
-use Rattle.std.proofs.Common.{◌≡◌, ℕ, ◌<◌, ◌≤◌, Bool, true, false, List, [], ◌++◌, Option, None, Some, Err, Ok, inl, inr, ⊎_elim}
+use Rattle.std.proofs.Common.{◌≡◌, ℕ, ◌<◌, ◌≤◌, Bool, true, false, List, [], ◌++◌, length, Option, None, Some, Err, Ok, inl, inr, ⊎_elim}
 use Rattle.std.proofs.Common.{refl, sym, subst, ap, ◌∙◌, arith}
 use Rattle.std.specs.Prelude.{is_some, IsSomeAnd, Result, is_err, slice_get}
 use Rattle.std.specs.Io.KnownBytes.{Appends}
@@ -13,6 +13,7 @@ use Rattle.issuer_base.specs.declared.outside.DeskFault.TheVariants.{Fault, NoMe
 use Rattle.issuer_base.specs.declared.outside.DeskCall.TheVariants.{Read}
 use Rattle.issuer_base.specs.Desk.{FailedCall, is_fault, last_after}
 use Rattle.issuer_base.proofs.ManyCalls.{AppendsFront-after, Rose-from_none, Rose-since, Tells-from_left}
+use Rattle.line_reader.specs.declared.limits.TheConstants.{MAX_LINES}
 use Rattle.line_reader.specs.Lines.{lines}
 use Rattle.answer_text.specs.StopText.{stop_text}
 use Rattle.answer_text.specs.declared.stop_line.Stop.{Stop}
@@ -330,15 +331,15 @@ module _ (seen : Seen) (requests : RequestFile) (journal : List ℕ) (issuer : S
 
   module _ (input : SeenInput) (left : Option (List ℕ)) (opened : HasOpened seen true true) (input_is : seen.requests ≡ Some input)
       (given : GivesInput (seen.desk.tells requests.name) left) (Answered : List (List ℕ) → List ℕ → Type 0)
-      (leaves : (asked : List (List ℕ)) (text : List ℕ) → Answered asked text
+      (leaves : (asked : List (List ℕ)) (text : List ℕ) → length asked ≤ MAX_LINES → Answered asked text
       → LeavesAnswered requests.callers issuer journal seen.desk.logs seen.stores asked text) where
     -- what was served are the lines of the file that the desk holds
     answers-served : (Lines : (List (List ℕ) → List ℕ → Type 0) → List ℕ → List ℕ → List ℕ → Type 0) (Written : List ℕ → Type 0)
-        → (served : ServesLines (Lines Answered) Written left input.left) (asked : List (List ℕ)) → Answered asked served.text
+        → (served : ServesLines (Lines Answered) Written left input.left) (asked : List (List ℕ)) → length asked ≤ MAX_LINES → Answered asked served.text
         → ((Other : List (List ℕ) → List ℕ → Type 0) → Other asked served.text → Lines Other served.file served.read served.text)
         → AnswersLines Lines seen served.text
-    answers-served Lines Written served asked answered lines_are =
-        let l = leaves asked served.text answered in
+    answers-served Lines Written served asked within answered lines_are =
+        let l = leaves asked served.text within answered in
         record {
           requests = requests;
           journal = journal;
@@ -362,21 +363,21 @@ module _ (seen : Seen) (requests : RequestFile) (journal : List ℕ) (issuer : S
         → AnswersLines AllAnswered seen served.text
     all-served Written served =
         let a = served.answered in
-        answers-served AllAnswered Written served (lines served.file) a.answered
+        answers-served AllAnswered Written served (lines served.file) a.within.lines_within a.answered
         (λ Other other. record { to_the_end = a.to_the_end; within = a.within; answered = other })
 
     whole-served : (Written : List ℕ → Type 0) (served : ServesLines (WholeAnswered Answered) Written left input.left)
         → AnswersLines WholeAnswered seen served.text
     whole-served Written served =
         let a = served.answered in
-        answers-served WholeAnswered Written served a.whole a.answered
+        answers-served WholeAnswered Written served a.whole a.within.lines_fit a.answered
         (λ Other other. record { whole = a.whole; rest = a.rest; parted = a.parted; within = a.within; answered = other })
 
     passed-served : (number : ℕ) (Written : List ℕ → Type 0) (served : ServesLines (PassedAnswered number Answered) Written left input.left)
         → AnswersLines (PassedAnswered number) seen served.text
     passed-served number Written served =
         let a = served.answered in
-        answers-served (PassedAnswered number) Written served a.whole a.answered
+        answers-served (PassedAnswered number) Written served a.whole a.within.lines_within a.answered
         (λ Other other. record {
           whole = a.whole;
           ahead = a.ahead;
@@ -391,7 +392,7 @@ module _ (seen : Seen) (requests : RequestFile) (journal : List ℕ) (issuer : S
         → AnswersLines FrontAnswered seen served.text
     front-served Written served =
         let a = served.answered in
-        answers-served FrontAnswered Written served (lines a.front) a.answered
+        answers-served FrontAnswered Written served (lines a.front) a.within.lines_within a.answered
         (λ Other other. record {
           front = a.front;
           ahead = a.ahead;

@@ -1,6 +1,7 @@
 -- What holds of the host of one caller and of that of several, of either.
-use Rattle.std.proofs.Common.{◌≡◌, ℕ, List, [], map, sym, subst}
+use Rattle.std.proofs.Common.{◌≡◌, ◌≤◌, ℕ, List, [], length, map, sym, subst}
 use Rattle.issuer_base.specs.declared.outside.store.Store.{Ghosts}
+use Rattle.line_reader.specs.declared.limits.TheConstants.{MAX_LINES}
 use Rattle.line_reader.specs.Reading.{kept}
 use Rattle.issuer_setup.specs.IssuerSetup.{Setup}
 use Rattle.host_calls.specs.declared.solo.Solo.{Solo}
@@ -69,8 +70,8 @@ module _ {S : Type 0} {G : Ghosts S} (first : LineHost S G) where
       → IsReadySolo issuer prefix logs first → HasSoundParts issuer → HasAnswered first (map kept lines) text [] host
       → LeavesAnswered 1 issuer prefix logs stores lines text)
       → (issuer : Setup) (prefix : List ℕ) (logs : Logged) (lines : List (List ℕ)) (text : List ℕ) → IsReady issuer prefix logs first
-      → HasSoundParts issuer → HasServed first (map kept lines) text [] now → LeavesAnswered (callers_of first) issuer prefix logs stores lines text
-  leaves_alone now host stores same leaves issuer prefix logs lines text ready sound served =
+      → HasSoundParts issuer → length lines ≤ MAX_LINES → HasServed first (map kept lines) text [] now → LeavesAnswered (callers_of first) issuer prefix logs stores lines text
+  leaves_alone now host stores same leaves issuer prefix logs lines text ready sound within served =
       elim first as (λ first. IsReady issuer prefix logs first → HasServed first (map kept lines) text [] (Alone host)
       → LeavesAnswered (callers_of first) issuer prefix logs stores lines text) [
         | Alone begun ↦ λ ready so_far. leaves issuer prefix logs begun lines text ready sound so_far
@@ -79,13 +80,13 @@ module _ {S : Type 0} {G : Ghosts S} (first : LineHost S G) where
 
   pub leaves_together : (now : LineHost S G) (host : Lanes S G) (stores : List SeenStore) → now ≡ Together host
       → ((issuer : Setup) (prefix : List ℕ) (logs : Logged) (first : Lanes S G) (lines : List (List ℕ)) (text : List ℕ)
-      → IsReadyTogether issuer prefix logs first → HasSoundParts issuer → HaveAnswered first (map kept lines) text [] host
+      → IsReadyTogether issuer prefix logs first → HasSoundParts issuer → length lines ≤ MAX_LINES → HaveAnswered first (map kept lines) text [] host
       → LeavesAnswered (callers_in first) issuer prefix logs stores lines text)
       → (issuer : Setup) (prefix : List ℕ) (logs : Logged) (lines : List (List ℕ)) (text : List ℕ) → IsReady issuer prefix logs first
-      → HasSoundParts issuer → HasServed first (map kept lines) text [] now → LeavesAnswered (callers_of first) issuer prefix logs stores lines text
-  leaves_together now host stores same leaves issuer prefix logs lines text ready sound served =
+      → HasSoundParts issuer → length lines ≤ MAX_LINES → HasServed first (map kept lines) text [] now → LeavesAnswered (callers_of first) issuer prefix logs stores lines text
+  leaves_together now host stores same leaves issuer prefix logs lines text ready sound within served =
       elim first as (λ first. IsReady issuer prefix logs first → HasServed first (map kept lines) text [] (Together host)
       → LeavesAnswered (callers_of first) issuer prefix logs stores lines text) [
         | Alone begun ↦ λ ready so_far. absurd so_far
-        | Together begun ↦ λ ready so_far. leaves issuer prefix logs begun lines text ready sound so_far
+        | Together begun ↦ λ ready so_far. leaves issuer prefix logs begun lines text ready sound within so_far
       ] ready (subst (HasServed first (map kept lines) text []) same served)

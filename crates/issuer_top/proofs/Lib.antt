@@ -8,6 +8,7 @@ pub mod JournalSteps
 pub mod CrashSteps
 pub mod KeptSteps
 pub mod LeftSteps
+pub mod DealtAnswers
 pub mod AloneSteps
 pub mod TogetherSteps
 pub mod HostSteps

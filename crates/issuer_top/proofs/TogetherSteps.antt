@@ -10,12 +10,14 @@ use Rattle.issuer_base.specs.OutsideFaults.{Rose}
 use Rattle.issuer_base.specs.Stores.{Disk, MayLeave}
 use Rattle.issuer_base.specs.Tells.{Tells}
 use Rattle.issuer_base.specs.declared.answer.Answer.{Answer}
+use Rattle.issuer_base.specs.declared.limits.TheConstants.{MAX_FAULTS_TOLD}
 use Rattle.issuer_base.specs.declared.entry.Entry.{Entry}
 use Rattle.issuer_base.specs.declared.outside.store.Store.{Ghosts}
 use Rattle.card_history.specs.LegalRecords.{IsLegalHistory}
 use Rattle.issuer_setup.specs.IssuerSetup.{Setup}
 use Rattle.journal_rec.specs.Record.{IsRecord}
 use Rattle.journal_rec.specs.RecordText.{texts_of}
+use Rattle.line_reader.specs.declared.limits.TheConstants.{MAX_LINES}
 use Rattle.line_reader.specs.Reading.{kept}
 use Rattle.line_checks.proofs.KeptLines.{reading-kept}
 use Rattle.answer_text.specs.AnswerText.{printed}
@@ -39,7 +41,7 @@ use Rattle.host_calls.specs.OneHistory.{AreRecorded, GoOnLegally, HasFailed, Leg
 use Rattle.host_calls.specs.OpeningLogs.{opened_on, IsOpenedFrom, AreOpenedFrom}
 use Rattle.many_callers.specs.Callers.{Calls, Caller, IsCaller, AreCallers}
 use Rattle.many_callers.specs.Explained.{AreExplained}
-use Rattle.many_callers.specs.FaultCounts.{AreFaultsCounted}
+use Rattle.many_callers.specs.FaultCounts.{all_answers, AreFaultsCounted}
 use Rattle.many_callers.specs.OwnPlaces.{AreOwnPlaces, all_faults_told}
 use Rattle.many_callers.specs.Settled.{TellNoFault, AreSettled}
 use Rattle.caller_lanes.specs.Dealing.{every, AreDealt}
@@ -52,6 +54,7 @@ use Rattle.issuer_top.specs.Journals.{journal_name, IsOpened, AreOpened}
 use Rattle.issuer_top.specs.Lawful.{IsLawful}
 use Rattle.issuer_top.specs.Kept.{WasJournal, LeavesNow, KeepsJournal, KeepJournals}
 use Rattle.issuer_top.specs.Seen.{Logged, SeenStore, store_seen}
+use Rattle.issuer_top.proofs.DealtAnswers.{answers-dealt}
 use Rattle.issuer_top.proofs.KeptSteps.{at-place, mapped, held-told}
 use Rattle.issuer_top.proofs.WorldLaws.{is-lawful}
 
@@ -445,7 +448,12 @@ module _ {S : Type 0} {G : Ghosts S} (count : ℕ) (issuer : Setup) (prefix : Li
   module _ (more : 1 < count) (sound : HasSoundParts issuer) (asked : List (List ℕ)) (answers : List Answer) (callers : List Caller)
       (dealt : AreDealt count asked answers callers) (shared : AreCallers issuer opening logs callers)
       (explained : AreExplained issuer opening logs callers) (own : AreOwnPlaces issuer opening logs callers)
-      (settled : TellNoFault issuer logs → AreSettled issuer opening callers) (counted : AreFaultsCounted issuer logs callers) where
+      (settled : TellNoFault issuer logs → AreSettled issuer opening callers) (counted : AreFaultsCounted issuer logs callers)
+      (within : length asked ≤ MAX_LINES) where
+    -- there are fewer answers than a log may have faults
+    few-answers : all_answers callers < MAX_FAULTS_TOLD
+    few-answers = let all = answers-dealt count asked answers callers (omega (arith, more)) dealt in omega (arith, all, within)
+
     -- where no store's count rose, no log tells a fault
     none-told : (HasFailed first_books last_books → ⊥) → TellNoFault issuer logs
     none-told stood shard within =
@@ -476,14 +484,14 @@ module _ {S : Type 0} {G : Ghosts S} (count : ℕ) (issuer : Setup) (prefix : Li
       logs_are = books-closed;
       explained = explained;
       own = own;
-      blamed = λ shard was is was_at is_at below few.
+      blamed = λ shard was is was_at is_at below.
           let at = kept-at shard was is was_at is_at in
           let rises = subst (λ (items : List LogItem). RiseTo at.first.head.faults (faults_of items) (G.faults at.after))
           (sym (items-of logs shard at.last at.last_at)) at.closes.rise in
           subst (λ (w : Book). w.faults + all_faults_told issuer shard callers ≤ is.faults) (sym at.was_is)
           (subst (λ (i : Book). at.first.head.faults + all_faults_told issuer shard callers ≤ i.faults) (sym at.is_is)
           (counted shard at.first.head.faults (G.faults at.after) at.within rises
-          (subst (λ (i : Book). i.faults < 2 ^ 64 - 1) at.is_is below) few));
+          (subst (λ (i : Book). i.faults < 2 ^ 64 - 1) at.is_is below) few-answers));
       settled = λ stood. settled (none-told stood);
     }
 
@@ -568,7 +576,7 @@ module _ {S : Type 0} {G : Ghosts S} (issuer : Setup) (prefix : List ℕ) (told 
         (subst (λ (n : ℕ). HasClosed G.bytes G.disk G.faults (issuer_in now) (opening_logs now) n asked answers back) same.same_callers closed))
 
   pub closes-together : (first now : Lanes S G) (back : List S) → IsReadyTogether issuer prefix told first → HasSoundParts issuer
-      → (asked : List (List ℕ)) (text : List ℕ) → HaveAnswered first (map kept asked) text [] now
+      → (asked : List (List ℕ)) (text : List ℕ) → length asked ≤ MAX_LINES → HaveAnswered first (map kept asked) text [] now
       → ((issuer : Setup) (opening logs : List (Log LogItem LogHead)) (callers : List Caller) → AreCallers issuer opening logs callers
       → AreExplained issuer opening logs callers)
       → ((issuer : Setup) (opening logs : List (Log LogItem LogHead)) (callers : List Caller) → AreCallers issuer opening logs callers
@@ -580,7 +588,7 @@ module _ {S : Type 0} {G : Ghosts S} (issuer : Setup) (prefix : List ℕ) (told 
       → ((lines : List (List ℕ)) (answers due : List Answer) → LanesServe now lines answers due []
       → HasClosed G.bytes G.disk G.faults (issuer_in now) (opening_logs now) (callers_in now) lines answers back)
       → LeavesAnswered (callers_in first) issuer prefix told (map (store_seen G) back) asked text
-  closes-together first now back ready sound asked text so_far explained own settled counted closes =
+  closes-together first now back ready sound asked text within so_far explained own settled counted closes =
       let answers = so_far.answers in
       let c = closed-under first now back ready so_far.same (map kept asked) answers (closes (map kept asked) answers [] so_far.served) in
       let count = callers_in first in
@@ -590,7 +598,7 @@ module _ {S : Type 0} {G : Ghosts S} (issuer : Setup) (prefix : List ℕ) (told 
       leaves-together count issuer prefix told ready.stores back opening c.logs ready.stores_are ready.opened ready.opening c.shared.same_count c.closed
       ready.several sound asked answers callers (dealt-kept count asked answers c.callers c.dealt) shared
       (explained issuer opening c.logs callers shared) (own issuer opening c.logs callers shared) (settled issuer opening c.logs callers shared)
-      (counted issuer opening c.logs callers shared) text so_far.text_is
+      (counted issuer opening c.logs callers shared) within text so_far.text_is
 
   pub closes-loaded_together : (host : Lanes S G) (back : List S) → IsReadyTogether issuer prefix told host → HasSoundParts issuer
       → ((lines : List (List ℕ)) (answers due : List Answer) → LanesServe host lines answers due []

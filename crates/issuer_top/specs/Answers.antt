@@ -2,7 +2,6 @@
 use Rattle.std.specs.Prelude.{◌≡◌, ℕ, ◌+◌, ◌-◌, ◌^◌, ◌<◌, ◌≤◌, suc, zero, List, length, slice_get, Some}
 use Rattle.std.specs.List.{flat_map}
 use Rattle.issuer_base.specs.declared.answer.Answer.{Answer}
-use Rattle.issuer_base.specs.declared.limits.TheConstants.{MAX_FAULTS_TOLD}
 use Rattle.issuer_setup.specs.IssuerSetup.{Setup}
 use Rattle.answer_text.specs.AnswerText.{printed}
 use Rattle.turn_book.specs.declared.logs.Log.{Log}
@@ -14,7 +13,6 @@ use Rattle.host_calls.specs.Turns.{Run}
 use Rattle.host_calls.specs.OneHistory.{HasFailed, IsOneHistory}
 use Rattle.many_callers.specs.Callers.{Caller}
 use Rattle.many_callers.specs.Explained.{AreExplained}
-use Rattle.many_callers.specs.FaultCounts.{all_answers}
 use Rattle.many_callers.specs.OwnPlaces.{AreOwnPlaces, all_faults_told}
 use Rattle.many_callers.specs.Settled.{AreSettled}
 use Rattle.caller_lanes.specs.Dealing.{AreDealt}
@@ -48,7 +46,7 @@ pub record AreAnsweredTogether (count : ℕ) (issuer : Setup) (first last : List
   pub own : AreOwnPlaces issuer opening logs callers
   -- at most as many answers are that a shard's store failed as its count rose, unless that stands at its last value
   pub blamed : (shard : ℕ) (was is : Book) → slice_get first shard ≡ Some was → slice_get last shard ≡ Some is → is.faults < 2 ^ 64 - 1
-      → all_answers callers < MAX_FAULTS_TOLD → was.faults + all_faults_told issuer shard callers ≤ is.faults
+      → was.faults + all_faults_told issuer shard callers ≤ is.faults
   -- where no store's count of faults rose, no answer is that one failed, and each counter that a request names is settled
   pub settled : (HasFailed first last → ⊥) → AreSettled issuer opening callers
 

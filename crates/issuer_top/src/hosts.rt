@@ -2,6 +2,7 @@
 ghost use Rattle.std.specs.Prelude.{◌≡◌, ◌≤◌, ℕ, List, [], length, map, false};
 ghost use Rattle.issuer_base.specs.declared.limits.TheConstants.{KEPT_BYTES};
 ghost use Rattle.issuer_setup.specs.IssuerSetup.{Setup};
+ghost use Rattle.line_reader.specs.declared.limits.TheConstants.{MAX_LINES};
 ghost use Rattle.line_reader.specs.Reading.{kept};
 ghost use Rattle.issuer_top.specs.Configuration.{HasSoundParts};
 ghost use Rattle.issuer_top.specs.Seen.{Logged, store_seen};
@@ -87,7 +88,7 @@ impl<S: Store> LineHost<S> {
     pub(crate) fn close(self) -> Vec<S>
         requires { IsSettled self }
         ensures answered { (issuer : Setup) (prefix : List ℕ) (logs : Logged) (first : LineHost S S.Store) (lines : List (List ℕ)) (text : List ℕ)
-            → IsReady issuer prefix logs first → HasSoundParts issuer → HasServed first (map kept lines) text [] self
+            → IsReady issuer prefix logs first → HasSoundParts issuer → length lines ≤ MAX_LINES → HasServed first (map kept lines) text [] self
             → LeavesAnswered (callers_of first) issuer prefix logs (map (store_seen S.Store) result.items) lines text }
         ensures loaded { (issuer : Setup) (prefix : List ℕ) (logs : Logged) → IsReady issuer prefix logs self → HasSoundParts issuer
             → LeavesLoaded (callers_of self) issuer prefix logs (map (store_seen S.Store) result.items) }

@@ -1,6 +1,7 @@
 //! Lines that several callers of one host answer at once, each its own.
-ghost use Rattle.std.specs.Prelude.{◌≡◌, ℕ, List, [], map};
+ghost use Rattle.std.specs.Prelude.{◌≡◌, ◌≤◌, ℕ, List, [], length, map};
 ghost use Rattle.issuer_setup.specs.IssuerSetup.{Setup};
+ghost use Rattle.line_reader.specs.declared.limits.TheConstants.{MAX_LINES};
 ghost use Rattle.line_reader.specs.Reading.{kept};
 ghost use Rattle.caller_lanes.specs.Lanes.{callers_in, waiting_in};
 ghost use Rattle.issuer_top.specs.Configuration.{HasSoundParts};
@@ -42,7 +43,7 @@ pub(crate) fn settle_together<S: Store + Send, R: Threads + Wait + Sync, G: Gate
 pub(crate) fn close_together<S: Store>(host: Lanes<S>) -> Vec<S>
     requires { waiting_in host ≡ 0 }
     ensures answered { (issuer : Setup) (prefix : List ℕ) (logs : Logged) (first : Lanes S S.Store) (lines : List (List ℕ)) (text : List ℕ)
-        → IsReadyTogether issuer prefix logs first → HasSoundParts issuer → HaveAnswered first (map kept lines) text [] host
+        → IsReadyTogether issuer prefix logs first → HasSoundParts issuer → length lines ≤ MAX_LINES → HaveAnswered first (map kept lines) text [] host
         → LeavesAnswered (callers_in first) issuer prefix logs (map (store_seen S.Store) result.items) lines text }
     ensures loaded { (issuer : Setup) (prefix : List ℕ) (logs : Logged) → IsReadyTogether issuer prefix logs host → HasSoundParts issuer
         → LeavesLoaded (callers_in host) issuer prefix logs (map (store_seen S.Store) result.items) }

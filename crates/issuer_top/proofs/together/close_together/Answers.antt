@@ -3,8 +3,8 @@ use Rattle.issuer_top.proofs.TogetherSteps.{closes-together, closes-loaded_toget
 use Rattle.issuer_top.proofs.together.close_together.Goals as goal
 
 pub returns-clause-answered : goal.returns-clause-answered
-returns-clause-answered g c = λ issuer prefix logs first lines text ready sound so_far.
-    closes-together issuer prefix logs first c.args.host c.close.result.items ready sound lines text so_far
+returns-clause-answered g c = λ issuer prefix logs first lines text ready sound within so_far.
+    closes-together issuer prefix logs first c.args.host c.close.result.items ready sound lines text within so_far
     c.every_answer_is_explained.ensures c.every_record_is_one_answers.ensures c.every_counter_is_settled.ensures c.faults_are_counted.ensures
     c.close.ensures
 

@@ -26,6 +26,7 @@ returns g c = λ words given config journal issuer set_up ready served sound sam
     (subst (λ told. GivesInput (told c.args.name.now) (g.D.Input.Source.left c.in-Ok-read.requests)) same.holds_are
     (gives_input _ _ c.in-Ok-read.ensures.input c.in-Ok-read.ensures.absent))
     (AnswersAll (λ lines text waiting. HasServed c.args.host lines text waiting c.serve-served.new.host))
-    (λ asked text answered. c.close-2.ensures.answered issuer journal (g.D.Desk.logs given) c.args.host asked text ready sound answered)
+    (λ asked text within answered.
+    c.close-2.ensures.answered issuer journal (g.D.Desk.logs given) c.args.host asked text ready sound within answered)
     _ _ _ _ _ (c.serve-served.ensures.served c.args.host served) c.serve-served.ensures.sink_count c.in-Ok-read.ensures.new
     c.serve-served.ensures.source_count c.end_serving.ensures
