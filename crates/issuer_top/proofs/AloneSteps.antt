@@ -147,12 +147,9 @@ module _ {S : Type 0} {G : Ghosts S} where
                 (ap (map (store_seen G)) stores_are) last ended.1.stand ended.1.leave;
             lawful = is-lawful issuer begun.books last sound count (run-on issuer begun.books asked so_far.answers last run).count_is one.goes_on
                 (recorded ended.1.stand);
-            answered = record {
-              answers = so_far.answers;
-              run = run;
-              printed_is = so_far.text_is;
-              one = one;
-            };
+            answers = so_far.answers;
+            answered = record { run = run; law = one };
+            text_is = so_far.text_is;
           }
 
     pub leaves-loaded_alone : HasSoundParts issuer → (stores : List S) → stores ≡ map store_in first.shards.items

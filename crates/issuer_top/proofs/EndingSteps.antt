@@ -1,5 +1,5 @@
 -- How a run ends, from what its parts did.
-use Rattle.std.proofs.Common.{◌≡◌, ℕ, ◌<◌, ◌≤◌, Bool, true, false, List, [], ◌++◌, length, Option, None, Some, Err, Ok, inl, inr, ⊎_elim}
+use Rattle.std.proofs.Common.{◌≡◌, ◌⊎◌, ℕ, ◌<◌, ◌≤◌, true, false, List, [], ◌++◌, length, Option, None, Some, Err, Ok, inl, inr, ⊎_elim}
 use Rattle.std.proofs.Common.{refl, sym, subst, ap, ◌∙◌, arith}
 use Rattle.std.specs.Prelude.{is_some, IsSomeAnd, Result, is_err, slice_get}
 use Rattle.std.specs.Io.KnownBytes.{Appends}
@@ -14,7 +14,6 @@ use Rattle.issuer_base.specs.declared.outside.DeskCall.TheVariants.{Read}
 use Rattle.issuer_base.specs.Desk.{FailedCall, is_fault, last_after}
 use Rattle.issuer_base.proofs.ManyCalls.{AppendsFront-after, Rose-from_none, Rose-since, Tells-from_left}
 use Rattle.line_reader.specs.declared.limits.TheConstants.{MAX_LINES}
-use Rattle.line_reader.specs.Lines.{lines}
 use Rattle.answer_text.specs.StopText.{stop_text}
 use Rattle.answer_text.specs.declared.stop_line.Stop.{Stop}
 use Rattle.answer_text.specs.declared.stop_line.Stop.TheVariants.{Usage, Config, ReadFault, StoreFault, BadJournal, NoMemory, TooLong}
@@ -24,8 +23,7 @@ use Rattle.issuer_top.specs.declared.ending.Ending.{Ending}
 use Rattle.issuer_top.specs.declared.serve.Served.{Served}
 use Rattle.issuer_top.specs.declared.serve.Served.TheVariants.{All, ReadFault as ReadStopped, WriteFault as SinkFault, TooLong as LongStopped}
 use Rattle.issuer_top.specs.Seen.{Seen, SeenInput, SeenStore, Logged}
-use Rattle.issuer_top.specs.Answered.{AllAnswered, WholeAnswered, FrontAnswered, PassedAnswered}
-use Rattle.issuer_top.specs.Answers.{AreAnsweredBy}
+use Rattle.issuer_top.specs.Answered.{AreAllLines, AreWholeLines, AreLinesBefore, AreFirstLines}
 use Rattle.issuer_top.specs.Hosts.{LeavesAnswered, LeavesLoaded}
 use Rattle.issuer_top.specs.Configuration.{Says, GivesNoIssuer, is_read_stop}
 use Rattle.issuer_top.specs.Opening.{GivesInput, stop_of}
@@ -38,7 +36,8 @@ use Rattle.issuer_top.specs.Shown.{shown_text}
 use Rattle.issuer_top.specs.Serving.{ServesLines, Serves, read_failed, write_failed}
 use Rattle.issuer_top.specs.Stopping.{is_broken, GivesStop, EndsServing, written_ending}
 use Rattle.issuer_top.specs.Played.{IsWorldText, GivesText, PlaysBy}
-use Rattle.issuer_top.specs.Endings.{HasOpened, IsSetUp, AnswersLines, IsPlayed, Stops, EndsBy}
+use Rattle.issuer_top.specs.Endings.{OpenedNoInput, OpenedConfigOnly, OpenedBothInputs, IsSetUp, AnswersLines, AnswersNoLine, IsPlayed, HasNoHost}
+use Rattle.issuer_top.specs.Endings.{Stops, EndsBy}
 
 -- an input that a desk gave is one that stands there
 pub gives_input : (told : Option (Option (List ℕ))) (left : Option (List ℕ)) → Tells told left → (told ≡ Some None → false ≡ true) → GivesInput told left
@@ -91,7 +90,7 @@ none-left prefix logs stores none shard store is =
     absurd (let e : None ≡ Some store = sym (ap (λ (l : List SeenStore). slice_get l shard) none) ∙ is in cc)
 
 -- the words are no command
-pub ends_usage : (seen : Seen) (ending : Ending) → IsNoCommand seen.words → HasOpened seen false false → seen.stores ≡ []
+pub ends_usage : (seen : Seen) (ending : Ending) → IsNoCommand seen.words → OpenedNoInput seen → seen.stores ≡ []
     → StopsAtOnce seen Usage ending → EndsBy seen ending
 ends_usage seen ending none opened no_stores stopping =
     ends_at_once seen Usage ending (record { no_command = none; opened = opened; no_stores = no_stores; last = refl }) stopping
@@ -99,15 +98,14 @@ ends_usage seen ending none opened no_stores stopping =
 module _ (seen : Seen) (config : List ℕ) (requests : Option RequestFile) (journal : List ℕ) (ending : Ending)
     (command : IsCommand seen.words config requests journal) where
   -- no memory was left
-  ends_no_memory : (config_opened : Bool) → HasOpened seen config_opened false → LeaveJournals journal seen.desk.logs seen.stores
+  ends_no_memory : OpenedNoInput seen ⊎ OpenedConfigOnly seen → LeaveJournals journal seen.desk.logs seen.stores
       → StopsAtOnce seen NoMemory ending → EndsBy seen ending
-  ends_no_memory config_opened opened left stopping =
+  ends_no_memory opened left stopping =
       ends_at_once seen NoMemory ending
       (inl (record {
         config = config;
         requests = requests;
         journal = journal;
-        config_opened = config_opened;
         command = command;
         opened = opened;
         left = left;
@@ -134,11 +132,11 @@ module _ (seen : Seen) (config : List ℕ) (requests : Option RequestFile) (jour
       }))
       stopping
   ends_no_config T other NoRoom no_config no_requests no_stores desk_count last stopping =
-      ends_no_memory false (record { config_is = no_config; requests_is = no_requests; desk_stood = desk_count.counted })
+      ends_no_memory (inl (record { config_is = no_config; requests_is = no_requests; desk_stood = desk_count.counted }))
       (none-left journal seen.desk.logs seen.stores no_stores) stopping
 
   -- the configuration gave no issuer
-  pub ends_no_issuer : (T : Type 0) (first : ℕ) (input : SeenInput) (left : Option (List ℕ)) (cause : Stop) → HasOpened seen true false
+  pub ends_no_issuer : (T : Type 0) (first : ℕ) (input : SeenInput) (left : Option (List ℕ)) (cause : Stop) → OpenedConfigOnly seen
       → seen.config ≡ Some input → seen.stores ≡ [] → GivesInput (seen.desk.tells config) left → GivesNoIssuer left cause → first ≡ 0
       → CountsFaults first input.faults (is_read_stop {T = T} (Err cause))
       → StopsAtOnce seen cause ending → EndsBy seen ending
@@ -155,7 +153,8 @@ module _ (seen : Seen) (config : List ℕ) (requests : Option RequestFile) (jour
         no_stores = no_stores;
         held = told-given (seen.desk.tells config) left none.content given none.held;
         broken = none.broken;
-        last = ap stop_text none.stop_is;
+        stop_is = none.stop_is;
+        last = refl;
       })
       stopping
   ends_no_issuer T first input left ReadFault opened input_is no_stores given none fresh count stopping =
@@ -173,7 +172,7 @@ module _ (seen : Seen) (config : List ℕ) (requests : Option RequestFile) (jour
       })))
       stopping
   ends_no_issuer T first input left NoMemory opened input_is no_stores given none fresh count stopping =
-      ends_no_memory true opened (none-left journal seen.desk.logs seen.stores no_stores) stopping
+      ends_no_memory (inr opened) (none-left journal seen.desk.logs seen.stores no_stores) stopping
   ends_no_issuer T first input left Usage opened input_is no_stores given none fresh count stopping = absurd none
   ends_no_issuer T first input left (StoreFault shard) opened input_is no_stores given none fresh count stopping = absurd none
   ends_no_issuer T first input left (BadJournal shard line) opened input_is no_stores given none fresh count stopping = absurd none
@@ -210,48 +209,35 @@ no_host-since issuer journal logs other before mid after last stores cause told 
 module _ (seen : Seen) (requests : Option RequestFile) (journal : List ℕ) (issuer : Setup) (ending : Ending)
     (set_up : IsSetUp seen requests journal issuer) where
   -- no memory was left once the issuer was known
-  pub ends_without_memory : HasOpened seen true false → LeaveJournals journal seen.desk.logs seen.stores → StopsAtOnce seen NoMemory ending
+  pub ends_without_memory : OpenedConfigOnly seen → LeaveJournals journal seen.desk.logs seen.stores → StopsAtOnce seen NoMemory ending
       → EndsBy seen ending
-  ends_without_memory opened left stopping = ends_no_memory seen set_up.config requests journal ending set_up.command true opened left stopping
+  ends_without_memory opened left stopping = ends_no_memory seen set_up.config requests journal ending set_up.command (inr opened) left stopping
 
   -- the journals gave no host
+  no-host : (stop : Stop) → is_some seen.config ≡ true → is_some seen.requests ≡ false
+      → GivesNoHost issuer journal seen.desk.logs
+      (record { before = seen.desk.faults_before; after = seen.desk.faults_after; last = seen.desk.last_fault }) seen.stores stop
+      → LeaveJournals journal seen.desk.logs seen.stores → HasNoHost stop seen (stop_text stop)
+  no-host stop with_config no_requests cause left = record {
+    requests = requests;
+    journal = journal;
+    issuer = issuer;
+    set_up = set_up;
+    config_is = with_config;
+    requests_is = no_requests;
+    cause = cause;
+    left = left;
+    last = refl;
+  }
+
   pub ends_no_host : (stop : Stop) → is_some seen.config ≡ true → is_some seen.requests ≡ false
       → GivesNoHost issuer journal seen.desk.logs
       (record { before = seen.desk.faults_before; after = seen.desk.faults_after; last = seen.desk.last_fault }) seen.stores stop
       → LeaveJournals journal seen.desk.logs seen.stores → StopsAtOnce seen stop ending → EndsBy seen ending
   ends_no_host (StoreFault shard) with_config no_requests cause left stopping =
-      ends_at_once seen (StoreFault shard) ending (
-        shard,
-        record {
-          requests = requests;
-          journal = journal;
-          issuer = issuer;
-          set_up = set_up;
-          config_is = with_config;
-          requests_is = no_requests;
-          cause = cause;
-          left = left;
-          last = refl;
-        },
-      )
-      stopping
+      ends_at_once seen (StoreFault shard) ending (no-host (StoreFault shard) with_config no_requests cause left) stopping
   ends_no_host (BadJournal shard line) with_config no_requests cause left stopping =
-      ends_at_once seen (BadJournal shard line) ending (
-        shard,
-        line,
-        record {
-          requests = requests;
-          journal = journal;
-          issuer = issuer;
-          set_up = set_up;
-          config_is = with_config;
-          requests_is = no_requests;
-          cause = cause;
-          left = left;
-          last = refl;
-        },
-      )
-      stopping
+      ends_at_once seen (BadJournal shard line) ending (no-host (BadJournal shard line) with_config no_requests cause left) stopping
   ends_no_host NoMemory with_config no_requests cause left stopping =
       ends_without_memory (record { config_is = with_config; requests_is = no_requests; desk_stood = cause }) left stopping
   ends_no_host Usage with_config no_requests cause left stopping = absurd cause
@@ -277,25 +263,27 @@ ends_unloaded seen requests journal issuer ending set_up other mid stores cause 
 -- ---- the ways that serving ends
 
 module _ (seen : Seen) (requests : RequestFile) (journal : List ℕ) (issuer : Setup) (set_up : IsSetUp seen (Some requests) journal issuer) where
+  -- the journals were loaded, and no line was answered
+  answers-none : LeavesLoaded requests.callers issuer journal seen.desk.logs seen.stores → AnswersNoLine seen
+  answers-none leaves = record {
+    requests = requests;
+    journal = journal;
+    issuer = issuer;
+    first = leaves.first;
+    last = leaves.last;
+    set_up = set_up;
+    kept = leaves.kept;
+    lawful = leaves.lawful;
+    none = leaves.none;
+  }
+
   -- no memory was left to serve with
-  pub ends_unserved : (ending : Ending) → HasOpened seen true false
+  pub ends_unserved : (ending : Ending) → OpenedConfigOnly seen
       → LeavesLoaded requests.callers issuer journal seen.desk.logs seen.stores → StopsAtOnce seen NoMemory ending → EndsBy seen ending
+  unfolding answers-none
   ends_unserved ending opened leaves stopping =
       ends_at_once seen NoMemory ending
-      (inr (inl (record {
-        requests = requests;
-        journal = journal;
-        issuer = issuer;
-        first = leaves.first;
-        last = leaves.last;
-        opened = opened;
-        set_up = set_up;
-        kept = leaves.kept;
-        lawful = leaves.lawful;
-        none = leaves.none;
-        left = leaves.left;
-        told = refl;
-      })))
+      (inr (inl (record { loaded = answers-none leaves; opened = opened; left = leaves.left; told = refl })))
       stopping
 
   -- the desk gave no request file
@@ -305,18 +293,11 @@ module _ (seen : Seen) (requests : RequestFile) (journal : List ℕ) (issuer : S
       → between ≡ seen.desk.faults_before → CountsFaults between seen.desk.faults_after (is_fault {T = T} (Err fault))
       → seen.desk.last_fault ≡ last_after Read requests.name (is_fault {T = T} (Err fault)) other
       → StopsAtOnce seen (stop_of fault) ending → EndsBy seen ending
+  unfolding answers-none
   ends_no_requests T other between Fault ending with_config no_requests leaves stood desk_count last stopping =
       ends_at_once seen ReadFault ending
       (inr (inr (inl (record {
-        requests = requests;
-        journal = journal;
-        issuer = issuer;
-        first = leaves.first;
-        last = leaves.last;
-        set_up = set_up;
-        kept = leaves.kept;
-        lawful = leaves.lawful;
-        none = leaves.none;
+        loaded = answers-none leaves;
         fails = record {
           config_is = with_config;
           requests_is = no_requests;
@@ -329,17 +310,15 @@ module _ (seen : Seen) (requests : RequestFile) (journal : List ℕ) (issuer : S
   ends_no_requests T other between NoRoom ending with_config no_requests leaves stood desk_count last stopping =
       ends_unserved ending (record { config_is = with_config; requests_is = no_requests; desk_stood = desk_count.counted ∙ stood }) leaves stopping
 
-  module _ (input : SeenInput) (left : Option (List ℕ)) (opened : HasOpened seen true true) (input_is : seen.requests ≡ Some input)
+  module _ (input : SeenInput) (left : Option (List ℕ)) (opened : OpenedBothInputs seen) (input_is : seen.requests ≡ Some input)
       (given : GivesInput (seen.desk.tells requests.name) left) (Answered : List (List ℕ) → List ℕ → Type 0)
       (leaves : (asked : List (List ℕ)) (text : List ℕ) → length asked ≤ MAX_LINES → Answered asked text
       → LeavesAnswered requests.callers issuer journal seen.desk.logs seen.stores asked text) where
-    -- what was served are the lines of the file that the desk holds
-    answers-served : (Lines : (List (List ℕ) → List ℕ → Type 0) → List ℕ → List ℕ → List ℕ → Type 0) (Written : List ℕ → Type 0)
-        → (served : ServesLines (Lines Answered) Written left input.left) (asked : List (List ℕ)) → length asked ≤ MAX_LINES → Answered asked served.text
-        → ((Other : List (List ℕ) → List ℕ → Type 0) → Other asked served.text → Lines Other served.file served.read served.text)
-        → AnswersLines Lines seen served.text
-    answers-served Lines Written served asked within answered lines_are =
-        let l = leaves asked served.text within answered in
+    -- what was served are lines of the file that the desk holds
+    lines-served : (Which : List ℕ → List ℕ → List (List ℕ) → Type 0) (Written : List ℕ → Type 0)
+        → (served : ServesLines Which Answered Written left input.left) → length served.asked ≤ MAX_LINES → AnswersLines seen served.text
+    lines-served Which Written served within =
+        let l = leaves served.asked served.text within served.answered in
         record {
           requests = requests;
           journal = journal;
@@ -349,6 +328,8 @@ module _ (seen : Seen) (requests : RequestFile) (journal : List ℕ) (issuer : S
           input = input;
           file = served.file;
           read = served.read;
+          asked = served.asked;
+          answers = l.answers;
           opened = opened;
           input_is = input_is;
           set_up = set_up;
@@ -356,53 +337,16 @@ module _ (seen : Seen) (requests : RequestFile) (journal : List ℕ) (issuer : S
           lawful = l.lawful;
           held = told-given (seen.desk.tells requests.name) left served.file given served.content;
           was_read = served.was_read;
-          answered = lines_are (AreAnsweredBy requests.callers issuer l.first l.last) l.answered;
+          answered = l.answered;
+          printed_is = l.text_is;
         }
 
-    all-served : (Written : List ℕ → Type 0) (served : ServesLines (AllAnswered Answered) Written left input.left)
-        → AnswersLines AllAnswered seen served.text
-    all-served Written served =
-        let a = served.answered in
-        answers-served AllAnswered Written served (lines served.file) a.within.lines_within a.answered
-        (λ Other other. record { to_the_end = a.to_the_end; within = a.within; answered = other })
+    -- so many lines are within the limit
+    all-within : (file read : List ℕ) (asked : List (List ℕ)) → AreAllLines file read asked → length asked ≤ MAX_LINES
+    all-within file read asked which = subst (λ (ls : List (List ℕ)). length ls ≤ MAX_LINES) (sym which.asked_are) which.within.lines_within
 
-    whole-served : (Written : List ℕ → Type 0) (served : ServesLines (WholeAnswered Answered) Written left input.left)
-        → AnswersLines WholeAnswered seen served.text
-    whole-served Written served =
-        let a = served.answered in
-        answers-served WholeAnswered Written served a.whole a.within.lines_fit a.answered
-        (λ Other other. record { whole = a.whole; rest = a.rest; parted = a.parted; within = a.within; answered = other })
-
-    passed-served : (number : ℕ) (Written : List ℕ → Type 0) (served : ServesLines (PassedAnswered number Answered) Written left input.left)
-        → AnswersLines (PassedAnswered number) seen served.text
-    passed-served number Written served =
-        let a = served.answered in
-        answers-served (PassedAnswered number) Written served a.whole a.within.lines_within a.answered
-        (λ Other other. record {
-          whole = a.whole;
-          ahead = a.ahead;
-          parted = a.parted;
-          within = a.within;
-          passes = a.passes;
-          number_is = a.number_is;
-          answered = other;
-        })
-
-    front-served : (Written : List ℕ → Type 0) (served : ServesLines (FrontAnswered Answered) Written left input.left)
-        → AnswersLines FrontAnswered seen served.text
-    front-served Written served =
-        let a = served.answered in
-        answers-served FrontAnswered Written served (lines a.front) a.within.lines_within a.answered
-        (λ Other other. record {
-          front = a.front;
-          ahead = a.ahead;
-          more = a.more;
-          was_read = a.was_read;
-          split = a.split;
-          ends_line = a.ends_line;
-          within = a.within;
-          answered = other;
-        })
+    first-within : (file read : List ℕ) (asked : List (List ℕ)) → AreFirstLines file read asked → length asked ≤ MAX_LINES
+    first-within file read asked which = subst (λ (ls : List (List ℕ)). length ls ≤ MAX_LINES) (sym which.asked_are) which.within.lines_within
 
     -- how the run ends, by how serving did
     pub ends_serving : (served : Served) (ending : Ending) (held : Option (List ℕ)) (faults fresh : ℕ)
@@ -410,18 +354,26 @@ module _ (seen : Seen) (requests : RequestFile) (journal : List ℕ) (issuer : S
         → CountsFaults seen.sink.faults_before faults (write_failed served)
         → fresh ≡ 0 → (read_failed served ≡ true → Rose fresh input.faults)
         → EndsServing held seen.sink.held_after faults seen.sink.faults_after served ending → EndsBy seen ending
-    unfolding answers-served all-served whole-served passed-served front-served
+    unfolding lines-served
     ends_serving All ending held faults fresh serves counts none failed ends =
         let written : Appends seen.sink.held_before seen.sink.held_after serves.text =
         subst (λ (h : Option (List ℕ)). Appends seen.sink.held_before h serves.text) (sym ends.same) serves.written in
-        subst (EndsBy seen) (sym ends.ending_is)
-        (serves.text, inl (all-served (Appends seen.sink.held_before held) serves), written)
+        let within = all-within serves.file serves.read serves.asked serves.which in
+        subst (EndsBy seen) (sym ends.ending_is) (
+          serves.text,
+          inl (record { lines = lines-served AreAllLines (Appends seen.sink.held_before held) serves within; which = serves.which }),
+          written,
+        )
     ends_serving SinkFault ending held faults fresh serves counts none failed ends =
+        let within = first-within serves.file serves.read serves.asked serves.which in
         subst (EndsBy seen) (sym ends.ending_is)
         (record {
           rose = subst (Rose seen.sink.faults_before) (sym ends.stood) counts.counted;
           text = serves.text;
-          due = inr (inl (front-served (AppendsFront seen.sink.held_before held) serves));
+          due = inr (inl (record {
+            lines = lines-served AreFirstLines (AppendsFront seen.sink.held_before held) serves within;
+            which = serves.which;
+          }));
           front = subst (λ (h : Option (List ℕ)). AppendsFront seen.sink.held_before h serves.text) (sym ends.same) serves.written;
         })
     ends_serving ReadStopped ending held faults fresh serves counts none failed ends =
@@ -429,7 +381,8 @@ module _ (seen : Seen) (requests : RequestFile) (journal : List ℕ) (issuer : S
         ends_by_stop seen held faults ReadFault ending serves.text
         (inr (inr (inr (record {
           answers = serves.text;
-          lines = whole-served (Appends seen.sink.held_before held) serves;
+          lines = lines-served (λ file read asked. AreWholeLines read asked) (Appends seen.sink.held_before held) serves serves.which.within.lines_fit;
+          which = serves.which;
           failed = Rose-from_none input.faults rose;
           last = refl;
         }))))
@@ -437,9 +390,11 @@ module _ (seen : Seen) (requests : RequestFile) (journal : List ℕ) (issuer : S
     ends_serving (LongStopped number) ending held faults fresh serves counts none failed ends =
         ends_by_stop seen held faults (TooLong number) ending serves.text
         (record {
-          number = number;
           answers = serves.text;
-          lines = passed-served number (Appends seen.sink.held_before held) serves;
+          lines =
+              lines-served (λ file read asked. AreLinesBefore number read asked) (Appends seen.sink.held_before held) serves
+              serves.which.within.lines_within;
+          which = serves.which;
           last = refl;
         })
         serves.written counts.never_falls ends
@@ -447,7 +402,7 @@ module _ (seen : Seen) (requests : RequestFile) (journal : List ℕ) (issuer : S
 -- ---- the ways that showing ends
 
 pub ends_showing : (seen : Seen) (journal : List ℕ) (issuer : Setup) (books : List Book) (result : Result (Unit {0}) SinkFails)
-    → HasOpened seen true false → IsSetUp seen None journal issuer → KeepJournals 1 issuer journal seen.desk.logs seen.stores books books
+    → OpenedConfigOnly seen → IsSetUp seen None journal issuer → KeepJournals 1 issuer journal seen.desk.logs seen.stores books books
     → IsLawful issuer books books
     → WritesAll seen.sink.held_before seen.sink.held_after result (shown_text issuer books issuer.cards)
     → CountsFaults seen.sink.faults_before seen.sink.faults_after (is_err result) → EndsBy seen (written_ending result)
@@ -465,7 +420,7 @@ ends_showing seen journal issuer books (Err fault) opened set_up kept lawful wri
 
 -- ---- the ways that playing ends
 
-module _ (seen : Seen) (cards steps seed : ℕ) (world : IsWorld seen.words cards steps seed) (opened : HasOpened seen false false)
+module _ (seen : Seen) (cards steps seed : ℕ) (world : IsWorld seen.words cards steps seed) (opened : OpenedNoInput seen)
     (no_stores : seen.stores ≡ []) where
   -- the text of what the world came to was written, or a front of it
   ends_played : (ending : Ending) (text : List ℕ) → IsWorldText cards steps seed text

@@ -23,14 +23,13 @@ use Rattle.shard_book.proofs.Exactly.{stops-outside}
 use Rattle.issuer_top.specs.declared.ending.Ending.{Ending}
 use Rattle.issuer_top.specs.declared.ending.Ending.TheVariants.{Done, Stopped, WriteFault}
 use Rattle.issuer_top.specs.Command.{RequestFile, IsCommand}
-use Rattle.issuer_top.specs.Answers.{AreAnsweredBy}
 use Rattle.issuer_top.specs.Pairs.{value_in}
 use Rattle.issuer_top.specs.Seen.{Told, Seen, SeenInput}
-use Rattle.issuer_top.specs.Answered.{PassedAnswered, WasRead}
+use Rattle.issuer_top.specs.Answered.{AreLinesBefore, WasRead}
 use Rattle.issuer_top.specs.Journals.{journal_name}
 use Rattle.issuer_top.specs.Loading.{DeskFaults, IsBadAt}
 use Rattle.issuer_top.specs.Status.{status_of}
-use Rattle.issuer_top.specs.Endings.{EndsBy, IsReadFault, HasNoHost, IsInOrder, ServesInOrder, ShowsInOrder, PlaysInOrder}
+use Rattle.issuer_top.specs.Endings.{EndsBy, IsReadFault, HasNoHost, IsInOrder, ServesInOrder, ShowsInOrder, PlaysInOrder, Completes}
 use Rattle.issuer_top.proofs.CommandWords.{serve-gives, show-gives, serve-no_show, command-no_world}
 
 -- ---- what is said once
@@ -103,15 +102,15 @@ passes-more lines_before bytes ahead rest passes =
     passes
 
 -- a file within the limits goes past none
-not-past : (Answered : List (List ℕ) → List ℕ → Type 0) (file told read answers : List ℕ) (number : ℕ) (left : Option (List ℕ)) → file ≡ told
-    → IsWithinLimits (length (lines told)) (length told) → WasRead file read left → PassedAnswered number Answered file read answers → ⊥
-not-past Answered file told read answers number left same within was_read passed =
-    let parted = BeginsWithLines-given read passed.whole passed.ahead was_read.unread passed.parted in
-    let over = passes-more (length passed.whole) (length (flat_map ended passed.whole)) passed.ahead was_read.unread passed.passes in
+not-past : (file told read : List ℕ) (asked : List (List ℕ)) (number : ℕ) (left : Option (List ℕ)) → file ≡ told
+    → IsWithinLimits (length (lines told)) (length told) → WasRead file read left → AreLinesBefore number read asked → ⊥
+not-past file told read asked number left same within was_read passed =
+    let parted = BeginsWithLines-given read asked passed.ahead was_read.unread passed.parted in
+    let over = passes-more (length asked) (length (flat_map ended asked)) passed.ahead was_read.unread passed.passes in
     ⊎_elim
     (λ lines_over. omega (arith, lines_over, within.lines_within, ap (λ t. length (lines t)) (sym was_read.split ∙ same)))
     (λ bytes_over. omega (arith, bytes_over, within.bytes_within, ap length (sym was_read.split ∙ same)))
-    (PassesLimit-over (read ++ was_read.unread) passed.whole (passed.ahead ++ was_read.unread) parted over)
+    (PassesLimit-over (read ++ was_read.unread) asked (passed.ahead ++ was_read.unread) parted over)
 
 -- ---- nothing failed
 
@@ -177,15 +176,15 @@ module _ (seen : Seen) (config journal : List ℕ) (requests : Option RequestFil
       let content = same-content seen.desk.tells config ends.1.config ends.1.content order.content (sym same.config_is) order.config_held ends.1.held in
       absurd (not-both ends.1.content order.content order.issuer ends.1.fault content order.says ends.1.broken)
   in-order status (Stopped ReadFault) is ends short = absurd (not-unread ends.0 ends.1)
-  in-order status (Stopped (StoreFault shard)) is ends short = absurd (not-unstored ends.1.0 ends.0 ends.1.1)
-  in-order status (Stopped (BadJournal shard line)) is ends short = absurd (not-bad_journal ends.1.0 ends.1.1 ends.0 ends.1.2)
+  in-order status (Stopped (StoreFault shard)) is ends short = absurd (not-unstored shard ends.0 ends.1)
+  in-order status (Stopped (BadJournal shard line)) is ends short = absurd (not-bad_journal shard line ends.0 ends.1)
   in-order status (Stopped NoMemory) is ends short = inr is
   in-order status (Stopped (TooLong line)) is ends short = absurd (short line refl)
   in-order status WriteFault is ends short = absurd (order.sink_stood ends.rose)
 
 -- ---- the three commands
 
-pub serves-in_order : (seen : Seen) (status : ℕ) (ending : Ending) → status ≡ status_of ending → EndsBy seen ending → ServesInOrder seen
+serves-in_order : (seen : Seen) (status : ℕ) (ending : Ending) → status ≡ status_of ending → EndsBy seen ending → ServesInOrder seen
     → (status ≡ 0) ⊎ (status ≡ 7)
 serves-in_order seen status ending is ends order =
     in-order seen order.config order.journal (Some order.requests) order.serve order.in_order status ending is ends
@@ -196,10 +195,9 @@ serves-in_order seen status ending is ends order =
     same-names seen.words order.config l.set_up.config (Some order.requests) (Some l.requests) order.journal l.journal order.serve l.set_up.command in
     let name : l.requests.name ≡ order.requests.name = (let e : Some order.requests.name ≡ Some l.requests.name = same.file_is in cc) in
     let content = same-content seen.desk.tells order.requests.name l.requests.name l.file order.file name order.requests_held l.held in
-    not-past (AreAnsweredBy l.requests.callers l.issuer l.first l.last) l.file order.file l.read passed.1.answers passed.1.number l.input.left content
-    order.within l.was_read l.answered)
+    not-past l.file order.file l.read l.asked line l.input.left content order.within l.was_read passed.1.which)
 
-pub shows-in_order : (seen : Seen) (status : ℕ) (ending : Ending) → status ≡ status_of ending → EndsBy seen ending → ShowsInOrder seen
+shows-in_order : (seen : Seen) (status : ℕ) (ending : Ending) → status ≡ status_of ending → EndsBy seen ending → ShowsInOrder seen
     → (status ≡ 0) ⊎ (status ≡ 7)
 shows-in_order seen status ending is ends order =
     in-order seen order.config order.journal None order.show order.in_order status ending is ends
@@ -218,23 +216,27 @@ module _ (seen : Seen) (order : PlaysInOrder seen) where
   none-unread text cannot =
       ⊎_elim (λ a. no_host a.config a.requests a.journal a.command)
       (λ more. ⊎_elim (λ b. no_host b.config b.requests b.journal b.command)
-      (λ more. ⊎_elim (λ c. no_host c.set_up.config (Some c.requests) c.journal c.set_up.command)
+      (λ more. ⊎_elim (λ c. let l = c.loaded in no_host l.set_up.config (Some l.requests) l.journal l.set_up.command)
       (λ d. let l = d.lines in no_host l.set_up.config (Some l.requests) l.journal l.set_up.command) more) more)
       cannot
 
   none-unloaded : (stop : Stop) (text : List ℕ) → HasNoHost stop seen text → ⊥
   none-unloaded stop text none = no_host none.set_up.config none.requests none.journal none.set_up.command
 
-  pub plays-in_order : (status : ℕ) (ending : Ending) → status ≡ status_of ending → EndsBy seen ending → (status ≡ 0) ⊎ (status ≡ 7)
+  plays-in_order : (status : ℕ) (ending : Ending) → status ≡ status_of ending → EndsBy seen ending → (status ≡ 0) ⊎ (status ≡ 7)
   plays-in_order status Done is ends = inl is
   plays-in_order status (Stopped Usage) is ends = absurd (ends.1.no_command.no_world order.cards order.steps order.seed order.world)
   plays-in_order status (Stopped (Config part index)) is ends =
       let c = ends.1 in absurd (no_host c.config c.requests c.journal c.command)
   plays-in_order status (Stopped ReadFault) is ends = absurd (none-unread ends.0 ends.1)
-  plays-in_order status (Stopped (StoreFault shard)) is ends = absurd (none-unloaded (StoreFault ends.1.0) ends.0 ends.1.1)
-  plays-in_order status (Stopped (BadJournal shard line)) is ends =
-      absurd (none-unloaded (BadJournal ends.1.0 ends.1.1) ends.0 ends.1.2)
+  plays-in_order status (Stopped (StoreFault shard)) is ends = absurd (none-unloaded (StoreFault shard) ends.0 ends.1)
+  plays-in_order status (Stopped (BadJournal shard line)) is ends = absurd (none-unloaded (BadJournal shard line) ends.0 ends.1)
   plays-in_order status (Stopped NoMemory) is ends = inr is
   plays-in_order status (Stopped (TooLong line)) is ends =
       let l = ends.1.lines in absurd (no_host l.set_up.config (Some l.requests) l.journal l.set_up.command)
   plays-in_order status WriteFault is ends = absurd (order.sink_stood ends.rose)
+
+pub completes : (seen : Seen) (status : ℕ) (ending : Ending) → status ≡ status_of ending → EndsBy seen ending → Completes status seen
+completes seen status ending is ends order =
+    ⊎_elim (serves-in_order seen status ending is ends)
+    (⊎_elim (shows-in_order seen status ending is ends) (λ plays. plays-in_order seen plays status ending is ends)) order

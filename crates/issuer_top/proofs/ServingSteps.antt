@@ -18,7 +18,7 @@ use Rattle.line_reader.proofs.WholeLines.{HasGivenLines-unread, HasGivenLines-li
 use Rattle.line_reader.proofs.WholeLines.{lines-rest_given, lines-end_reached, PassesLimit-stopped}
 use Rattle.issuer_top.specs.declared.serve.Served.{Served}
 use Rattle.issuer_top.specs.declared.serve.Served.TheVariants.{All, ReadFault, TooLong}
-use Rattle.issuer_top.specs.Answered.{WasRead, WholeAnswered, FrontAnswered, PassedAnswered}
+use Rattle.issuer_top.specs.Answered.{WasRead, AreAllLines, AreWholeLines, AreLinesBefore, AreFirstLines}
 use Rattle.issuer_top.specs.Hosts.{TakesLine}
 use Rattle.issuer_top.specs.Serving.{ServesLines, Serves, WritesDue, EndsBy}
 
@@ -162,25 +162,24 @@ module _ (Before After : List (List ℕ) → List ℕ → List (List ℕ) → Ty
 
 -- ---- which lines were answered
 
--- the whole lines of what was read were answered: they are a front of the file
-front_answered : (Answered : List (List ℕ) → List ℕ → Type 0) (read rest : List ℕ) (whole : List (List ℕ)) (ahead text : List ℕ)
-    → Answered whole text → BeginsWithLines read whole ahead → IsWithinLimits (length whole) (length (flat_map ended whole))
-    → FrontAnswered Answered (read ++ rest) read text
-front_answered Answered read rest whole ahead text answered given within =
+-- the whole lines of what was read are the first lines of the file
+first-lines : (read rest : List ℕ) (whole : List (List ℕ)) (ahead : List ℕ) → BeginsWithLines read whole ahead
+    → IsWithinLimits (length whole) (length (flat_map ended whole)) → AreFirstLines (read ++ rest) read whole
+first-lines read rest whole ahead given within =
     let front = flat_map ended whole in
     let more = ahead ++ rest in
     let begins : BeginsWithLines front whole [] = record { joined = sym (append-nil front); each = given.each } in
     let front_lines : lines front ≡ whole = lines-begins front whole [] begins ∙ ap (λ l. whole ++ l) lines-none ∙ append-nil whole in
     let goes_on = BeginsWithLines-given read whole ahead rest given in
     record {
-      front = front;
+      prefix = front;
       ahead = ahead;
       more = more;
       was_read = given.joined;
       split = goes_on.joined;
       ends_line = lines-begins (read ++ rest) whole more goes_on ∙ ap (λ l. l ++ lines more) (sym front_lines);
       within = subst (λ (ls : List (List ℕ)). IsWithinLimits (length ls) (length front)) (sym front_lines) within;
-      answered = subst (λ (ls : List (List ℕ)). Answered ls text) (sym front_lines) answered;
+      asked_are = sym front_lines;
     }
 
 -- ---- the run
@@ -324,25 +323,27 @@ module _ (Before After : List (List ℕ) → List ℕ → List (List ℕ) → Ty
 
   -- the sink failed at the answers, once these bytes more were read
   serves-front : (given : List ℕ) (later : Option (List ℕ)) → Consumes now later given → AreFinished After (AppendsFront held_before next) so_far.whole
-      → ServesLines (FrontAnswered (AnswersAll After)) (AppendsFront held_before next) was later
+      → ServesLines AreFirstLines (AnswersAll After) (AppendsFront held_before next) was later
   serves-front given later consumed finished =
       let read = so_far.read ++ given in
       let parts = front-read was later read (Consumes-trans was now later so_far.read given so_far.consumed consumed) in
       record {
         file = read ++ parts.rest;
         read = read;
+        asked = so_far.whole;
         text = finished.text;
         content = parts.content;
         was_read = record { unread = parts.rest; split = refl; tells = parts.left };
-        answered = front_answered (AnswersAll After) read parts.rest so_far.whole (reader.ahead ++ given) finished.text finished.answered
+        which = first-lines read parts.rest so_far.whole (reader.ahead ++ given)
             (BeginsWithLines-given so_far.read so_far.whole reader.ahead given so_far.given.begins) within_so_far;
+        answered = finished.answered;
         written = finished.written;
       }
 
   pub serves-broken_line : (left : List ℕ) (fault : WriteFault)
       → ((answered : List (List ℕ)) (text : List ℕ) (waiting : List (List ℕ)) → Before answered text waiting
       → WritesDue After answered text waiting due left held next (Err fault))
-      → ServesLines (FrontAnswered (AnswersAll After)) (AppendsFront held_before next) was now
+      → ServesLines AreFirstLines (AnswersAll After) (AppendsFront held_before next) was now
   serves-broken_line left fault writes =
       serves-front [] now (Consumes-nil now) (broken-due Before After held_before held next due left fault so_far.whole so_far.taken writes)
 
@@ -351,12 +352,12 @@ module _ (Before After : List (List ℕ) → List ℕ → List (List ℕ) → Ty
   module _ (later : Option (List ℕ)) (how result : Served)
       (ends : (answered : List (List ℕ)) (text : List ℕ) (waiting : List (List ℕ)) → Before answered text waiting
       → EndsBy After answered text waiting due held next how result) where
-    -- serving ended so, once these bytes more were read; `Answered` says which lines were answered
-    ends_reading : (Answered : List ℕ → List ℕ → List ℕ → Type 0) (given : List ℕ) → Consumes now later given
-        → ((file text : List ℕ) → AnswersAll After so_far.whole text → Answered file (so_far.read ++ given) text)
-        → (ServesLines Answered (Appends held_before next) was later → Serves (AnswersAll After) was later held_before next how)
+    -- serving ended so, once these bytes more were read; `Which` says which lines were answered
+    ends_reading : (Which : List ℕ → List ℕ → List (List ℕ) → Type 0) (given : List ℕ) → Consumes now later given
+        → ((file : List ℕ) → Which file (so_far.read ++ given) so_far.whole)
+        → (ServesLines Which (AnswersAll After) (Appends held_before next) was later → Serves (AnswersAll After) was later held_before next how)
         → Serves (AnswersAll After) was later held_before next result
-    ends_reading Answered given consumed answers so =
+    ends_reading Which given consumed which so =
         let end = ends so_far.taken.answered (so_far.taken.early ++ due) so_far.taken.waiting so_far.taken.served in
         let read = so_far.read ++ given in
         let parts = front-read was later read (Consumes-trans was now later so_far.read given so_far.consumed consumed) in
@@ -367,10 +368,12 @@ module _ (Before After : List (List ℕ) → List ℕ → List (List ℕ) → Ty
         (so (record {
           file = read ++ parts.rest;
           read = read;
+          asked = so_far.whole;
           text = finished.text;
           content = parts.content;
           was_read = record { unread = parts.rest; split = refl; tells = parts.left };
-          answered = answers (read ++ parts.rest) finished.text finished.answered;
+          which = which (read ++ parts.rest);
+          answered = finished.answered;
           written = finished.written;
         })))
         (λ front.
@@ -386,14 +389,12 @@ module _ (Before After : List (List ℕ) → List ℕ → List (List ℕ) → Ty
       → Serves (AnswersAll After) was later held_before next result
   serves-fault new later result stops ends =
       let behind = reader.ahead ++ stops.given in
-      ends_reading later ReadFault result ends (WholeAnswered (AnswersAll After)) stops.given stops.consumed
-      (λ file text answered. record {
-        whole = so_far.whole;
+      ends_reading later ReadFault result ends (λ file read asked. AreWholeLines read asked) stops.given stops.consumed
+      (λ file. record {
         rest = behind;
         parted = IsLinesAndRest-fault now later reader new so_far.read so_far.whole so_far.given stops;
         within = subst (λ (n : ℕ). StaysWithinLimits n (length (flat_map ended so_far.whole)) behind) so_far.given.lines_counted
             (subst (λ (n : ℕ). StaysWithinLimits reader.lines n behind) so_far.given.bytes_counted stops.within);
-        answered = answered;
       })
       (λ serves. serves)
 
@@ -403,15 +404,13 @@ module _ (Before After : List (List ℕ) → List ℕ → List (List ℕ) → Ty
       → EndsBy After answered text waiting due held next (TooLong number) result)
       → Serves (AnswersAll After) was later held_before next result
   serves-limit new later number result stops counted ends =
-      ends_reading later (TooLong number) result ends (PassedAnswered number (AnswersAll After)) stops.given stops.consumed
-      (λ file text answered. record {
-        whole = so_far.whole;
+      ends_reading later (TooLong number) result ends (λ file read asked. AreLinesBefore number read asked) stops.given stops.consumed
+      (λ file. record {
         ahead = reader.ahead ++ stops.given;
         parted = BeginsWithLines-given so_far.read so_far.whole reader.ahead stops.given so_far.given.begins;
         within = within_so_far;
         passes = PassesLimit-stopped now later reader new so_far.read so_far.whole so_far.given stops;
         number_is = counted ∙ ap (λ n. n + 1) so_far.given.lines_counted;
-        answered = answered;
       })
       (λ serves. serves)
 
@@ -431,10 +430,12 @@ module _ (Before After : List (List ℕ) → List ℕ → List (List ℕ) → Ty
       (record {
         file = file;
         read = file;
+        asked = lines file;
         text = finished.text;
         content = so_far.content;
         was_read = WasRead-whole now file so_far.at_end;
-        answered = record { to_the_end = refl; within = so_far.within; answered = finished.answered };
+        which = record { to_the_end = refl; within = so_far.within; asked_are = refl };
+        answered = finished.answered;
         written = finished.written;
       }))
       (λ front.
@@ -443,19 +444,21 @@ module _ (Before After : List (List ℕ) → List ℕ → List (List ℕ) → Ty
       (record {
         file = file;
         read = file;
+        asked = lines file;
         text = finished.text;
         content = so_far.content;
         was_read = WasRead-whole now file so_far.at_end;
-        answered = record {
-          front = file;
+        which = record {
+          prefix = file;
           ahead = [];
           more = [];
           was_read = sym (append-nil file);
           split = sym (append-nil file);
           ends_line = sym (append-nil (lines file)) ∙ ap (λ l. lines file ++ l) (sym lines-none);
           within = so_far.within;
-          answered = finished.answered;
+          asked_are = refl;
         };
+        answered = finished.answered;
         written = finished.written;
       }))
       end.ends

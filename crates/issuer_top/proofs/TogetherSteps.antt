@@ -472,10 +472,8 @@ module _ {S : Type 0} {G : Ghosts S} (count : ℕ) (issuer : Setup) (prefix : Li
               (subst (λ (i : Book). Rose at.first.head.faults i.faults) (sym at.is_is) rose);
         }))
 
-    answered-together : (text : List ℕ) → text ≡ flat_map printed answers → AreAnsweredTogether count issuer first_books last_books asked text
-    answered-together text text_is = record {
-      answers = answers;
-      printed_is = text_is;
+    answered-together : AreAnsweredTogether count issuer first_books last_books asked answers
+    answered-together = record {
       callers = callers;
       dealt = dealt;
       opening = opening;
@@ -483,8 +481,8 @@ module _ {S : Type 0} {G : Ghosts S} (count : ℕ) (issuer : Setup) (prefix : Li
       logs = logs;
       logs_are = books-closed;
       explained = explained;
-      own = own;
-      blamed = λ shard was is was_at is_at below.
+      each_record_is_one_answers = own;
+      faults_are_counted = λ shard was is was_at is_at below.
           let at = kept-at shard was is was_at is_at in
           let rises = subst (λ (items : List LogItem). RiseTo at.first.head.faults (faults_of items) (G.faults at.after))
           (sym (items-of logs shard at.last at.last_at)) at.closes.rise in
@@ -502,7 +500,9 @@ module _ {S : Type 0} {G : Ghosts S} (count : ℕ) (issuer : Setup) (prefix : Li
       last = last_books;
       kept = keep-together more;
       lawful = lawful-together sound;
-      answered = several count _ (AreAnsweredTogether count issuer first_books last_books asked text) more (answered-together text text_is);
+      answers = answers;
+      answered = several count _ (AreAnsweredTogether count issuer first_books last_books asked answers) more answered-together;
+      text_is = text_is;
     }
 
   -- ---- where no line was answered

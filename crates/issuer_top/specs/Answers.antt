@@ -1,9 +1,7 @@
 -- What is sure of the answers to lines: those of one caller, and those of several.
 use Rattle.std.specs.Prelude.{◌≡◌, ℕ, ◌+◌, ◌-◌, ◌^◌, ◌<◌, ◌≤◌, suc, zero, List, length, slice_get, Some}
-use Rattle.std.specs.List.{flat_map}
 use Rattle.issuer_base.specs.declared.answer.Answer.{Answer}
 use Rattle.issuer_setup.specs.IssuerSetup.{Setup}
-use Rattle.answer_text.specs.AnswerText.{printed}
 use Rattle.turn_book.specs.declared.logs.Log.{Log}
 use Rattle.shard_turns.specs.declared.logs.LogItem.{LogItem}
 use Rattle.shard_turns.specs.declared.logs.LogHead.{LogHead}
@@ -17,13 +15,11 @@ use Rattle.many_callers.specs.OwnPlaces.{AreOwnPlaces, all_faults_told}
 use Rattle.many_callers.specs.Settled.{AreSettled}
 use Rattle.caller_lanes.specs.Dealing.{AreDealt}
 
--- the text of one caller's answers to these lines, one turn after another from the first books to the last: so each shard's history is one
--- legal history, no counter of a card was decided twice, and each request has one reply
-pub record AreAnswered (issuer : Setup) (first last : List Book) (asked : List (List ℕ)) (text : List ℕ) : Type 0 where
-  pub answers : List Answer
+-- one caller's answers to these lines, one turn after another from the first books to the last: each shard's history is one legal history, no
+-- counter of a card was decided twice, and each request has one reply
+pub record AreAnswered (issuer : Setup) (first last : List Book) (asked : List (List ℕ)) (answers : List Answer) : Type 0 where
   pub run : Run issuer first asked answers last
-  pub printed_is : text ≡ flat_map printed answers
-  pub one : IsOneHistory issuer asked answers first last
+  pub law : IsOneHistory issuer asked answers first last
 
 -- these are the books of the logs of all shards
 pub record AreBooksOf (logs : List (Log LogItem LogHead)) (books : List Book) : Type 0 where
@@ -31,11 +27,9 @@ pub record AreBooksOf (logs : List (Log LogItem LogHead)) (books : List Book) : 
   pub each : (shard : ℕ) (log : Log LogItem LogHead) (book : Book) → slice_get logs shard ≡ Some log → slice_get books shard ≡ Some book
       → book ≡ book_of log book.faults
 
--- the text of the answers to these lines, which were dealt in turns to so many callers of one host: each answer is explained by the histories at
--- opening and at close, and each record of this run is one answer's; so no counter of a card was decided twice, and each request has one reply
-pub record AreAnsweredTogether (count : ℕ) (issuer : Setup) (first last : List Book) (asked : List (List ℕ)) (text : List ℕ) : Type 0 where
-  pub answers : List Answer
-  pub printed_is : text ≡ flat_map printed answers
+-- the answers to these lines, which were dealt in turns to so many callers of one host: each is explained by the histories at opening and at close,
+-- and each record between them is one answer's; no counter of a card was decided twice, and each request has one reply
+pub record AreAnsweredTogether (count : ℕ) (issuer : Setup) (first last : List Book) (asked : List (List ℕ)) (answers : List Answer) : Type 0 where
   pub callers : List Caller
   pub dealt : AreDealt count asked answers callers
   pub opening : List (Log LogItem LogHead)
@@ -43,11 +37,11 @@ pub record AreAnsweredTogether (count : ℕ) (issuer : Setup) (first last : List
   pub logs : List (Log LogItem LogHead)
   pub logs_are : AreBooksOf logs last
   pub explained : AreExplained issuer opening logs callers
-  pub own : AreOwnPlaces issuer opening logs callers
-  -- at most as many answers are that a shard's store failed as its count rose, unless that stands at its last value
-  pub blamed : (shard : ℕ) (was is : Book) → slice_get first shard ≡ Some was → slice_get last shard ≡ Some is → is.faults < 2 ^ 64 - 1
+  pub each_record_is_one_answers : AreOwnPlaces issuer opening logs callers
+  -- at most as many answers are that a shard's store failed as its fault counter increased, unless that is saturated
+  pub faults_are_counted : (shard : ℕ) (was is : Book) → slice_get first shard ≡ Some was → slice_get last shard ≡ Some is → is.faults < 2 ^ 64 - 1
       → was.faults + all_faults_told issuer shard callers ≤ is.faults
-  -- where no store's count of faults rose, no answer is that one failed, and each counter that a request names is settled
+  -- where no store's fault counter increased, no answer is that one failed, and each counter that a request names is settled
   pub settled : (HasFailed first last → ⊥) → AreSettled issuer opening callers
 
 -- with one caller the one holds, and with more the other
@@ -55,10 +49,10 @@ abbrev pub ByCallers : ℕ → Type 0 → Type 0 → Type 0
 ByCallers (suc zero) Alone Together = Alone
 ByCallers count Alone Together = Together
 
--- the text of so many callers' answers to these lines, from the first books to the last
-abbrev pub AreAnsweredBy : ℕ → Setup → List Book → List Book → List (List ℕ) → List ℕ → Type 0
-AreAnsweredBy count issuer first last asked text =
-    ByCallers count (AreAnswered issuer first last asked text) (AreAnsweredTogether count issuer first last asked text)
+-- so many callers' answers to these lines, from the first books to the last
+abbrev pub AreAnsweredBy : ℕ → Setup → List Book → List Book → List (List ℕ) → List Answer → Type 0
+AreAnsweredBy count issuer first last asked answers =
+    ByCallers count (AreAnswered issuer first last asked answers) (AreAnsweredTogether count issuer first last asked answers)
 
 -- no line was answered: the histories are as they were, and no fault was told; with one caller so are the books
 pub record AnswersNone (count : ℕ) (first last : List Book) : Type 0 where

@@ -1,9 +1,11 @@
 -- How a run may end: for each ending a relation of what the run saw and of the text that was due at the sink.
 use Rattle.std.specs.Prelude.{◌≡◌, ℕ, ◌<◌, ◌⊎◌, Bool, true, false, List, [], length, ◌++◌, slice_get, Option, Some, None, is_some, IsSomeAnd, Ok, Err}
+use Rattle.std.specs.List.{flat_map}
 use Rattle.std.specs.Io.KnownBytes.{Appends}
 use Rattle.issuer_base.specs.OutsideFaults.{Rose}
 use Rattle.issuer_base.specs.Sink.{AppendsFront}
 use Rattle.issuer_base.specs.Tells.{Tells}
+use Rattle.issuer_base.specs.declared.answer.Answer.{Answer}
 use Rattle.issuer_base.specs.declared.outside.DeskCall.TheVariants.{Read}
 use Rattle.issuer_base.specs.declared.entry.Entry.{Entry}
 use Rattle.line_reader.specs.Lines.{lines}
@@ -11,6 +13,7 @@ use Rattle.line_reader.specs.Reading.{IsWithinLimits}
 use Rattle.issuer_setup.specs.IssuerSetup.{Setup}
 use Rattle.config_read.specs.declared.fault.ConfigFault.{ConfigFault}
 use Rattle.config_read.specs.Configuration.{configured}
+use Rattle.answer_text.specs.AnswerText.{printed}
 use Rattle.answer_text.specs.StopText.{stop_text}
 use Rattle.answer_text.specs.declared.stop_line.Stop.{Stop}
 use Rattle.answer_text.specs.declared.stop_line.Stop.TheVariants.{Usage, Config, ReadFault, StoreFault, BadJournal, NoMemory, TooLong}
@@ -23,11 +26,12 @@ use Rattle.issuer_top.specs.Seen.{Seen, SeenInput, SeenStore}
 use Rattle.issuer_top.specs.Configuration.{config_stop}
 use Rattle.issuer_top.specs.Journals.{journal_name}
 use Rattle.issuer_top.specs.Loading.{GivesNoHost}
-use Rattle.issuer_top.specs.Answered.{WasRead, AllAnswered, WholeAnswered, PassedAnswered, FrontAnswered}
+use Rattle.issuer_top.specs.Answered.{WasRead, AreAllLines, AreWholeLines, AreLinesBefore, AreFirstLines}
 use Rattle.issuer_top.specs.Kept.{KeepJournals}
 use Rattle.issuer_top.specs.Lawful.{IsLawful}
 use Rattle.issuer_top.specs.Left.{LeaveJournals}
 use Rattle.issuer_top.specs.Shown.{shown_text}
+use Rattle.issuer_top.specs.Status.{status_of}
 use Rattle.issuer_top.specs.Played.{IsWorldText}
 use Rattle.issuer_top.specs.declared.ending.Ending.{Ending}
 use Rattle.issuer_top.specs.declared.ending.Ending.TheVariants.{Done, Stopped, WriteFault}
@@ -39,6 +43,16 @@ pub record HasOpened (seen : Seen) (config requests : Bool) : Type 0 where
   pub config_is : is_some seen.config ≡ config
   pub requests_is : is_some seen.requests ≡ requests
   pub desk_stood : seen.desk.faults_after ≡ seen.desk.faults_before
+
+-- no input was opened, the configuration alone, or both
+abbrev pub OpenedNoInput : Seen → Type 0
+OpenedNoInput seen = HasOpened seen false false
+
+abbrev pub OpenedConfigOnly : Seen → Type 0
+OpenedConfigOnly seen = HasOpened seen true false
+
+abbrev pub OpenedBothInputs : Seen → Type 0
+OpenedBothInputs seen = HasOpened seen true true
 
 -- the desk failed at this name of an input, and the request file was not opened; the configuration was, or was not
 pub record FailsToOpen (seen : Seen) (name : List ℕ) (config : Bool) : Type 0 where
@@ -55,9 +69,8 @@ pub record IsSetUp (seen : Seen) (requests : Option RequestFile) (journal : List
   pub held : Tells (seen.desk.tells config) (Some content)
   pub says : configured content ≡ Ok issuer
 
--- lines of the request file were read and answered, and this is the text of their answers; the journals are kept meanwhile, and the run is lawful;
--- `Answered` says which lines
-pub record AnswersLines (Answered : (List (List ℕ) → List ℕ → Type 0) → List ℕ → List ℕ → List ℕ → Type 0) (seen : Seen) (text : List ℕ) : Type 0 where
+-- lines of the request file were read and answered, and this is the text of their answers; the journals are kept meanwhile, and the run is lawful
+pub record AnswersLines (seen : Seen) (text : List ℕ) : Type 0 where
   pub requests : RequestFile
   pub journal : List ℕ
   pub issuer : Setup
@@ -66,21 +79,43 @@ pub record AnswersLines (Answered : (List (List ℕ) → List ℕ → Type 0) �
   pub input : SeenInput
   pub file : List ℕ
   pub read : List ℕ
-  pub opened : HasOpened seen true true
+  pub asked : List (List ℕ)
+  pub answers : List Answer
+  pub opened : OpenedBothInputs seen
   pub input_is : seen.requests ≡ Some input
   pub set_up : IsSetUp seen (Some requests) journal issuer
   pub kept : KeepJournals requests.callers issuer journal seen.desk.logs seen.stores first last
   pub lawful : IsLawful issuer first last
   pub held : Tells (seen.desk.tells requests.name) (Some file)
   pub was_read : WasRead file read input.left
-  pub answered : Answered (AreAnsweredBy requests.callers issuer first last) file read text
+  pub answered : AreAnsweredBy requests.callers issuer first last asked answers
+  pub printed_is : text ≡ flat_map printed answers
 
--- the journals are kept as they were loaded, and this is the text of all cards
+-- the journals were loaded to serve, and no line was answered; the journals are kept meanwhile, and the run is lawful
+pub record AnswersNoLine (seen : Seen) : Type 0 where
+  pub requests : RequestFile
+  pub journal : List ℕ
+  pub issuer : Setup
+  pub first : List Book
+  pub last : List Book
+  pub set_up : IsSetUp seen (Some requests) journal issuer
+  pub kept : KeepJournals requests.callers issuer journal seen.desk.logs seen.stores first last
+  pub lawful : IsLawful issuer first last
+  pub none : AnswersNone requests.callers first last
+
+-- ---- status 0
+
+-- all lines of the request file were answered
+pub record IsServed (seen : Seen) (text : List ℕ) : Type 0 where
+  pub lines : AnswersLines seen text
+  pub which : AreAllLines lines.file lines.read lines.asked
+
+-- all cards are shown: this is their text; the journals are kept as they were loaded, and the run is lawful
 pub record IsShown (seen : Seen) (text : List ℕ) : Type 0 where
   pub journal : List ℕ
   pub issuer : Setup
   pub books : List Book
-  pub opened : HasOpened seen true false
+  pub opened : OpenedConfigOnly seen
   pub set_up : IsSetUp seen None journal issuer
   pub kept : KeepJournals 1 issuer journal seen.desk.logs seen.stores books books
   pub lawful : IsLawful issuer books books
@@ -92,36 +127,37 @@ pub record IsPlayed (seen : Seen) (text : List ℕ) : Type 0 where
   pub steps : ℕ
   pub seed : ℕ
   pub world : IsWorld seen.words cards steps seed
-  pub opened : HasOpened seen false false
+  pub opened : OpenedNoInput seen
   pub no_stores : seen.stores ≡ []
   pub played : IsWorldText cards steps seed text
 
--- ---- the endings
-
 -- status 0: all lines of the request file were answered, all cards were shown, or a world was played
 abbrev pub IsDone : Seen → List ℕ → Type 0
-IsDone seen text = AnswersLines AllAnswered seen text ⊎ (IsShown seen text ⊎ IsPlayed seen text)
+IsDone seen text = IsServed seen text ⊎ (IsShown seen text ⊎ IsPlayed seen text)
+
+-- ---- the other statuses
 
 -- status 1: the words are no command, and nothing was opened
 pub record IsUsage (seen : Seen) (text : List ℕ) : Type 0 where
   pub no_command : IsNoCommand seen.words
-  pub opened : HasOpened seen false false
+  pub opened : OpenedNoInput seen
   pub no_stores : seen.stores ≡ []
   pub last : text ≡ stop_text Usage
 
 -- status 2: the configuration is broken, and its place is told; no journal was opened, nor the request file
-pub record IsConfig (seen : Seen) (text : List ℕ) : Type 0 where
+pub record IsConfig (stop : Stop) (seen : Seen) (text : List ℕ) : Type 0 where
   pub config : List ℕ
   pub requests : Option RequestFile
   pub journal : List ℕ
   pub content : List ℕ
   pub fault : ConfigFault
   pub command : IsCommand seen.words config requests journal
-  pub opened : HasOpened seen true false
+  pub opened : OpenedConfigOnly seen
   pub no_stores : seen.stores ≡ []
   pub held : Tells (seen.desk.tells config) (Some content)
   pub broken : configured content ≡ Err fault
-  pub last : text ≡ stop_text (config_stop fault)
+  pub stop_is : stop ≡ config_stop fault
+  pub last : text ≡ stop_text stop
 
 -- status 3: the desk failed at the configuration's name
 pub record CannotOpenConfig (seen : Seen) (text : List ℕ) : Type 0 where
@@ -139,29 +175,22 @@ pub record CannotReadConfig (seen : Seen) (text : List ℕ) : Type 0 where
   pub requests : Option RequestFile
   pub journal : List ℕ
   pub command : IsCommand seen.words config requests journal
-  pub opened : HasOpened seen true false
+  pub opened : OpenedConfigOnly seen
   pub failed : IsSomeAnd seen.config (λ input. 0 < input.faults)
   pub no_stores : seen.stores ≡ []
   pub last : text ≡ stop_text ReadFault
 
 -- status 3: the desk failed at the request file's name, once the journals were loaded
 pub record CannotOpenRequests (seen : Seen) (text : List ℕ) : Type 0 where
-  pub requests : RequestFile
-  pub journal : List ℕ
-  pub issuer : Setup
-  pub first : List Book
-  pub last : List Book
-  pub set_up : IsSetUp seen (Some requests) journal issuer
-  pub kept : KeepJournals requests.callers issuer journal seen.desk.logs seen.stores first last
-  pub lawful : IsLawful issuer first last
-  pub none : AnswersNone requests.callers first last
-  pub fails : FailsToOpen seen requests.name true
+  pub loaded : AnswersNoLine seen
+  pub fails : FailsToOpen seen loaded.requests.name true
   pub told : text ≡ stop_text ReadFault
 
--- status 3: the request file failed while it was read, and the lines that stand whole in what was read were answered
+-- status 3: the request file failed while it was read, and the whole lines of what was read were answered
 pub record CannotReadRequests (seen : Seen) (text : List ℕ) : Type 0 where
   pub answers : List ℕ
-  pub lines : AnswersLines WholeAnswered seen answers
+  pub lines : AnswersLines seen answers
+  pub which : AreWholeLines lines.read lines.asked
   pub failed : 0 < lines.input.faults
   pub last : text ≡ answers ++ stop_text ReadFault
 
@@ -170,7 +199,7 @@ abbrev pub IsReadFault : Seen → List ℕ → Type 0
 IsReadFault seen text =
     CannotOpenConfig seen text ⊎ (CannotReadConfig seen text ⊎ (CannotOpenRequests seen text ⊎ CannotReadRequests seen text))
 
--- the journals gave no host, for this cause, and their whole lines stay; the request file was not opened
+-- statuses 5 and 6: the journals gave no host, for this cause, and their whole lines stay; the request file was not opened
 pub record HasNoHost (stop : Stop) (seen : Seen) (text : List ℕ) : Type 0 where
   pub requests : Option RequestFile
   pub journal : List ℕ
@@ -183,39 +212,22 @@ pub record HasNoHost (stop : Stop) (seen : Seen) (text : List ℕ) : Type 0 wher
   pub left : LeaveJournals journal seen.desk.logs seen.stores
   pub last : text ≡ stop_text stop
 
--- status 5: the desk failed at the name of a journal, or a store while it was loaded
-abbrev pub IsStoreFault : Seen → List ℕ → Type 0
-IsStoreFault seen text = (shard : ℕ) × HasNoHost (StoreFault shard) seen text
-
--- status 6: a line of a journal is bad
-abbrev pub IsBadJournal : Seen → List ℕ → Type 0
-IsBadJournal seen text = (shard line : ℕ) × HasNoHost (BadJournal shard line) seen text
-
 -- status 7: no memory was left for the configuration, for the journals or for a host; the whole lines of journals that were opened stay
 pub record LacksMemory (seen : Seen) (text : List ℕ) : Type 0 where
   pub config : List ℕ
   pub requests : Option RequestFile
   pub journal : List ℕ
-  pub config_opened : Bool
   pub command : IsCommand seen.words config requests journal
-  pub opened : HasOpened seen config_opened false
+  pub opened : OpenedNoInput seen ⊎ OpenedConfigOnly seen
   pub left : LeaveJournals journal seen.desk.logs seen.stores
   pub last : text ≡ stop_text NoMemory
 
 -- status 7: no memory was left to serve with, once the journals were loaded and before the request file was opened; they are kept, and with one
 -- caller their whole lines stay at each crash since they were opened
 pub record CannotServe (seen : Seen) (text : List ℕ) : Type 0 where
-  pub requests : RequestFile
-  pub journal : List ℕ
-  pub issuer : Setup
-  pub first : List Book
-  pub last : List Book
-  pub opened : HasOpened seen true false
-  pub set_up : IsSetUp seen (Some requests) journal issuer
-  pub kept : KeepJournals requests.callers issuer journal seen.desk.logs seen.stores first last
-  pub lawful : IsLawful issuer first last
-  pub none : AnswersNone requests.callers first last
-  pub left : requests.callers ≡ 1 → LeaveJournals journal seen.desk.logs seen.stores
+  pub loaded : AnswersNoLine seen
+  pub opened : OpenedConfigOnly seen
+  pub left : loaded.requests.callers ≡ 1 → LeaveJournals loaded.journal seen.desk.logs seen.stores
   pub told : text ≡ stop_text NoMemory
 
 -- status 7: no memory was left for a world; nothing was opened
@@ -224,7 +236,7 @@ pub record CannotPlay (seen : Seen) (text : List ℕ) : Type 0 where
   pub steps : ℕ
   pub seed : ℕ
   pub world : IsWorld seen.words cards steps seed
-  pub opened : HasOpened seen false false
+  pub opened : OpenedNoInput seen
   pub no_stores : seen.stores ≡ []
   pub last : text ≡ stop_text NoMemory
 
@@ -232,33 +244,38 @@ pub record CannotPlay (seen : Seen) (text : List ℕ) : Type 0 where
 abbrev pub IsNoMemory : Seen → List ℕ → Type 0
 IsNoMemory seen text = LacksMemory seen text ⊎ (CannotServe seen text ⊎ CannotPlay seen text)
 
--- status 8: a byte of the request file past a limit was read, and the lines before were answered
-pub record IsTooLong (seen : Seen) (text : List ℕ) : Type 0 where
-  pub number : ℕ
+-- status 8: a byte of the request file past a limit was read, in the line of this number, and the lines before were answered
+pub record IsTooLong (number : ℕ) (seen : Seen) (text : List ℕ) : Type 0 where
   pub answers : List ℕ
-  pub lines : AnswersLines (PassedAnswered number) seen answers
+  pub lines : AnswersLines seen answers
+  pub which : AreLinesBefore number lines.read lines.asked
   pub last : text ≡ answers ++ stop_text (TooLong number)
 
 -- a run that stops so has this cause, and this text was due
 abbrev pub Stops : Stop → Seen → List ℕ → Type 0
 Stops Usage seen text = IsUsage seen text
-Stops (Config part index) seen text = IsConfig seen text
+Stops (Config part index) seen text = IsConfig (Config part index) seen text
 Stops ReadFault seen text = IsReadFault seen text
-Stops (StoreFault shard) seen text = IsStoreFault seen text
-Stops (BadJournal shard line) seen text = IsBadJournal seen text
+Stops (StoreFault shard) seen text = HasNoHost (StoreFault shard) seen text
+Stops (BadJournal shard line) seen text = HasNoHost (BadJournal shard line) seen text
 Stops NoMemory seen text = IsNoMemory seen text
-Stops (TooLong line) seen text = IsTooLong seen text
+Stops (TooLong number) seen text = IsTooLong number seen text
 
 -- the sink took all of a text of this kind, and nothing else
 abbrev pub Writes : (Seen → List ℕ → Type 0) → Seen → Type 0
 Writes IsText seen = (text : List ℕ) × IsText seen text × Appends seen.sink.held_before seen.sink.held_after text
 
--- status 4: the texts of which the sink may have taken a front alone: that of a run that stops, the answers so far, the cards, or what a
+-- the first lines of the request file were answered
+pub record IsBegun (seen : Seen) (text : List ℕ) : Type 0 where
+  pub lines : AnswersLines seen text
+  pub which : AreFirstLines lines.file lines.read lines.asked
+
+-- status 4: the texts of which the sink may have taken a prefix alone: that of a run that stops, the answers so far, the cards, or what a
 -- world came to
 abbrev pub IsDue : Seen → List ℕ → Type 0
-IsDue seen text = ((stop : Stop) × Stops stop seen text) ⊎ (AnswersLines FrontAnswered seen text ⊎ (IsShown seen text ⊎ IsPlayed seen text))
+IsDue seen text = ((stop : Stop) × Stops stop seen text) ⊎ (IsBegun seen text ⊎ (IsShown seen text ⊎ IsPlayed seen text))
 
--- status 4: the sink failed, and took a front of a text that was due, but not all of it
+-- status 4: the sink failed, and took a prefix of a text that was due, but not all of it
 pub record IsWriteFault (seen : Seen) : Type 0 where
   pub rose : Rose seen.sink.faults_before seen.sink.faults_after
   pub text : List ℕ
@@ -270,6 +287,12 @@ abbrev pub EndsBy : Seen → Ending → Type 0
 EndsBy seen Done = Writes IsDone seen
 EndsBy seen (Stopped stop) = Writes (Stops stop) seen
 EndsBy seen WriteFault = IsWriteFault seen
+
+-- a run with this status saw this: it ended in a way that has the status
+pub record Ends (status : ℕ) (seen : Seen) : Type 0 where
+  pub ending : Ending
+  pub status_is : status ≡ status_of ending
+  pub ends_by : EndsBy seen ending
 
 -- ---- all in order
 
@@ -312,3 +335,7 @@ pub record PlaysInOrder (seen : Seen) : Type 0 where
   pub seed : ℕ
   pub world : IsWorld seen.words cards steps seed
   pub sink_stood : Rose seen.sink.faults_before seen.sink.faults_after → ⊥
+
+-- where all is in order and no count rose, all is done, or memory was wanting
+abbrev pub Completes : ℕ → Seen → Type 0
+Completes status seen = (ServesInOrder seen ⊎ (ShowsInOrder seen ⊎ PlaysInOrder seen)) → (status ≡ 0) ⊎ (status ≡ 7)

@@ -48,7 +48,9 @@ pub record LeavesAnswered (count : ℕ) (issuer : Setup) (prefix : List ℕ) (lo
   pub last : List Book
   pub kept : KeepJournals count issuer prefix logs stores first last
   pub lawful : IsLawful issuer first last
-  pub answered : AreAnsweredBy count issuer first last lines text
+  pub answers : List Answer
+  pub answered : AreAnsweredBy count issuer first last lines answers
+  pub text_is : text ≡ flat_map printed answers
 
 -- what it leaves where it answered none
 pub record LeavesLoaded (count : ℕ) (issuer : Setup) (prefix : List ℕ) (logs : Logged) (stores : List SeenStore) : Type 0 where

@@ -8,7 +8,7 @@ use Rattle.line_reader.specs.Reading.{unread}
 use Rattle.issuer_top.specs.declared.serve.Server.{Server}
 use Rattle.issuer_top.specs.declared.serve.Served.{Served}
 use Rattle.issuer_top.specs.declared.serve.Served.TheVariants.{All, ReadFault, WriteFault as SinkFault, TooLong}
-use Rattle.issuer_top.specs.Answered.{WasRead, AllAnswered, WholeAnswered, PassedAnswered, FrontAnswered}
+use Rattle.issuer_top.specs.Answered.{WasRead, AreAllLines, AreWholeLines, AreLinesBefore, AreFirstLines}
 
 -- a server that has read nothing and owes no answer
 pub record IsNew (server : Server) : Type 0 where
@@ -16,25 +16,29 @@ pub record IsNew (server : Server) : Type 0 where
   pub none_due : server.block.text.items ≡ []
   pub no_lines : server.block.lines ≡ 0
 
--- lines were answered, and their answers written: `Answered` says which lines, of the file and of what was read of it, and `Written` what
--- the sink took
-pub record ServesLines (Answered : List ℕ → List ℕ → List ℕ → Type 0) (Written : List ℕ → Type 0) (was now : Option (List ℕ)) : Type 0 where
+-- lines were answered, and their answers written: `Which` says which lines, of the file and of what was read of it, `Answered` with which text,
+-- and `Written` what the sink took
+pub record ServesLines (Which : List ℕ → List ℕ → List (List ℕ) → Type 0) (Answered : List (List ℕ) → List ℕ → Type 0) (Written : List ℕ → Type 0)
+    (was now : Option (List ℕ)) : Type 0 where
   pub file : List ℕ
   pub read : List ℕ
+  pub asked : List (List ℕ)
   pub text : List ℕ
   pub content : Tells was file
   pub was_read : WasRead file read now
-  pub answered : Answered file read text
+  pub which : Which file read asked
+  pub answered : Answered asked text
   pub written : Written text
 
 -- what serving did, by how it ended: of the input before and after, and of the sink before and after; `Answered` says of lines that they
 -- were answered, and with which text
 abbrev pub Serves : (List (List ℕ) → List ℕ → Type 0) → Option (List ℕ) → Option (List ℕ) → Option (List ℕ) → Option (List ℕ) → Served → Type 0
-Serves Answered was now held_before held_after All = ServesLines (AllAnswered Answered) (Appends held_before held_after) was now
-Serves Answered was now held_before held_after ReadFault = ServesLines (WholeAnswered Answered) (Appends held_before held_after) was now
-Serves Answered was now held_before held_after SinkFault = ServesLines (FrontAnswered Answered) (AppendsFront held_before held_after) was now
+Serves Answered was now held_before held_after All = ServesLines AreAllLines Answered (Appends held_before held_after) was now
+Serves Answered was now held_before held_after ReadFault =
+    ServesLines (λ file read asked. AreWholeLines read asked) Answered (Appends held_before held_after) was now
+Serves Answered was now held_before held_after SinkFault = ServesLines AreFirstLines Answered (AppendsFront held_before held_after) was now
 Serves Answered was now held_before held_after (TooLong number) =
-    ServesLines (PassedAnswered number Answered) (Appends held_before held_after) was now
+    ServesLines (λ file read asked. AreLinesBefore number read asked) Answered (Appends held_before held_after) was now
 
 -- ---- lines that wait, and answers that are due; `HasServed` says that lines were answered, with this text, and that these wait
 

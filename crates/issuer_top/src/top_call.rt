@@ -1,16 +1,15 @@
 //! The top call.
-ghost use Rattle.std.specs.Prelude.{◌≡◌, ◌<◌, ◌⊎◌, ℕ, List, [], map, None, Some, IfSome};
+ghost use Rattle.std.specs.Prelude.{◌≡◌, ◌<◌, ℕ, List, [], map, None, Some, IfSome};
 ghost use Rattle.std.specs.Option.{option_map};
 ghost use Rattle.issuer_setup.specs.IssuerSetup.{Setup};
 ghost use Rattle.issuer_top.specs.Configuration.{HasSoundParts};
 ghost use Rattle.issuer_top.specs.Opening.{stop_of};
 ghost use Rattle.issuer_top.specs.Hosts.{IsReadySolo, callers_of, IsReady, HasServed, MaySettle, HasRoom, IsSettled};
-ghost use Rattle.issuer_top.specs.Status.{IsStatus};
 ghost use Rattle.issuer_top.specs.Stopping.{EndsServing, GivesStop};
 ghost use Rattle.issuer_top.specs.Seen.{SeenDesk, SeenInput, IsSameDesk, seen_of, seen_by, desk_seen, input_seen, store_seen, sink_seen};
 ghost use Rattle.issuer_top.specs.Command.{IsCommand, IsGroup};
 ghost use Rattle.issuer_top.specs.Pairs.{request_file};
-ghost use Rattle.issuer_top.specs.Endings.{IsSetUp, EndsBy, Writes, IsDone, IsUsage, IsConfig, IsReadFault, IsStoreFault, IsBadJournal, IsWriteFault, IsNoMemory, IsTooLong, ServesInOrder, ShowsInOrder, PlaysInOrder};
+ghost use Rattle.issuer_top.specs.Endings.{IsSetUp, EndsBy, Ends, Completes};
 
 use crate::config::read_issuer;
 use crate::ending::{Ending, end_writing, status_of};
@@ -56,35 +55,12 @@ where
     D::Journal: Send,
     W: Sink,
     G: Gate + Sync,
-    ensures statuses { IsStatus result.status }
 
-    // What each status says of the words, the desk, all that was opened, and what was written.
-    ensures done { result.status ≡ 0
-        → Writes IsDone (seen_by D.Desk D.Input.Source D.Journal.Store W.Sink words.now desk result out.old out.new) }
-    ensures usage { result.status ≡ 1
-        → Writes IsUsage (seen_by D.Desk D.Input.Source D.Journal.Store W.Sink words.now desk result out.old out.new) }
-    ensures config { result.status ≡ 2
-        → Writes IsConfig (seen_by D.Desk D.Input.Source D.Journal.Store W.Sink words.now desk result out.old out.new) }
-    ensures read_fault { result.status ≡ 3
-        → Writes IsReadFault (seen_by D.Desk D.Input.Source D.Journal.Store W.Sink words.now desk result out.old out.new) }
-    ensures write_fault { result.status ≡ 4
-        → IsWriteFault (seen_by D.Desk D.Input.Source D.Journal.Store W.Sink words.now desk result out.old out.new) }
-    ensures store_fault { result.status ≡ 5
-        → Writes IsStoreFault (seen_by D.Desk D.Input.Source D.Journal.Store W.Sink words.now desk result out.old out.new) }
-    ensures bad_journal { result.status ≡ 6
-        → Writes IsBadJournal (seen_by D.Desk D.Input.Source D.Journal.Store W.Sink words.now desk result out.old out.new) }
-    ensures no_memory { result.status ≡ 7
-        → Writes IsNoMemory (seen_by D.Desk D.Input.Source D.Journal.Store W.Sink words.now desk result out.old out.new) }
-    ensures too_long { result.status ≡ 8
-        → Writes IsTooLong (seen_by D.Desk D.Input.Source D.Journal.Store W.Sink words.now desk result out.old out.new) }
+    // What the status says of the words, the desk, all that was opened, and what was written.
+    ensures ends { Ends result.status (seen_by D.Desk D.Input.Source D.Journal.Store W.Sink words.now desk result out.old out.new) }
 
     // Where words, configuration, journals and request file are in order and no count rose, all is done, or memory was wanting.
-    ensures serves { ServesInOrder (seen_by D.Desk D.Input.Source D.Journal.Store W.Sink words.now desk result out.old out.new)
-        → (result.status ≡ 0) ⊎ (result.status ≡ 7) }
-    ensures shows { ShowsInOrder (seen_by D.Desk D.Input.Source D.Journal.Store W.Sink words.now desk result out.old out.new)
-        → (result.status ≡ 0) ⊎ (result.status ≡ 7) }
-    ensures plays { PlaysInOrder (seen_by D.Desk D.Input.Source D.Journal.Store W.Sink words.now desk result out.old out.new)
-        → (result.status ≡ 0) ⊎ (result.status ≡ 7) }
+    ensures completes { Completes result.status (seen_by D.Desk D.Input.Source D.Journal.Store W.Sink words.now desk result out.old out.new) }
 {
     let Outcome {
         ending,
