@@ -47,24 +47,22 @@ impl Counting {
     }
 }
 
-/// Where the calls for this line are counted.
-fn place_of(line: u64) -> usize {
-    if line <= LINES as u64 {
-        line as usize
-    } else {
-        0
+/// The count of a line.
+fn count_of(counts: &[AtomicUsize; LINES + 1], line: u64) -> &AtomicUsize {
+    match counts.get(line as usize) {
+        Some(count) => count,
+        None => &counts[0],
     }
 }
 
 impl Gate for Counting {
     fn at<R: Wait>(&self, _rt: &R, line: u64) {
-        self.at[place_of(line)].fetch_add(1, Ordering::SeqCst);
+        count_of(&self.at, line).fetch_add(1, Ordering::SeqCst);
     }
 
     fn done<R: Wait>(&self, _rt: &R, line: u64) {
-        let place = place_of(line);
-        let before = self.done[place].fetch_add(1, Ordering::SeqCst);
-        if self.at[place].load(Ordering::SeqCst) <= before {
+        let before = count_of(&self.done, line).fetch_add(1, Ordering::SeqCst);
+        if count_of(&self.at, line).load(Ordering::SeqCst) <= before {
             self.is_done_early.store(true, Ordering::SeqCst);
         }
     }
