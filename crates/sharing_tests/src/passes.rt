@@ -5,6 +5,7 @@ ghost use Rattle.host_calls.specs.Passes.{claims_of, IsFree, Holds};
 ghost use Rattle.host_calls.specs.PreChecks.{HasPassed};
 
 use crate::hosts::{is_fresh, is_kept, sample, store};
+use cvr_settle::Flight;
 use host_calls::{CardView, Checked, Host, HostBack, Pass};
 use issuer_base::{Answer, Refusal};
 use sample_issuer::REQUEST;
@@ -108,6 +109,46 @@ fn a_lost_claim_is_pending_until_it_is_kept(rt: HostRuntime) -> Result<(), Fail>
     assert!(rt; is_fresh(&fresh, 0));
     assert!(rt; is_kept(&kept, 0));
     assert!(rt; matches!(&shown, Some(view) if view.hi == Some(7)));
+    Ok(())
+}
+
+/// A card without records, and then with a status, and a command in flight with the reply to its request.
+#[test]
+fn a_caller_shows_what_another_recorded(rt: HostRuntime) -> Result<(), Fail> {
+    let Two {
+        host,
+        mut first,
+        mut other,
+    } = open(rt.alloc(), &[])?;
+    let before = show(&rt, &host, &mut other);
+    let queued = host.authorise(&rt, &mut first, b"Q 4000000000000002 00 84160000");
+    let set = host.authorise(&rt, &mut first, b"S 4000000000000002 00 3");
+    let fresh = host.authorise(&rt, &mut first, REQUEST.as_bytes());
+    let after = show(&rt, &host, &mut other);
+    close(host, first, other);
+    let new = CardView {
+        hi: None,
+        status: 0,
+        queued: 0,
+        done: 0,
+        flight: None,
+        halted: false,
+    };
+    let launched = CardView {
+        hi: Some(7),
+        status: 3,
+        queued: 1,
+        flight: Some(Flight {
+            counter: 7,
+            size: 1,
+        }),
+        ..new
+    };
+    assert!(rt; queued == Answer::Queued { shard: 0, place: 0 });
+    assert!(rt; set == Answer::Set { shard: 0, place: 1 });
+    assert!(rt; is_fresh(&fresh, 2));
+    assert!(rt; before == Some(new));
+    assert!(rt; after == Some(launched));
     Ok(())
 }
 
