@@ -2,6 +2,7 @@
 use Rattle.std.proofs.Common.{◌≡◌, ℕ, zero, suc, List, [], ◌∷◌, map, Some, Option, refl, ap, ◌∙◌, arith}
 use Rattle.std.proofs.lemmas.Option.{slice_get_within}
 use Rattle.std.specs.List.{slice_get}
+use Rattle.issuer_base.specs.Stores.{Disk}
 use Rattle.issuer_base.specs.declared.entry.Entry.{Entry}
 use Rattle.issuer_setup.specs.IssuerSetup.{Setup}
 use Rattle.turn_book.specs.declared.logs.Log.{Log}
@@ -25,9 +26,9 @@ plain-each (log ∷ logs) each zero = each 0 log refl
 plain-each (log ∷ logs) each (suc shard) = plain-each logs (λ number. each (suc number)) shard
 
 -- so it is with logs that were opened from stores
-pub opened-plain : {S : Type 0} (bytes : S → Option (List ℕ)) (faults : S → ℕ) (issuer : Setup) (stores : List S) (logs : List (Log LogItem LogHead))
-    → AreOpenedFrom bytes faults issuer stores logs → (shard : ℕ) → faults_of (items_at logs shard) ≡ []
-opened-plain bytes faults issuer stores logs opened =
+pub opened-plain : {S : Type 0} (bytes : S → Option (List ℕ)) (disk : S → Option Disk) (faults : S → ℕ) (issuer : Setup) (stores : List S) (logs : List (Log LogItem LogHead))
+    → AreOpenedFrom bytes disk faults issuer stores logs → (shard : ℕ) → faults_of (items_at logs shard) ≡ []
+opened-plain bytes disk faults issuer stores logs opened =
     plain-each logs (λ number log is.
     let within = slice_get_within logs number log is in
     let store = read-within stores number (omega (arith, within, opened.count_is)) in

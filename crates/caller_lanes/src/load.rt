@@ -36,7 +36,7 @@ impl<S: Store> Lanes<S> {
         requires callers { (0 < callers) × (callers ≤ MAX_CALLERS) }
         ensures issuer { IfOk result (λ lanes. issuer_in lanes ≡ issuer) }
         ensures callers { IfOk result (λ lanes. callers_in lanes ≡ callers) }
-        ensures opening { IfOk result (λ lanes. AreOpenedFrom S.bytes S.faults issuer stores.items (opening_logs lanes)) }
+        ensures opening { IfOk result (λ lanes. AreOpenedFrom S.bytes S.disk S.faults issuer stores.items (opening_logs lanes)) }
 
         // No line was answered, and none waits.
         ensures served { IfOk result (λ lanes. HasServed lanes [] [] [] []) }

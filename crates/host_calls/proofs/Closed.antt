@@ -1,16 +1,13 @@
 -- What the last pass knows when a host is closed, and what the stores hold.
-use Rattle.std.proofs.Common.{◌≡◌, ℕ, ◌+◌, ◌<◌, ◌≤◌, List, [], ◌∷◌, ◌++◌, length, drop, map, Option, None, Some, IfSome}
+use Rattle.std.proofs.Common.{◌≡◌, ℕ, ◌+◌, ◌<◌, ◌≤◌, List, [], ◌∷◌, ◌++◌, length, take, drop, map, Some}
 use Rattle.std.proofs.Common.{refl, sym, ap, ◌∙◌, subst, arith}
-use Rattle.std.proofs.lemmas.List.{take-append-drop, length-map}
+use Rattle.std.proofs.lemmas.List.{take-append-drop, take_at, length-map}
 use Rattle.std.proofs.lemmas.Option.{same_Some, slice_get_within}
 use Rattle.std.specs.List.{slice_get}
-use Rattle.issuer_base.specs.Stores.{Disk, MayLeave}
+use Rattle.issuer_base.specs.Stores.{BothTold, LeavesOnly}
 use Rattle.issuer_base.specs.declared.entry.Entry.{Entry}
 use Rattle.issuer_base.specs.declared.outside.store.Store.{Ghosts}
 use Rattle.issuer_setup.specs.IssuerSetup.{Setup}
-use Rattle.journal_rec.specs.RecordText.{texts_of}
-use Rattle.record_store.specs.Images.{HasSafeText}
-use Rattle.record_store.proofs.Passing.{leaves-image}
 use Rattle.claim_words.specs.declared.layout.TheConstants.{COUNTERS}
 use Rattle.claim_words.specs.declared.view.ClaimView.{ClaimView}
 use Rattle.claim_words.specs.declared.claim_words.ClaimWords.{ClaimWords}
@@ -19,18 +16,19 @@ use Rattle.claim_words.specs.Seats.{recorded_in}
 use Rattle.turn_book.specs.declared.logs.Log.{Log}
 use Rattle.turn_book.specs.Logs.{heads_of, items_at, IsFront}
 use Rattle.shard_book.specs.declared.shard.Shard.{Shard}
-use Rattle.shard_book.specs.Grounds.{grounds_now, IsImageOf}
-use Rattle.shard_book.specs.Shards.{store_in}
+use Rattle.shard_book.specs.Grounds.{grounds_now, IsTail}
+use Rattle.shard_book.specs.Shards.{disk_in, store_in}
 use Rattle.shard_turns.specs.declared.logs.LogItem.{LogItem}
 use Rattle.shard_turns.specs.declared.logs.LogItem.TheVariants.{Record, Fault}
 use Rattle.shard_turns.specs.declared.logs.LogHead.{LogHead}
 use Rattle.shard_turns.specs.Opening.{head_with}
 use Rattle.shard_turns.specs.ShardLogs.{records_of, StandsForLog}
 use Rattle.shard_turns.specs.ShardSeats.{StandForLogs}
-use Rattle.host_calls.specs.Closing.{IsClosed, AreClosed, AreSettled}
-use Rattle.host_calls.specs.OneHistory.{GoesOn}
+use Rattle.shard_turns.specs.Histories.{GoesOn, IsImageBetween}
+use Rattle.host_calls.specs.Closing.{book_of, IsClosed, AreClosed, AreSettled}
 use Rattle.host_calls.specs.OpeningLogs.{AreCounted, AreRecordedIn}
 use Rattle.host_calls.proofs.Places.{read-within, read-map}
+use Rattle.host_calls.proofs.Running.{holds-with}
 use Rattle.host_calls.proofs.Sharing.{items-there}
 
 -- the records of a log that goes on go on
@@ -45,43 +43,39 @@ records-go_on first last front =
     let parts : first ++ rest ≡ last = ap (λ (front : List LogItem). front ++ rest) (sym front) ∙ take-append-drop (length first) last in
     (records_of rest, ap records_of (sym parts) ∙ records-append first rest)
 
-if-some : {X : Type 0} (P Q : X → Type 0) (found : Option X) → ((x : X) → P x → Q x) → IfSome found P → IfSome found Q
-if-some P Q None then is = tt
-if-some P Q (Some x) then is = then x is
+-- a log's opening records are those of the log that it goes on from
+opening-are : (first last : List LogItem) → GoesOn (records_of first) (records_of last) → take (length (records_of first)) (records_of last) ≡ records_of first
+opening-are first last on =
+    ap (take (length (records_of first))) on.1 ∙ take_at (records_of first) on.0 (length (records_of first)) refl
 
 module _ {S : Type 0} {G : Ghosts S} where
   -- the store of one shard
   closed-shard : (issuer : Setup) (number records : ℕ) (first last : Log LogItem LogHead) (shard : Shard S G)
       → records ≡ length (records_of first.items) → IsFront first.items last.items
-      → StandsForLog shard (head_with issuer number first.head.faults records) last.items
+      → StandsForLog shard (head_with issuer number first.head.faults records first.head.opened) last.items
       → IsClosed G.bytes G.disk G.faults issuer number first last (store_in shard)
   closed-shard issuer number records first last shard counted front stands =
       let journal = stands.stands.journal_holds in
       let history : List Entry = records_of last.items in
-      let tail_is =
-      subst (λ number. Rattle.shard_book.specs.Grounds.IsTail (grounds_now issuer) number history journal.tail) stands.number_is journal.tail_is in
+      let tail_is = subst (λ number. IsTail (grounds_now issuer) number history journal.tail) stands.number_is journal.tail_is in
+      let on = records-go_on first.items last.items front in
       record {
         goes_on = record {
-          goes_on = records-go_on first.items last.items front;
+          goes_on = on;
           legal = stands.legal;
           by_table = λ place entry past is. stands.by_table place entry (omega (arith, counted, past)) is;
         };
         records = journal.records;
-        holds = record {
-          tail = journal.tail;
-          tail_is = tail_is;
-          none = λ untold. journal.holds.tail_is (stands.undoubted (stands.told_is ∙ untold));
-          bytes_are = journal.holds.bytes_are;
-        };
-        leaves = if-some (λ (disk : Disk). HasSafeText (texts_of history) journal.tail disk.now)
-            (λ (disk : Disk). (image : List ℕ) → MayLeave disk.now image → IsImageOf (grounds_now issuer) number history image) (G.disk (store_in shard))
-            (λ disk safe image left. (journal.tail, tail_is, leaves-image (texts_of history) journal.tail disk.now image safe left)) journal.holds.disk_is;
+        holds = holds-with issuer number (book_of last (G.faults (store_in shard))) shard.journal journal.tail tail_is
+            (λ untold. journal.holds.tail_is (stands.undoubted (stands.told_is ∙ untold))) journal.holds;
+        since = subst (λ (opening : List Entry). BothTold (LeavesOnly (IsImageBetween issuer number opening history)) first.head.opened (disk_in shard))
+            (ap (λ count. take count history) counted ∙ opening-are first.items last.items on) stands.since;
         rise = stands.counts;
       }
 
   pub closed-all : (issuer : Setup) (opening seen : List (Log LogItem LogHead)) (shards : List (Shard S G)) → heads_of seen ≡ heads_of opening
       → length opening ≡ issuer.shards
-      → ((number : ℕ) (head : LogHead) → slice_get (heads_of opening) number ≡ Some head → head ≡ head_with issuer number head.faults head.records)
+      → ((number : ℕ) (head : LogHead) → slice_get (heads_of opening) number ≡ Some head → head ≡ head_with issuer number head.faults head.records head.opened)
       → AreCounted opening → ((shard : ℕ) → IsFront (items_at opening shard) (items_at seen shard)) → StandForLogs shards seen
       → AreClosed G.bytes G.disk G.faults issuer opening seen (map (λ (shard : Shard S G). store_in shard) shards)
   closed-all issuer opening seen shards heads count headed counted fronts stand =
@@ -98,7 +92,7 @@ module _ {S : Type 0} {G : Ghosts S} where
             let last_there : slice_get (heads_of seen) number ≡ Some last.head = read-map head seen number last last_is in
             let same : last.head ≡ first.head =
             same_Some last.head first.head (sym last_there ∙ ap (λ (heads : List LogHead). slice_get heads number) heads ∙ there) in
-            let stands : StandsForLog shard.0 (head_with issuer number first.head.faults first.head.records) last.items =
+            let stands : StandsForLog shard.0 (head_with issuer number first.head.faults first.head.records first.head.opened) last.items =
             subst (λ (head : LogHead). StandsForLog shard.0 head last.items) (same ∙ headed number first.head there)
             (stand.each number shard.0 last shard.1 last_is) in
             let front : IsFront first.items last.items =

@@ -23,21 +23,14 @@ use Rattle.issuer_setup.specs.IssuerSetup.{Setup}
 use Rattle.journal_rec.specs.Record.{IsRecord}
 use Rattle.shard_book.specs.Grounds.{IsCardOfShard, grounds_of, grounds_now}
 use Rattle.shard_book.proofs.Lines.{legal-more}
+use Rattle.shard_turns.specs.Histories.{GoesOn}
+use Rattle.shard_turns.proofs.Since.{goes-none, goes-then}
 use Rattle.host_calls.specs.Books.{Book, histories_of}
-use Rattle.host_calls.specs.OneHistory.{GoesOn, LegallyGoesOn, AreLegalBooks, LoadsAgain}
+use Rattle.host_calls.specs.OneHistory.{LegallyGoesOn, AreLegalBooks, LoadsAgain}
 use Rattle.host_calls.proofs.Places.{read-front, read-alone, read-within}
 use Rattle.host_calls.proofs.TurnSteps.{AddsAtMostOne}
 
 -- ---- going on
-
--- nothing is added
-pub goes-none : (history : List Entry) → GoesOn history history
-goes-none history = ([], sym (append-nil history))
-
--- records, and then more records
-pub goes-then : (first second third : List Entry) → GoesOn first second → GoesOn second third → GoesOn first third
-goes-then first second third on more =
-    (on.0 ++ more.0, more.1 ∙ ap (λ (l : List Entry). l ++ more.0) on.1 ∙ append_assoc first on.0 more.0)
 
 -- one record more, or none
 pub adds-goes_on : (issuer : Setup) (shard : ℕ) (before after : List Entry) → AddsAtMostOne issuer shard before after → GoesOn before after

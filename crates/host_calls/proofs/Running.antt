@@ -1,10 +1,11 @@
 -- A run of a host from its loading on: it begins with the loaded books, goes on line by line, and each store holds its book's journal.
-use Rattle.std.proofs.Common.{◌≡◌, ℕ, zero, suc, false, List, [], ◌∷◌, ◌++◌, length, Option, Some, IfSome, refl, sym, subst, ◌∙◌, arith}
+use Rattle.std.proofs.Common.{◌≡◌, ℕ, zero, suc, false, List, [], ◌∷◌, ◌++◌, length, map, Option, None, Some, IfSome, refl, sym, subst, ◌∙◌, arith}
 use Rattle.std.proofs.Common.{inl}
+use Rattle.std.proofs.lemmas.List.{length-map}
 use Rattle.std.proofs.lemmas.Option.{same_Some, slice_get_within}
 use Rattle.std.specs.List.{slice_get}
 use Rattle.issuer_base.specs.OutsideFaults.{CountsFaults}
-use Rattle.issuer_base.specs.Stores.{LeavesOnly}
+use Rattle.issuer_base.specs.Stores.{Disk, LeavesOnly, MayLeave}
 use Rattle.issuer_base.specs.Tells.{Tells}
 use Rattle.issuer_base.proofs.Moments.{LeavesOnly-then, LeavesOnly-weaker}
 use Rattle.issuer_base.proofs.ToldTwice.{BothTold-then}
@@ -15,19 +16,24 @@ use Rattle.card_history.specs.LegalRecords.{IsLegalHistory}
 use Rattle.issuer_setup.specs.IssuerSetup.{Setup}
 use Rattle.journal_rec.specs.RecordText.{texts_of, IsUnbroken}
 use Rattle.line_checks.specs.Reading.{reading}
-use Rattle.record_store.specs.Images.{IsImage}
+use Rattle.record_store.specs.declared.journal.Journal.{Journal}
+use Rattle.record_store.specs.Holding.{Holds}
+use Rattle.record_store.specs.Images.{HasSafeText, IsImage}
+use Rattle.record_store.proofs.Passing.{leaves-image}
 use Rattle.shard_book.specs.declared.shard.Shard.{Shard}
 use Rattle.shard_book.specs.Grounds.{IsTail, grounds_now, grounds_of}
 use Rattle.shard_book.specs.Shards.{store_in, disk_in, faults_in}
+use Rattle.shard_turns.specs.Histories.{GoesOn, IsImageBetween}
+use Rattle.shard_turns.proofs.Since.{goes-none, goes-then}
 use Rattle.host_calls.specs.Books.{Book}
 use Rattle.host_calls.specs.Hosts.{AreShards, StandsForBook, Stand}
 use Rattle.host_calls.specs.Loading.{IsLoadedFrom, AreLoaded}
-use Rattle.host_calls.specs.OneHistory.{GoesOn, AreLegalBooks}
-use Rattle.host_calls.specs.Runs.{IsImageBetween, HoldsJournal, LeaveBetween, HasRun}
+use Rattle.host_calls.specs.OneHistory.{AreLegalBooks}
+use Rattle.host_calls.specs.Runs.{HoldsJournal, HoldJournals, LeaveBetween, HasRun}
 use Rattle.host_calls.specs.Turns.{Turn, Run}
-use Rattle.host_calls.proofs.Places.{read-within, choose}
+use Rattle.host_calls.proofs.Places.{read-within, read-map, choose}
 use Rattle.host_calls.proofs.TurnSteps.{turn-adds}
-use Rattle.host_calls.proofs.LegalBooks.{goes-none, goes-then, adds-goes_on}
+use Rattle.host_calls.proofs.LegalBooks.{adds-goes_on}
 use Rattle.host_calls.proofs.Loads.{loaded-are}
 use Rattle.host_calls.proofs.OneShard.{leave-uncalled}
 
@@ -216,21 +222,54 @@ module _ {S : Type 0} {G : Ghosts S} (issuer : Setup) (loaded : List (Shard S G)
 
 -- ---- the journals
 
--- a store holds the journal of its shard's book
-holds-told : (issuer : Setup) (number : ℕ) (book : Book) (bytes : Option (List ℕ)) (told : ℕ) (tail : List ℕ) → book.told ≡ told
-    → IsTail (grounds_now issuer) number book.history tail → IfSome bytes (IsImage (texts_of book.history) tail)
-    → (book.told ≡ 0 → IfSome bytes (IsImage (texts_of book.history) [])) → HoldsJournal issuer number book bytes
-holds-told issuer number book bytes zero tail told_is tail_is image settled =
-    record { tail = []; tail_is = inl refl; none = λ untold. refl; bytes_are = settled told_is }
-holds-told issuer number book bytes (suc told) tail told_is tail_is image settled =
-    record { tail = tail; tail_is = tail_is; none = λ untold. let no = untold in absurd (omega (arith, told_is, no)); bytes_are = image }
+-- where a text is safe a crash leaves it, and a front of what may stand behind it
+safe-left : (text tail : List ℕ) (disk : Option Disk) → IfSome disk (λ disk. HasSafeText text tail disk.now)
+    → IfSome disk (λ disk. (image : List ℕ) → MayLeave disk.now image → IsImage text tail image)
+safe-left text tail None safe = tt
+safe-left text tail (Some disk) safe = λ image left. leaves-image text tail disk.now image safe left
 
-pub holds-journal : {S : Type 0} {G : Ghosts S} (issuer : Setup) (shards : List (Shard S G)) (books : List Book) → AreShards issuer shards
-    → Stand issuer shards books → (number : ℕ) (shard : Shard S G) (book : Book) → slice_get shards number ≡ Some shard → slice_get books number ≡ Some book
-    → HoldsJournal issuer number book (G.bytes (store_in shard))
-holds-journal {S} {G} issuer shards books are stand number shard book shard_is book_is =
-    let its = stand.each number shard book shard_is book_is in
-    let holds = its.stands.journal_holds in
-    holds-told issuer number book (G.bytes (store_in shard)) book.told holds.tail refl
-    (subst (λ number. IsTail (grounds_now issuer) number book.history holds.tail) (are.numbers_are number shard shard_is) holds.tail_is)
-    holds.holds.bytes_are (λ untold. (its.settled untold).bytes_are)
+module _ {S : Type 0} {G : Ghosts S} (issuer : Setup) (number : ℕ) (book : Book) (journal : Journal S G) where
+  -- a store holds the journal of its shard's book
+  pub holds-with : (tail : List ℕ) → IsTail (grounds_now issuer) number book.history tail → (book.told ≡ 0 → tail ≡ [])
+      → Holds journal (length book.history) (texts_of book.history) tail → HoldsJournal issuer number book (G.bytes journal.store) (G.disk journal.store)
+  holds-with tail tail_is none holds = record {
+    tail = tail;
+    tail_is = tail_is;
+    none = none;
+    bytes_are = holds.bytes_are;
+    leaves = safe-left (texts_of book.history) tail (G.disk journal.store) holds.disk_is;
+  }
+
+  holds-told : (told : ℕ) (tail : List ℕ) → book.told ≡ told → IsTail (grounds_now issuer) number book.history tail
+      → Holds journal (length book.history) (texts_of book.history) tail
+      → (book.told ≡ 0 → Holds journal (length book.history) (texts_of book.history) [])
+      → HoldsJournal issuer number book (G.bytes journal.store) (G.disk journal.store)
+  holds-told zero tail told_is tail_is holds settled = holds-with [] (inl refl) (λ untold. refl) (settled told_is)
+  holds-told (suc told) tail told_is tail_is holds settled =
+      holds-with tail tail_is (λ untold. let no = untold in absurd (omega (arith, told_is, no))) holds
+
+module _ {S : Type 0} {G : Ghosts S} (issuer : Setup) (shards : List (Shard S G)) (books : List Book) (are : AreShards issuer shards)
+    (stand : Stand issuer shards books) where
+  pub holds-journal : (number : ℕ) (shard : Shard S G) (book : Book) → slice_get shards number ≡ Some shard → slice_get books number ≡ Some book
+      → HoldsJournal issuer number book (G.bytes (store_in shard)) (G.disk (store_in shard))
+  holds-journal number shard book shard_is book_is =
+      let its = stand.each number shard book shard_is book_is in
+      let holds = its.stands.journal_holds in
+      holds-told issuer number book shard.journal book.told holds.tail refl
+      (subst (λ number. IsTail (grounds_now issuer) number book.history holds.tail) (are.numbers_are number shard shard_is) holds.tail_is)
+      holds.holds its.settled
+
+  -- so does each store of a host
+  pub hold-journals : HoldJournals G.bytes G.disk issuer books (map (λ (shard : Shard S G). store_in shard) shards)
+  hold-journals =
+      let kept : Shard S G → S = λ shard. store_in shard in
+      record {
+        count_is = length-map shards kept ∙ sym stand.count_is;
+        each = λ number book store book_is store_is.
+            let below = slice_get_within books number book book_is in
+            let count = stand.count_is in
+            let shard = read-within shards number (omega arith) in
+            let its : store_in shard.0 ≡ store = same_Some (store_in shard.0) store (sym (read-map kept shards number shard.0 shard.1) ∙ store_is) in
+            subst (λ (store : S). HoldsJournal issuer number book (G.bytes store) (G.disk store)) its
+            (holds-journal number shard.0 book shard.1 book_is);
+      }

@@ -9,6 +9,7 @@ use Rattle.std.specs.List.{slice_get}
 use Rattle.counter_bits.specs.CounterSets.{times}
 use Rattle.counter_bits.proofs.Listing.{times-append}
 use Rattle.issuer_base.specs.OutsideFaults.{CountsFaults}
+use Rattle.issuer_base.specs.Stores.{BothTold, Disk, LeavesOnly}
 use Rattle.issuer_base.specs.Tells.{Tells}
 use Rattle.journal_rec.specs.RecordText.{texts_of}
 use Rattle.issuer_base.specs.declared.entry.Entry.{Entry}
@@ -19,8 +20,9 @@ use Rattle.seat_names.specs.Totals.{one_if}
 use Rattle.claim_words.specs.ClaimViews.{times as times_claimed}
 use Rattle.turn_book.specs.declared.logs.Log.{Log}
 use Rattle.turn_book.specs.Logs.{items_at}
+use Rattle.record_store.specs.Images.{IsCutImage}
 use Rattle.shard_book.specs.declared.shard.Shard.{Shard}
-use Rattle.shard_book.specs.Shards.{faults_in, store_in, IsLoaded}
+use Rattle.shard_book.specs.Shards.{disk_in, faults_in, store_in, IsLoaded}
 use Rattle.shard_turns.specs.declared.logs.LogItem.{LogItem}
 use Rattle.shard_turns.specs.declared.logs.LogItem.TheVariants.{Record}
 use Rattle.shard_turns.specs.declared.logs.LogHead.{LogHead}
@@ -68,9 +70,10 @@ bytes-there bytes (first ∷ stores) (suc number) store is = bytes-there bytes s
 -- the log of one shard
 log-opened : {S : Type 0} {G : Ghosts S} (issuer : Setup) (stores : List S) (number : ℕ) (store : S) (shard : Shard S G) (log : Log LogItem LogHead)
     → slice_get stores number ≡ Some store → IsLoadedFrom issuer number store shard
-    → IsOpeningLog issuer stores number shard log → IsOpenedFrom G.bytes G.faults issuer number store log
+    → IsOpeningLog issuer stores number shard log → IsOpenedFrom G.bytes G.disk G.faults issuer number store log
 log-opened {G = G} issuer stores number store shard log is from its =
     let faults : log.head.faults ≡ faults_in shard = ap (λ (log : Log LogItem LogHead). log.head.faults) its.log_is in
+    let opened : log.head.opened ≡ disk_in shard = ap (λ (log : Log LogItem LogHead). log.head.opened) its.log_is in
     let history : List Entry = its.loaded.history in
     record {
       history = history;
@@ -79,7 +82,12 @@ log-opened {G = G} issuer stores number store shard log is from its =
       unbroken = its.loaded.unbroken;
       records = its.loaded.records;
       legal = its.loaded.legal;
-      log_is = its.log_is ∙ ap (λ (faults : ℕ). log_with (head_with issuer number faults (length history)) history) (sym faults);
+      log_is = its.log_is ∙ ap (λ (faults : ℕ). log_with (head_with issuer number faults (length history) (disk_in shard)) history) (sym faults)
+          ∙ ap (λ (disk : Option Disk). log_with (head_with issuer number log.head.faults (length history) disk) history) (sym opened);
+      leaves = subst (λ (disk : Option Disk). BothTold (λ old new. LeavesOnly (IsCutImage (length (texts_of history)) old.now) old new) (G.disk store) disk)
+          (sym opened)
+          (subst (λ (sure : ℕ). BothTold (λ old new. LeavesOnly (IsCutImage sure old.now) old new) (G.disk store) (disk_in shard))
+          its.loaded.settled.sure_is from.leaves);
       counts = subst (λ (now : ℕ). CountsFaults (G.faults store) now false) (sym faults) from.counts;
     }
 
@@ -137,7 +145,7 @@ module _ {S : Type 0} {G : Ghosts S} (issuer : Setup) (stores : List S)
         slice_get_within issuer.cards pair.0 its.card its.card_is
 
   module _ (logs : List (Log LogItem LogHead)) (opening : AreOpeningLogs issuer stores shards logs) where
-    pub logs-opened : AreOpenedFrom G.bytes G.faults issuer stores logs
+    pub logs-opened : AreOpenedFrom G.bytes G.disk G.faults issuer stores logs
     logs-opened = record {
       count_is = opening.count_is ∙ loaded.count_is;
       each = λ number store log is log_is.
@@ -179,9 +187,9 @@ all-come-back {S} {G} issuer stores shards loaded =
     }
 
 -- the heads of logs that were opened so tell how many records they have
-pub opened-counted : {S : Type 0} (bytes : S → Option (List ℕ)) (faults : S → ℕ) (issuer : Setup) (stores : List S) (logs : List (Log LogItem LogHead))
-    → AreOpenedFrom bytes faults issuer stores logs → AreCounted logs
-opened-counted bytes faults issuer stores logs opened number log is =
+pub opened-counted : {S : Type 0} (bytes : S → Option (List ℕ)) (disk : S → Option Disk) (faults : S → ℕ) (issuer : Setup) (stores : List S) (logs : List (Log LogItem LogHead))
+    → AreOpenedFrom bytes disk faults issuer stores logs → AreCounted logs
+opened-counted bytes disk faults issuer stores logs opened number log is =
     let below = slice_get_within logs number log is in
     let store = read-within stores number (omega (arith, opened.count_is)) in
     let its = opened.each number store.0 log store.1 is in

@@ -1,6 +1,6 @@
 -- What closing a host of several callers tells, and gives back.
-use Rattle.std.specs.Prelude.{◌≡◌, ℕ, ◌+◌, ◌<◌, ◌≤◌, List, length, slice_get, Option, Some, IfSome, All}
-use Rattle.issuer_base.specs.Stores.{Disk, MayLeave}
+use Rattle.std.specs.Prelude.{◌≡◌, ℕ, ◌+◌, ◌<◌, ◌≤◌, List, length, slice_get, Option, Some, All}
+use Rattle.issuer_base.specs.Stores.{BothTold, Disk, LeavesOnly}
 use Rattle.issuer_setup.specs.IssuerSetup.{Setup}
 use Rattle.journal_rec.specs.Record.{IsRecord}
 use Rattle.claim_words.specs.declared.layout.TheConstants.{COUNTERS}
@@ -11,10 +11,10 @@ use Rattle.turn_book.specs.declared.view.TurnView.{TurnView}
 use Rattle.turn_book.specs.Logs.{items_at}
 use Rattle.turn_book.specs.TurnRule.{between}
 use Rattle.turn_book.specs.TurnViews.{times as times_placed}
-use Rattle.shard_book.specs.Grounds.{grounds_now, IsImageOf}
 use Rattle.shard_turns.specs.declared.logs.LogItem.{LogItem}
 use Rattle.shard_turns.specs.declared.logs.LogHead.{LogHead}
 use Rattle.shard_turns.specs.ShardLogs.{records_of, faults_of, RiseTo}
+use Rattle.shard_turns.specs.Histories.{IsImageBetween}
 use Rattle.host_calls.specs.Books.{Book}
 use Rattle.host_calls.specs.OneHistory.{LegallyGoesOn}
 use Rattle.host_calls.specs.OpeningLogs.{opened_on}
@@ -28,12 +28,13 @@ book_of log faults = record { history = records_of log.items; faults = faults; t
 module _ {S : Type 0} (bytes : S → Option (List ℕ)) (disk : S → Option Disk) (faults : S → ℕ) where
   -- a shard's store, where the log was the first one when the host was loaded, and the last one when it is closed: the history went on legally,
   -- each new decision is the table's, and each entry is a record; the store holds its journal, with nothing behind it where no answer told a
-  -- fault, and a crash leaves an image of it; the counts of the faults that were told rise from the first one to the store's
+  -- fault; whatever a crash since the log was opened may leave is an image of a history between the first and the last; the counts of the faults
+  -- that were told rise from the first one to the store's
   pub record IsClosed (issuer : Setup) (number : ℕ) (first last : Log LogItem LogHead) (store : S) : Type 0 where
     pub goes_on : LegallyGoesOn issuer number (records_of first.items) (records_of last.items)
     pub records : All IsRecord (records_of last.items)
-    pub holds : HoldsJournal issuer number (book_of last (faults store)) (bytes store)
-    pub leaves : IfSome (disk store) (λ disk. (image : List ℕ) → MayLeave disk.now image → IsImageOf (grounds_now issuer) number (records_of last.items) image)
+    pub holds : HoldsJournal issuer number (book_of last (faults store)) (bytes store) (disk store)
+    pub since : BothTold (LeavesOnly (IsImageBetween issuer number (records_of first.items) (records_of last.items))) first.head.opened (disk store)
     pub rise : RiseTo first.head.faults (faults_of last.items) (faults store)
 
   -- so it is with each shard, in order

@@ -16,11 +16,8 @@ use Rattle.issuer_setup.specs.IssuerSetup.{Setup}
 use Rattle.journal_rec.specs.Record.{IsRecord}
 use Rattle.line_checks.specs.Reading.{reading}
 use Rattle.shard_book.specs.Grounds.{grounds_of, grounds_now}
+use Rattle.shard_turns.specs.Histories.{GoesOn}
 use Rattle.host_calls.specs.Books.{Book, histories_of}
-
--- the history goes on with more records
-abbrev pub GoesOn : List Entry → List Entry → Type 0
-GoesOn first last = (more : List Entry) × (last ≡ first ++ more)
 
 -- the history goes on by legal records, and each of the new ones is the issuer's own: its decisions are those of its table
 pub record LegallyGoesOn (issuer : Setup) (shard : ℕ) (first last : List Entry) : Type 0 where

@@ -2,13 +2,14 @@
 use Rattle.std.specs.Prelude.{◌≡◌, ◌⊎◌, ℕ, ◌%◌, ◌<◌, List, ◌++◌, length, slice_get, Bool, false, Option, Some, All}
 use Rattle.std.specs.List.{list_any}
 use Rattle.issuer_base.specs.OutsideFaults.{CountsFaults}
-use Rattle.issuer_base.specs.Stores.{Disk}
+use Rattle.issuer_base.specs.Stores.{BothTold, Disk, LeavesOnly}
 use Rattle.issuer_base.specs.Tells.{Tells}
 use Rattle.issuer_base.specs.declared.entry.Entry.{Entry}
 use Rattle.card_history.specs.LegalRecords.{IsLegalHistory}
 use Rattle.issuer_setup.specs.IssuerSetup.{Setup}
 use Rattle.journal_rec.specs.Record.{IsRecord}
 use Rattle.journal_rec.specs.RecordText.{texts_of, IsUnbroken}
+use Rattle.record_store.specs.Images.{IsCutImage}
 use Rattle.shard_book.specs.declared.replay.LoadFault.{LoadFault}
 use Rattle.shard_book.specs.declared.replay.LoadFault.TheVariants.{NoMemory}
 use Rattle.shard_book.specs.Grounds.{grounds_of}
@@ -43,10 +44,11 @@ AreRecordedIn issuer logs words =
 abbrev pub AreCounted : List (Log LogItem LogHead) → Type 0
 AreCounted logs = (shard : ℕ) (log : Log LogItem LogHead) → slice_get logs shard ≡ Some log → log.head.records ≡ length (records_of log.items)
 
--- by what stores tell of their bytes, and by their counts of faults
-module _ {S : Type 0} (bytes : S → Option (List ℕ)) (faults : S → ℕ) where
+-- by what stores tell of their bytes and disks, and by their counts of faults
+module _ {S : Type 0} (bytes : S → Option (List ℕ)) (disk : S → Option Disk) (faults : S → ℕ) where
   -- the log has just the records of a legal history; where the store told its bytes, they were the text of this history and a rest without
-  -- a newline, which was cut away. Its head tells of the issuer, the shard's number, the store's count of faults and how many records it has
+  -- a newline, which was cut away. Its head tells of the issuer, the shard's number, the store's count of faults, how many records it has and
+  -- the store's disk, once it was loaded; meanwhile a crash leaves what it might leave before, or the history's text
   pub record IsOpenedFrom (issuer : Setup) (number : ℕ) (store : S) (log : Log LogItem LogHead) : Type 0 where
     pub history : List Entry
     pub rest : List ℕ
@@ -54,7 +56,8 @@ module _ {S : Type 0} (bytes : S → Option (List ℕ)) (faults : S → ℕ) whe
     pub unbroken : IsUnbroken rest
     pub records : All IsRecord history
     pub legal : IsLegalHistory (grounds_of issuer) number history
-    pub log_is : log ≡ log_with (head_with issuer number log.head.faults (length history)) history
+    pub log_is : log ≡ log_with (head_with issuer number log.head.faults (length history) log.head.opened) history
+    pub leaves : BothTold (λ old new. LeavesOnly (IsCutImage (length (texts_of history)) old.now) old new) (disk store) log.head.opened
     pub counts : CountsFaults (faults store) log.head.faults false
 
   -- so it is with the log of each shard, and the store at its place

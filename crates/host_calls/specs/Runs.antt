@@ -1,35 +1,34 @@
 -- A run of a host's calls, from its loading on: what the shards stand for, and what a crash may leave of their stores.
-use Rattle.std.specs.Prelude.{◌≡◌, ℕ, List, [], slice_get, Option, Some, IfSome}
-use Rattle.issuer_base.specs.Stores.{BothTold, LeavesOnly}
+use Rattle.std.specs.Prelude.{◌≡◌, ℕ, List, [], length, slice_get, Option, Some, IfSome}
+use Rattle.issuer_base.specs.Stores.{BothTold, Disk, LeavesOnly, MayLeave}
 use Rattle.issuer_base.specs.declared.outside.store.Store.{Ghosts}
 use Rattle.issuer_base.specs.declared.answer.Answer.{Answer}
-use Rattle.issuer_base.specs.declared.entry.Entry.{Entry}
 use Rattle.issuer_setup.specs.IssuerSetup.{Setup}
 use Rattle.journal_rec.specs.RecordText.{texts_of}
 use Rattle.record_store.specs.Images.{IsImage}
 use Rattle.shard_book.specs.declared.shard.Shard.{Shard}
-use Rattle.shard_book.specs.Grounds.{grounds_now, IsTail, IsImageOf}
+use Rattle.shard_book.specs.Grounds.{grounds_now, IsTail}
 use Rattle.shard_book.specs.Shards.{disk_in}
+use Rattle.shard_turns.specs.Histories.{IsImageBetween}
 use Rattle.host_calls.specs.Books.{Book}
 use Rattle.host_calls.specs.Hosts.{Stand}
-use Rattle.host_calls.specs.OneHistory.{GoesOn}
 use Rattle.host_calls.specs.Turns.{Run}
 
--- the text of a history that begins with the first one and isn't past the last, and behind it a front of the text of one record that
--- may come next, or nothing
-pub record IsImageBetween (issuer : Setup) (shard : ℕ) (first last : List Entry) (image : List ℕ) : Type 0 where
-  pub between : List Entry
-  pub from_first : GoesOn first between
-  pub to_last : GoesOn between last
-  pub image_is : IsImageOf (grounds_now issuer) shard between image
-
--- what a store tells holds the journal of this book: its bytes are the text of the history and a tail, which is a front of the text of one
--- record that may come next, and nothing where no answer told that the store failed
-pub record HoldsJournal (issuer : Setup) (shard : ℕ) (book : Book) (bytes : Option (List ℕ)) : Type 0 where
+-- what a store tells holds the journal of this book: its bytes are the text of the history and a prefix of the tail, which is the text of one
+-- record that may come next, or nothing; nothing where no answer told that the store failed. A crash now leaves such bytes too
+pub record HoldsJournal (issuer : Setup) (shard : ℕ) (book : Book) (bytes : Option (List ℕ)) (disk : Option Disk) : Type 0 where
   pub tail : List ℕ
   pub tail_is : IsTail (grounds_now issuer) shard book.history tail
   pub none : book.told ≡ 0 → tail ≡ []
   pub bytes_are : IfSome bytes (IsImage (texts_of book.history) tail)
+  pub leaves : IfSome disk (λ disk. (image : List ℕ) → MayLeave disk.now image → IsImage (texts_of book.history) tail image)
+
+-- each store holds the journal of its shard's book
+pub record HoldJournals {S : Type 0} (bytes : S → Option (List ℕ)) (disk : S → Option Disk) (issuer : Setup) (books : List Book) (stores : List S)
+    : Type 0 where
+  pub count_is : length stores ≡ length books
+  pub each : (number : ℕ) (book : Book) (store : S) → slice_get books number ≡ Some book → slice_get stores number ≡ Some store
+      → HoldsJournal issuer number book (bytes store) (disk store)
 
 module _ {S : Type 0} {G : Ghosts S} where
   -- whatever a crash since these shards may leave of a store is an image of a history between that shard's first one and its last

@@ -44,7 +44,7 @@ impl<S: Store> Host<S> {
     ) -> Result<(Host<S>, Pass), HostBack<S>>
         requires { length stores.items ≡ issuer.shards }
         ensures issuer { IfOk result (λ made. made.0.issuer ≡ issuer) }
-        ensures opening { IfOk result (λ made. AreOpenedFrom S.bytes S.faults issuer stores.items (opening_in made.0.turns)) }
+        ensures opening { IfOk result (λ made. AreOpenedFrom S.bytes S.disk S.faults issuer stores.items (opening_in made.0.turns)) }
 
         // The first pass has no claims, was told nothing, has added nothing, and has seen just the opening logs.
         ensures pass { IfOk result (λ made. IsFree made.0 made.1 × (made.1.answered ≡ 0)) }
@@ -97,7 +97,7 @@ fn share<S: Store>(
 ) -> Result<Shared<S>, Vec<Shard<S>>>
     requires count { (length stores.now.value.items ≡ issuer.now.shards) × (0 < issuer.now.shards) }
     requires loaded { AreLoaded issuer.now stores.now.value.items shards.items }
-    ensures opening { IfOk result (λ made. AreOpenedFrom S.bytes S.faults issuer.now stores.now.value.items (opening_in made.turns)) }
+    ensures opening { IfOk result (λ made. AreOpenedFrom S.bytes S.disk S.faults issuer.now stores.now.value.items (opening_in made.turns)) }
     ensures turns { IfOk result (λ made. AreTurnsOf issuer.now made.turns × IsSeatOf made.turns made.pass.turns) }
     ensures cards { IfOk result (λ made. (cards_of made.claims ≡ length issuer.now.cards) × IsSeatOfWords made.pass.claims made.claims) }
     ensures recorded { IfOk result (λ made. AreRecordedIn issuer.now (opening_in made.turns) made.claims) }

@@ -12,7 +12,7 @@ ghost use Rattle.shard_book.specs.Shards.{store_in};
 ghost use Rattle.host_calls.specs.Books.{Book};
 ghost use Rattle.host_calls.specs.Hosts.{AreShards, Stand};
 ghost use Rattle.host_calls.specs.Loading.{AreLoaded, ComeBack};
-ghost use Rattle.host_calls.specs.Runs.{LeaveBetween};
+ghost use Rattle.host_calls.specs.Runs.{HoldJournals, LeaveBetween};
 ghost use Rattle.host_calls.specs.Turns.{Turn};
 ghost use Rattle.host_calls.specs.Views.{view_of};
 
@@ -115,9 +115,11 @@ impl<S: Store> Solo<S> {
         row_shown(self.shards[self.home(card)].row(card))
     }
 
-    /// The stores, in the order of their shards' numbers.
+    /// The stores, in the order of their shards' numbers. Each holds the journal of its shard's book, also after a crash.
     pub fn close(self) -> Vec<S>
-        ensures { result.items ≡ map store_in self.shards.items }
+        ensures stores { result.items ≡ map store_in self.shards.items }
+        ensures journals { (books : List Book) → Stand self.issuer self.shards.items books
+            → HoldJournals S.bytes S.disk self.issuer books result.items }
     {
         let Solo {
             issuer: _,

@@ -31,13 +31,14 @@ use Rattle.turn_book.specs.declared.view.TurnView.{TurnView}
 use Rattle.shard_book.specs.Answering.{AnswersClaimed, AnswersQueueing, AnswersSetting}
 use Rattle.shard_turns.specs.declared.logs.LogItem.{LogItem}
 use Rattle.shard_turns.specs.declared.logs.LogHead.{LogHead}
+use Rattle.shard_turns.specs.Histories.{GoesOn}
+use Rattle.shard_turns.proofs.Since.{goes-then}
 use Rattle.host_calls.specs.Authorising.{EndsIn, Authorises}
 use Rattle.host_calls.specs.Finishes.{FinishesInTurn, is_won}
-use Rattle.host_calls.specs.OneHistory.{GoesOn}
 use Rattle.host_calls.specs.PreChecks.{asked_of, PreChecks}
 use Rattle.host_calls.specs.declared.pass.Checked.{Checked}
 use Rattle.host_calls.specs.declared.pass.Checked.TheVariants.{Decide as Decides, Queue as Queues, Status as Sets}
-use Rattle.host_calls.proofs.LegalBooks.{goes-then, goes-stays}
+use Rattle.host_calls.proofs.LegalBooks.{goes-stays}
 use Rattle.many_callers.specs.Explained.{history_at, IsDecidedOn, ExplainsRequest, ExplainsCommand, ExplainsStatus, Explains}
 use Rattle.many_callers.proofs.Decisions.{greatest-decided, decided-stays}
 use Rattle.many_callers.proofs.Seen.{goes-same, IsWhole, turn-sees, home-there}

@@ -32,13 +32,13 @@ use Rattle.shard_turns.specs.declared.logs.LogItem.TheVariants.{Record, Fault}
 use Rattle.shard_turns.specs.declared.logs.LogHead.{LogHead}
 use Rattle.shard_turns.specs.ShardLogs.{records_of}
 use Rattle.shard_turns.specs.Turned.{log_after, AnswersInTurn}
+use Rattle.shard_turns.specs.Histories.{GoesOn}
+use Rattle.shard_turns.proofs.Since.{goes-then}
 use Rattle.host_calls.specs.Authorising.{EndsIn, Authorises}
 use Rattle.host_calls.specs.Finishes.{FinishesInTurn, is_won}
-use Rattle.host_calls.specs.OneHistory.{GoesOn}
 use Rattle.host_calls.specs.PreChecks.{asked_of, PreChecks}
 use Rattle.host_calls.specs.declared.pass.Checked.{Checked}
 use Rattle.host_calls.specs.declared.pass.Checked.TheVariants.{Decide as Decides, Queue as Queues, Status as Sets}
-use Rattle.host_calls.proofs.LegalBooks.{goes-then}
 use Rattle.many_callers.specs.Callers.{Calls}
 use Rattle.many_callers.specs.Explained.{history_at, SeesTurn, Sees, AreAnsweredInOrder}
 

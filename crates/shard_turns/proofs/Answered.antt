@@ -7,6 +7,7 @@ use Rattle.std.proofs.lemmas.Bool.{cases_lt, ltb-true, ltb-false}
 use Rattle.std.proofs.lemmas.List.{length_push, take-append-le, take_all}
 use Rattle.std.proofs.lemmas.Option.{same_Some, none-some, slice_get_within, get_or_from_slice_get}
 use Rattle.issuer_base.specs.OutsideFaults.{CountsFaults}
+use Rattle.issuer_base.specs.Stores.{Disk, BothTold, LeavesOnly}
 use Rattle.issuer_base.specs.declared.command.Command.{Command}
 use Rattle.issuer_base.specs.declared.request.Request.{Request}
 use Rattle.issuer_base.specs.declared.answer.Answer.{Answer}
@@ -27,15 +28,17 @@ use Rattle.line_checks.specs.Reading.{checked}
 use Rattle.row_core.specs.Replying.{reply_to}
 use Rattle.shard_book.specs.declared.shard.Shard.{Shard}
 use Rattle.shard_book.specs.Answering.{is_store_fault, told_after, AnswersClaimed, AnswersQueueing, AnswersSetting}
-use Rattle.shard_book.specs.Grounds.{IsCardOfShard, grounds_of, grounds_now}
-use Rattle.shard_book.specs.Shards.{number_in, IsUnder, faults_in, told_in, IsUndoubted, StandsFor}
+use Rattle.shard_book.specs.Grounds.{IsCardOfShard, IsImageOf, grounds_of, grounds_now}
+use Rattle.shard_book.specs.Shards.{number_in, IsUnder, disk_in, faults_in, told_in, IsUndoubted, StandsFor}
 use Rattle.shard_book.proofs.Lines.{legal-more}
 use Rattle.shard_book.proofs.OwnDecisions.{legal-then}
 use Rattle.shard_turns.specs.declared.logs.LogItem.{LogItem}
 use Rattle.shard_turns.specs.declared.logs.LogItem.TheVariants.{Record, Fault}
+use Rattle.shard_turns.specs.Histories.{GoesOn, IsImageBetween}
 use Rattle.shard_turns.specs.Opening.{head_with}
 use Rattle.shard_turns.specs.ShardLogs.{records_of, faults_of, RiseTo, last_count, StandsForLog}
 use Rattle.shard_turns.specs.Turned.{log_after, AddsFault, IsAdded, decided_by, recorded_by, added_by}
+use Rattle.shard_turns.proofs.Since.{goes-none, since-more}
 use Rattle.shard_turns.proofs.LogSteps.{records-record, records-fault, faults-record, faults-fault, rise-later, rise-more, last-more}
 
 -- ---- what an answer adds
@@ -195,13 +198,23 @@ pub record IsCalled {S : Type 0} {G : Ghosts S} (issuer : Setup) (old new : Shar
   pub undoubted : IsUndoubted old → IsUndoubted new
   pub under : IsUnder issuer new
   pub number_is : number_in new ≡ number_in old
+  pub leaves : (history : List Entry) → StandsFor issuer old history
+      → BothTold (LeavesOnly (IsImageOf (grounds_now issuer) (number_in old) history)) (disk_in old) (disk_in new)
 
-module _ {S : Type 0} {G : Ghosts S} (issuer : Setup) (shard first faults : ℕ) (old new : Shard S G) (answer : Answer) (items : List LogItem)
-    (stands : StandsForLog old (head_with issuer shard faults first) items) (called : IsCalled issuer old new answer) (after : List Entry)
+module _ {S : Type 0} {G : Ghosts S} (issuer : Setup) (shard first faults : ℕ) (disk : Option Disk) (old new : Shard S G) (answer : Answer) (items : List LogItem)
+    (stands : StandsForLog old (head_with issuer shard faults first disk) items) (called : IsCalled issuer old new answer) (after : List Entry)
     (now : StandsFor issuer new after) where
+  -- each image that a crash may leave since the log was opened, where the log's records go on to these
+  since-then : (records : List Entry) → GoesOn (records_of items) records
+      → BothTold (LeavesOnly (IsImageBetween issuer shard (take first records) records)) disk (disk_in new)
+  since-then records on =
+      since-more issuer shard first (records_of items) records on stands.opened disk (disk_in old) (disk_in new) stands.since
+      (subst (λ (number : ℕ). BothTold (LeavesOnly (IsImageOf (grounds_now issuer) number (records_of items))) (disk_in old) (disk_in new))
+      stands.number_is (called.leaves (records_of items) stands.stands))
+
   -- a record was added
   record-step : (entry : Entry) → is_store_fault answer ≡ false → after ≡ records_of items ++ entry ∷ []
-      → IsLegal (grounds_now issuer) shard (records_of items) entry → StandsForLog new (head_with issuer shard faults first) (items ++ Record entry ∷ [])
+      → IsLegal (grounds_now issuer) shard (records_of items) entry → StandsForLog new (head_with issuer shard faults first disk) (items ++ Record entry ∷ [])
   record-step entry good after_is next =
       let history : List Entry = records_of items in
       let stands_new : StandsFor issuer new (history ++ entry ∷ []) = subst (StandsFor issuer new) after_is now in
@@ -229,12 +242,13 @@ module _ {S : Type 0} {G : Ghosts S} (issuer : Setup) (shard first faults : ℕ)
         counts = subst (λ (counts : List ℕ). RiseTo faults counts (faults_in new)) (sym faults_same)
             (rise-later faults (faults_of items) (faults_in old) (faults_in new) stands.counts counts.never_falls);
         last_is = subst (IsLast faults (faults_in new)) (sym faults_same) (λ fewer. counts.counted ∙ stands.last_is fewer);
+        since = since-then (records_of (items ++ Record entry ∷ [])) (entry ∷ [], same);
       }
 
   -- no record was added
   other-step : (more : List LogItem) → records_of more ≡ records_of items → after ≡ records_of items → told_in new ≡ length (faults_of more)
       → length (faults_of more) ≤ MAX_FAULTS_TOLD → RiseTo faults (faults_of more) (faults_in new) → IsLast faults (faults_in new) (faults_of more)
-      → StandsForLog new (head_with issuer shard faults first) more
+      → StandsForLog new (head_with issuer shard faults first disk) more
   other-step more same after_is told few counts last_is = record {
     number_is = called.number_is ∙ stands.number_is;
     under = called.under;
@@ -248,10 +262,11 @@ module _ {S : Type 0} {G : Ghosts S} (issuer : Setup) (shard first faults : ℕ)
     undoubted = called.undoubted stands.undoubted;
     counts = counts;
     last_is = last_is;
+    since = since-then (records_of more) (subst (GoesOn (records_of items)) (sym same) (goes-none (records_of items)));
   }
 
   none-step : (failed less : Bool) → is_store_fault answer ≡ failed → ltb (told_in old) MAX_FAULTS_TOLD ≡ less → after ≡ records_of items
-      → StandsForLog new (head_with issuer shard faults first) (log_after items (added_by None (failed && less) (faults_in new)))
+      → StandsForLog new (head_with issuer shard faults first disk) (log_after items (added_by None (failed && less) (faults_in new)))
   none-step false less failed_is less_is after_is =
       let counts : CountsFaults (faults_in old) (faults_in new) false =
       subst (λ failed. CountsFaults (faults_in old) (faults_in new) failed) failed_is called.counts in
@@ -283,7 +298,7 @@ module _ {S : Type 0} {G : Ghosts S} (issuer : Setup) (shard first faults : ℕ)
 
   -- so the shard stands for the log with what the answer adds
   pub log-step : (entry : Option Entry) → IsAnsweredBy issuer shard (records_of items) after answer entry
-      → StandsForLog new (head_with issuer shard faults first)
+      → StandsForLog new (head_with issuer shard faults first disk)
       (log_after items (added_by entry (is_store_fault answer && ltb (told_in old) MAX_FAULTS_TOLD) (faults_in new)))
   log-step None answered = none-step (is_store_fault answer) (ltb (told_in old) MAX_FAULTS_TOLD) refl refl answered.records
   log-step (Some entry) answered = record-step entry (answered.apart entry refl) answered.records.0 answered.records.1

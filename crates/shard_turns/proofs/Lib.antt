@@ -2,6 +2,7 @@
 pub mod OpeningLemmas
 pub mod LogSteps
 pub mod Standing
+pub mod Since
 pub mod Answered
 pub mod Ending
 pub mod Shown

@@ -4,14 +4,16 @@ use Rattle.std.proofs.Common.{map, take, reverse, Some, append_assoc, refl, sym,
 use Rattle.std.specs.List.{slice_get}
 use Rattle.std.proofs.lemmas.List.{length-map, length_push, reverse-append}
 use Rattle.std.proofs.lemmas.Option.{same_Some, none-some, slice_get_within}
+use Rattle.issuer_base.specs.Stores.{BothTold, LeavesOnly}
 use Rattle.issuer_base.specs.declared.entry.Entry.{Entry}
 use Rattle.issuer_base.specs.declared.limits.TheConstants.{MAX_FAULTS_TOLD}
 use Rattle.issuer_base.specs.declared.outside.store.Store.{Ghosts}
 use Rattle.card_history.specs.LegalRecords.{IsLegalHistory}
 use Rattle.issuer_setup.specs.IssuerSetup.{Setup}
 use Rattle.shard_book.specs.declared.shard.Shard.{Shard}
-use Rattle.shard_book.specs.Grounds.{HasTable, grounds_of}
-use Rattle.shard_book.specs.Shards.{number_in, faults_in, StandsFor}
+use Rattle.shard_book.specs.Grounds.{HasTable, grounds_now, grounds_of}
+use Rattle.shard_book.specs.Shards.{number_in, disk_in, faults_in, HoldsHistory, StandsFor}
+use Rattle.shard_book.proofs.ShardSteps.{crash-no_call}
 use Rattle.turn_book.specs.declared.logs.Log.{Log}
 use Rattle.turn_book.specs.Logs.{heads_of, StandFor}
 use Rattle.shard_turns.specs.declared.held.HeldShard.{HeldShard}
@@ -19,10 +21,12 @@ use Rattle.shard_turns.specs.declared.logs.LogHead.{LogHead}
 use Rattle.shard_turns.specs.declared.logs.LogItem.{LogItem}
 use Rattle.shard_turns.specs.declared.logs.LogItem.TheVariants.{Record}
 use Rattle.shard_turns.specs.declared.turns.ShardTurns.{ShardTurns}
+use Rattle.shard_turns.specs.Histories.{IsImageBetween}
 use Rattle.shard_turns.specs.Opening.{head_with, IsJustLoaded, AreJustLoaded, IsOpeningLog, AreOpeningLogs}
 use Rattle.shard_turns.specs.ShardLogs.{RiseTo, last_count, StandsForLog}
 use Rattle.shard_turns.specs.ShardSeats.{opening_in, AreTurnsOf, StandForLogs}
 use Rattle.shard_turns.proofs.LogSteps.{records-alone, faults-alone}
+use Rattle.shard_turns.proofs.Since.{since-opened}
 
 -- one more of a list
 pub take-next : {X : Type 0} (xs : List X) (place : ℕ) (x : X) → slice_get xs place ≡ Some x → take (suc place) xs ≡ take place xs ++ x ∷ []
@@ -66,7 +70,7 @@ module _ {S : Type 0} {G : Ghosts S} where
   -- a shard that was just loaded stands for its opening log
   opening-stands_for : (issuer : Setup) (stores : List S) (number : ℕ) (shard : Shard S G) → HasTable issuer → IsJustLoaded issuer stores number shard
       → (history : List Entry) → IsLegalHistory (grounds_of issuer) number history → StandsFor issuer shard history
-      → number_in shard ≡ number → StandsForLog shard (head_with issuer number (faults_in shard) (length history)) (map Record history)
+      → number_in shard ≡ number → StandsForLog shard (head_with issuer number (faults_in shard) (length history) (disk_in shard)) (map Record history)
   opening-stands_for issuer stores number shard table just history legal stands number_is =
       let same = records-alone history in
       let none = faults-alone history in
@@ -88,6 +92,11 @@ module _ {S : Type 0} {G : Ghosts S} where
             (let least : faults_in shard ≤ faults_in shard = omega arith in least);
         last_is = subst (λ (counts : List ℕ). length counts < MAX_FAULTS_TOLD → faults_in shard ≡ last_count (faults_in shard) counts) (sym none)
             (λ fewer. refl);
+        since = subst (λ (records : List Entry). BothTold (LeavesOnly (IsImageBetween issuer number (take (length history) records) records))
+            (disk_in shard) (disk_in shard)) (sym same)
+            (since-opened issuer number (length history) history (disk_in shard) (disk_in shard)
+            (crash-no_call (grounds_now issuer) number shard.journal history
+            (subst (λ (number : ℕ). HoldsHistory (grounds_now issuer) number shard.journal history) number_is stands.journal_holds)));
       }
 
   pub opening-stands : (issuer : Setup) (stores : List S) (number : ℕ) (shard : Shard S G) (log : Log LogItem LogHead)
@@ -155,9 +164,9 @@ module _ {S : Type 0} {G : Ghosts S} where
         let count = opening.count_is in
         let shard = read-within shards number (omega arith) in
         let its = opening.each number shard.0 log.0 shard.1 log.1 in
-        let head_is : head ≡ head_with issuer number (faults_in shard.0) (length its.loaded.history) =
+        let head_is : head ≡ head_with issuer number (faults_in shard.0) (length its.loaded.history) (disk_in shard.0) =
         sym log.2 ∙ ap (λ (log : Log LogItem LogHead). log.head) its.log_is in
-        subst (λ (head : LogHead). head ≡ head_with issuer number head.faults head.records) (sym head_is) refl;
+        subst (λ (head : LogHead). head ≡ head_with issuer number head.faults head.records head.opened) (sym head_is) refl;
   }
 
   -- one shard more is held

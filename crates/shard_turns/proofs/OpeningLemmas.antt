@@ -5,7 +5,7 @@ use Rattle.std.proofs.lemmas.Option.{same_Some, none-some}
 use Rattle.issuer_base.specs.declared.outside.store.Store.{Ghosts}
 use Rattle.issuer_setup.specs.IssuerSetup.{Setup}
 use Rattle.shard_book.specs.declared.shard.Shard.{Shard}
-use Rattle.shard_book.specs.Shards.{faults_in}
+use Rattle.shard_book.specs.Shards.{disk_in, faults_in}
 use Rattle.turn_book.specs.declared.logs.Log.{Log}
 use Rattle.shard_turns.specs.declared.logs.LogHead.{LogHead}
 use Rattle.shard_turns.specs.declared.logs.LogItem.{LogItem}
@@ -14,7 +14,7 @@ use Rattle.shard_turns.specs.Opening.{head_with, log_with, IsJustLoaded, AreJust
 module _ {S : Type 0} {G : Ghosts S} (issuer : Setup) (stores : List S) where
   pub log-of : (number : ℕ) (shard : Shard S G) → IsJustLoaded issuer stores number shard → Log LogItem LogHead
   log-of number shard just =
-      log_with (head_with issuer number (faults_in shard) (length just.loaded.history)) just.loaded.history
+      log_with (head_with issuer number (faults_in shard) (length just.loaded.history) (disk_in shard)) just.loaded.history
 
   pub log-of_opens : (number : ℕ) (shard : Shard S G) (just : IsJustLoaded issuer stores number shard)
       → IsOpeningLog issuer stores number shard (log-of number shard just)

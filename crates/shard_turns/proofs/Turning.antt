@@ -2,6 +2,7 @@
 use Rattle.std.proofs.Common.{◌≡◌, ℕ, ◌<◌, ◌%◌, ◌/◌, ◌&&◌, ltb, Bool, List, length, Option, None, Some, refl, sym, ap, subst, ◌∙◌, arith}
 use Rattle.std.specs.List.{slice_get}
 use Rattle.std.proofs.lemmas.Option.{same_Some, slice_get_within}
+use Rattle.issuer_base.specs.Stores.{Disk}
 use Rattle.issuer_base.specs.declared.answer.Answer.{Answer}
 use Rattle.issuer_base.specs.declared.entry.Entry.{Entry}
 use Rattle.issuer_base.specs.declared.limits.TheConstants.{MAX_FAULTS_TOLD}
@@ -52,8 +53,9 @@ module _ {S : Type 0} {G : Ghosts S} where
   pub record HasFound (issuer : Setup) (logs : List (Log LogItem LogHead)) (number : ℕ) (shard : Shard S G) : Type 0 where
     pub faults : ℕ
     pub first : ℕ
-    pub head_is : slice_get (heads_of logs) number ≡ Some (head_with issuer number faults first)
-    pub stands : StandsForLog shard (head_with issuer number faults first) (items_at logs number)
+    pub disk : Option Disk
+    pub head_is : slice_get (heads_of logs) number ≡ Some (head_with issuer number faults first disk)
+    pub stands : StandsForLog shard (head_with issuer number faults first disk) (items_at logs number)
     pub below : number < length logs
 
   -- so it is when a turn comes
@@ -67,13 +69,14 @@ module _ {S : Type 0} {G : Ghosts S} where
       let below : number < length logs = stands_below Stands held.shard logs number inside in
       let head = head-at logs number below in
       let same = are.heads_are number head.0 (ap (λ (heads : List LogHead). slice_get heads number) (sym heads) ∙ head.1) in
-      let is : slice_get (heads_of logs) number ≡ Some (head_with issuer number head.0.faults head.0.records) = head.1
+      let is : slice_get (heads_of logs) number ≡ Some (head_with issuer number head.0.faults head.0.records head.0.opened) = head.1
       ∙ ap (λ (head : LogHead). Some head) same in
       record {
         faults = head.0.faults;
         first = head.0.records;
+        disk = head.0.opened;
         head_is = is;
-        stands = stands-open Stands held.shard logs number (head_with issuer number head.0.faults head.0.records) is inside;
+        stands = stands-open Stands held.shard logs number (head_with issuer number head.0.faults head.0.records head.0.opened) is inside;
         below = below;
       }
 
@@ -157,8 +160,8 @@ module _ {S : Type 0} {G : Ghosts S} where
     turn-stands =
         subst (λ (added : Option LogItem). StandsIn new (with_items logs number (log_after items added)) number) (sym added-is)
         (stands-close (λ (shard : Shard S G) head items. StandsForLog shard head items) new logs number
-        (head_with issuer number call.found.faults call.found.first) (log_after items (added_by call.entry by_rule (faults_in new))) call.found.head_is
-        (log-step issuer number call.found.first call.found.faults old new answer items call.found.stands call.called said.0 said.1 call.entry
+        (head_with issuer number call.found.faults call.found.first call.found.disk) (log_after items (added_by call.entry by_rule (faults_in new))) call.found.head_is
+        (log-step issuer number call.found.first call.found.faults call.found.disk old new answer items call.found.stands call.called said.0 said.1 call.entry
         (call.recording (records_of items) said.0 changed)))
 
     -- and the turn answers so, at the shard of the card
@@ -173,7 +176,7 @@ module _ {S : Type 0} {G : Ghosts S} where
           added = added;
           front = front;
           changes = subst (Changes number (records_of items))
-              (sym (records-after issuer number call.found.first call.found.faults old new answer items call.found.stands call.called said.0 said.1 call.entry
+              (sym (records-after issuer number call.found.first call.found.faults call.found.disk old new answer items call.found.stands call.called said.0 said.1 call.entry
               by_rule (faults_in new) answered)) changed;
           adds = answered.adds items (told_in old) (faults_in new) refl call.found.stands.told_is;
           after_is = after_is

@@ -1,4 +1,5 @@
 -- The definitions that the contracts of this crate cite.
+pub mod Histories
 pub mod ShardLogs
 pub mod Opening
 pub mod Turned

@@ -1,18 +1,21 @@
 -- The shards as they were loaded, and the logs that they open with.
 use Rattle.std.specs.Prelude.{◌≡◌, ℕ, zero, suc, List, [], ◌∷◌, length, map, slice_get, Option, None, Some}
+use Rattle.issuer_base.specs.Stores.{Disk}
 use Rattle.issuer_base.specs.declared.outside.store.Store.{Ghosts}
 use Rattle.issuer_base.specs.declared.entry.Entry.{Entry}
 use Rattle.issuer_setup.specs.IssuerSetup.{Setup}
 use Rattle.shard_book.specs.declared.shard.Shard.{Shard}
-use Rattle.shard_book.specs.Shards.{IsUnder, faults_in, told_in, IsUndoubted, IsLoaded}
+use Rattle.shard_book.specs.Shards.{IsUnder, disk_in, faults_in, told_in, IsUndoubted, IsLoaded}
 use Rattle.turn_book.specs.declared.logs.Log.{Log}
 use Rattle.shard_turns.specs.declared.logs.LogHead.{LogHead}
 use Rattle.shard_turns.specs.declared.logs.LogItem.{LogItem}
 use Rattle.shard_turns.specs.declared.logs.LogItem.TheVariants.{Record}
 
--- the head of a log: the issuer, the shard's number, its store's count of faults, and how many records it opens with
-abbrev pub head_with : Setup → ℕ → ℕ → ℕ → LogHead
-head_with issuer shard faults records = record { issuer = issuer; shard = shard; faults = faults; records = records }
+-- the head of a log: the issuer, the shard's number, its store's count of faults, how many records it opens with, and what its store tells of
+-- its disk
+abbrev pub head_with : Setup → ℕ → ℕ → ℕ → Option Disk → LogHead
+head_with issuer shard faults records opened =
+    record { issuer = issuer; shard = shard; faults = faults; records = records; opened = opened }
 
 -- the log that has just these records
 abbrev pub log_with : LogHead → List Entry → Log LogItem LogHead
@@ -40,7 +43,7 @@ module _ {S : Type 0} {G : Ghosts S} where
   -- the shard's log has just the records of the history that was loaded
   pub record IsOpeningLog (issuer : Setup) (stores : List S) (number : ℕ) (shard : Shard S G) (log : Log LogItem LogHead) : Type 0 where
     pub loaded : IsLoaded issuer number (bytes_at G.bytes stores number) shard
-    pub log_is : log ≡ log_with (head_with issuer number (faults_in shard) (length loaded.history)) loaded.history
+    pub log_is : log ≡ log_with (head_with issuer number (faults_in shard) (length loaded.history) (disk_in shard)) loaded.history
 
   -- so it is with each log
   pub record AreOpeningLogs (issuer : Setup) (stores : List S) (shards : List (Shard S G)) (logs : List (Log LogItem LogHead)) : Type 0 where

@@ -23,7 +23,7 @@ module _ {S : Type 0} {G : Ghosts S} where
   pub record AreTurnsOf (issuer : Setup) (turns : ShardTurns S G) : Type 0 where
     pub count_is : length (opening_in turns) ≡ issuer.shards
     pub heads_are : (number : ℕ) (head : LogHead) → slice_get (heads_of (opening_in turns)) number ≡ Some head
-        → head ≡ head_with issuer number head.faults head.records
+        → head ≡ head_with issuer number head.faults head.records head.opened
 
   -- the seat is one of these turns', and is in no turn
   pub record IsSeatOf (turns : ShardTurns S G) (seat : TurnSeat LogItem LogHead) : Type 0 where

@@ -10,6 +10,6 @@ mod turns;
 mod views;
 
 pub use held::HeldShard;
-pub use logs::{LogHead, LogItem};
+pub use logs::{LogHead, LogItem, SeenDisk};
 pub use turns::{ShardSeat, ShardTurns};
 pub use views::row_shown;

@@ -30,7 +30,7 @@ call g c =
     let home = card-of_shard issuer (card_of request) c.args.found.now.card number c.requires.at_hand.card_is c.shard_of-number.ensures.number in
     record {
       found = has-found _ _ c.requires.turns _ _ c.enter-shard.result c.enter-shard.ensures.seat.heads c.enter-shard.ensures.value;
-      called = record { counts = its.count; told_is = its.told; undoubted = its.undoubted; under = its.under; number_is = its.number };
+      called = record { counts = its.count; told_is = its.told; undoubted = its.undoubted; under = its.under; number_is = its.number; leaves = its.crash };
       answers = its.answer;
       entry = decided_by request answer;
       entry_is = c.decided_by.ensures;

@@ -31,7 +31,7 @@ call g c =
     let home = card-of_shard issuer name line.card number c.requires.at_hand.card_is c.shard_of-number.ensures.number in
     record {
       found = has-found _ _ c.requires.turns _ _ c.enter-shard.result c.enter-shard.ensures.seat.heads c.enter-shard.ensures.value;
-      called = record { counts = its.count; told_is = its.told; undoubted = its.undoubted; under = its.under; number_is = its.number };
+      called = record { counts = its.count; told_is = its.told; undoubted = its.undoubted; under = its.under; number_is = its.number; leaves = its.crash };
       answers = its.answer;
       entry = recorded_by (Status line.pan line.psn line.status) answer;
       entry_is = c.recorded_by.ensures ∙ ap (λ (pan : List ℕ). recorded_by (Status pan line.psn line.status) answer) c.copy.ensures;
