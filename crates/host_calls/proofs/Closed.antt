@@ -24,7 +24,7 @@ use Rattle.shard_turns.specs.declared.logs.LogHead.{LogHead}
 use Rattle.shard_turns.specs.Opening.{head_with}
 use Rattle.shard_turns.specs.ShardLogs.{records_of, StandsForLog}
 use Rattle.shard_turns.specs.ShardSeats.{StandForLogs}
-use Rattle.shard_turns.specs.Histories.{GoesOn, IsImageBetween}
+use Rattle.shard_book.specs.Histories.{GoesOn, IsImageBetween}
 use Rattle.host_calls.specs.Closing.{book_of, IsClosed, AreClosed, AreSettled}
 use Rattle.host_calls.specs.OpeningLogs.{AreCounted, AreRecordedIn}
 use Rattle.host_calls.proofs.Places.{read-within, read-map}

@@ -23,7 +23,7 @@ use Rattle.issuer_setup.specs.IssuerSetup.{Setup}
 use Rattle.journal_rec.specs.Record.{IsRecord}
 use Rattle.shard_book.specs.Grounds.{IsCardOfShard, grounds_of, grounds_now}
 use Rattle.shard_book.proofs.Lines.{legal-more}
-use Rattle.shard_turns.specs.Histories.{GoesOn}
+use Rattle.shard_book.specs.Histories.{GoesOn}
 use Rattle.shard_turns.proofs.Since.{goes-none, goes-then}
 use Rattle.host_calls.specs.Books.{Book, histories_of}
 use Rattle.host_calls.specs.OneHistory.{LegallyGoesOn, AreLegalBooks, LoadsAgain}

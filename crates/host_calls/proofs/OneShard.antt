@@ -19,7 +19,7 @@ use Rattle.shard_book.specs.Answering.{is_store_fault, told_after}
 use Rattle.shard_book.specs.Grounds.{grounds_now, IsImageOf}
 use Rattle.shard_book.specs.Shards.{number_in, IsUnder, HasCard, disk_in, faults_in, told_in, IsUndoubted, HoldsHistory, StandsFor}
 use Rattle.shard_book.proofs.ShardSteps.{crash-no_call}
-use Rattle.shard_turns.specs.Histories.{GoesOn, IsImageBetween}
+use Rattle.shard_book.specs.Histories.{GoesOn, IsImageBetween}
 use Rattle.host_calls.specs.Books.{Book}
 use Rattle.host_calls.specs.Hosts.{AreShards, StandsForBook, Stand}
 use Rattle.host_calls.specs.Runs.{LeaveBetween}

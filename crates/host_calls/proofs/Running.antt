@@ -23,7 +23,7 @@ use Rattle.record_store.proofs.Passing.{leaves-image}
 use Rattle.shard_book.specs.declared.shard.Shard.{Shard}
 use Rattle.shard_book.specs.Grounds.{IsTail, grounds_now, grounds_of}
 use Rattle.shard_book.specs.Shards.{store_in, disk_in, faults_in}
-use Rattle.shard_turns.specs.Histories.{GoesOn, IsImageBetween}
+use Rattle.shard_book.specs.Histories.{GoesOn, IsImageBetween}
 use Rattle.shard_turns.proofs.Since.{goes-none, goes-then}
 use Rattle.host_calls.specs.Books.{Book}
 use Rattle.host_calls.specs.Hosts.{AreShards, StandsForBook, Stand}

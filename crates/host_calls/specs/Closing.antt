@@ -14,7 +14,7 @@ use Rattle.turn_book.specs.TurnViews.{times as times_placed}
 use Rattle.shard_turns.specs.declared.logs.LogItem.{LogItem}
 use Rattle.shard_turns.specs.declared.logs.LogHead.{LogHead}
 use Rattle.shard_turns.specs.ShardLogs.{records_of, faults_of, RiseTo}
-use Rattle.shard_turns.specs.Histories.{IsImageBetween}
+use Rattle.shard_book.specs.Histories.{IsImageBetween}
 use Rattle.host_calls.specs.Books.{Book}
 use Rattle.host_calls.specs.OneHistory.{LegallyGoesOn}
 use Rattle.host_calls.specs.OpeningLogs.{opened_on}

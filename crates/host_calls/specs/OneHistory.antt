@@ -16,7 +16,7 @@ use Rattle.issuer_setup.specs.IssuerSetup.{Setup}
 use Rattle.journal_rec.specs.Record.{IsRecord}
 use Rattle.line_checks.specs.Reading.{reading}
 use Rattle.shard_book.specs.Grounds.{grounds_of, grounds_now}
-use Rattle.shard_turns.specs.Histories.{GoesOn}
+use Rattle.shard_book.specs.Histories.{GoesOn}
 use Rattle.host_calls.specs.Books.{Book, histories_of}
 
 -- the history goes on by legal records, and each of the new ones is the issuer's own: its decisions are those of its table

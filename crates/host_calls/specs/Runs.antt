@@ -9,7 +9,7 @@ use Rattle.record_store.specs.Images.{IsImage}
 use Rattle.shard_book.specs.declared.shard.Shard.{Shard}
 use Rattle.shard_book.specs.Grounds.{grounds_now, IsTail}
 use Rattle.shard_book.specs.Shards.{disk_in}
-use Rattle.shard_turns.specs.Histories.{IsImageBetween}
+use Rattle.shard_book.specs.Histories.{IsImageBetween}
 use Rattle.host_calls.specs.Books.{Book}
 use Rattle.host_calls.specs.Hosts.{Stand}
 use Rattle.host_calls.specs.Turns.{Run}

@@ -21,7 +21,7 @@ use Rattle.seat_names.specs.Totals.{one_if}
 use Rattle.shard_turns.specs.declared.logs.LogItem.{LogItem}
 use Rattle.shard_turns.specs.declared.logs.LogItem.TheVariants.{Record, Fault}
 use Rattle.shard_turns.specs.ShardLogs.{records_of}
-use Rattle.shard_turns.specs.Histories.{GoesOn}
+use Rattle.shard_book.specs.Histories.{GoesOn}
 use Rattle.host_calls.specs.Decisions.{is_number, decides}
 use Rattle.host_calls.specs.OpeningLogs.{is_decided}
 use Rattle.host_calls.proofs.LegalBooks.{goes-stays}

@@ -28,7 +28,7 @@ use Rattle.turn_book.specs.declared.view.TurnView.{TurnView}
 use Rattle.shard_book.specs.Answering.{AnswersClaimed}
 use Rattle.shard_turns.specs.declared.logs.LogItem.{LogItem}
 use Rattle.shard_turns.specs.declared.logs.LogHead.{LogHead}
-use Rattle.shard_turns.specs.Histories.{GoesOn}
+use Rattle.shard_book.specs.Histories.{GoesOn}
 use Rattle.host_calls.specs.Authorising.{EndsIn, Authorises}
 use Rattle.host_calls.specs.Finishes.{FinishesInTurn, claims_after, standing_by}
 use Rattle.host_calls.specs.PreChecks.{asked_of, PreChecks, Claims}

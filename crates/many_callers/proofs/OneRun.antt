@@ -25,7 +25,7 @@ use Rattle.shard_book.specs.Grounds.{grounds_of}
 use Rattle.shard_turns.specs.declared.logs.LogItem.{LogItem}
 use Rattle.shard_turns.specs.declared.logs.LogHead.{LogHead}
 use Rattle.shard_turns.specs.ShardLogs.{records_of}
-use Rattle.shard_turns.specs.Histories.{GoesOn}
+use Rattle.shard_book.specs.Histories.{GoesOn}
 use Rattle.shard_turns.proofs.Since.{goes-then}
 use Rattle.host_calls.specs.Books.{Book, histories_of}
 use Rattle.host_calls.specs.Closing.{book_of}

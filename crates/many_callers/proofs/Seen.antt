@@ -32,7 +32,7 @@ use Rattle.shard_turns.specs.declared.logs.LogItem.TheVariants.{Record, Fault}
 use Rattle.shard_turns.specs.declared.logs.LogHead.{LogHead}
 use Rattle.shard_turns.specs.ShardLogs.{records_of}
 use Rattle.shard_turns.specs.Turned.{log_after, AnswersInTurn}
-use Rattle.shard_turns.specs.Histories.{GoesOn}
+use Rattle.shard_book.specs.Histories.{GoesOn}
 use Rattle.shard_turns.proofs.Since.{goes-then}
 use Rattle.host_calls.specs.Authorising.{EndsIn, Authorises}
 use Rattle.host_calls.specs.Finishes.{FinishesInTurn, is_won}

@@ -8,7 +8,7 @@ use Rattle.shard_book.specs.Grounds.{grounds_now, IsImageOf}
 abbrev pub GoesOn : List Entry → List Entry → Type 0
 GoesOn first last = (more : List Entry) × (last ≡ first ++ more)
 
--- the text of a history that begins with the first one and isn't past the last, and behind it a front of the text of one record that
+-- the text of a history that begins with the first one and is a prefix of the last, and behind it a prefix of the text of one record that
 -- may come next, or nothing
 pub record IsImageBetween (issuer : Setup) (shard : ℕ) (first last : List Entry) (image : List ℕ) : Type 0 where
   pub between : List Entry

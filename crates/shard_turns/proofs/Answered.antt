@@ -34,7 +34,7 @@ use Rattle.shard_book.proofs.Lines.{legal-more}
 use Rattle.shard_book.proofs.OwnDecisions.{legal-then}
 use Rattle.shard_turns.specs.declared.logs.LogItem.{LogItem}
 use Rattle.shard_turns.specs.declared.logs.LogItem.TheVariants.{Record, Fault}
-use Rattle.shard_turns.specs.Histories.{GoesOn, IsImageBetween}
+use Rattle.shard_book.specs.Histories.{GoesOn, IsImageBetween}
 use Rattle.shard_turns.specs.Opening.{head_with}
 use Rattle.shard_turns.specs.ShardLogs.{records_of, faults_of, RiseTo, last_count, StandsForLog}
 use Rattle.shard_turns.specs.Turned.{log_after, AddsFault, IsAdded, decided_by, recorded_by, added_by}

@@ -21,7 +21,7 @@ use Rattle.shard_turns.specs.declared.logs.LogHead.{LogHead}
 use Rattle.shard_turns.specs.declared.logs.LogItem.{LogItem}
 use Rattle.shard_turns.specs.declared.logs.LogItem.TheVariants.{Record}
 use Rattle.shard_turns.specs.declared.turns.ShardTurns.{ShardTurns}
-use Rattle.shard_turns.specs.Histories.{IsImageBetween}
+use Rattle.shard_book.specs.Histories.{IsImageBetween}
 use Rattle.shard_turns.specs.Opening.{head_with, IsJustLoaded, AreJustLoaded, IsOpeningLog, AreOpeningLogs}
 use Rattle.shard_turns.specs.ShardLogs.{RiseTo, last_count, StandsForLog}
 use Rattle.shard_turns.specs.ShardSeats.{opening_in, AreTurnsOf, StandForLogs}

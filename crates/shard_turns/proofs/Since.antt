@@ -7,7 +7,7 @@ use Rattle.issuer_base.proofs.Moments.{LeavesOnly-then, LeavesOnly-weaker}
 use Rattle.issuer_base.proofs.ToldTwice.{BothTold-then, BothTold-weaker}
 use Rattle.issuer_setup.specs.IssuerSetup.{Setup}
 use Rattle.shard_book.specs.Grounds.{grounds_now, IsImageOf}
-use Rattle.shard_turns.specs.Histories.{GoesOn, IsImageBetween}
+use Rattle.shard_book.specs.Histories.{GoesOn, IsImageBetween}
 
 -- ---- histories that go on
 

@@ -1,5 +1,4 @@
 -- The definitions that the contracts of this crate cite.
-pub mod Histories
 pub mod ShardLogs
 pub mod Opening
 pub mod Turned

@@ -12,7 +12,7 @@ use Rattle.shard_book.specs.Shards.{number_in, IsUnder, disk_in, faults_in, told
 use Rattle.shard_turns.specs.declared.logs.LogHead.{LogHead}
 use Rattle.shard_turns.specs.declared.logs.LogItem.{LogItem}
 use Rattle.shard_turns.specs.declared.logs.LogItem.TheVariants.{Record, Fault}
-use Rattle.shard_turns.specs.Histories.{IsImageBetween}
+use Rattle.shard_book.specs.Histories.{IsImageBetween}
 
 -- the records of a log
 abbrev pub records_of : List LogItem → List Entry
