@@ -11,12 +11,13 @@ use std::alloc::Global;
 use std::test::Fail;
 use store_edge::MemoryStore;
 
-const STATUS: &str = "s 4000000000000002ffff 00 3\n";
+/// The record of a status of the first card.
+pub(crate) const STATUS: &str = "s 4000000000000002ffff 00 3\n";
 
 const COMMAND: &str = "q 4000000000000002ffff 00 84160000\n";
 
 /// An issuer of one shard and one card, whose table declines every request.
-fn one_card(alloc: Global) -> Result<Issuer, Fail>
+pub(crate) fn one_card(alloc: Global) -> Result<Issuer, Fail>
     ensures { IfOk result (λ issuer. issuer.shards ≡ 1) }
 {
     let table = declining_table().ok_or("a table")?;
@@ -27,16 +28,17 @@ fn one_card(alloc: Global) -> Result<Issuer, Fail>
 }
 
 /// A store with this text and room for more, that fails at the listed calls.
-fn store(alloc: Global, text: Vec<u8>, fails: &[u64]) -> Result<MemoryStore, Fail> {
+pub(crate) fn store(alloc: Global, text: Vec<u8>, fails: &[u64]) -> Result<MemoryStore, Fail> {
     let fails = fails.to_vec(alloc)?;
     Ok(MemoryStore::new(alloc, text, 4_096, fails).map_err(|_| "a store")?)
 }
 
-fn load(
+/// The first shard, loaded from this store.
+pub(crate) fn load<S: Store>(
     alloc: Global,
     issuer: &Issuer,
-    store: MemoryStore,
-) -> Result<Shard<MemoryStore>, LoadBack<MemoryStore>>
+    store: S,
+) -> Result<Shard<S>, LoadBack<S>>
     requires { issuer.now.shards ≡ 1 }
     ensures under { IfOk result (IsUnder issuer.now) }
     ensures number { IfOk result (λ loaded. number_in loaded ≡ 0) }
@@ -70,7 +72,7 @@ fn is_home(issuer: &Issuer, card: u32) -> bool
 }
 
 /// What a shard answers to a status of the card.
-fn set_status(shard: &mut Shard<MemoryStore>, issuer: &Issuer) -> Option<Answer>
+pub(crate) fn set_status<S: Store>(shard: &mut Shard<S>, issuer: &Issuer) -> Option<Answer>
     requires under { IsUnder issuer.now shard.old }
     requires number { number_in shard.old ≡ 0 }
     ensures under { IsUnder issuer.now shard.new }

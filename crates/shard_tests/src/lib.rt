@@ -5,3 +5,5 @@
 mod journals;
 #[cfg(test)]
 mod stores;
+#[cfg(test)]
+mod truncation;

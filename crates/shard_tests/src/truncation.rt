@@ -1,0 +1,216 @@
+//! A truncation that fails: the store is left as it was, or is truncated all the same.
+ghost use Rattle.std.specs.Prelude.{◌≡◌, length, true, is_err, Some};
+ghost use Rattle.std.proofs.Common.{refl};
+ghost use Rattle.issuer_base.specs.OutsideFaults.{CountsFaults};
+
+use crate::journals::{STATUS, load, one_card, set_status, store};
+use issuer_base::{Answer, Refusal, Store, StoreFail};
+use issuer_setup::Issuer;
+use shard_book::{LoadBack, LoadFault};
+use std::alloc::Global;
+use std::test::Fail;
+use store_edge::MemoryStore;
+
+/// A store in memory, of which one truncation may take effect and fail all the same, as where a file is truncated and its sync fails.
+#[derive(Drop)]
+struct Truncating {
+    store: MemoryStore,
+
+    /// Whether the next truncation fails once it has taken effect.
+    fails: bool,
+
+    /// How many calls failed.
+    faults: u64,
+}
+
+impl Truncating {
+    /// Counts a fault, where the call failed.
+    fn count(&mut self, failed: bool)
+        ensures count { CountsFaults self.old.faults self.new.faults failed }
+        ensures store { self.new.store ≡ self.old.store }
+    {
+        if failed {
+            self.faults = self.faults.saturating_add(1);
+        }
+    }
+
+    /// Counts a call that failed.
+    fn fail(&mut self) -> Result<(), StoreFail>
+        ensures count { CountsFaults self.old.faults self.new.faults true }
+        ensures store { self.new.store ≡ self.old.store }
+        ensures failed { is_err result ≡ true }
+    {
+        self.count(true);
+        Err(StoreFail)
+    }
+
+    /// Fails after a truncation that took effect, where it is to fail.
+    fn end_cut(&mut self) -> Result<(), StoreFail>
+        ensures count { CountsFaults self.old.faults self.new.faults (is_err result) }
+        ensures store { self.new.store ≡ self.old.store }
+    {
+        if self.fails {
+            self.fails = false;
+            return self.fail();
+        }
+        Ok(())
+    }
+}
+
+impl Store for Truncating {
+    ghost size = { λ s. length s.store.disk.now.bytes };
+
+    ghost bytes = { λ s. Some s.store.disk.now.bytes };
+
+    ghost disk = { λ s. Some s.store.disk };
+
+    ghost faults = { λ s. s.faults };
+
+    ghost told_size = { λ s. refl };
+
+    ghost told_bytes = { λ s. refl };
+
+    fn len(&self) -> u64 {
+        self.store.len()
+    }
+
+    fn read_at(&mut self, at: u64, into: &mut [u8]) -> Result<usize, StoreFail> {
+        let read = self.store.read_at(at, into);
+        self.count(read.is_err());
+        read
+    }
+
+    fn append(&mut self, piece: &[u8]) -> Result<(), StoreFail> {
+        let appended = self.store.append(piece);
+        self.count(appended.is_err());
+        appended
+    }
+
+    fn cut(&mut self, len: u64) -> Result<(), StoreFail> {
+        match self.store.cut(len) {
+            Ok(()) => self.end_cut(),
+            Err(StoreFail) => self.fail(),
+        }
+    }
+
+    fn sync(&mut self) -> Result<(), StoreFail> {
+        let synced = self.store.sync();
+        self.count(synced.is_err());
+        synced
+    }
+}
+
+/// A store with this text, whose calls of these numbers fail, and whose first truncation may fail once it has taken effect.
+fn over_text(alloc: Global, text: &str, calls: &[u64], fails: bool) -> Result<Truncating, Fail> {
+    Ok(Truncating {
+        store: store(alloc, text.as_bytes().to_vec(alloc)?, calls)?,
+        fails,
+        faults: 0,
+    })
+}
+
+/// How many records the first shard has, loaded from this store, and how many bytes the store has then.
+fn reloaded(alloc: Global, issuer: &Issuer, store: Truncating) -> Result<(u64, u64), Fail>
+    requires { issuer.now.shards ≡ 1 }
+{
+    match load(alloc, issuer, store) {
+        Ok(shard) => {
+            let records = shard.places();
+            Ok((records, shard.into_store().len()))
+        }
+        Err(LoadBack { fault: _, store: _ }) => Err("a shard".into()),
+    }
+}
+
+/// What three statuses are answered, of which the first one's record is torn, and the store then.
+#[derive(Drop)]
+struct Answered {
+    first: Option<Answer>,
+    second: Option<Answer>,
+    third: Option<Answer>,
+    store: Truncating,
+}
+
+fn answer_three(
+    alloc: Global,
+    issuer: &Issuer,
+    calls: &[u64],
+    fails: bool,
+) -> Result<Answered, Fail>
+    requires { issuer.now.shards ≡ 1 }
+{
+    match load(alloc, issuer, over_text(alloc, "", calls, fails)?) {
+        Ok(mut shard) => {
+            let first = set_status(&mut shard, issuer);
+            let second = set_status(&mut shard, issuer);
+            let third = set_status(&mut shard, issuer);
+            Ok(Answered {
+                first,
+                second,
+                third,
+                store: shard.into_store(),
+            })
+        }
+        Err(LoadBack { fault: _, store: _ }) => Err("a shard".into()),
+    }
+}
+
+/// The record in doubt is truncated again before the next one is appended, whether the truncation that failed took effect or not.
+#[test]
+fn a_failed_truncation_is_tried_again(rt: HostRuntime) -> Result<(), Fail> {
+    let alloc = rt.alloc();
+    let issuer = one_card(alloc)?;
+    // The call 0 is the load's sync, 1 the first record's append, and 2 the truncation before the second one.
+    let cases: [(&[u64], bool); 2] = [(&[1, 2], false), (&[1], true)];
+    for (calls, takes_effect) in cases {
+        let Answered {
+            first,
+            second,
+            third,
+            store,
+        } = answer_three(alloc, &issuer, calls, takes_effect)?;
+        assert!(rt;
+            first == Some(Answer::Refused(Refusal::StoreFault)),
+            "{takes_effect}"
+        );
+        assert!(rt;
+            second == Some(Answer::Refused(Refusal::StoreFault)),
+            "{takes_effect}"
+        );
+        assert!(rt;
+            third == Some(Answer::Set { shard: 0, place: 0 }),
+            "{takes_effect}"
+        );
+        assert_eq!(rt; store.faults, 2);
+        assert_eq!(rt; reloaded(alloc, &issuer, store)?, (1, 28));
+    }
+    Ok(())
+}
+
+/// A load whose truncation fails leaves the torn last line or the records alone, and both load again.
+#[test]
+fn a_load_whose_truncation_fails_can_be_tried_again(rt: HostRuntime) -> Result<(), Fail> {
+    let alloc = rt.alloc();
+    let issuer = one_card(alloc)?;
+    // The call 0 is the load's read, and 1 its truncation.
+    let cases: [(&[u64], bool, u64); 2] = [(&[1], false, 32), (&[], true, 28)];
+    for (calls, takes_effect, length) in cases {
+        let text = format!(in alloc; "{STATUS}s 40")?;
+        match load(
+            alloc,
+            &issuer,
+            over_text(alloc, &text, calls, takes_effect)?,
+        ) {
+            Ok(shard) => {
+                shard.into_store();
+                return Err("a fault".into());
+            }
+            Err(LoadBack { fault, store }) => {
+                assert_eq!(rt; fault, LoadFault::StoreFault);
+                assert_eq!(rt; store.len(), length);
+                assert_eq!(rt; reloaded(alloc, &issuer, store)?, (1, 28));
+            }
+        }
+    }
+    Ok(())
+}
