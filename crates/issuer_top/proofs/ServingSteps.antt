@@ -18,7 +18,7 @@ use Rattle.line_reader.proofs.WholeLines.{HasGivenLines-unread, HasGivenLines-li
 use Rattle.line_reader.proofs.WholeLines.{lines-rest_given, lines-end_reached, PassesLimit-stopped}
 use Rattle.issuer_top.specs.declared.serve.Served.{Served}
 use Rattle.issuer_top.specs.declared.serve.Served.TheVariants.{All, ReadFault, TooLong}
-use Rattle.issuer_top.specs.Answered.{WasRead, AreAllLines, AreWholeLines, AreLinesBefore, AreFirstLines}
+use Rattle.issuer_top.specs.Answered.{WasRead, AreWholeLines, AreLinesBefore, AreFirstLines}
 use Rattle.issuer_top.specs.Hosts.{TakesLine}
 use Rattle.issuer_top.specs.Serving.{ServesLines, Serves, WritesDue, EndsBy}
 

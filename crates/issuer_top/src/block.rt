@@ -54,6 +54,15 @@ impl Block {
         ensures lines { self.new.lines ≡ self.old.lines + 1 }
     {
         write_answer(answer, &mut self.line);
+        self.append_line();
+    }
+
+    /// Appends the last answer's line to the text.
+    fn append_line(&mut self)
+        requires { self.old.lines < BLOCK_LINES }
+        ensures text { self.new.text.items ≡ self.old.text.items ++ self.old.line.items }
+        ensures lines { self.new.lines ≡ self.old.lines + 1 }
+    {
         self.text.extend_from_slice(self.line.as_slice()).unwrap();
         self.lines += 1;
     }
