@@ -8,8 +8,17 @@ use Rattle.issuer_base.proofs.Moments.{LeavesSince-then}
 use Rattle.issuer_setup.specs.IssuerSetup.{Setup}
 use Rattle.journal_rec.specs.RecordText.{texts_of}
 use Rattle.record_store.specs.Images.{IsCutImage}
-use Rattle.host_calls.specs.Runs.{IsImageBetween}
-use Rattle.issuer_top.specs.Kept.{CrashLeaves}
+use Rattle.shard_book.specs.Histories.{IsImageBetween}
+use Rattle.host_calls.specs.Books.{Book}
+use Rattle.host_calls.specs.Runs.{HoldsJournal}
+use Rattle.issuer_top.specs.Kept.{CrashLeaves, LeavesNow}
+
+-- a crash that comes after a run leaves an image of the last history
+pub leaves-now : (issuer : Setup) (shard : ℕ) (book : Book) (bytes : Option (List ℕ)) (disk : Option Disk) → HoldsJournal issuer shard book bytes disk
+    → IfSome disk (LeavesNow issuer shard book.history)
+leaves-now issuer shard book bytes None holds = tt
+leaves-now issuer shard book bytes (Some disk) holds =
+    record { leaves = λ image left. (holds.tail, holds.tail_is, holds.leaves image left) }
 
 -- bytes that are told are those that the desk told
 pub held-opened : (held bytes : Option (List ℕ)) (content : List ℕ) → IfSome held (λ told. bytes ≡ Some told) → bytes ≡ Some content → Tells held content

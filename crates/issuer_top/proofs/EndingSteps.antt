@@ -402,7 +402,7 @@ module _ (seen : Seen) (requests : RequestFile) (journal : List ℕ) (issuer : S
 -- ---- the ways that showing ends
 
 pub ends_showing : (seen : Seen) (journal : List ℕ) (issuer : Setup) (books : List Book) (result : Result (Unit {0}) SinkFails)
-    → OpenedConfigOnly seen → IsSetUp seen None journal issuer → KeepJournals 1 issuer journal seen.desk.logs seen.stores books books
+    → OpenedConfigOnly seen → IsSetUp seen None journal issuer → KeepJournals issuer journal seen.desk.logs seen.stores books books
     → IsLawful issuer books books
     → WritesAll seen.sink.held_before seen.sink.held_after result (shown_text issuer books issuer.cards)
     → CountsFaults seen.sink.faults_before seen.sink.faults_after (is_err result) → EndsBy seen (written_ending result)

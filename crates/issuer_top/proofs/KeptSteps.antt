@@ -15,7 +15,7 @@ use Rattle.issuer_top.specs.Seen.{SeenStore, store_seen, Logged}
 use Rattle.issuer_top.specs.Journals.{journal_name, IsReady}
 use Rattle.issuer_top.specs.Kept.{KeepsJournal, KeepJournals}
 use Rattle.issuer_top.proofs.HostRuns.{recorded}
-use Rattle.issuer_top.proofs.CrashSteps.{crash-leaves}
+use Rattle.issuer_top.proofs.CrashSteps.{crash-leaves, leaves-now}
 
 -- what stands at a place within a list
 pub at-place : {X : Type 0} → (xs : List X) (k : ℕ) → k < length xs → (x : X) × (slice_get xs k ≡ Some x)
@@ -62,7 +62,7 @@ module _ {S : Type 0} {G : Ghosts S} where
       keeps-journal : (shard : ℕ) (was is : Book) (store : SeenStore)
           → slice_get (begins issuer prefix logs loaded ready before).books shard ≡ Some was
           → slice_get last shard ≡ Some is → slice_get stores shard ≡ Some store
-          → KeepsJournal 1 issuer shard (logs (journal_name prefix shard)) was is store
+          → KeepsJournal issuer shard (logs (journal_name prefix shard)) was is store
       keeps-journal shard was is store was_at is_at store_at =
           let books = begins issuer prefix logs loaded ready before in
           let here = seen-at now shard store (sym (ap (λ (l : List SeenStore). slice_get l shard) stores_are) ∙ store_at) in
@@ -74,7 +74,8 @@ module _ {S : Type 0} {G : Ghosts S} where
           let book = books.books_are shard store_was.0 was store_was.1 was_at in
           let log = ready.opened shard store_was.0 store_was.1 in
           let stands = stand.each shard here.0 is here.1 is_at in
-          subst (λ (s : SeenStore). KeepsJournal 1 issuer shard (logs (journal_name prefix shard)) was is s) here.2
+          let holds = holds-journal issuer now last after stand shard here.0 is here.1 is_at in
+          subst (λ (s : SeenStore). KeepsJournal issuer shard (logs (journal_name prefix shard)) was is s) here.2
           (record {
             was = record {
               rest = book.rest;
@@ -85,9 +86,10 @@ module _ {S : Type 0} {G : Ghosts S} where
               no_fault = book.counts.counted ∙ log.new;
               none_told = book.untold;
             };
-            holds = holds-journal issuer now last after stand shard here.0 is here.1 is_at;
+            holds = holds;
             faults_are = stands.faults_are;
-            crash = crash-leaves issuer shard (logs (journal_name prefix shard)) was.history is.history (sure_in one.0)
+            crash_now = leaves-now issuer shard is (G.bytes (store_in here.0)) (G.disk (store_in here.0)) holds;
+            crash_since = crash-leaves issuer shard (logs (journal_name prefix shard)) was.history is.history (sure_in one.0)
                 ((books.has_run.stand.each shard one.0 was one.1 was_at).settled book.untold).sure_is
                 (G.disk store_was.0) (G.disk (store_in one.0)) (G.disk (store_in here.0)) (G.bytes store_was.0)
                 (ready.loaded.each shard store_was.0 one.0 store_was.1 one.1).leaves
@@ -95,7 +97,7 @@ module _ {S : Type 0} {G : Ghosts S} where
                 log.untouched (told store_was.0) log.bytes_are;
           })
 
-      pub keep-journals : KeepJournals 1 issuer prefix logs stores (begins issuer prefix logs loaded ready before).books last
+      pub keep-journals : KeepJournals issuer prefix logs stores (begins issuer prefix logs loaded ready before).books last
       keep-journals = record {
         stores_are = ap length stores_are ∙ mapped (store_seen G) (map store_in now) ∙ mapped store_in now ∙ after.count_is;
         first_are = (begins issuer prefix logs loaded ready before).has_run.stand.count_is ∙ before.count_is;

@@ -7,7 +7,6 @@ use Rattle.std.proofs.lemmas.Grind.{flat_map-append}
 use Rattle.std.proofs.lemmas.Option.{slice_get_within}
 use Rattle.std.specs.List.{flat_map}
 use Rattle.issuer_base.specs.OutsideFaults.{Rose}
-use Rattle.issuer_base.specs.Stores.{Disk, MayLeave}
 use Rattle.issuer_base.specs.Tells.{Tells}
 use Rattle.issuer_base.specs.declared.answer.Answer.{Answer}
 use Rattle.issuer_base.specs.declared.limits.TheConstants.{MAX_FAULTS_TOLD}
@@ -29,7 +28,7 @@ use Rattle.turn_book.specs.declared.view.TurnView.{TurnView}
 use Rattle.turn_book.specs.Logs.{items_at}
 use Rattle.turn_book.specs.TurnRule.{between}
 use Rattle.turn_book.specs.TurnViews.{times as times_placed}
-use Rattle.shard_book.specs.Grounds.{grounds_of, grounds_now, IsImageOf}
+use Rattle.shard_book.specs.Grounds.{grounds_of}
 use Rattle.shard_turns.specs.declared.logs.LogItem.{LogItem}
 use Rattle.shard_turns.specs.declared.logs.LogItem.TheVariants.{Record}
 use Rattle.shard_turns.specs.declared.logs.LogHead.{LogHead}
@@ -52,8 +51,9 @@ use Rattle.issuer_top.specs.Configuration.{HasSoundParts}
 use Rattle.issuer_top.specs.Hosts.{TakesLine, Settles, LeavesAnswered, LeavesLoaded, IsReadyTogether, HaveAnswered}
 use Rattle.issuer_top.specs.Journals.{journal_name, IsOpened, AreOpened}
 use Rattle.issuer_top.specs.Lawful.{IsLawful}
-use Rattle.issuer_top.specs.Kept.{WasJournal, LeavesNow, KeepsJournal, KeepJournals}
+use Rattle.issuer_top.specs.Kept.{WasJournal, KeepsJournal, KeepJournals}
 use Rattle.issuer_top.specs.Seen.{Logged, SeenStore, store_seen}
+use Rattle.issuer_top.proofs.CrashSteps.{crash-leaves, leaves-now}
 use Rattle.issuer_top.proofs.DealtAnswers.{answers-dealt}
 use Rattle.issuer_top.proofs.KeptSteps.{at-place, mapped, held-told}
 use Rattle.issuer_top.proofs.WorldLaws.{is-lawful}
@@ -261,10 +261,6 @@ several zero Alone Together more holds = holds
 several (suc zero) Alone Together more holds = absurd (omega (arith, more))
 several (suc (suc count)) Alone Together more holds = holds
 
-if-told : (P Q : Disk → Type 0) (disk : Option Disk) → ((d : Disk) → P d → Q d) → IfSome disk P → IfSome disk Q
-if-told P Q None to holds = tt
-if-told P Q (Some d) to holds = to d holds
-
 -- nothing is dealt where there is nothing
 every-none : {A : Type 0} (count skip : ℕ) → every {A = A} count skip [] ≡ []
 every-none count zero = refl
@@ -292,8 +288,9 @@ same-lists (x ∷ xs) (y ∷ ys) long same =
 
 module _ {S : Type 0} {G : Ghosts S} (count : ℕ) (issuer : Setup) (prefix : List ℕ) (told : Logged) (stores back : List S)
     (opening logs : List (Log LogItem LogHead)) (stores_are : length stores ≡ issuer.shards) (opened : AreOpened G prefix told stores)
-    (opens : AreOpenedFrom G.bytes G.faults issuer stores opening) (same_count : length logs ≡ length opening)
-    (closed : AreClosed G.bytes G.disk G.faults issuer opening logs back) where
+    (opens : AreOpenedFrom G.bytes G.disk G.faults issuer stores opening) (same_count : length logs ≡ length opening)
+    (closed : AreClosed G.bytes G.disk G.faults issuer opening logs back)
+    (told_bytes : (store : S) → IfSome (G.disk store) (λ disk. G.bytes store ≡ Some disk.now.bytes)) where
   abbrev first_books : List Book
   first_books = map opening_book opening
 
@@ -319,7 +316,7 @@ module _ {S : Type 0} {G : Ghosts S} (count : ℕ) (issuer : Setup) (prefix : Li
     was_is : was ≡ opening_book first
     is_is : is ≡ book_of last (G.faults after)
     log : IsOpened G (told (journal_name prefix shard)) before
-    opens_from : IsOpenedFrom G.bytes G.faults issuer shard before first
+    opens_from : IsOpenedFrom G.bytes G.disk G.faults issuer shard before first
     closes : IsClosed G.bytes G.disk G.faults issuer shard first last after
 
   kept-at : (shard : ℕ) (was is : Book) → slice_get first_books shard ≡ Some was → slice_get last_books shard ≡ Some is → IsKeptAt shard was is
@@ -372,25 +369,25 @@ module _ {S : Type 0} {G : Ghosts S} (count : ℕ) (issuer : Setup) (prefix : Li
         (subst (λ (i : Book). LegallyGoesOn issuer shard (records_of at.first.items) i.history × (at.first.head.faults ≤ i.faults)) (sym at.is_is)
         (at.closes.goes_on, rise-below at.first.head.faults (faults_of at.last.items) (G.faults at.after) at.closes.rise))
 
-    keeps-journal : (more : 1 < count) (seen : SeenStore) → store_seen G at.after ≡ seen
-        → KeepsJournal count issuer shard (told (journal_name prefix shard)) was is seen
-    keeps-journal more seen same =
-        subst (λ (w : Book). KeepsJournal count issuer shard (told (journal_name prefix shard)) w is seen) (sym at.was_is)
-        (subst (λ (i : Book). KeepsJournal count issuer shard (told (journal_name prefix shard)) (opening_book at.first) i seen) (sym at.is_is)
-        (subst (KeepsJournal count issuer shard (told (journal_name prefix shard)) (opening_book at.first) (book_of at.last (G.faults at.after))) same
+    keeps-journal : (seen : SeenStore) → store_seen G at.after ≡ seen
+        → KeepsJournal issuer shard (told (journal_name prefix shard)) was is seen
+    keeps-journal seen same =
+        subst (λ (w : Book). KeepsJournal issuer shard (told (journal_name prefix shard)) w is seen) (sym at.was_is)
+        (subst (λ (i : Book). KeepsJournal issuer shard (told (journal_name prefix shard)) (opening_book at.first) i seen) (sym at.is_is)
+        (subst (KeepsJournal issuer shard (told (journal_name prefix shard)) (opening_book at.first) (book_of at.last (G.faults at.after))) same
         (record {
           was = was-journal;
           holds = at.closes.holds;
           faults_are = refl;
-          crash = if-told (λ (disk : Disk). (image : List ℕ) → MayLeave disk.now image
-              → IsImageOf (grounds_now issuer) shard (records_of at.last.items) image)
-              (λ disk. ByCallers count _ (LeavesNow issuer shard (records_of at.last.items) disk)) (G.disk at.after)
-              (λ disk leaves. several count _ (LeavesNow issuer shard (records_of at.last.items) disk) more (record { leaves = leaves }))
-              at.closes.leaves;
+          crash_now = leaves-now issuer shard (book_of at.last (G.faults at.after)) (G.bytes at.after) (G.disk at.after) at.closes.holds;
+          crash_since = crash-leaves issuer shard (told (journal_name prefix shard)) (records_of at.first.items) (records_of at.last.items)
+              (length (texts_of at.opens_from.history)) (ap (λ (h : List Entry). length (texts_of h)) (sym history-opened))
+              (G.disk at.before) at.first.head.opened (G.disk at.after) (G.bytes at.before) at.opens_from.leaves at.closes.since
+              at.log.untouched (told_bytes at.before) at.log.bytes_are;
         })))
 
-  keep-together : 1 < count → KeepJournals count issuer prefix told (map (store_seen G) back) first_books last_books
-  keep-together more = record {
+  keep-together : KeepJournals issuer prefix told (map (store_seen G) back) first_books last_books
+  keep-together = record {
     stores_are = mapped (store_seen G) back ∙ closed.count_is;
     first_are = count-first;
     last_are = count-last;
@@ -398,7 +395,7 @@ module _ {S : Type 0} {G : Ghosts S} (count : ℕ) (issuer : Setup) (prefix : Li
         let at = kept-at shard was is was_at is_at in
         let here = mapped-at (store_seen G) back shard seen seen_at in
         let same : at.after ≡ here.0 = (let both : Some at.after ≡ Some here.0 = sym at.after_at ∙ here.1 in cc) in
-        keeps-journal shard was is at more seen (ap (store_seen G) same ∙ sym here.2);
+        keeps-journal shard was is at seen (ap (store_seen G) same ∙ sym here.2);
   }
 
   goes-on : GoOnLegally issuer first_books last_books
@@ -498,7 +495,7 @@ module _ {S : Type 0} {G : Ghosts S} (count : ℕ) (issuer : Setup) (prefix : Li
     leaves-together text text_is = record {
       first = first_books;
       last = last_books;
-      kept = keep-together more;
+      kept = keep-together;
       lawful = lawful-together sound;
       answers = answers;
       answered = several count _ (AreAnsweredTogether count issuer first_books last_books asked answers) more answered-together;
@@ -554,7 +551,7 @@ module _ {S : Type 0} {G : Ghosts S} (count : ℕ) (issuer : Setup) (prefix : Li
     leaves-loaded_together = record {
       first = first_books;
       last = last_books;
-      kept = keep-together more;
+      kept = keep-together;
       lawful = lawful-together sound;
       none = record { same_histories = same-histories; none_told = no-fault; alone = λ one. absurd (omega (arith, one, more)) };
       left = λ one. absurd (omega (arith, one, more));
@@ -562,7 +559,8 @@ module _ {S : Type 0} {G : Ghosts S} (count : ℕ) (issuer : Setup) (prefix : Li
 
 -- ---- what it leaves, by what its close says
 
-module _ {S : Type 0} {G : Ghosts S} (issuer : Setup) (prefix : List ℕ) (told : Logged) where
+module _ {S : Type 0} {G : Ghosts S} (told_bytes : (store : S) → IfSome (G.disk store) (λ disk. G.bytes store ≡ Some disk.now.bytes))
+    (issuer : Setup) (prefix : List ℕ) (told : Logged) where
   -- a host under the issuer that it was loaded for was closed
   module _ (first now : Lanes S G) (back : List S) (ready : IsReadyTogether issuer prefix told first) (same : HasSameHost first now)
       (asked : List (List ℕ)) (answers : List Answer) where
@@ -595,7 +593,7 @@ module _ {S : Type 0} {G : Ghosts S} (issuer : Setup) (prefix : List ℕ) (told 
       let opening = opening_logs first in
       let callers = askers count asked answers c.callers c.dealt in
       let shared = callers-kept count asked answers c.callers c.dealt issuer opening c.logs c.shared in
-      leaves-together count issuer prefix told ready.stores back opening c.logs ready.stores_are ready.opened ready.opening c.shared.same_count c.closed
+      leaves-together count issuer prefix told ready.stores back opening c.logs ready.stores_are ready.opened ready.opening c.shared.same_count c.closed told_bytes
       ready.several sound asked answers callers (dealt-kept count asked answers c.callers c.dealt) shared
       (explained issuer opening c.logs callers shared) (own issuer opening c.logs callers shared) (settled issuer opening c.logs callers shared)
       (counted issuer opening c.logs callers shared) within text so_far.text_is
@@ -608,7 +606,7 @@ module _ {S : Type 0} {G : Ghosts S} (issuer : Setup) (prefix : List ℕ) (told 
       let c = closed-under host host back ready (record { same_issuer = refl; same_opening = refl; same_callers = refl }) [] []
       (closes [] [] [] ready.none) in
       leaves-loaded_together (callers_in host) issuer prefix told ready.stores back (opening_logs host) c.logs ready.stores_are ready.opened ready.opening
-      c.shared.same_count c.closed ready.several sound c.callers c.dealt c.shared
+      c.shared.same_count c.closed told_bytes ready.several sound c.callers c.dealt c.shared
 
 -- ---- a line more
 

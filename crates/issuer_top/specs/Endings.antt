@@ -84,7 +84,7 @@ pub record AnswersLines (seen : Seen) (text : List ℕ) : Type 0 where
   pub opened : OpenedBothInputs seen
   pub input_is : seen.requests ≡ Some input
   pub set_up : IsSetUp seen (Some requests) journal issuer
-  pub kept : KeepJournals requests.callers issuer journal seen.desk.logs seen.stores first last
+  pub kept : KeepJournals issuer journal seen.desk.logs seen.stores first last
   pub lawful : IsLawful issuer first last
   pub held : Tells (seen.desk.tells requests.name) (Some file)
   pub was_read : WasRead file read input.left
@@ -99,7 +99,7 @@ pub record AnswersNoLine (seen : Seen) : Type 0 where
   pub first : List Book
   pub last : List Book
   pub set_up : IsSetUp seen (Some requests) journal issuer
-  pub kept : KeepJournals requests.callers issuer journal seen.desk.logs seen.stores first last
+  pub kept : KeepJournals issuer journal seen.desk.logs seen.stores first last
   pub lawful : IsLawful issuer first last
   pub none : AnswersNone requests.callers first last
 
@@ -117,7 +117,7 @@ pub record IsShown (seen : Seen) (text : List ℕ) : Type 0 where
   pub books : List Book
   pub opened : OpenedConfigOnly seen
   pub set_up : IsSetUp seen None journal issuer
-  pub kept : KeepJournals 1 issuer journal seen.desk.logs seen.stores books books
+  pub kept : KeepJournals issuer journal seen.desk.logs seen.stores books books
   pub lawful : IsLawful issuer books books
   pub shown : text ≡ shown_text issuer books issuer.cards
 

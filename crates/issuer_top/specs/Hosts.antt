@@ -46,7 +46,7 @@ pub record LeavesAnswered (count : ℕ) (issuer : Setup) (prefix : List ℕ) (lo
     (text : List ℕ) : Type 0 where
   pub first : List Book
   pub last : List Book
-  pub kept : KeepJournals count issuer prefix logs stores first last
+  pub kept : KeepJournals issuer prefix logs stores first last
   pub lawful : IsLawful issuer first last
   pub answers : List Answer
   pub answered : AreAnsweredBy count issuer first last lines answers
@@ -56,7 +56,7 @@ pub record LeavesAnswered (count : ℕ) (issuer : Setup) (prefix : List ℕ) (lo
 pub record LeavesLoaded (count : ℕ) (issuer : Setup) (prefix : List ℕ) (logs : Logged) (stores : List SeenStore) : Type 0 where
   pub first : List Book
   pub last : List Book
-  pub kept : KeepJournals count issuer prefix logs stores first last
+  pub kept : KeepJournals issuer prefix logs stores first last
   pub lawful : IsLawful issuer first last
   pub none : AnswersNone count first last
   pub left : count ≡ 1 → LeaveJournals prefix logs stores
@@ -85,7 +85,7 @@ module _ {S : Type 0} {G : Ghosts S} where
     pub stores : List S
     pub stores_are : length stores ≡ issuer.shards
     pub opened : AreOpened G prefix logs stores
-    pub opening : AreOpenedFrom G.bytes G.faults issuer stores (opening_logs host)
+    pub opening : AreOpenedFrom G.bytes G.disk G.faults issuer stores (opening_logs host)
     pub none : LanesServe host [] [] [] []
 
   -- since it was the first host, its callers answered these lines, with this text, and these wait

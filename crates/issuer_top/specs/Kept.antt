@@ -9,9 +9,9 @@ use Rattle.journal_rec.specs.Record.{IsRecord}
 use Rattle.journal_rec.specs.RecordText.{texts_of, IsUnbroken}
 use Rattle.record_store.specs.Images.{IsCutImage}
 use Rattle.shard_book.specs.Grounds.{grounds_of, grounds_now, IsImageOf}
+use Rattle.shard_book.specs.Histories.{IsImageBetween}
 use Rattle.host_calls.specs.Books.{Book}
-use Rattle.host_calls.specs.Runs.{HoldsJournal, IsImageBetween}
-use Rattle.issuer_top.specs.Answers.{ByCallers}
+use Rattle.host_calls.specs.Runs.{HoldsJournal}
 use Rattle.issuer_top.specs.Seen.{Logged, SeenStore}
 use Rattle.issuer_top.specs.Journals.{journal_name}
 
@@ -39,19 +39,19 @@ pub record CrashLeaves (issuer : Setup) (shard : ℕ) (held : Option (List ℕ))
 pub record LeavesNow (issuer : Setup) (shard : ℕ) (history : List Entry) (disk : Disk) : Type 0 where
   pub leaves : (image : List ℕ) → MayLeave disk.now image → IsImageOf (grounds_now issuer) shard history image
 
--- the journal of a shard was that of the first book and is that of the last, after a run of so many callers
-pub record KeepsJournal (count : ℕ) (issuer : Setup) (shard : ℕ) (held : Option (List ℕ)) (first last : Book) (store : SeenStore) : Type 0 where
+-- the journal of a shard was that of the first book and is that of the last
+pub record KeepsJournal (issuer : Setup) (shard : ℕ) (held : Option (List ℕ)) (first last : Book) (store : SeenStore) : Type 0 where
   pub was : WasJournal issuer shard held first
-  pub holds : HoldsJournal issuer shard last store.bytes
+  pub holds : HoldsJournal issuer shard last store.bytes store.disk
   pub faults_are : store.faults ≡ last.faults
-  pub crash : IfSome store.disk (λ disk.
-      ByCallers count (CrashLeaves issuer shard held first.history last.history disk) (LeavesNow issuer shard last.history disk))
+  pub crash_now : IfSome store.disk (LeavesNow issuer shard last.history)
+  pub crash_since : IfSome store.disk (CrashLeaves issuer shard held first.history last.history)
 
 -- the journal of each shard, of which the desk told by the name that the words give, was that of its first book and is that of its last
-pub record KeepJournals (count : ℕ) (issuer : Setup) (prefix : List ℕ) (logs : Logged) (stores : List SeenStore) (first last : List Book) : Type 0 where
+pub record KeepJournals (issuer : Setup) (prefix : List ℕ) (logs : Logged) (stores : List SeenStore) (first last : List Book) : Type 0 where
   pub stores_are : length stores ≡ issuer.shards
   pub first_are : length first ≡ issuer.shards
   pub last_are : length last ≡ issuer.shards
   pub each : (shard : ℕ) (was is : Book) (store : SeenStore)
       → slice_get first shard ≡ Some was → slice_get last shard ≡ Some is → slice_get stores shard ≡ Some store
-      → KeepsJournal count issuer shard (logs (journal_name prefix shard)) was is store
+      → KeepsJournal issuer shard (logs (journal_name prefix shard)) was is store

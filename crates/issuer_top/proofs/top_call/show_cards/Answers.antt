@@ -18,7 +18,7 @@ returns g c = λ words desk config journal issuer set_up ready sound stood.
     let first = begins issuer journal desk.logs c.args.host.shards.items ready.shards shards in
     let kept = keep-journals issuer journal desk.logs _ c.args.host.shards.items c.args.host.shards.items ready.shards shards shards
     (g.met.D.Journal.Store g.world.𝓛 g.world.𝓜 g.world.𝓡 (λ s h. h, λ h. h, λ h. h, λ h. h)).told_bytes
-    (ap (map (store_seen g.D.Journal.Store)) c.close.ensures) first.books first.has_run.stand first.has_run.leave in
+    (ap (map (store_seen g.D.Journal.Store)) c.close.ensures.stores) first.books first.has_run.stand first.has_run.leave in
     let shown = subst (λ (i : Setup). Stand i c.args.host.shards.items first.books
     → WritesAll (g.W.Sink.held c.args.out.now) (g.W.Sink.held c.show.new.out) c.show.result
     (shown_text i first.books i.cards)) ready.issuer_is (c.show.ensures.shown first.books) in
