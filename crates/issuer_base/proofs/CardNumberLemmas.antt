@@ -1,4 +1,4 @@
--- What the definition of an account number says of its digits.
+-- What the definition of an account number states of its digits.
 use Rattle.std.proofs.Common.{◌≡◌, ℕ, ◌<◌, ◌≤◌, List, length, get_or, Some, IsTrue}
 use Rattle.std.proofs.lemmas.Bool.{and_parts, cond-true, leb-true}
 use Rattle.std.proofs.lemmas.Option.{cond_some}

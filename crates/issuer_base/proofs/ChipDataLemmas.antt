@@ -1,4 +1,4 @@
--- What the definition of a request says of its fields.
+-- What the definition of a request states of its fields.
 use Rattle.std.proofs.Common.{◌≡◌, ◌^◌, ◌<◌, length, Some, IsTrue, ap, arith}
 use Rattle.std.proofs.lemmas.Bool.{and_parts, cond-true}
 use Rattle.std.proofs.lemmas.Option.{cond_some}

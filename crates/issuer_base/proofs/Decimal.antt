@@ -1,4 +1,4 @@
--- The number that the digits of some bytes write, one byte at a time.
+-- The number that BCD bytes encode, one byte at a time.
 use Rattle.std.proofs.Common.{◌≡◌, ℕ, zero, suc, ◌+◌, ◌*◌, ◌/◌, ◌%◌, ◌^◌, ◌<◌, ◌≤◌, Bool, true, List}
 use Rattle.std.proofs.Common.{[], ◌∷◌, ◌++◌, length, get_or, take, refl, ap, add-one, ◌∙◌, sym, subst, lit<, arith}
 use Rattle.std.proofs.Math.Nat.{pow-le-pow_right}

@@ -1,4 +1,4 @@
--- Laws of many calls in a row: of counts of faults, of a piece that is written by and by, and of an input that is read by and by.
+-- Laws of sequences of calls: of fault counts, of a piece written in parts, and of an input read in parts.
 use Rattle.std.proofs.Common.{◌≡◌, ℕ, ◌+◌, ◌<◌, ◌≤◌, Bool, true, false, ◌||◌, List, [], ◌++◌, length}
 use Rattle.std.proofs.Common.{Option, None, Some, Result, Ok, Err, take, drop, refl, subst, sym, ap, ◌∙◌, arith}
 use Rattle.std.proofs.Math.Seq.{take-add, take-append-add}

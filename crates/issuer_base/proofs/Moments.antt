@@ -1,4 +1,4 @@
--- Laws of the moments of a store: of many calls in a row, and of what a crash may leave.
+-- Laws of the moments of a store: of sequences of calls, and of what a crash may leave.
 use Rattle.std.proofs.Common.{◌≡◌, ◌⊎◌, ℕ, ◌+◌, ◌-◌, ◌≤◌, List, [], ◌∷◌, ◌++◌, length, take, drop, sym, ap, subst, ◌∙◌}
 use Rattle.std.proofs.Common.{inl, inr, ⊎_elim, All, Contains, arith, append_assoc, append-nil, length-append, length-take}
 use Rattle.std.proofs.Math.Seq.{drop-append_seam, take-append-add}

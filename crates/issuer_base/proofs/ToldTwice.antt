@@ -1,4 +1,4 @@
--- Laws of what is told before and after a call, or neither time: from facts of what is told to facts of what is told if anything is.
+-- Laws of what is observable before and after a call, or neither time: how its facts carry over.
 use Rattle.std.proofs.Common.{Option, None, Some, IfSome}
 use Rattle.issuer_base.specs.Stores.{BothTold}
 

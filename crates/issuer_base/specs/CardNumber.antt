@@ -1,4 +1,4 @@
--- What the primary account number of a card is: EMV 4.3 Book 3 Annex A, tag 5A, as its list of decimal digits.
+-- The primary account number of a card, as the list of its decimal digits: EMV 4.3 Book 3 Annex A, tag 5A.
 use Rattle.std.specs.Prelude.{ℕ, Bool, ◌&&◌, nat_le, if◌then◌else◌, List, length, Option, Some, None}
 use Rattle.std.specs.List.{list_all}
 use Rattle.issuer_base.specs.declared.limits.TheConstants.{MIN_PAN_DIGITS, MAX_PAN_DIGITS}
@@ -8,6 +8,6 @@ unfoldable pub is_pan : List ℕ → Bool
 is_pan digits =
     nat_le MIN_PAN_DIGITS (length digits) && nat_le (length digits) MAX_PAN_DIGITS && list_all (λ digit. nat_le digit 9) digits
 
--- the account number that these digits are, or none
+-- these digits, if they are an account number, or none
 unfoldable pub pan_from : List ℕ → Option (List ℕ)
 pan_from digits = if is_pan digits then Some digits else None

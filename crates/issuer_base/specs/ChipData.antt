@@ -1,10 +1,10 @@
--- What the fields of a request say: EMV 4.3 Book 3 Annex A, with this project's profile of the issuer application data.
+-- The fields of a request: EMV 4.3 Book 3 Annex A, with this project's profile of the issuer application data.
 use Rattle.std.specs.Prelude.{ℕ, ◌+◌, ◌*◌, ◌/◌, ◌%◌, Bool, ◌&&◌, ◌==◌, nat_le, if◌then◌else◌}
 use Rattle.std.specs.Prelude.{List, [], ◌∷◌, take, drop, slice_index, fold, bit_and, Option, Some, None}
 use Rattle.std.specs.List.{list_all, flat_map}
 use Rattle.issuer_base.specs.declared.request.Parts.{Parts}
 
--- both nibbles of the byte are decimal digits
+-- both nibbles of the byte are decimal digits: EMV 4.3 Book 3, section 4.3, format n
 unfoldable pub is_bcd : ℕ → Bool
 is_bcd byte = nat_le (byte / 16) 9 && nat_le (byte % 16) 9
 
@@ -12,11 +12,11 @@ is_bcd byte = nat_le (byte / 16) 9 && nat_le (byte % 16) 9
 unfoldable pub has_profile : List ℕ → Bool
 has_profile iad = slice_index iad 0 == 0x0F && slice_index iad 1 == 0xA5 && slice_index iad 16 == 0x0F
 
--- fields are those of a request where the sequence number and the amount are decimal, and the application data has the profile
+-- a request's fields: the sequence number and the amount are decimal, and the application data has the profile
 unfoldable pub is_request : Parts → Bool
 is_request parts = is_bcd parts.psn && list_all is_bcd parts.amount && has_profile parts.iad
 
--- the request with these fields, or none
+-- these fields, if they are a request's, or none
 unfoldable pub request_from : Parts → Option Parts
 request_from parts = if is_request parts then Some parts else None
 
@@ -33,22 +33,22 @@ dki parts = slice_index parts.iad 2
 unfoldable pub is_arqc : Parts → Bool
 is_arqc parts = bit_and parts.cid 0xC0 == 0x80 && bit_and (slice_index (cvr parts) 0) 0xF0 == 0xA0
 
--- the number of script commands processed: bits 8-5 of byte 4 of the card verification results
+-- the number of issuer script commands processed: bits 8-5 of byte 4 of the card verification results
 unfoldable pub script_count : Parts → ℕ
 script_count parts = slice_index (cvr parts) 3 / 16
 
--- the last online ATC register: bytes 18 and 19 of the issuer application data, the first the more significant
+-- the last online ATC register: bytes 18 and 19 of the issuer application data, big-endian
 unfoldable pub last_online : Parts → ℕ
 last_online parts = 256 * slice_index parts.iad 17 + slice_index parts.iad 18
 
--- the two decimal digits of a byte
+-- the two decimal digits of a BCD byte
 abbrev pub digits_of : ℕ → List ℕ
 digits_of byte = byte / 16 ∷ byte % 16 ∷ []
 
--- the number that decimal digits write
+-- the value of decimal digits, the most significant one first
 abbrev pub decimal : List ℕ → ℕ
 decimal digits = fold (λ value digit. 10 * value + digit) 0 digits
 
--- the amount authorised as a number: its twelve decimal digits
+-- the amount authorised: the value of its twelve decimal digits
 unfoldable pub amount_value : Parts → ℕ
 amount_value parts = decimal (flat_map digits_of parts.amount)

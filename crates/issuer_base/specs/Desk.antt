@@ -13,7 +13,7 @@ pub record FailedCall : Type 0 where
 abbrev pub last_after : DeskCall → List ℕ → Bool → Option FailedCall → Option FailedCall
 last_after call name failed last = if failed then Some (record { call = call; name = name }) else last
 
--- the desk answered that the fault is its own
+-- the desk reports that the fault is its own
 abbrev pub is_fault : {T : Type 0} → Result T DeskFault → Bool
 is_fault (Ok opened) = false
 is_fault (Err Fault) = true

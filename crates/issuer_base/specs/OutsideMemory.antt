@@ -1,4 +1,4 @@
--- What a source and a sink in memory are seen as.
+-- The model of a source and of a sink in memory.
 use Rattle.std.specs.Prelude.{ℕ, ◌+◌, ◌-◌, ◌^◌, ◌==◌, min, Bool, List, if◌then◌else◌}
 use Rattle.std.specs.List.{list_any}
 
@@ -12,19 +12,19 @@ pub record Calls : Type 0 where
 abbrev pub no_calls : List ℕ → Calls
 no_calls fails = record { fails = fails; made = 0; faults = 0 }
 
--- the call that comes next is one of those that fail
+-- the next call is one of those that fail
 abbrev pub is_next_listed : Calls → Bool
 is_next_listed calls = list_any (λ call. call == calls.made) calls.fails
 
--- a count that stops at its last value
+-- one more, saturating at 2^64 - 1
 abbrev pub one_more : ℕ → ℕ
 one_more count = min (count + 1) (2 ^ 64 - 1)
 
--- one call more was made, and it failed or not
+-- the calls after one more, which failed or not
 abbrev pub after_call : Calls → Bool → Calls
 after_call calls failed = record { fails = calls.fails; made = one_more calls.made; faults = if failed then one_more calls.faults else calls.faults }
 
--- a source in memory: the bytes that are left, how many of them a read gives at most, and its calls
+-- a source in memory: the unread bytes, how many of them a read returns at most, and its calls
 pub record SourceState : Type 0 where
   pub left : List ℕ
   pub step : ℕ

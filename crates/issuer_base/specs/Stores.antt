@@ -2,7 +2,7 @@
 use Rattle.std.specs.Prelude.{◌≡◌, ◌⊎◌, ℕ, ◌≤◌, min, Bool, false, List, [], ◌∷◌, ◌++◌, length, take, drop}
 use Rattle.std.specs.Prelude.{Option, None, Some, ⊤, MatchBool, All, Contains}
 
--- a store at one moment: its bytes, and how many of them, from the front, are safe
+-- a store at one moment: its bytes, and the length of their durable prefix
 pub record Moment : Type 0 where
   pub bytes : List ℕ
   pub safe : ℕ
@@ -20,7 +20,7 @@ timeline disk = disk.past ++ disk.now ∷ []
 abbrev pub present : Disk → ℕ
 present disk = length disk.past
 
--- a crash at this moment may leave the image: a front of the bytes that has at least the safe ones
+-- a crash at this moment may leave the image: a prefix of the bytes that has at least the durable ones
 pub record MayLeave (moment : Moment) (image : List ℕ) : Type 0 where
   pub has_safe : moment.safe ≤ length image
   pub is_front : image ≡ take (length image) moment.bytes
@@ -33,37 +33,37 @@ MayLeaveSince number disk image = (moment : Moment) × Contains (drop number (ti
 pub record LeavesSince (P : List ℕ → Type 0) (number : ℕ) (disk : Disk) : Type 0 where
   pub each : (image : List ℕ) → MayLeaveSince number disk image → P image
 
--- new is old after some more moments, maybe none
+-- new extends old by some more moments, maybe none
 pub record GoesOn (old new : Disk) : Type 0 where
   pub added : List Moment
   pub grown : timeline new ≡ timeline old ++ added
 
--- new is old after some more moments, and whatever a crash since the present moment of old may leave has P
+-- new extends old by some more moments, and whatever a crash since the present moment of old may leave has P
 pub record LeavesOnly (P : List ℕ → Type 0) (old new : Disk) : Type 0 where
   pub goes_on : GoesOn old new
   pub leaves : LeavesSince P (present old) new
 
--- new is old after some more moments: each of these has P, and so has the present one
+-- new extends old by some more moments: each of these has P, and so has the present one
 pub record Passes (P : Moment → Type 0) (old new : Disk) : Type 0 where
   pub goes_on : GoesOn old new
   pub each : All P goes_on.added
   pub last : P new.now
 
--- a moment with these bytes, of which at least so many are safe, and no more than there are
+-- a moment with these bytes, of which at least so many are durable, and no more than there are
 pub record HasSafe (content : List ℕ) (least : ℕ) (moment : Moment) : Type 0 where
   pub holds : moment.bytes ≡ content
   pub at_least : least ≤ moment.safe
   pub within : moment.safe ≤ length content
 
--- while a store is read or synced its bytes stay, and no safe one is lost
+-- while a store is read or synced its bytes stay, and no durable one is lost
 abbrev pub WhileKept : Moment → Moment → Type 0
 WhileKept old = HasSafe old.bytes old.safe
 
--- while a piece is appended a front of it stands behind the bytes, and no safe one is lost
+-- while a piece is appended a prefix of it follows the bytes, and no durable one is lost
 abbrev pub WhileAppended : List ℕ → Moment → Moment → Type 0
 WhileAppended piece old moment = (taken : ℕ) × HasSafe (old.bytes ++ take taken piece) old.safe moment
 
--- while a store is cut its bytes are cut or not, and no safe one of those that stay is lost
+-- while a store is truncated its bytes are truncated or not, and no durable one of those that stay is lost
 abbrev pub WhileCut : ℕ → Moment → Moment → Type 0
 WhileCut len old moment = HasSafe old.bytes old.safe moment ⊎ HasSafe (take len old.bytes) (min old.safe len) moment
 
@@ -71,30 +71,30 @@ WhileCut len old moment = HasSafe old.bytes old.safe moment ⊎ HasSafe (take le
 abbrev pub KeepsDisk : Disk → Disk → Type 0
 KeepsDisk old new = Passes (WhileKept old.now) old new
 
--- an append passes through fronts of the piece, and at Ok all of it stands behind the bytes
+-- an append passes through prefixes of the piece, and at Ok the whole piece follows the bytes
 pub record AppendsToDisk (piece : List ℕ) (failed : Bool) (old new : Disk) : Type 0 where
   pub passes : Passes (WhileAppended piece old.now) old new
   pub done : failed ≡ false → new.now.bytes ≡ old.now.bytes ++ piece
 
--- a cut passes through the bytes cut or not, and at Ok they are cut and all safe
+-- a truncation passes through the bytes truncated or not, and at Ok they are truncated and all durable
 pub record CutsDisk (len : ℕ) (failed : Bool) (old new : Disk) : Type 0 where
   pub passes : Passes (WhileCut len old.now) old new
   pub done : failed ≡ false → new.now ≡ record { bytes = take len old.now.bytes; safe = len }
 
--- a sync keeps the bytes, and at Ok they are all safe
+-- a sync keeps the bytes, and at Ok they are all durable
 pub record SyncsDisk (failed : Bool) (old new : Disk) : Type 0 where
   pub passes : Passes (WhileKept old.now) old new
   pub done : failed ≡ false → new.now.safe ≡ length new.now.bytes
 
--- what an append does to the bytes: all of the piece stands behind them, or after a fault a front of it
+-- how an append changes the bytes: the whole piece follows them, or after a fault a prefix of it
 abbrev pub AppendsToBytes : List ℕ → Bool → List ℕ → List ℕ → Type 0
 AppendsToBytes piece failed old new = MatchBool failed ((taken : ℕ) × (new ≡ old ++ take taken piece)) (new ≡ old ++ piece)
 
--- what a cut does to the bytes: they are cut, or after a fault cut or not
+-- how a truncation changes the bytes: they are truncated, or after a fault truncated or not
 abbrev pub CutsBytes : ℕ → Bool → List ℕ → List ℕ → Type 0
 CutsBytes len failed old new = MatchBool failed ((new ≡ old) ⊎ (new ≡ take len old)) (new ≡ take len old)
 
--- told before and after, and then so related; or told neither time
+-- observable before and after, and then so related; or observable neither time
 abbrev pub BothTold : {T : Type 0} → (T → T → Type 0) → Option T → Option T → Type 0
 BothTold R None None = ⊤
 BothTold R None (Some new) = ⊥

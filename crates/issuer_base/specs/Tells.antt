@@ -1,7 +1,7 @@
--- What someone outside tells, or leaves untold.
+-- What is observable of a device outside the host.
 use Rattle.std.specs.Prelude.{◌≡◌, Option, None, Some, ⊤}
 
--- what is told, where something is told, is this
+-- what is observable, if anything is, is this
 abbrev pub Tells : {T : Type 0} → Option T → T → Type 0
 Tells None what = ⊤
 Tells (Some told) what = told ≡ what

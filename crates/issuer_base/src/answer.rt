@@ -18,7 +18,7 @@ pub struct Reply {
 }
 
 impl Reply {
-    /// A copy, which takes no memory.
+    /// A copy. It allocates nothing.
     pub fn copy(&self) -> Reply
         ensures { result ≡ self.now }
     {
@@ -42,7 +42,7 @@ impl Reply {
     }
 }
 
-/// How the issuer's cryptogram is made: EMV 4.3 Book 2, section 8.2.
+/// How the ARPC is computed: EMV 4.3 Book 2, section 8.2.
 #[derive(Clone, Copy, PartialEq, Eq, Debug)]
 pub enum Method {
     /// Method 1: the application cryptogram and the response code, enciphered.
@@ -62,19 +62,19 @@ pub enum MasterOption {
     B,
 }
 
-/// What a line of the host's input is answered.
+/// The answer to one line of the host's input.
 #[derive(Clone, PartialEq, Eq, Debug, Drop)]
 pub enum Answer {
-    /// The request was decided now; the record stands at this place of this shard's journal.
+    /// The request was decided now. Its record is at this index of this shard's journal.
     Fresh { shard: u8, place: u64, reply: Reply },
 
-    /// The same request was decided before, at this place of this shard's journal, and its reply is kept.
+    /// The same request was decided before. Its record and stored reply are at this index of this shard's journal.
     Kept { shard: u8, place: u64, reply: Reply },
 
-    /// The command waits for the card; the record stands at this place of this shard's journal.
+    /// The command is queued for the card. Its record is at this index of this shard's journal.
     Queued { shard: u8, place: u64 },
 
-    /// The card has the status; the record stands at this place of this shard's journal.
+    /// The card has the status. Its record is at this index of this shard's journal.
     Set { shard: u8, place: u64 },
 
     /// Nothing was decided, queued or set.
@@ -96,40 +96,39 @@ pub enum Refusal {
     /// The object with this tag has a length or a value that its field can't have: whoever sent it is to blame.
     BadField(u32),
 
-    /// The object with this tag stands twice: whoever sent the chip data is to blame.
+    /// The object with this tag occurs twice: whoever sent the chip data is to blame.
     Repeated(u32),
 
     /// The configuration has no card with this account and sequence number: the request went to the wrong
-    /// issuer, or the configuration is short of a card.
+    /// issuer, or the configuration lacks a card.
     UnknownCard,
 
     /// The cryptogram isn't an ARQC: the terminal sent online what the card didn't ask for.
     NotArqc,
 
-    /// No set of keys has this derivation key index: the card is of another issuer, or the configuration is
-    /// short of a key.
+    /// No key set has this derivation key index: the card is of another issuer, or the configuration
+    /// lacks a key.
     UnknownKey(u8),
 
-    /// The cryptogram isn't that of the card's key over these fields: a field was altered, or the card is forged.
+    /// The cryptogram isn't that of these fields under the card's key: a field was altered, or the card is forged.
     BadCryptogram,
 
-    /// The counter is below the window of the card, whose greatest recorded counter is this one: the
-    /// request is too old to be decided.
+    /// The ATC is below the window of the card, whose greatest recorded ATC is this one: the request is
+    /// too old to be decided.
     Below(u16),
 
-    /// Another request was decided on this card's counter, and stands at this place of this shard's
-    /// journal: the card or the sender used a counter twice.
+    /// Another request with this card's ATC was decided. Its record is at this index of this shard's
+    /// journal: the card or the sender used an ATC twice.
     Taken { shard: u8, place: u64 },
 
-    /// Another caller holds this card's counter and hasn't recorded it yet: nobody is to blame, and the
-    /// sender may ask again.
+    /// Another caller holds this card's ATC and hasn't recorded it yet: nobody is to blame, and the
+    /// sender may retry.
     Pending,
 
-    /// As many commands wait for the card as are kept for one: the operator has to wait until the card
-    /// takes some.
+    /// The card's command queue is full: the operator has to wait until the card takes some.
     QueueFull,
 
-    /// The bytes are no script command that the host sends: whoever queued it is to blame.
+    /// The bytes are no issuer script command that the host sends: whoever queued it is to blame.
     BadCommand,
 
     /// The store failed, and the record is in doubt: the store is to blame.

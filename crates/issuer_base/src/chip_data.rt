@@ -1,4 +1,4 @@
-//! The forms of the bytes that a request's fields are made of: EMV 4.3 Book 3, Annex A.
+//! The formats of the bytes of a request's fields: EMV 4.3 Book 3, Annex A.
 ghost use Rattle.std.specs.Prelude.{◌≡◌};
 ghost use Rattle.std.specs.List.{list_all};
 ghost use Rattle.issuer_base.specs.ChipData.{is_bcd, has_profile};
@@ -19,7 +19,7 @@ pub fn are_decimal(bytes: &[u8]) -> bool
 }
 
 /// Whether issuer application data have the profile's form: 0F first, then the common core identifier A5, and 0F
-/// before the issuer's discretionary data, at index 16. Data that end before have it not.
+/// before the issuer's discretionary data, at index 16. Shorter data don't.
 #[tactic(auto, unfolding(crate::specs::ChipData::has_profile))]
 pub fn has_profile(iad: &[u8]) -> bool
     ensures { result ≡ has_profile iad.now }

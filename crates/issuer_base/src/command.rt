@@ -1,10 +1,10 @@
-//! A script command, before it is sealed.
+//! An issuer script command, before it is sealed.
 ghost use Rattle.std.specs.Prelude.{◌≡◌, ◌↔◌, IsTrue};
 
 use crate::limits::MAX_BODY_BYTES;
 use arrayvec::ArrayVec;
 
-/// A script command for a card, before it is sealed: EMV 4.3 Book 3, section 6.3.2.
+/// An issuer script command for a card, before it is sealed: EMV 4.3 Book 3, section 6.3.2.
 #[derive(Clone, PartialEq, Eq, Debug, Drop)]
 pub struct Command {
     /// The class byte.
@@ -24,7 +24,7 @@ pub struct Command {
 }
 
 impl Command {
-    /// A copy, which takes no memory.
+    /// A copy. It allocates nothing.
     pub fn copy(&self) -> Command
         ensures { result ≡ self.now }
     {

@@ -20,7 +20,7 @@ pub enum Entry {
 }
 
 impl Entry {
-    /// A copy, which takes no memory.
+    /// A copy. It allocates nothing.
     pub fn copy(&self) -> Entry
         ensures { result ≡ self.now }
     {

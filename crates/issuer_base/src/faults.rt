@@ -1,7 +1,7 @@
 //! The faults of one value each.
 use std::alloc::{AllocError, AllocFailed};
 
-/// No memory was left.
+/// Out of memory.
 #[derive(Clone, Copy, PartialEq, Eq, Debug)]
 pub struct NoMemory;
 
@@ -29,11 +29,11 @@ pub struct WriteFault;
 #[derive(Clone, Copy, PartialEq, Eq, Debug)]
 pub struct StoreFail;
 
-/// A collection of a fixed size has no place left.
+/// A collection of fixed capacity is full.
 #[derive(Clone, Copy, PartialEq, Eq, Debug)]
 pub struct Full;
 
-/// A card has as many undone commands as are kept for it.
+/// A card's command queue is full: it holds as many undone commands as it may.
 #[derive(Clone, Copy, PartialEq, Eq, Debug)]
 pub struct QueueFull;
 

@@ -1,4 +1,4 @@
-//! The limits that several crates keep, each in one place.
+//! The limits that several crates share.
 
 /// How many shards an issuer has at most.
 pub const MAX_SHARDS: u8 = 16;
@@ -18,16 +18,16 @@ pub const MAX_TABLE_ROWS: usize = 64;
 /// How many bytes the chip data of a request line have at most.
 pub const MAX_CHIP_BYTES: usize = 1_024;
 
-/// How many bytes of a line are kept: no line of any form is longer, and what stands after them changes no answer.
+/// How many bytes of a line are kept: no valid line is longer, and the bytes after them change no answer.
 pub const KEPT_BYTES: usize = 2 * MAX_CHIP_BYTES + 3;
 
 /// The greatest status of a card; 0 is the status of a card that was given none.
 pub const MAX_STATUS: u8 = 9;
 
-/// How far below a card's greatest transaction counter its window ends: a counter that far below is too old.
+/// How far below a card's greatest ATC its window ends: an ATC that far below is too old.
 pub const WINDOW: u16 = 64;
 
-/// How many undone commands are kept for a card at most.
+/// How many undone commands a card's queue holds at most.
 pub const MAX_UNDONE: u8 = 64;
 
 /// How many digits an account number has at least.
@@ -56,8 +56,8 @@ pub const BARE_TEMPLATE_BYTES: usize = 2 + 3 + 4;
 /// a MAC of eight bytes.
 pub const BARE_COMMAND_BYTES: usize = 2 + 4 + 1 + 8;
 
-/// How many bytes a store takes at most.
+/// How many bytes a store holds at most.
 pub const MAX_STORE_BYTES: u64 = 1 << 62;
 
-/// How many faults of its store a shard tells at most; it counts no further.
+/// How many faults of its store a shard reports at most; it counts no further.
 pub const MAX_FAULTS_TOLD: u64 = 1 << 62;

@@ -23,20 +23,20 @@ pub use memory_source::MemorySource;
 use std::alloc::AllocError;
 pub use store::Store;
 
-/// Bytes that are read from front to end.
+/// Bytes that are read in order.
 ///
-/// An implementor tells what is left as far as it can, and counts its faults: the count never
-/// falls, and a read answers its fault only where the count rose.
+/// An implementor may expose its unread bytes to contracts. It counts its faults: the count never
+/// falls, and a read fails only if the fault count increased.
 pub trait Source {
-    // The bytes that are left, where the source tells.
+    // The unread bytes, `None` where the source doesn't expose them.
     ghost left: { Self → Option (List ℕ) } = { λ _. None };
 
     // How many of its calls failed, counted up to 2^64 - 1.
     ghost faults: { Self → ℕ };
 
-    /// Gives the next bytes, as many as it answers, in the front of `into`.
+    /// Reads the next bytes into a prefix of `into`, and returns how many.
     ///
-    /// `Ok(0)` is the end of the input. A fault takes no byte of what is left.
+    /// `Ok(0)` is the end of the input. A fault consumes no byte.
     fn read(&mut self, into: &mut [u8]) -> Result<usize, ReadFault>
         requires { 0 < length into.old }
         ensures bound { ReadsAtMost result into.new }
@@ -44,19 +44,19 @@ pub trait Source {
         ensures count { CountsFaults (faults self.old) (faults self.new) (is_err result) };
 }
 
-/// Takes bytes one piece after the other.
+/// A destination of bytes, written piece by piece.
 ///
-/// An implementor tells what it holds as far as it can, and counts its faults as a [`Source`] does.
+/// An implementor may expose what it holds, and counts its faults as a [`Source`] does.
 pub trait Sink {
-    // The bytes that it holds, where the sink tells.
+    // The bytes that it holds, `None` where the sink doesn't expose them.
     ghost held: { Self → Option (List ℕ) } = { λ _. None };
 
     // How many of its calls failed, counted up to 2^64 - 1.
     ghost faults: { Self → ℕ };
 
-    /// Takes the front of the piece, as many bytes as it answers, and at least one.
+    /// Writes a prefix of the piece, at least one byte, and returns its length.
     ///
-    /// To take none is a fault, and a fault takes none.
+    /// Writing none is a fault, and a fault writes none.
     fn write(&mut self, piece: &[u8]) -> Result<usize, WriteFault>
         requires { 0 < length piece.now }
         ensures some { IfOk result (λ n. 0 < n) }
@@ -68,9 +68,9 @@ pub trait Sink {
 /// Why a desk gave no input or journal.
 #[derive(Clone, Copy, PartialEq, Eq, Debug)]
 pub enum DeskFault {
-    /// The fault is the desk's: no input stands under the name, or what stands there could not be opened.
+    /// The fault is the desk's: no input has the name, or what has it could not be opened.
     Fault,
-    /// No memory was left.
+    /// Out of memory.
     NoMemory,
 }
 
@@ -97,10 +97,10 @@ pub trait Desk {
 
     type Journal: Store + Send;
 
-    // What stands under a name: `None` where the desk does not tell, and else the bytes, if there is an input.
+    // The input under a name: `None` where the desk doesn't expose it, and else the bytes, if there is an input.
     ghost holds: { Self → List ℕ → Option (Option (List ℕ)) } = { λ _ _. None };
 
-    // The bytes of the journal under a name, where the desk tells; a journal that isn't there yet has none.
+    // The bytes of the journal under a name, `None` where the desk exposes none; empty before the journal exists.
     ghost logs: { Self → List ℕ → Option (List ℕ) } = { λ _ _. None };
 
     // How many of its calls answered `Fault`, counted up to 2^64 - 1.
@@ -109,9 +109,9 @@ pub trait Desk {
     // Its last call that answered `Fault`, none at first.
     ghost last_fault: { Self → Option FailedCall };
 
-    /// Opens the input that stands under a name, at its front and with no fault counted.
+    /// Opens the input under a name, at its start and with no fault counted.
     ///
-    /// A name with no input is a fault. What the names hold stays as it was.
+    /// A name without an input is a fault. What the names hold doesn't change.
     fn read(&mut self, name: &str) -> Result<Self::Input, DeskFault>
         ensures input { IfOk result (λ input. Tells (holds self.old name.now) (Self.Input.left input)) }
         ensures absent { holds self.old name.now ≡ Some None → IsErr result }
@@ -121,10 +121,10 @@ pub trait Desk {
         ensures count { CountsFaults (faults self.old) (faults self.new) (is_fault result) }
         ensures last { last_fault self.new ≡ last_after Read name.now (is_fault result) (last_fault self.old) };
 
-    /// Opens the journal under a name, with no fault counted and nothing done to it since. A journal that isn't there yet is
-    /// an empty one.
+    /// Opens the journal under a name, with no fault counted and no past moment. A journal that doesn't exist yet is an
+    /// empty one.
     ///
-    /// What the other names hold stays as it was, and where it gives no journal, so does what this name holds.
+    /// What the other names hold doesn't change. If the call fails, neither does what this name holds.
     fn log(&mut self, name: &str) -> Result<Self::Journal, DeskFault>
         ensures journal { IfOk result (λ journal. IfSome (logs self.old name.now) (λ held. Self.Journal.bytes journal ≡ Some held)) }
         ensures untouched { IfOk result (λ journal. IfSome (Self.Journal.disk journal) (λ disk. disk.past ≡ [])) }
@@ -136,9 +136,9 @@ pub trait Desk {
         ensures last { last_fault self.new ≡ last_after Log name.now (is_fault result) (last_fault self.old) };
 }
 
-/// Writes all of a piece, in as many calls as the sink needs for it.
+/// Writes a whole piece, in as many calls as the sink needs for it.
 ///
-/// After a fault the sink has taken a front of the piece that is not all of it.
+/// After a fault the sink has a proper prefix of the piece.
 pub fn write_all<W: Sink>(out: &mut W, piece: &[u8]) -> Result<(), WriteFault>
     ensures bytes { WritesAll (W.held out.old) (W.held out.new) result piece.now }
     ensures count { CountsFaults (W.faults out.old) (W.faults out.new) (is_err result) }

@@ -57,7 +57,7 @@ impl Pan {
         self == other
     }
 
-    /// A copy, which takes no memory.
+    /// A copy. It allocates nothing.
     pub fn copy(&self) -> Pan
         ensures { result ≡ self.now }
     {

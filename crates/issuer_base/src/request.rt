@@ -57,7 +57,7 @@ pub struct Parts {
 }
 
 impl Parts {
-    /// A copy, which takes no memory.
+    /// A copy. It allocates nothing.
     pub fn copy(&self) -> Parts
         ensures { result ≡ self.now }
     {
@@ -140,7 +140,7 @@ impl Request {
         self == other
     }
 
-    /// A copy, which takes no memory.
+    /// A copy. It allocates nothing.
     pub fn copy(&self) -> Request
         ensures { result ≡ self.now }
     {
@@ -150,7 +150,7 @@ impl Request {
     }
 
     /// Whether the cryptogram is an ARQC, a request to go online, and the first of its transaction:
-    /// so the cryptogram information data says it, and so the card verification results do.
+    /// both the cryptogram information data and the card verification results say so.
     #[tactic(auto, unfolding(crate::specs::ChipData::is_arqc))]
     pub fn is_arqc(&self) -> bool
         ensures { result ≡ is_arqc self.now }
@@ -168,7 +168,7 @@ impl Request {
         results
     }
 
-    /// The derivation key index, which names the issuer's set of keys.
+    /// The derivation key index, which names the issuer's key set.
     #[tactic(auto, unfolding(crate::specs::ChipData::dki))]
     pub fn dki(&self) -> u8
         ensures { result ≡ dki self.now }
@@ -176,7 +176,7 @@ impl Request {
         self.fields.iad[2]
     }
 
-    /// How many script commands the card has processed since it last found the issuer's cryptogram right.
+    /// How many issuer script commands the card has processed since it last verified an ARPC.
     #[tactic(auto, unfolding(crate::specs::ChipData::script_count))]
     pub fn script_count(&self) -> u8
         ensures { result ≡ script_count self.now }
@@ -184,8 +184,8 @@ impl Request {
         self.cvr()[3] / 16
     }
 
-    /// The transaction counter of the last transaction in which the card found the issuer's cryptogram
-    /// right: the card's last online ATC register.
+    /// The ATC of the last transaction in which the card verified an ARPC: the card's last online ATC
+    /// register.
     #[tactic(auto, unfolding(crate::specs::ChipData::last_online))]
     pub fn last_online(&self) -> u16
         ensures { result ≡ last_online self.now }
@@ -210,7 +210,7 @@ fn has_form(parts: &Parts) -> bool
     is_decimal(parts.psn) && are_decimal(&parts.amount) && has_profile(&parts.iad)
 }
 
-/// The number that the decimal digits of these bytes write.
+/// The number that these BCD bytes encode.
 fn decimal_value(amount: &[u8; 6]) -> u64
     requires { list_all is_bcd amount.now ≡ true }
     ensures exact { result ≡ decimal (flat_map digits_of amount.now) }

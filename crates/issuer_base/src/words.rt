@@ -1,13 +1,13 @@
-//! The words of a command line.
+//! Command-line arguments.
 ghost use Rattle.std.specs.Prelude.{◌≡◌, ◌<◌, [], ◌∷◌, ◌++◌, length, slice_get, Some, OnOk, OnErr};
 
 use crate::faults::NoMemory;
 use std::alloc::Global;
 use std::marker::Model;
 
-/// The words of a command line.
+/// Command-line arguments.
 ///
-/// A contract sees the list of the words, each as the list of its bytes.
+/// A contract sees the list of the arguments, each as the list of its bytes.
 #[derive(Debug, Drop)]
 pub struct Words {
     kept: Vec<String>,
@@ -24,7 +24,7 @@ impl Model for Words {
 }
 
 impl Words {
-    /// No words. `alloc` serves every `push`.
+    /// No arguments. Each `push` allocates from `alloc`.
     pub fn new(alloc: Global) -> Words
         ensures { result ≡ [] }
     {
@@ -34,7 +34,7 @@ impl Words {
         }
     }
 
-    /// Adds a word at the end. Where memory runs out the words stay as they were.
+    /// Appends an argument. If memory runs out the arguments don't change.
     pub fn push(&mut self, word: &str) -> Result<(), NoMemory>
         ensures added { OnOk result (self.new ≡ self.old ++ word.now ∷ []) }
         ensures refused { OnErr result (self.new ≡ self.old) }
@@ -44,14 +44,14 @@ impl Words {
         Ok(())
     }
 
-    /// How many words there are.
+    /// How many arguments there are.
     pub fn count(&self) -> usize
         ensures { result ≡ length self.now }
     {
         self.kept.len()
     }
 
-    /// The word at this index, from 0.
+    /// The argument at this index, from 0.
     pub fn word(&self, index: usize) -> &str
         requires { index < length self.now }
         ensures { slice_get self.now index ≡ Some result.now }

@@ -7,7 +7,7 @@ use std::marker::Model;
 
 /// Which calls of an object in memory fail, and how many were made and failed.
 ///
-/// Both counts stop at 2^64 - 1.
+/// Both counts saturate at 2^64 - 1.
 #[derive(Drop)]
 pub struct FailingCalls {
     listed: Vec<u64>,
@@ -35,14 +35,14 @@ impl FailingCalls {
         }
     }
 
-    /// Whether the call that comes next is one of those that fail.
+    /// Whether the next call is one of those that fail.
     pub fn is_next_listed(&self) -> bool
         ensures { result ≡ is_next_listed self.now }
     {
         self.listed.contains(&self.made)
     }
 
-    /// Counts a call, and says whether it is one of those that fail.
+    /// Counts a call, and returns whether it is one of those that fail.
     pub fn count_call(&mut self) -> bool
         ensures listed { result ≡ is_next_listed self.old }
         ensures counted { self.new ≡ record self.old { made = one_more self.old.made } }

@@ -1,12 +1,12 @@
-//! The trait of what is told of each line as it is answered.
+//! The trait of hooks that are called as each line is answered.
 
 use std::sync::Wait;
 
-/// Is told of each line of a run as it is answered, and may make its caller wait.
+/// Hooks that are called for each line of a run as it is answered, and may make its caller wait.
 ///
 /// Callers in threads of their own share a gate. Nothing that it does changes an answer.
 pub trait Gate {
-    /// The line with this number, from 1, was looked at, and is answered next.
+    /// The line with this number, from 1, was read, and is answered next.
     fn at<R: Wait>(&self, rt: &R, line: u64);
 
     /// The line with this number was answered.

@@ -11,9 +11,9 @@ use crate::faults::{NoMemory, WriteFault};
 use std::alloc::Global;
 use std::marker::Model;
 
-/// A sink that keeps its bytes in memory, and fails at the calls that it was told to.
+/// A sink that keeps its bytes in memory, and fails at the listed calls.
 ///
-/// All of its room is taken at first, so that a write never wants memory.
+/// It allocates all of its room at first, so that no write allocates.
 #[derive(Drop)]
 pub struct MemorySink {
     bytes: Vec<u8>,
@@ -58,7 +58,7 @@ impl Sink for MemorySink {
 
     ghost faults = { λ s. s.calls.faults };
 
-    /// Fails exactly at a listed call and where the piece goes past the room, and else takes all of it.
+    /// Fails exactly at a listed call and where the piece goes past the room, and else appends all of it.
     fn write(&mut self, piece: &[u8]) -> Result<usize, WriteFault>
         requires { 0 < length piece.now }
         ensures some { IfOk result (λ n. 0 < n) }

@@ -10,7 +10,7 @@ use super::failing_calls::FailingCalls;
 use crate::faults::ReadFault;
 use std::marker::Model;
 
-/// A source over bytes in memory, which fails at the calls that it was told to.
+/// A source over bytes in memory, which fails at the listed calls.
 #[derive(Drop)]
 pub struct MemorySource {
     bytes: Vec<u8>,
@@ -31,14 +31,14 @@ impl Model for MemorySource {
 }
 
 impl MemorySource {
-    /// A source that gives as many bytes as fit, and fails at the listed calls, counted from 0.
+    /// A source that reads as many bytes as fit, and fails at the listed calls, counted from 0.
     pub fn new(bytes: Vec<u8>, fails: Vec<u64>) -> MemorySource
         ensures { result ≡ record { left = bytes.items; step = usize.MAX; calls = no_calls fails.items } }
     {
         MemorySource::with_step(bytes, fails, usize::MAX)
     }
 
-    /// The same, but a read gives at most `step` bytes.
+    /// The same, but a read returns at most `step` bytes.
     pub fn with_step(bytes: Vec<u8>, fails: Vec<u64>, step: usize) -> MemorySource
         requires { 0 < step }
         ensures { result ≡ record { left = bytes.items; step = step; calls = no_calls fails.items } }
@@ -57,7 +57,7 @@ impl Source for MemorySource {
 
     ghost faults = { λ s. s.calls.faults };
 
-    /// Fails exactly at a listed call, and else gives as many bytes as it has and as fit.
+    /// Fails exactly at a listed call, and else reads as many bytes as it has, as fit, and as its step allows.
     fn read(&mut self, into: &mut [u8]) -> Result<usize, ReadFault>
         requires { 0 < length into.old }
         ensures bound { ReadsAtMost result into.new }
@@ -78,7 +78,7 @@ impl Source for MemorySource {
     }
 }
 
-// Copies what fits of the front of `from`, and at most so many bytes.
+// Copies a prefix of `from`: what fits, and at most `most` bytes. Returns its length.
 fn copy_front(from: &[u8], into: &mut [u8], most: usize) -> usize
     ensures count { result ≡ min (min (length from.now) (length into.old)) most }
     ensures front { take result into.new ≡ take result from.now }

@@ -1,4 +1,4 @@
-//! The trait of what keeps a shard's records: bytes that grow at their end, and of which a crash leaves the safe ones.
+//! The trait of what keeps a shard's records: bytes that grow at their end. A crash leaves the durable ones.
 ghost use Rattle.std.specs.Prelude.{◌≡◌, ◌⊎◌, ℕ, ◌+◌, ◌<◌, ◌≤◌, List, length, take, drop, Option, None, Some, is_err, IfOk, IfSome, OnErr, OnOk};
 ghost use Rattle.std.specs.Io.{ReadsAtMost};
 ghost use Rattle.issuer_base.specs.OutsideFaults.{CountsFaults};
@@ -9,9 +9,9 @@ use crate::limits::MAX_STORE_BYTES;
 
 /// Bytes that outlive the program: they are read anywhere, and change at their end alone.
 ///
-/// A crash leaves a prefix of the bytes that has at least the safe ones; a sync makes all of them
-/// safe. An implementor tells its disk, its bytes alone or neither, and counts its faults: the
-/// count never falls, and a call answers its fault only where the count rose.
+/// A crash leaves a prefix of the bytes that has at least the durable ones; a sync makes all of
+/// them durable. An implementor exposes its disk, its bytes alone or neither, and counts its
+/// faults: the count never falls, and a call fails only if the fault count increased.
 pub trait Store {
     // How many bytes it has.
     ghost size: { Self → ℕ };
