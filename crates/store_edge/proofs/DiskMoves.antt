@@ -1,4 +1,4 @@
--- A disk that goes on to another moment, and what this tells of a call.
+-- A disk that moves to another moment, and what this states of a call.
 use Rattle.std.proofs.Common.{◌≤◌, ℕ, Bool, true, false, List, [], ◌∷◌, ◌++◌, length, take, refl, sym, ap, inl, inr, arith, if◌then◌else◌}
 use Rattle.std.proofs.Common.{append-nil, length-append, length-take}
 use Rattle.std.proofs.lemmas.List.{take_all}

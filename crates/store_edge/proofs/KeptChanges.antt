@@ -1,4 +1,4 @@
--- One change more of a disk in memory that keeps its changes.
+-- One change more of a disk in memory that records its changes.
 use Rattle.std.proofs.Common.{◌≡◌, ◌≤◌, ℕ, List, [], ◌∷◌, ◌++◌, length, refl, sym, ap, ◌∙◌}
 use Rattle.issuer_base.specs.Stores.{Moment, Disk}
 use Rattle.store_edge.specs.declared.kept_disk.Change.{Change}

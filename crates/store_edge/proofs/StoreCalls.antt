@@ -1,4 +1,4 @@
--- What the calls of a store in memory tell of its disk.
+-- How the calls of a store in memory change its disk.
 use Rattle.std.proofs.Common.{◌≡◌, ◌≤◌, ◌-◌, ◌/◌, ℕ, min, Bool, true, false, List, length, sym, ap, subst, ◌∙◌}
 use Rattle.issuer_base.specs.Stores.{Disk, AppendsToDisk, CutsDisk, KeepsDisk, SyncsDisk}
 use Rattle.store_edge.specs.KeptDisk.{all_safe, appended, cut_to, goes_to}

@@ -1,4 +1,4 @@
--- What a desk in memory is seen as, and what it gives under a name.
+-- The model of a desk in memory, and what it opens under a name.
 use Rattle.std.specs.Prelude.{ℕ, ◌-◌, ◌^◌, List, [], reverse, find, bytes_eq, Option, None, Some}
 use Rattle.std.specs.Option.{option_map}
 use Rattle.issuer_base.specs.Desk.{FailedCall}
@@ -19,7 +19,7 @@ pub record HeldJournal : Type 0 where
   pub room : ℕ
   pub fails : List ℕ
 
--- a desk in memory: its inputs and its journals in the order in which they were put there, its calls, and the last one that failed
+-- a desk in memory: its inputs and its journals in the order of their addition, its calls, and the last one that failed
 pub record DeskState : Type 0 where
   pub inputs : List HeldInput
   pub journals : List HeldJournal
@@ -30,11 +30,11 @@ pub record DeskState : Type 0 where
 abbrev pub empty_desk : List ℕ → DeskState
 empty_desk fails = record { inputs = []; journals = []; calls = no_calls fails; last_fault = None }
 
--- the input that was put under the name last
+-- the last input that was added under the name
 abbrev pub input_under : List HeldInput → List ℕ → Option HeldInput
 input_under inputs name = find (λ input. bytes_eq input.name name) (reverse inputs)
 
--- the bytes that stand under each name, if there are some
+-- the input's bytes under each name, or that there is no input
 abbrev pub bytes_under : List HeldInput → List ℕ → Option (Option (List ℕ))
 bytes_under inputs name = Some (option_map (λ input. input.bytes) (input_under inputs name))
 
@@ -42,7 +42,7 @@ bytes_under inputs name = Some (option_map (λ input. input.bytes) (input_under 
 abbrev pub source_over : HeldInput → SourceState
 source_over input = record { left = input.bytes; step = 2 ^ 64 - 1; calls = no_calls input.fails }
 
--- the journal that was put under the name last
+-- the last journal that was added under the name
 abbrev pub journal_under : List HeldJournal → List ℕ → Option HeldJournal
 journal_under journals name = find (λ journal. bytes_eq journal.name name) (reverse journals)
 
@@ -51,7 +51,7 @@ abbrev pub store_over : Option HeldJournal → StoreState
 store_over (Some journal) = opened_store journal.bytes journal.room journal.fails
 store_over None = opened_store [] NEW_JOURNAL_ROOM []
 
--- the store that is given under a name
+-- the store that is opened under a name
 abbrev pub store_under : List HeldJournal → List ℕ → StoreState
 store_under journals name = store_over (journal_under journals name)
 

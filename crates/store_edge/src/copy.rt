@@ -1,7 +1,7 @@
-//! Reading bytes that stand in memory.
+//! Reading bytes in memory.
 ghost use Rattle.std.specs.Prelude.{◌≡◌, ◌-◌, length, min, take, drop};
 
-/// Copies as many bytes as there are from `at` on, and as fit, into the front of `into`.
+/// Copies the bytes from offset `at`, as many as there are and fit, into a prefix of `into`.
 pub(crate) fn copy_from(bytes: &[u8], at: u64, into: &mut [u8]) -> usize
     ensures count { result ≡ min (length bytes.now - at) (length into.old) }
     ensures front { take result into.new ≡ take result (drop at bytes.now) }

@@ -12,7 +12,7 @@ use std::io;
 use std::os::unix::fs::{FileExt, OpenOptionsExt};
 use std::path::Path;
 
-/// Opens files by their paths. It tells nothing of what they hold, and counts its faults.
+/// Opens files by their paths. It exposes nothing of what they hold, and counts its faults.
 #[derive(Drop)]
 pub struct FileDesk {
     rt: HostRuntime,
@@ -21,7 +21,7 @@ pub struct FileDesk {
 }
 
 impl FileDesk {
-    /// A desk over the system's files, at which no call failed yet.
+    /// A desk over the file system, with no fault counted.
     pub fn new(rt: HostRuntime) -> FileDesk
         ensures { (result.faults ≡ 0) × (result.last_fault ≡ None) }
     {
@@ -32,7 +32,7 @@ impl FileDesk {
         }
     }
 
-    /// Counts a call that fails, and keeps it with its name.
+    /// Counts a failed call, and stores it with its name.
     fn fail(&mut self, call: DeskCall, name: String) -> DeskFault
         ensures fault { result ≡ Fault }
         ensures last { self.new.last_fault ≡ Some (record { call = call; name = string_bytes name }) }
@@ -62,12 +62,12 @@ impl Desk for FileDesk {
         }
     }
 
-    /// Opens the file at this path for reading and writing, and makes it where it isn't there.
+    /// Opens the file at this path for reading and writing, and creates it if it doesn't exist.
     ///
-    /// A file that it makes can be read and written by its owner alone, since records hold whole card
+    /// A file that it creates can be read and written by its owner alone, since records hold full card
     /// numbers. The file is locked for as long as the store over it lives: a second `log` of it, of this
-    /// program or of another, is a fault. The store's bytes and the file's entry in its directory are safe
-    /// at first.
+    /// program or of another, is a fault. The store's bytes and the file's entry in its directory are
+    /// durable at first.
     fn log(&mut self, name: &str) -> Result<FileStore, DeskFault> {
         let asked = String::from_str(self.rt.alloc(), name)?;
         match open_journal(&self.rt, name) {
@@ -77,10 +77,10 @@ impl Desk for FileDesk {
     }
 }
 
-/// What a journal that is made may be used for, and by whom: its owner reads and writes it.
+/// The mode of a created journal: its owner reads and writes it.
 const OWNER_ALONE: u32 = 0o600;
 
-/// How many bytes at the end of a journal are written again as it is opened: more than one record has.
+/// How many bytes at the end of a journal are rewritten as it is opened: more than one record has.
 const REWRITTEN_BYTES: usize = 4_096;
 
 /// A store over the file at this path, locked, with its bytes and its entry in the directory durable.
@@ -100,10 +100,10 @@ fn open_journal(rt: &HostRuntime, name: &str) -> io::Result<FileStore>
     FileStore::over(file)
 }
 
-/// Writes the last bytes of a file again as they are, so that the sync that follows makes them durable.
+/// Rewrites the last bytes of a file as they are, so that the sync that follows makes them durable.
 ///
-/// Where a sync fails, the system may drop what it could not write from its list, and the next sync is
-/// answered well without it. At most one record of a journal is in doubt, and it is the last.
+/// After a failed sync, the system may drop what it could not write from its list, and the next sync
+/// succeeds without it. At most one record of a journal is in doubt, and it is the last.
 fn rewrite_end(file: &File) -> io::Result<()> {
     let len = file.metadata()?.len();
     let mut end = [0; REWRITTEN_BYTES];
@@ -113,7 +113,7 @@ fn rewrite_end(file: &File) -> io::Result<()> {
     file.write_all_at(end, len - count)
 }
 
-/// Waits until the directory of this path is durable.
+/// Syncs the directory of this path.
 fn sync_directory(rt: &HostRuntime, name: &str) -> io::Result<()> {
     let directory = match Path::new(name).parent() {
         Some(directory) if !directory.as_str().is_empty() => directory,

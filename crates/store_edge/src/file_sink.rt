@@ -4,7 +4,7 @@ ghost use Rattle.std.specs.Prelude.{◌≡◌};
 use crate::retry;
 use issuer_base::{Sink, WriteFault};
 
-/// The standard output. It tells nothing of its bytes, and counts its faults.
+/// The standard output. It exposes nothing of its bytes, and counts its faults.
 #[derive(Drop)]
 pub struct FileSink {
     rt: HostRuntime,
@@ -12,7 +12,7 @@ pub struct FileSink {
 }
 
 impl FileSink {
-    /// A sink over the standard output, at which no call failed yet.
+    /// A sink over the standard output, with no fault counted.
     pub fn new(rt: HostRuntime) -> FileSink
         ensures { result.faults ≡ 0 }
     {

@@ -5,7 +5,7 @@ use crate::retry;
 use issuer_base::{ReadFault, Source};
 use std::fs::File;
 
-/// A file that is read from front to end. It tells nothing of its bytes, and counts its faults.
+/// A file that is read in order. It exposes nothing of its bytes, and counts its faults.
 #[derive(Drop)]
 pub struct FileSource {
     file: File,
@@ -13,7 +13,7 @@ pub struct FileSource {
 }
 
 impl FileSource {
-    /// A source over a file that is open for reading, at its front.
+    /// A source over a file that is open for reading, at its start.
     pub(crate) fn over(file: File) -> FileSource
         ensures { result.faults ≡ 0 }
     {

@@ -8,9 +8,9 @@ use std::fs::File;
 use std::io;
 use std::io::ErrorKind;
 
-/// A file as a store. It tells nothing of its bytes, and counts its faults.
+/// A file as a store. It exposes nothing of its bytes, and counts its faults.
 ///
-/// It keeps its length as a number: the file's at first, and then what its own writes and cuts made of it.
+/// It caches its length: the file's at first, then changed by its own writes and truncations.
 #[derive(Drop)]
 pub struct FileStore {
     file: File,
@@ -31,7 +31,7 @@ impl FileStore {
         })
     }
 
-    /// Counts a fault, which is the answer then.
+    /// Counts a fault, and returns it.
     fn fault(&mut self) -> StoreFail
         ensures len { self.new.len ≡ self.old.len }
         ensures count { CountsFaults self.old.faults self.new.faults true }
@@ -86,7 +86,7 @@ impl Store for FileStore {
     }
 }
 
-/// Appends a piece, and counts into the length what was taken of it.
+/// Appends a piece, and adds to the length the bytes that were written.
 fn write_behind(file: &File, len: &mut u64, piece: &[u8]) -> io::Result<()>
     ensures limit { OnOk result (len.new ≤ MAX_STORE_BYTES) }
     ensures ok { OnOk result (len.new ≡ len.old + length piece.now) }
@@ -107,7 +107,7 @@ fn write_behind(file: &File, len: &mut u64, piece: &[u8]) -> io::Result<()>
     Ok(())
 }
 
-/// Sets the length of a file, and waits until it is durable.
+/// Sets the length of a file, and syncs it.
 fn cut_to(file: &File, len: &mut u64, new_len: u64) -> io::Result<()>
     ensures ok { OnOk result (len.new ≡ new_len) }
     ensures err { (len.new ≡ len.old) ⊎ (len.new ≡ new_len) }

@@ -1,11 +1,11 @@
-//! A disk in memory that keeps all that was done to it.
+//! A disk in memory that records each change.
 ghost use Rattle.std.specs.Prelude.{◌≡◌, ◌≤◌, length, IfOk, OnErr, OnOk};
 ghost use Rattle.store_edge.specs.KeptDisk.{all_safe, appended, cut_to, goes_to, opened_disk};
 
 use std::alloc::{AllocError, Global};
 use std::marker::Model;
 
-/// What was done to a disk.
+/// A change of a disk.
 #[derive(Drop)]
 pub(crate) enum Change {
     Appended(Vec<u8>),
@@ -13,9 +13,9 @@ pub(crate) enum Change {
     Synced,
 }
 
-/// The bytes of a disk, how many of them are safe, and all that was done since it was opened.
+/// The bytes of a disk, the length of their durable prefix, and each change since it was opened.
 ///
-/// Each change is kept before it is made, so that without memory nothing changes.
+/// A change is recorded before it is made, so that nothing changes if memory runs out.
 #[derive(Drop)]
 pub(crate) struct KeptDisk {
     alloc: Global,
@@ -40,7 +40,7 @@ impl Model for KeptDisk {
 }
 
 impl KeptDisk {
-    /// A disk with these bytes, all of them safe.
+    /// A disk with these bytes, all of them durable.
     pub(crate) fn new(alloc: Global, bytes: Vec<u8>) -> Result<KeptDisk, AllocError>
         ensures { IfOk result (λ disk. disk ≡ opened_disk bytes.items) }
     {
@@ -55,14 +55,14 @@ impl KeptDisk {
         })
     }
 
-    /// The bytes that are there at present.
+    /// The present bytes.
     pub(crate) fn bytes(&self) -> &[u8]
         ensures { result.now ≡ self.now.now.bytes }
     {
         &self.bytes
     }
 
-    /// How many of them are safe.
+    /// The length of their durable prefix.
     pub(crate) fn safe(&self) -> usize
         ensures safe { result ≡ self.now.now.safe }
         ensures within { self.now.now.safe ≤ length self.now.now.bytes }
@@ -70,7 +70,7 @@ impl KeptDisk {
         self.safe
     }
 
-    /// Puts a piece behind the bytes.
+    /// Appends a piece.
     pub(crate) fn append(&mut self, piece: &[u8]) -> Result<(), AllocError>
         ensures ok { OnOk result (self.new ≡ goes_to self.old (appended piece.now self.old.now)) }
         ensures err { OnErr result (self.new ≡ self.old) }
@@ -82,7 +82,7 @@ impl KeptDisk {
         Ok(())
     }
 
-    /// Cuts the bytes to a length, and makes them safe.
+    /// Truncates the bytes to a length, and makes them durable.
     pub(crate) fn cut(&mut self, len: usize) -> Result<(), AllocError>
         requires { len ≤ length self.old.now.bytes }
         ensures ok { OnOk result (self.new ≡ goes_to self.old (cut_to len self.old.now)) }
@@ -94,7 +94,7 @@ impl KeptDisk {
         Ok(())
     }
 
-    /// Makes all bytes safe.
+    /// Makes all bytes durable.
     pub(crate) fn sync(&mut self) -> Result<(), AllocError>
         ensures ok { OnOk result (self.new ≡ goes_to self.old (all_safe self.old.now.bytes)) }
         ensures err { OnErr result (self.new ≡ self.old) }

@@ -16,12 +16,12 @@ use issuer_base::{Desk, DeskCall, DeskFault, FailingCalls, MemorySource, NoMemor
 use std::alloc::{AllocError, Global};
 use std::marker::Model;
 
-/// How many bytes a journal has room for that a [`MemoryDesk`] was not given.
+/// The room, in bytes, of a journal that a [`MemoryDesk`] was not given.
 pub const NEW_JOURNAL_ROOM: usize = 1_048_576;
 
-/// A desk over inputs and journals in memory, which fails at the calls that it was told to.
+/// A desk over inputs and journals in memory, which fails at the listed calls.
 ///
-/// A name may be opened again, since each call gives a copy.
+/// A name may be opened again, since each call returns a copy.
 #[derive(Drop)]
 pub struct MemoryDesk {
     alloc: Global,
@@ -109,7 +109,7 @@ impl MemoryDesk {
         }
     }
 
-    /// Puts an input under a name, in place of one that is there, which keeps its memory.
+    /// Adds an input under a name. It replaces an earlier one, which stays allocated.
     ///
     /// Its reads fail where they are listed, counted from 0 in each source over it.
     pub fn input(&mut self, name: String, bytes: Vec<u8>, fails: Vec<u64>) -> Result<(), NoMemory>
@@ -124,7 +124,7 @@ impl MemoryDesk {
         Ok(())
     }
 
-    /// Puts a journal under a name, in place of one that is there, which keeps its memory.
+    /// Adds a journal under a name. It replaces an earlier one, which stays allocated.
     ///
     /// It has room for so many bytes in all, and its store's calls fail where they are listed, counted
     /// from 0 in each store over it.
@@ -164,7 +164,7 @@ impl MemoryDesk {
         }
     }
 
-    // Counts a call that fails, and keeps it with its name.
+    // Counts a failed call, and stores it with its name.
     fn fail(&mut self, call: DeskCall, name: String) -> DeskFault
         ensures fault { result ≡ Fault }
         ensures failed { self.new ≡ record self.old {
@@ -193,9 +193,9 @@ impl Desk for MemoryDesk {
 
     ghost last_fault = { λ d. d.last_fault };
 
-    /// Answers `Fault` exactly at a listed call and where there is no input under the name, unless memory is wanting.
+    /// Answers `Fault` exactly at a listed call and where there is no input under the name, unless memory runs out.
     ///
-    /// A call that wants memory is not counted, and leaves the desk as it was.
+    /// A call that runs out of memory is not counted, and leaves the desk as it was.
     fn read(&mut self, name: &str) -> Result<MemorySource, DeskFault>
         ensures input { IfOk result (λ input. Tells (bytes_under self.old.inputs name.now) (Some input.left)) }
         ensures absent { bytes_under self.old.inputs name.now ≡ Some None → IsErr result }
@@ -224,9 +224,9 @@ impl Desk for MemoryDesk {
         Err(self.fail(DeskCall::Read, asked))
     }
 
-    /// Answers `Fault` exactly at a listed call, unless memory is wanting.
+    /// Answers `Fault` exactly at a listed call, unless memory runs out.
     ///
-    /// A call that wants memory is not counted, and leaves the desk as it was.
+    /// A call that runs out of memory is not counted, and leaves the desk as it was.
     fn log(&mut self, name: &str) -> Result<MemoryStore, DeskFault>
         ensures journal { IfOk result (λ journal. IfSome (logs_under self.old.journals name.now) (λ held. Some journal.disk.now.bytes ≡ Some held)) }
         ensures untouched { IfOk result (λ journal. journal.disk.past ≡ []) }
@@ -259,7 +259,7 @@ impl Desk for MemoryDesk {
     }
 }
 
-// The input that was put under the name last.
+// The last input that was added under the name.
 fn last_input<'a>(inputs: &'a [NamedInput], name: &str) -> Option<&'a NamedInput>
     ensures { option_copied result ≡ input_under inputs.now name.now }
 {
@@ -269,7 +269,7 @@ fn last_input<'a>(inputs: &'a [NamedInput], name: &str) -> Option<&'a NamedInput
         .find(|input| input.name.as_str() == name)
 }
 
-// The journal that was put under the name last.
+// The last journal that was added under the name.
 fn last_journal<'a>(journals: &'a [NamedJournal], name: &str) -> Option<&'a NamedJournal>
     ensures { option_copied result ≡ journal_under journals.now name.now }
 {

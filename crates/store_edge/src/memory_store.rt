@@ -1,4 +1,4 @@
-//! A store in memory that tells what a crash may leave.
+//! A store in memory that exposes what a crash may leave.
 ghost use Rattle.std.specs.Prelude.{◌≡◌, ◌⊎◌, ◌+◌, ◌-◌, ◌<◌, ◌≤◌, ◌↔◌, true, length, take, drop, min, Some, is_err, IfOk, IfSome, IsNone, OnErr, OnOk};
 ghost use Rattle.std.specs.Io.{ReadsAtMost};
 ghost use Rattle.std.proofs.Common.{refl};
@@ -13,7 +13,7 @@ use issuer_base::{FailingCalls, MAX_STORE_BYTES, NoMemory, Store, StoreFail};
 use std::alloc::{AllocError, Global};
 use std::marker::Model;
 
-/// No memory was left for an image.
+/// Out of memory: the image could not be allocated.
 #[derive(Clone, Copy, PartialEq, Eq, Debug)]
 pub struct ImageFault;
 
@@ -23,10 +23,10 @@ impl From<AllocError> for ImageFault {
     }
 }
 
-/// A store in memory that fails at the calls that it was told to, and keeps all that was done to it.
+/// A store in memory that fails at the listed calls, and records each change.
 ///
-/// Its reads, appends, cuts and syncs are counted together from 0. A call for which there is no
-/// memory fails too, and is counted apart.
+/// Its reads, appends, truncations and syncs are counted together from 0. A call that runs out of
+/// memory fails too, and has a count of its own.
 #[derive(Drop)]
 pub struct MemoryStore {
     alloc: Global,
@@ -48,7 +48,7 @@ impl Model for MemoryStore {
 }
 
 impl MemoryStore {
-    /// A store with these bytes, all of them safe, and room for so many in all.
+    /// A store with these bytes, all of them durable, and room for so many in all.
     ///
     /// It fails at the listed calls, counted from 0, and where an append goes past its room.
     pub fn new(
@@ -70,7 +70,7 @@ impl MemoryStore {
     }
 
     /// What a crash now may leave with this length: `None` exactly where the length is below the
-    /// safe length or above the length.
+    /// durable length or above the store's.
     pub fn image(&self, len: u64) -> Result<Option<Vec<u8>>, ImageFault>
         ensures none { IfOk result (λ image. IsNone image ↔ ((len < self.now.disk.now.safe) ⊎ (length self.now.disk.now.bytes < len))) }
         ensures left { IfOk result (λ image. IfSome image (λ left. MayLeave self.now.disk.now left.items)) }
@@ -83,14 +83,14 @@ impl MemoryStore {
         Ok(Some(bytes[..len as usize].to_vec(self.alloc)?))
     }
 
-    /// How many calls failed since there was no memory for them, counted up to 2^64 - 1.
+    /// How many calls failed because memory ran out, saturating at 2^64 - 1.
     pub fn starved(&self) -> u64
         ensures { result ≡ self.now.starved }
     {
         self.starved
     }
 
-    // Whether an append of this piece goes past the room, or past what any store takes.
+    // Whether an append of this piece goes past the room, or past what any store holds.
     fn is_too_long(&self, piece: &[u8]) -> bool
         ensures { result ≡ is_too_long self.now piece.now }
     {
@@ -105,7 +105,7 @@ impl MemoryStore {
         self.calls.is_next_listed() || self.is_too_long(piece)
     }
 
-    // What an append that fails takes of its piece.
+    // The prefix of its piece that an append appends where it fails.
     fn front_taken<'a>(&self, piece: &'a [u8]) -> &'a [u8]
         ensures { result.now ≡ front_taken self.now piece.now }
     {
@@ -113,7 +113,7 @@ impl MemoryStore {
         &piece[..(piece.len() / 2).min(free)]
     }
 
-    // What the next call takes of its piece, if it appends it.
+    // The prefix of its piece that the next append appends.
     fn taken<'a>(&self, piece: &'a [u8]) -> &'a [u8]
         ensures { result.now ≡ taken self.now piece.now }
     {
@@ -138,7 +138,7 @@ impl MemoryStore {
         Ok(())
     }
 
-    // Counts a call for which there is no memory.
+    // Counts a call that ran out of memory.
     fn starve(&mut self) -> Result<(), StoreFail>
         ensures starved { self.new ≡ after_starved self.old }
         ensures failed { is_err result ≡ true }
@@ -168,7 +168,7 @@ impl Store for MemoryStore {
         self.disk.bytes().len() as u64
     }
 
-    /// Fails exactly at a listed call, and else gives as many bytes as there are and as fit.
+    /// Fails exactly at a listed call, and else reads as many bytes as there are and fit.
     fn read_at(&mut self, at: u64, into: &mut [u8]) -> Result<usize, StoreFail>
         requires { 0 < length into.old }
         ensures bound { ReadsAtMost result into.new }
@@ -190,8 +190,8 @@ impl Store for MemoryStore {
         Ok(copy_from(self.disk.bytes(), at, into))
     }
 
-    /// Fails at a listed call, where the piece goes past the room, and without memory. At the
-    /// first two of these it takes the first half of the piece, as far as there is room.
+    /// Fails at a listed call, where the piece goes past the room, and where memory runs out. In the
+    /// first two cases it appends the first half of the piece, as far as there is room.
     fn append(&mut self, piece: &[u8]) -> Result<(), StoreFail>
         ensures limit { OnOk result (length self.new.disk.now.bytes ≤ MAX_STORE_BYTES) }
         ensures size { OnOk result (length self.new.disk.now.bytes ≡ length self.old.disk.now.bytes + length piece.now) }
@@ -209,7 +209,7 @@ impl Store for MemoryStore {
         }
     }
 
-    /// Fails at a listed call and without memory, and then changes nothing.
+    /// Fails at a listed call and where memory runs out, and then changes nothing.
     fn cut(&mut self, len: u64) -> Result<(), StoreFail>
         requires { len ≤ length self.old.disk.now.bytes }
         ensures size { OnOk result (length self.new.disk.now.bytes ≡ len) }
@@ -228,7 +228,7 @@ impl Store for MemoryStore {
         }
     }
 
-    /// Fails at a listed call and without memory, and then changes nothing.
+    /// Fails at a listed call and where memory runs out, and then changes nothing.
     fn sync(&mut self) -> Result<(), StoreFail>
         ensures size { length self.new.disk.now.bytes ≡ length self.old.disk.now.bytes }
         ensures bytes { self.new.disk.now.bytes ≡ self.old.disk.now.bytes }

@@ -1,4 +1,4 @@
-//! Calls of the system that are made again where a signal interrupts them.
+//! System calls that are retried where a signal interrupts them.
 ghost use Rattle.std.specs.Io.{ReadsAtMost, WritesAtMost};
 
 use std::fs::File;
@@ -6,10 +6,10 @@ use std::io;
 use std::io::{ErrorKind, Read, Write};
 use std::os::unix::fs::FileExt;
 
-/// How often a call is made that signals interrupt each time. The last interruption is its fault.
+/// How often a call is tried that signals interrupt each time. The last interruption is its fault.
 const MAX_TRIES: u32 = 1_000;
 
-/// Reads what comes next in a file.
+/// Reads the next bytes of a file.
 pub(crate) fn read(file: &mut File, into: &mut [u8]) -> io::Result<usize>
     ensures { ReadsAtMost result into.new }
 {
@@ -22,7 +22,7 @@ pub(crate) fn read(file: &mut File, into: &mut [u8]) -> io::Result<usize>
     file.read(into)
 }
 
-/// Reads what stands at a place in a file.
+/// Reads the bytes at an offset of a file.
 pub(crate) fn read_at(file: &File, into: &mut [u8], at: u64) -> io::Result<usize>
     ensures { ReadsAtMost result into.new }
 {
@@ -35,7 +35,7 @@ pub(crate) fn read_at(file: &File, into: &mut [u8], at: u64) -> io::Result<usize
     file.read_at(into, at)
 }
 
-/// Writes a prefix of the piece at a place in a file.
+/// Writes a prefix of the piece at an offset of a file.
 pub(crate) fn write_at(file: &File, piece: &[u8], at: u64) -> io::Result<usize>
     ensures { WritesAtMost result piece.now }
 {

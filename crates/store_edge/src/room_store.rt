@@ -1,4 +1,4 @@
-//! A store in memory that tells its bytes alone.
+//! A store in memory that exposes its bytes alone.
 ghost use Rattle.std.specs.Prelude.{◌≡◌, ◌⊎◌, ◌+◌, ◌-◌, ◌<◌, ◌≤◌, [], min, nat_lt, length, take, drop, Some, is_err, IfOk, IsOk, OnErr, OnOk};
 ghost use Rattle.std.specs.Io.{ReadsAtMost};
 ghost use Rattle.issuer_base.specs.OutsideFaults.{CountsFaults};
@@ -12,8 +12,8 @@ use std::marker::Model;
 
 /// A store in memory with room for so many bytes, which fails past its room and nowhere else.
 ///
-/// All of its room is taken at first, so that no later call wants memory. It doesn't tell what a
-/// crash may leave.
+/// It allocates all of its room at first, so that no later call allocates. It doesn't expose what
+/// a crash may leave.
 #[derive(Drop)]
 pub struct RoomStore {
     bytes: Vec<u8>,

@@ -1,4 +1,4 @@
--- The disk goes on to the moment after the append.
+-- The disk moves to the moment after the append.
 use Rattle.std.proofs.Common.{◌≡◌, ◌++◌, length, sym, ap, ◌∙◌, arith, rules, length-append}
 use Rattle.store_edge.specs.KeptDisk.{appended}
 use Rattle.store_edge.specs.declared.kept_disk.Change.TheVariants.{Appended}

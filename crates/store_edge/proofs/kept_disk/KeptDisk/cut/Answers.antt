@@ -1,4 +1,4 @@
--- The disk goes on to the moment after the cut.
+-- The disk moves to the moment after the truncation.
 use Rattle.std.proofs.Common.{length, ap, arith, length-take}
 use Rattle.issuer_base.specs.Stores.{Disk}
 use Rattle.store_edge.specs.KeptDisk.{cut_to}

@@ -1,4 +1,4 @@
--- The disk goes on to the moment after the sync.
+-- The disk moves to the moment after the sync.
 use Rattle.std.proofs.Common.{◌≡◌, length, ap, arith, rules}
 use Rattle.issuer_base.specs.Stores.{Moment}
 use Rattle.store_edge.specs.KeptDisk.{all_safe}

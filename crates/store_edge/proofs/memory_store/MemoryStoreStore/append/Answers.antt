@@ -1,4 +1,4 @@
--- What an append tells of the disk.
+-- How an append changes the disk.
 use Rattle.std.proofs.Common.{ap}
 use Rattle.store_edge.specs.MemoryStores.{StoreState}
 use Rattle.store_edge.proofs.StoreCalls.{append-told, append_starved-told}

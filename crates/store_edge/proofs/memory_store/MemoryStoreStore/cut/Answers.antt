@@ -1,4 +1,4 @@
--- What a cut tells of the disk.
+-- How a truncation changes the disk.
 use Rattle.std.proofs.Common.{ap, sym}
 use Rattle.store_edge.specs.MemoryStores.{StoreState}
 use Rattle.store_edge.proofs.StoreCalls.{cut-told, cut_failed-told}

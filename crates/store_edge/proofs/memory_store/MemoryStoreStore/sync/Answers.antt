@@ -1,4 +1,4 @@
--- What a sync tells of the disk.
+-- How a sync changes the disk.
 use Rattle.std.proofs.Common.{ap, sym}
 use Rattle.store_edge.specs.MemoryStores.{StoreState}
 use Rattle.store_edge.proofs.StoreCalls.{sync-told, sync_failed-told}
