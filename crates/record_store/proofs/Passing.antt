@@ -1,4 +1,4 @@
--- What the moments of a text that grows, and of one that is cut, hold; and what they may leave.
+-- What the moments of a text that is appended to, and of one that is truncated, hold; and what they may leave.
 use Rattle.std.proofs.Common.{◌≡◌, ◌⊎◌, ◌≤◌, ℕ, zero, suc, min, Bool, false, true, List, [], ◌++◌, length, take, append-nil, length-take}
 use Rattle.std.proofs.Common.{refl, sym, ap, subst, ◌∙◌}
 use Rattle.std.proofs.Common.{inl, inr, ⊎_elim, arith, Option, None, Some, IfSome}

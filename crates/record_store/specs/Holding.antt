@@ -1,10 +1,11 @@
--- What a journal holds: a text of so many records, which is sure, and a tail of which a front may stand behind it.
+-- What a journal holds: a durable text of so many records, and a tail of which a prefix may follow it.
 use Rattle.std.specs.Prelude.{◌≡◌, ℕ, false, List, [], length, IfSome}
 use Rattle.issuer_base.specs.declared.outside.store.Store.{Ghosts}
 use Rattle.record_store.specs.declared.journal.Journal.{Journal}
 use Rattle.record_store.specs.Images.{HasSafeText, IsImage}
 
--- the journal holds the text; where its store tells, the bytes are the text and a front of the tail, and the text is safe
+-- the journal holds the text; where its store exposes them, the bytes are the text and a prefix of the tail, and the
+-- text is durable
 pub record Holds {S : Type 0} {G : Ghosts S} (journal : Journal S G) (count : ℕ) (text tail : List ℕ) : Type 0 where
   pub count_is : journal.records ≡ count
   pub sure_is : journal.sure ≡ length text

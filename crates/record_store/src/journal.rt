@@ -1,4 +1,4 @@
-//! A text of records that grows at its end: a record is safe in the store before it counts.
+//! A text of records that is appended to: a record is durable in the store before it counts.
 ghost use Rattle.std.specs.Prelude.{◌≡◌, ◌⊎◌, ◌+◌, ◌^◌, ◌<◌, ◌≤◌, ℕ, List, [], ◌++◌, length, false, IfOk, IfErr, IsErr, OnOk, is_err, true};
 ghost use Rattle.issuer_base.specs.OutsideFaults.{CountsFaults};
 ghost use Rattle.issuer_base.specs.Stores.{BothTold, CutsBytes, Disk, LeavesOnly, Passes};
@@ -10,8 +10,8 @@ use issuer_base::{Store, StoreFail};
 
 /// The text of a shard's records in a store.
 ///
-/// A record that a call couldn't make safe is in doubt: some front of it, or all, may stand behind the text, and it is cut
-/// away before the next record is written.
+/// A record that a call couldn't make durable is in doubt: some prefix of it, or all, may follow the text. It is
+/// truncated before the next record is written.
 pub struct Journal<S: Store> {
     store: S,
 

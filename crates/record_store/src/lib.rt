@@ -1,5 +1,5 @@
-//! The text of a shard's records in a store: a record is safe before it counts, and one that is in doubt is cut away before the
-//! next is written.
+//! The text of a shard's records in a store: a record is durable before it counts, and one that is in doubt is
+//! truncated before the next is written.
 #![tactic(auto)]
 
 mod journal;

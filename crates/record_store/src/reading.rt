@@ -1,4 +1,4 @@
-//! Reading the bytes of a store into a buffer, and cutting what stands behind a text.
+//! Reading the bytes of a store into a buffer, and truncating a store to its text.
 ghost use Rattle.std.specs.Prelude.{◌≡◌, ◌-◌, ◌≤◌, ℕ, List, [], ◌++◌, min, length, take, drop, IfOk, IfSome, OnOk, is_err, true};
 ghost use Rattle.issuer_base.specs.OutsideFaults.{CountsFaults};
 ghost use Rattle.issuer_base.specs.Stores.{BothTold, CutsBytes, Disk, LeavesOnly};
@@ -7,7 +7,7 @@ ghost use Rattle.record_store.specs.Images.{HasSafeText, IsCutImage, IsImage, On
 
 use issuer_base::{Store, StoreFail};
 
-/// Fills a buffer with the bytes of a store from a place on, as far as they go, and gives how many these are.
+/// Fills a buffer with the bytes of a store from an offset on, as far as they go, and returns how many these are.
 pub fn read_from<S: Store>(store: &mut S, at: u64, into: &mut [u8]) -> Result<usize, StoreFail>
     requires { at ≤ S.size store.old }
     ensures all { IfOk result (λ count. count ≡ min (length into.new) (S.size store.old - at)) }
@@ -25,7 +25,7 @@ pub fn read_from<S: Store>(store: &mut S, at: u64, into: &mut [u8]) -> Result<us
     Ok(count)
 }
 
-/// Cuts away what stands behind the first `sure` bytes, and makes these safe.
+/// Truncates the store to its first `sure` bytes, and makes these durable.
 pub(crate) fn settle<S: Store>(store: &mut S, sure: u64) -> Result<(), StoreFail>
     requires { sure ≤ S.size store.old }
     ensures size { OnOk result (S.size store.new ≡ sure) }

@@ -1,4 +1,4 @@
--- Nothing was read at first, and what is read stands behind what was read.
+-- Nothing was read at first, and each read is appended to what was read.
 use Rattle.std.proofs.Common.{refl, ◌∙◌, arith, ◌-◌, ◌≤◌, length, length-take, drop}
 use Rattle.issuer_base.proofs.ManyCalls.{CountsFaults-no_call, CountsFaults-then}
 use Rattle.record_store.proofs.ReadSoFar.{reads-none, reads-more, told-nothing, told-read, put-length}

@@ -1,4 +1,4 @@
--- What was read so far stands in the front of the buffer.
+-- What was read so far is a prefix of the buffer.
 use Rattle.std.proofs.Common.{◌≡◌, ◌-◌, ◌≤◌, min, length, IfSome, false}
 use Rattle.issuer_base.specs.OutsideFaults.{CountsFaults}
 use Rattle.issuer_base.specs.Stores.{BothTold}

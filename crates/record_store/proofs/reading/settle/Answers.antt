@@ -1,4 +1,4 @@
--- What stays, and what a crash leaves, while a store is cut to its text.
+-- What stays, and what a crash leaves, while a store is truncated to its text.
 use Rattle.record_store.proofs.Passing.{crash-sync, crash-cut, crash-cut_sync, told-kept, told-cut_kept}
 use Rattle.record_store.proofs.reading.settle.Goals as goal
 

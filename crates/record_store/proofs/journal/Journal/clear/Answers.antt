@@ -1,4 +1,4 @@
--- The moments of a cut that clears away what is in doubt.
+-- The moments of a truncation of what is in doubt.
 use Rattle.std.proofs.Common.{refl}
 use Rattle.record_store.proofs.Passing.{told-no_call, told-cut, told-cut_bytes, told-last}
 use Rattle.record_store.proofs.journal.Journal.clear.Goals as goal

@@ -1,4 +1,4 @@
--- What a crash leaves while a record is put: first what is in doubt is cut away, then the record is written.
+-- What a crash leaves while a record is appended: first what is in doubt is truncated, then the record is written.
 use Rattle.std.proofs.Common.{None}
 use Rattle.record_store.proofs.Passing.{crash-clear, crash-put}
 use Rattle.record_store.proofs.journal.Journal.put.Goals as goal
