@@ -1,4 +1,4 @@
--- What a row tells of a recorded reply is whether it may follow each history that the row stands for.
+-- What a row answers of a recorded reply is whether it may follow each history that the row stands for.
 use Rattle.std.proofs.Common.{◌≡◌, ◌↔◌, ℕ, Bool, false, List, IsTrue, sym, subst}
 use Rattle.issuer_base.specs.declared.answer.Method.{Method}
 use Rattle.issuer_base.specs.declared.answer.Reply.{Reply}

@@ -1,4 +1,4 @@
--- What settlement and the next flight make of what is kept of a card's scripts.
+-- How settlement and the next flight change what a row holds of a card's scripts.
 use Rattle.std.proofs.Common.{◌≡◌, ℕ, ◌+◌, ◌≤◌, Bool, true, false, cond, List, length, take, drop, None, Some, refl, ap, sym, ◌∙◌, subst, add-zero, arith, []}
 use Rattle.std.specs.Option.{option_map_or}
 use Rattle.std.proofs.lemmas.List.{length-drop, length-take-le, drop-drop}

@@ -1,4 +1,4 @@
--- What a row's slots say of a request is one turn's answer to it after each history that the row stands for.
+-- The plan by a row's slots is one turn's answer to the request after each history that the row stands for.
 use Rattle.std.proofs.Common.{◌≡◌, ℕ, List, length, refl, ap, sym, ◌∙◌, subst}
 use Rattle.issuer_base.specs.declared.answer.Method.{Method}
 use Rattle.issuer_base.specs.declared.answer.Reply.{Reply}

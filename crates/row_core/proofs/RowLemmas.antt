@@ -1,4 +1,5 @@
--- The history that a row stands for: none at first, and one record more once a decision is kept, a command queued or a status set.
+-- The history that a row stands for: empty at first, and one record more once a decision is stored, a command queued or
+-- a status set.
 use Rattle.std.proofs.Common.{◌≡◌, ◌≤◌, ℕ, List, [], ◌∷◌, ◌++◌, length, true, Option, None, ap, sym, ◌∙◌, subst}
 use Rattle.issuer_base.specs.declared.command.Command.{Command}
 use Rattle.issuer_base.specs.declared.entry.Entry.{Entry}

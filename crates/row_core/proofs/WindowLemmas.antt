@@ -1,4 +1,4 @@
--- The slots that keep the decisions of a window: none at first, and one decision more in place of one that fell out of the window.
+-- The slots of the decisions of a window: none at first, and one decision more in place of one that left the window.
 use Rattle.std.proofs.Common.{◌≡◌, ◌≢◌, ℕ, ◌+◌, ◌≤◌, ◌<◌, List, [], ◌∷◌, ◌++◌, max, Option, None, Some, Contains, inl, inr, ◌⊎◌}
 use Rattle.std.proofs.Common.{refl, ap, sym, ◌∙◌, subst, arith}
 use Rattle.std.specs.Option.{option_map_or}

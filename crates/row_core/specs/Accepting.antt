@@ -1,4 +1,4 @@
--- When a reply that was recorded is one that an issuer makes after a history, whatever its decision table was then.
+-- When a recorded reply is one that an issuer makes after a history, whatever its decision table was then.
 use Rattle.std.specs.Prelude.{◌≡◌, ℕ, Bool, ◌==◌, List, [], ◌∷◌, slice_index, bit_and}
 use Rattle.issuer_base.specs.declared.answer.Method.{Method}
 use Rattle.issuer_base.specs.declared.answer.Method.TheVariants.{Two}

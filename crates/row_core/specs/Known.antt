@@ -1,4 +1,4 @@
--- What the decisions of a card say of a request that isn't new to them.
+-- The plan for a request that isn't new, by the card's decisions.
 use Rattle.std.specs.Prelude.{◌≡◌, ◌≢◌, List}
 use Rattle.issuer_base.specs.declared.request.Request.{Request}
 use Rattle.card_history.specs.declared.decision.Decision.{Decision}
@@ -6,7 +6,7 @@ use Rattle.card_history.specs.Turns.{IsUsed, IsTooOld}
 use Rattle.row_core.specs.declared.row.Outcome.{Outcome}
 use Rattle.row_core.specs.declared.row.Outcome.TheVariants.{Fresh, Kept, Below, Taken}
 
--- the decisions show that this is to be done with the request
+-- this is the plan for the request by the decisions, and it isn't a fresh one
 abbrev pub IsKnown : List Decision → Request → Outcome → Type 0
 IsKnown decisions request (Fresh reply step) = ⊥
 IsKnown decisions request (Kept reply place) = IsUsed decisions request (record { request = request; reply = reply.now; place = place })

@@ -1,4 +1,4 @@
--- What the decision of a request on the newest counter makes of what a row keeps of its card's scripts.
+-- How the decision of a request on the newest ATC changes what a row holds of its card's scripts.
 use Rattle.std.specs.Prelude.{◌≡◌, ℕ, ◌+◌, ◌≤◌, if◌then◌else◌, List, length, take, drop, Some, None}
 use Rattle.issuer_base.specs.ScriptTemplate.{template_size}
 use Rattle.issuer_base.specs.declared.limits.TheConstants.{MAX_TEMPLATE_BYTES}
@@ -8,7 +8,7 @@ use Rattle.card_history.specs.Scripts.{Scripts, in_flight, with_newest, with_dec
 use Rattle.row_core.specs.CardRow.{CardRow, KeptScripts, kept_of, KeepsScripts}
 use Rattle.row_core.specs.declared.scripts.Launch.{Launch}
 
--- what is kept once the reply on this counter took off
+-- what a row holds once the flight of the reply on this ATC has begun
 abbrev pub launched_from : KeptScripts → ℕ → Launch → KeptScripts
 launched_from kept counter launch = record {
   commands = record { queued = kept.commands.queued; undone = drop launch.ran kept.commands.undone };
@@ -21,7 +21,7 @@ launched_from kept counter launch = record {
 abbrev pub carried : KeptScripts → Launch → List Command
 carried kept launch = take launch.size (drop launch.ran kept.commands.undone)
 
--- the launch is settlement and the new flight of each card's scripts of which this is kept
+-- the launch is the settlement and the new flight of any scripts of which a row holds this
 pub record IsLaunch (kept : KeptScripts) (request : Request) (launch : Launch) : Type 0 where
   pub within : launch.ran + launch.size ≤ length kept.commands.undone
   pub fit : template_size (carried kept launch) ≤ MAX_TEMPLATE_BYTES
@@ -30,7 +30,7 @@ pub record IsLaunch (kept : KeptScripts) (request : Request) (launch : Launch) :
   pub batch : (scripts : Scripts) → kept ≡ kept_of scripts → scripts.done ≤ length scripts.queue
       → in_flight (with_newest request scripts) ≡ carried kept launch
 
--- what a row keeps goes on by the decision of this request, all but its decisions
+-- what a row holds changes by the decision of this request, except its slots
 pub record TakesOff (before after : CardRow) (request : Request) : Type 0 where
   pub method_is : after.method ≡ before.method
   pub status_is : after.status ≡ before.status

@@ -38,26 +38,26 @@ with_status_for history card status = history ++ Status card.pan card.psn status
 abbrev pub with_record : List Entry → Decision → List Entry
 with_record history decision = history ++ Decided decision.request decision.reply ∷ []
 
--- the shard's history once the plan for this request is carried out
+-- the shard's history once the plan for this request is applied
 abbrev pub history_after : List Entry → Request → Outcome → List Entry
 history_after history request (Fresh reply place) = with_record history (record { request = request; reply = reply; place = place })
 history_after history request _ = history
 
--- a plan for a request of the row's card, whose record would stand at this place, is one turn's answer to it: by the decisions
--- on its counter, and for a fresh one by the first row of the table that fits
+-- a plan for a request of the row's card, whose record would have this index, is one turn's answer to it: by the
+-- decisions on its ATC, and for a fresh one by the first row of the table that matches
 abbrev pub IsPlan : CardRow → CardKeys → List TableRow → Request → ℕ → Outcome → Type 0
 IsPlan row keys table request place outcome =
     (shard : ℕ) (card : CardInfo) (history : List Entry)
     → StandsFor card row history → card_of request ≡ name_of card → place ≡ length history
     → Answers shard (reply_after card.method keys table) history request (answer_of shard outcome) (history_after history request outcome)
 
--- a record that is planned stands at this place, and its reply has a byte
+-- a planned record has this index, and its reply has a byte
 abbrev pub StandsAt : ℕ → Outcome → Type 0
 StandsAt place (Fresh reply at) = (at ≡ place) × (1 ≤ length reply.bytes.items)
 StandsAt place _ = Unit {0}
 
--- the decision is the next one of the row's card after this history: it is of the card, it stands at the place after the last, and
--- its counter is in the window and unused
+-- the decision is the next one of the row's card after this history: it is of the card, its index is that after the
+-- last, and its ATC is in the window and unused
 pub record IsNext (card : CardInfo) (history : List Entry) (decision : Decision) : Type 0 where
   pub of_card : card_of decision.request ≡ name_of card
   pub at_end : decision.place ≡ length history

@@ -19,20 +19,20 @@ use Rattle.issuer_setup.specs.declared.card.CardInfo.{CardInfo}
 use Rattle.issuer_setup.specs.CardList.{number_of}
 use Rattle.issuer_setup.specs.IssuerSetup.{Setup, keys_of}
 
--- the script template of a batch for the card that made this application cryptogram, under the session key for secure messaging; its
--- first command has this number. There is none where the batch is empty: EMV 4.3 Book 3, section 10.10
+-- the script template of a batch for the card that made this application cryptogram, under the session key for secure
+-- messaging; its first command has this number. There is none if the batch is empty: EMV 4.3 Book 3, section 10.10
 abbrev pub script_bytes : List ℕ → List ℕ → ℕ → List Command → List ℕ
 script_bytes master_key ac first [] = []
 script_bytes master_key ac first (command ∷ commands) =
     template_bytes (session_sm master_key ac) ac first (command ∷ commands)
 
--- the issuer's answer to the card, under this session key for cryptograms: tag 8A has the response code, tag 91 the issuer's
--- cryptogram of the response code or of the status update
+-- the issuer's answer to the card, under this session key for cryptograms: tag 8A has the response code, tag 91 the
+-- ARPC of the response code or of the card status update: EMV 4.3 Book 2, section 8.2
 abbrev pub answer_bytes : Method → List ℕ → Request → List ℕ → List ℕ → List ℕ
 answer_bytes method session request arc csu =
     object_text 0x8A arc ++ object_text 0x91 (value91 method session request.ac arc csu)
 
--- what goes to the card: the issuer's answer, and behind it the batch of the card's script commands
+-- what goes to the card: the issuer's answer, followed by the batch of the card's issuer script commands
 abbrev pub reply_bytes : Method → CardKeys → Scripts → Request → List ℕ → List ℕ → List ℕ
 reply_bytes method keys scripts request arc csu =
     answer_bytes method (session_ac keys.ac.0 request.atc) request arc csu
@@ -50,8 +50,8 @@ reply_by_row method keys scripts request row = record {
 abbrev pub no_reply : Reply
 no_reply = record { arc = 0 ∷ 0 ∷ []; approve = false; bytes = record { items = [] } }
 
--- the reply to a request of a card of this method and these master keys, with these scripts and this status: that by the first row
--- of the table that fits
+-- the reply to a request of a card of this method and these master keys, with these scripts and this status: that by
+-- the first row of the table that matches
 abbrev pub decided_reply : Method → CardKeys → List TableRow → Scripts → ℕ → Request → Reply
 decided_reply method keys table scripts status request =
     option_map_or (reply_by_row method keys scripts request) (decision table status request) no_reply
@@ -61,18 +61,18 @@ abbrev pub reply_after : Method → CardKeys → List TableRow → List Entry �
 reply_after method keys table history request =
     decided_reply method keys table (scripts_of (card_of request) history) (status_of (card_of request) history) request
 
--- where there are the card and its keys
+-- the reply after a history, if there are the card and its keys
 abbrev pub reply_by : Option CardInfo → Option CardKeys → List TableRow → List Entry → Request → Reply
 reply_by (Some card) (Some keys) table history request = reply_after card.method keys table history request
 reply_by _ _ table history request = no_reply
 
--- to a request of the card with this number
+-- the reply to a request of the card with this number
 abbrev pub reply_of_card : Setup → Option ℕ → List Entry → Request → Reply
 reply_of_card issuer None history request = no_reply
 reply_of_card issuer (Some card) history request =
     reply_by (slice_get issuer.cards card) (keys_of issuer card request) issuer.table history request
 
--- what this issuer replies to a request that it decides after the history of its card's shard; only to one whose card or key
--- set it lacks, and which it never decides, there is none
+-- the issuer's reply to a request that it decides after the history of its card's shard; a request whose card or key
+-- set it lacks is never decided, and has none
 abbrev pub reply_to : Setup → List Entry → Request → Reply
 reply_to issuer history request = reply_of_card issuer (number_of (card_of request) issuer.cards) history request

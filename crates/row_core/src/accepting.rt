@@ -1,4 +1,4 @@
-//! Whether a decision that was recorded is one that the issuer may have made, and how the row takes it over.
+//! Whether a recorded decision is one that the issuer may have made, and how the row adopts it.
 ghost use Rattle.std.specs.Prelude.{◌≡◌, ◌↔◌, ◌++◌, List, [], ◌∷◌, length, slice_index, false, IsTrue};
 ghost use Rattle.issuer_base.specs.declared.entry.Entry.{Entry};
 ghost use Rattle.card_history.specs.declared.decision.Decision.{Decision};
@@ -19,10 +19,10 @@ use key_derive::{CardKeys, LazyKeys, SessionKey};
 use reply_keep::KeptEntry;
 
 impl Row {
-    /// Whether a decision with this reply may be recorded next: the request's cryptogram is the card's, its counter is in the window
-    /// and unused, and the reply is one that the issuer makes, whatever its decision table was.
+    /// Whether a decision with this reply may be recorded next: the request's cryptogram is the card's, its ATC is in
+    /// the window and unused, and the reply is one that the issuer makes, whatever its decision table was.
     ///
-    /// `keys` are the card's master keys from the key set of the request. Sets up the session key for cryptograms.
+    /// `keys` are the card's master keys from the key set of the request. Derives the session key for cryptograms.
     pub fn accepts(&self, keys: &CardKeys, request: &Request, reply: &Reply) -> bool
         ensures exact { (card : CardInfo) (history : List Entry) → StandsFor card self.now history
             → card_of request.now ≡ name_of card
@@ -49,8 +49,8 @@ impl Row {
         self.is_unused(request) && self.is_made(session, keys, request, reply)
     }
 
-    /// Takes over a recorded decision, whose record stands at this place of the card's shard, where `accepts` says that it may, and
-    /// says whether it did.
+    /// Adopts a recorded decision, whose record is at this index of the card's shard, if `accepts` allows it. Returns
+    /// whether it did.
     pub fn adopt(&mut self, keys: &CardKeys, request: Request, reply: Reply, place: u64) -> bool
         ensures exact { (card : CardInfo) (history : List Entry) → StandsFor card self.old history
             → card_of request ≡ name_of card
@@ -90,7 +90,7 @@ impl Row {
         true
     }
 
-    /// Whether the request's counter is in the window and unused.
+    /// Whether the request's ATC is in the window and unused.
     fn is_unused(&self, request: &Request) -> bool
         ensures { (decisions : List Decision) → self.now.hi ≡ greatest decisions → KeepsWindow self.now.slots decisions
             → (IsTrue result ↔ IsUnused decisions request.now) }
@@ -120,7 +120,7 @@ impl Row {
     }
 }
 
-/// Whether a reply's approval is what its card status update tells the card: by method 1 it has none.
+/// Whether a reply's approval is that of its card status update. By method 1 there is no update, and this is true.
 fn agrees(method: Method, update: [u8; 4], approve: bool) -> bool
     ensures { IsTrue result ↔ (method ≡ Method.Two → says_approval update ≡ approve) }
 {
@@ -130,21 +130,21 @@ fn agrees(method: Method, update: [u8; 4], approve: bool) -> bool
     }
 }
 
-/// Whether the card status update says that the issuer approves.
+/// Whether the card status update has the issuer's approval.
 fn says_approval(update: [u8; 4]) -> bool
     ensures { result ≡ says_approval update }
 {
     update[1] & 0x80 == 0x80
 }
 
-/// The card status update in the bytes of a reply by method 2, with 0 for a byte that isn't there.
+/// The card status update in the bytes of a reply by method 2, with 0 for a missing byte.
 fn told_update(bytes: &[u8]) -> [u8; 4]
     ensures { result ≡ told_update bytes.now }
 {
     [10, 11, 12, 13].map(|place| byte_at(bytes, place))
 }
 
-/// The byte at this place, or 0 where there is none.
+/// The byte at this index, or 0 if there is none.
 fn byte_at(bytes: &[u8], place: usize) -> u8
     ensures { result ≡ slice_index bytes.now place }
 {

@@ -1,4 +1,4 @@
-//! The row that the host keeps for each of an issuer's cards.
+//! The row: what the host holds of each of an issuer's cards.
 #![tactic(auto)]
 
 mod accepting;

@@ -1,4 +1,4 @@
-//! The bytes that go to the card: the response code, the issuer's cryptogram, and the batch of the card's script commands.
+//! The bytes that go to the card: the response code, the ARPC, and the batch of the card's issuer script commands.
 ghost use Rattle.std.specs.Prelude.{◌≡◌, ◌+◌, ◌≤◌, [], ◌++◌, length, All, IsTrue};
 ghost use Rattle.issuer_base.specs.ScriptCommand.{is_command};
 ghost use Rattle.issuer_base.specs.ScriptTemplate.{template_size};
@@ -18,8 +18,8 @@ const RESPONSE_CODE: u32 = 0x8A;
 /// The tag of the issuer authentication data.
 const AUTHENTICATION_DATA: u32 = 0x91;
 
-/// Writes the response code and the issuer's cryptogram, by method 2 that of the card status update, under the session key for
-/// cryptograms of the request's transaction, where nothing is written yet.
+/// Writes the response code and the ARPC, by method 2 that of the card status update, into empty bytes. `session` is
+/// the session key for cryptograms of the request's transaction.
 pub(crate) fn write_answer(
     bytes: &mut ArrayVec<u8, ROOM>,
     method: Method,
@@ -39,7 +39,7 @@ pub(crate) fn write_answer(
     write(bytes, AUTHENTICATION_DATA, value.as_slice());
 }
 
-/// Writes an object behind bytes that leave room for it.
+/// Appends an object to bytes that leave room for it.
 fn write(bytes: &mut ArrayVec<u8, ROOM>, tag: u32, value: &[u8])
     requires tag { IsTrue (is_tag_number tag) }
     requires room { length bytes.old.items + length (object_text tag value.now) ≤ ROOM }
@@ -48,9 +48,9 @@ fn write(bytes: &mut ArrayVec<u8, ROOM>, tag: u32, value: &[u8])
     put(bytes, tag, value).unwrap();
 }
 
-/// Writes the script template of a batch, which lies in two parts, behind the bytes of a reply: nothing where the batch is empty.
-/// `keys` are the card's master keys, of which the one for secure messages is asked for where there is a batch, and `first` is the number of
-/// the batch's first command.
+/// Appends the script template of a batch, given in two parts, to the bytes of a reply: nothing if the batch is empty.
+/// `keys` are the card's master keys, of which the one for secure messaging is used only for a batch that isn't
+/// empty. `first` is the number of the batch's first command.
 pub(crate) fn write_scripts(
     bytes: &mut ArrayVec<u8, ROOM>,
     keys: &LazyKeys,

@@ -1,4 +1,4 @@
-//! The row of a card: what is to be done with a request, and the decisions of the card's window.
+//! The row of a card: the plan for a request, and the decisions of the card's window.
 ghost use Rattle.std.specs.Prelude.{◌≡◌, ◌↔◌, ℕ, ◌+◌, ◌≤◌, ◌++◌, List, [], length, Some, MatchOption, IfOk, IfSome, IsOk, OnErr, IsTrue};
 ghost use Rattle.issuer_base.specs.declared.entry.Entry.{Entry};
 ghost use Rattle.issuer_base.specs.ScriptCommand.{is_command};
@@ -30,39 +30,39 @@ use script_queue::Queue;
 use std::alloc::Global;
 use std::marker::Model;
 
-/// What is to be done with a request of the row's card.
+/// The plan for a request of the row's card.
 #[derive(Drop)]
 pub enum Outcome<'a> {
-    /// Its counter is in the window and unused: this is the reply that the table decides, and the place of the record of it.
+    /// Its ATC is in the window and unused: the reply that the table decides, and the index of its record.
     Fresh(Reply, u64),
 
-    /// The request was decided before: its reply, which the row lends, and the place of its record.
+    /// The request was decided before: its reply, borrowed from the row, and the index of its record.
     Kept(&'a Reply, u64),
 
-    /// Its counter is below the window of this greatest counter.
+    /// Its ATC is below the window of this greatest ATC.
     Below(u16),
 
-    /// Another request was decided on its counter, and its record stands at this place.
+    /// Another request with its ATC was decided, and has its record at this index.
     Taken(u64),
 }
 
-/// What the host keeps of one card, in memory of fixed size.
+/// What the host holds of one card, in memory of fixed size.
 ///
-/// A contract sees its parts; what they say of a shard's history is `StandsFor`.
+/// A contract sees its parts; `StandsFor` relates them to a shard's history.
 #[derive(Drop)]
 pub struct Row {
     pub(crate) method: Method,
 
-    /// The greatest counter among the decisions.
+    /// The greatest ATC among the decisions.
     hi: Option<u16>,
 
     /// The card's status, 0 to 9.
     status: u8,
 
-    /// The card's decisions, as far as the window goes.
+    /// The card's decisions within its window.
     kept: Kept,
 
-    /// The card's script commands.
+    /// The card's issuer script commands.
     scripts: CardScripts,
 }
 
@@ -81,7 +81,7 @@ impl Model for Row {
 }
 
 impl Row {
-    /// The row of a card of this method that has no records. No other call takes memory.
+    /// The row of a card of this method that has no records. No other call allocates.
     pub fn new(alloc: Global, method: Method) -> Result<Row, NoMemory>
         ensures { IfOk result (λ row. (card : CardInfo) → method ≡ card.method → StandsFor card row []) }
     {
@@ -96,52 +96,53 @@ impl Row {
         })
     }
 
-    /// The greatest counter that was decided, or none.
+    /// The greatest decided ATC, or none.
     pub fn hi(&self) -> Option<u16>
         ensures { result ≡ self.now.hi }
     {
         self.hi
     }
 
-    /// The card's status, 0 to 9: 0 where none was set.
+    /// The card's status, 0 to 9: 0 if none was set.
     pub fn status(&self) -> u8
         ensures { result ≡ self.now.status }
     {
         self.status
     }
 
-    /// The script commands that wait for the card.
+    /// The issuer script commands that are queued for the card.
     pub fn queue(&self) -> &Queue
         ensures { result.now ≡ self.now.scripts.commands }
     {
         self.scripts.queue()
     }
 
-    /// How many script commands are done: the card ran them, the first ones that were queued.
+    /// How many issuer script commands are done: the card ran them, the first ones that were queued.
     pub fn done(&self) -> u32
         ensures { result ≡ self.now.scripts.done }
     {
         self.scripts.done()
     }
 
-    /// What the last reply on a newest counter carried of them; `None` before the first, and where the scripts are halted.
+    /// The batch in flight, of the last reply on a newest ATC; `None` before the first, and if the scripts are halted.
     pub fn flight(&self) -> Option<Flight>
         ensures { result ≡ self.now.scripts.flight }
     {
         self.scripts.flight()
     }
 
-    /// Whether the card's scripts are halted: the card told what can't be, and gets no script command any more.
+    /// Whether the card's scripts are halted: the card reported what can't be, and gets no issuer script command any
+    /// more.
     pub fn halted(&self) -> bool
         ensures { result ≡ self.now.scripts.halted }
     {
         self.scripts.halted()
     }
 
-    /// What is to be done with a request of the row's card: one turn's answer to it.
+    /// The plan for a request of the row's card: one turn's answer to it.
     ///
-    /// `keys` are the card's master keys from the key set of the request, and `place` is where the next record
-    /// of the card's shard would stand. Sets up the session key for cryptograms where the request is decided now.
+    /// `keys` are the card's master keys from the key set of the request, and `place` is the index of the next
+    /// record of the card's shard. Derives the session key for cryptograms if the request is decided now.
     pub fn plan(&self, keys: &CardKeys, table: &Table, request: &Request, place: u64) -> Outcome<'_>
         ensures { IsPlan self.now keys.now table.now request.now place result }
     {
@@ -152,8 +153,8 @@ impl Row {
         self.decide(&session, &LazyKeys::from(*keys), table, request, place)
     }
 
-    /// As `plan`, under the session key for the cryptograms of the request's transaction, which is set up already. The card's key
-    /// for secure messages is asked for only where the reply carries a command.
+    /// As `plan`, under the session key for the cryptograms of the request's transaction. The card's key for secure
+    /// messaging is used only if the reply carries a command.
     #[inline(always)]
     pub fn plan_under(
         &self,
@@ -166,7 +167,7 @@ impl Row {
         requires { session.now ≡ session_ac keys.now.ac.0 request.now.atc }
         ensures plan { IsPlan self.now keys.now table.now request.now place result }
 
-        // Whatever the row stands for, a record that is to be added is of this request, and its reply has a byte.
+        // Whatever history the row stands for, a planned record has this index, and its reply has a byte.
         ensures some { StandsAt place result }
     {
         if let Some(outcome) = self.known(request) {
@@ -175,8 +176,8 @@ impl Row {
         self.decide(session, keys, table, request, place)
     }
 
-    /// Keeps the decision of this request that a plan on this row as it is gave, whose record stands at this place, and goes on to the flight
-    /// that its reply begins.
+    /// Applies the decision that a plan on this row, unchanged since, gave for this request. Its record is at this
+    /// index; its reply begins a new flight on a newest ATC.
     pub fn apply(&mut self, request: &Request, reply: &Reply, place: u64)
         ensures { (card : CardInfo) (history : List Entry) → StandsFor card self.old history
             → IsNext card history (record { request = request.now; reply = reply.now; place = place })
@@ -190,8 +191,8 @@ impl Row {
         });
     }
 
-    /// Queues a command for the card, and gives its number in the card's queue, from 0. Where the queue takes no more, it is refused
-    /// and nothing changes.
+    /// Queues a command for the card, and returns its number in the card's queue, from 0. If the queue accepts no more,
+    /// it is refused and nothing changes.
     pub fn push(&mut self, command: Command) -> Result<u32, QueueFull>
         requires { IsTrue (is_command command) }
         ensures taken { IsOk result ↔ TakesOneMore self.old.scripts.commands }
@@ -212,7 +213,7 @@ impl Row {
         self.status = status;
     }
 
-    /// Goes on to the flight of the reply to a decided request, where its counter is the newest.
+    /// Settles the old flight and begins that of the reply to a decided request, if its ATC is the newest.
     fn take_off(&mut self, request: &Request)
         ensures { TakesOff self.old self.new request.now }
     {
@@ -225,7 +226,7 @@ impl Row {
         self.hi = Some(counter);
     }
 
-    /// The plan for a request on an unused counter.
+    /// The plan for a request with an unused ATC.
     #[inline(always)]
     fn decide(
         &self,
@@ -251,7 +252,8 @@ impl Row {
         Outcome::Fresh(reply, place)
     }
 
-    /// Writes what goes to the card with this response code and, by method 2, this card status update, where nothing is written yet.
+    /// Writes what goes to the card with this response code and, by method 2, this card status update, into empty
+    /// bytes.
     pub(crate) fn write_reply(
         &self,
         bytes: &mut ArrayVec<u8, MAX_REPLY_BYTES>,
@@ -273,7 +275,7 @@ impl Row {
         }
     }
 
-    /// Writes the batch that goes with the reply to a request on the newest counter behind the bytes of the reply.
+    /// Appends the batch that goes with the reply to a request on the newest ATC to the bytes of the reply.
     fn write_batch(
         &self,
         bytes: &mut ArrayVec<u8, MAX_REPLY_BYTES>,
@@ -292,7 +294,7 @@ impl Row {
         write_scripts(bytes, keys, &request.parts().ac, first, front, back);
     }
 
-    /// What the decisions of the window say of a request; `None` where its counter is in the window and unused.
+    /// The plan for a request whose ATC is used or below the window, by the window's decisions; else `None`.
     #[inline(always)]
     pub(crate) fn known(&self, request: &Request) -> Option<Outcome<'_>>
         ensures known { (decisions : List Decision) → self.now.hi ≡ greatest decisions → KeepsWindow self.now.slots decisions
@@ -311,14 +313,14 @@ impl Row {
     }
 }
 
-/// The greatest counter, where this counter is below its window.
+/// The greatest ATC, if this ATC is below its window.
 fn top_above(top: Option<u16>, counter: u16) -> Option<u16>
     ensures { MatchOption result (IsBelow top counter → ⊥) (λ greatest. (top ≡ Some greatest) × IsBelow top counter) }
 {
     top.filter(|top| u32::from(counter) + u32::from(WINDOW) <= u32::from(*top))
 }
 
-/// Whether a counter is above the greatest one, or the first.
+/// Whether an ATC is above the greatest one, or the first.
 fn is_newest(counter: u16, top: Option<u16>) -> bool
     ensures { result ≡ is_newest counter top }
 {

@@ -1,4 +1,4 @@
-//! The script commands of a card: those that wait, those in flight, and whether the card's scripts are halted.
+//! The issuer script commands of a card: those queued, those in flight, and whether the card's scripts are halted.
 ghost use Rattle.std.specs.Prelude.{◌≡◌, ◌+◌, ◌≤◌, ◌++◌, ◌↔◌, length, All, IfOk, IsOk, OnErr, IsTrue};
 ghost use Rattle.issuer_base.specs.ScriptCommand.{is_command};
 ghost use Rattle.card_history.specs.Scripts.{Scripts, no_scripts, with_command};
@@ -12,25 +12,25 @@ use script_queue::Queue;
 use std::alloc::Global;
 use std::marker::Model;
 
-/// What the decision of a request on the newest counter makes of a card's script commands.
+/// How the decision of a request on the newest ATC changes a card's scripts.
 #[derive(Clone, Copy)]
 pub(crate) struct Launch {
     /// How many of the first undone commands the card ran.
     pub(crate) ran: u8,
 
-    /// How many commands the reply carries, the first after those.
+    /// How many commands the reply carries, from the first after those.
     pub(crate) size: u8,
 
     /// Whether the card's scripts are halted from now on.
     pub(crate) halted: bool,
 }
 
-/// The script commands of a card.
+/// The issuer script commands of a card.
 #[derive(Drop)]
 pub(crate) struct CardScripts {
     queue: Queue,
 
-    /// What the last reply on a newest counter carried.
+    /// The batch of the last reply on a newest ATC.
     flight: Option<Flight>,
 
     /// Whether no command is sent any more.
@@ -58,7 +58,7 @@ impl Model for CardScripts {
 }
 
 impl CardScripts {
-    /// No commands. No other call takes memory.
+    /// No commands. No other call allocates.
     pub(crate) fn new(alloc: Global) -> Result<CardScripts, NoMemory>
         ensures { IfOk result (λ scripts. scripts ≡ kept_of no_scripts) }
     {
@@ -70,7 +70,7 @@ impl CardScripts {
         })
     }
 
-    /// The commands that aren't done, and the count of all.
+    /// The undone commands, and the count of all.
     pub(crate) fn queue(&self) -> &Queue
         ensures { result.now ≡ self.now.commands }
     {
@@ -98,7 +98,7 @@ impl CardScripts {
         self.halted
     }
 
-    /// What a request on the newest counter makes of them, when it is decided.
+    /// How a request on the newest ATC changes them, if it is decided.
     pub(crate) fn launch(&self, request: &Request) -> Launch
         ensures { IsLaunch self.now request.now result }
     {
@@ -117,7 +117,7 @@ impl CardScripts {
         Launch { ran, size, halted }
     }
 
-    /// The commands that go with the reply, in two parts, as they lie in memory.
+    /// The commands that go with the reply, as two slices.
     pub(crate) fn batch(&self, launch: Launch) -> (&[Command], &[Command])
         requires { launch.ran + launch.size ≤ length self.now.commands.undone }
         ensures batch { result.0.now ++ result.1.now ≡ carried self.now launch }
@@ -134,7 +134,7 @@ impl CardScripts {
         self.queue.queued() - u32::from(self.queue.undone()) + u32::from(launch.ran)
     }
 
-    /// Goes on to the flight of the reply on this counter.
+    /// Settles the old flight and begins that of the reply on this ATC.
     pub(crate) fn apply(&mut self, counter: u16, launch: Launch)
         requires { launch.ran + launch.size ≤ length self.old.commands.undone }
         ensures { self.new ≡ launched_from self.old counter launch }
@@ -147,7 +147,7 @@ impl CardScripts {
         });
     }
 
-    /// Queues a command behind the others, and gives its number.
+    /// Appends a command to the queue, and returns its number.
     pub(crate) fn push(&mut self, command: Command) -> Result<u32, QueueFull>
         requires { IsTrue (is_command command) }
         ensures taken { IsOk result ↔ TakesOneMore self.old.commands }

@@ -1,4 +1,4 @@
--- On an unused counter a reply may follow where it is made.
+-- On an unused ATC a reply may follow exactly if the issuer makes it.
 use Rattle.row_core.proofs.AcceptLemmas.{follows-made}
 use Rattle.row_core.proofs.row.Row.accepts_under.Goals as goal
 

@@ -1,4 +1,4 @@
--- Where the cryptogram holds, a reply is accepted where it may follow.
+-- If the cryptogram holds, a reply is accepted exactly if it may follow.
 use Rattle.std.proofs.Common.{◌↔◌, IsTrue, ap, ◌∙◌, subst}
 use Rattle.issuer_base.specs.declared.request.Request.{Request}
 use Rattle.key_derive.specs.declared.card.CardKeys.{CardKeys}

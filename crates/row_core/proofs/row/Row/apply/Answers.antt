@@ -1,4 +1,4 @@
--- The row goes on by the decision, and keeps it in its counter's slot.
+-- The row's scripts change by the decision, which is stored in its ATC's slot.
 use Rattle.std.proofs.Common.{ap₂, sym, ◌∙◌, subst}
 use Rattle.issuer_base.specs.declared.request.Request.{Request}
 use Rattle.issuer_base.specs.declared.answer.Reply.{Reply}

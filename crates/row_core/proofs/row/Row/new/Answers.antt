@@ -1,4 +1,4 @@
--- A row that keeps nothing stands for the history with no record.
+-- An empty row stands for the history with no record.
 use Rattle.std.proofs.Common.{refl}
 use Rattle.row_core.proofs.RowLemmas.{stands-empty}
 use Rattle.row_core.proofs.row.Row.new.Goals as goal

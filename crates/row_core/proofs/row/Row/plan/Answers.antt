@@ -1,4 +1,4 @@
--- What is decided of a request on an unused counter is one turn's answer.
+-- The decision of a request with an unused ATC is one turn's answer.
 use Rattle.std.proofs.Common.{◌≡◌, subst}
 use Rattle.card_history.specs.Scripts.{Scripts}
 use Rattle.key_derive.specs.declared.card.CardKeys.{CardKeys}

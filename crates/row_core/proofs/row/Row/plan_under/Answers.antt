@@ -1,4 +1,4 @@
--- What is decided of a request on an unused counter is one turn's answer.
+-- The decision of a request with an unused ATC is one turn's answer.
 use Rattle.row_core.proofs.PlanLemmas.{plans-fresh}
 use Rattle.row_core.proofs.row.Row.plan_under.Goals as goal
 

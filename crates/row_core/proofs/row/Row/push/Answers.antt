@@ -1,4 +1,4 @@
--- The row has the command behind the others.
+-- The command is appended to the row's queue.
 use Rattle.std.proofs.Common.{ap, ◌∙◌}
 use Rattle.std.proofs.lemmas.Result.{IfOk-weaker}
 use Rattle.row_core.specs.CardRow.{CardRow}

@@ -1,4 +1,4 @@
--- The flight settles, and the next takes off with the commands that fit.
+-- The flight is settled, and the next begins with the commands that fit.
 use Rattle.std.proofs.Common.{◌≡◌, ℕ, Bool, ap, sym, ◌∙◌, subst}
 use Rattle.cvr_settle.specs.Settlement.{settled}
 use Rattle.row_core.specs.CardRow.{KeptScripts}
