@@ -1,4 +1,4 @@
--- What the definitions of an issuer's cards say: where a name is found, and which lists are taken.
+-- What the definitions of an issuer's cards state: where a name is found, and which lists are valid.
 use Rattle.std.proofs.Common.{◌≡◌, ◌≢◌, ℕ, zero, suc, ◌+◌, ◌<◌, ◌≤◌, if◌then◌else◌, true, false, ◌&&◌, ◌||◌, leb, List, [], ◌∷◌, ◌++◌, length, get_or}
 use Rattle.std.proofs.Common.{take, drop, refl, ap, sym, ◌∙◌, subst, inl, inr, ◌⊎◌, Option, None, Some, length-append, add-zero, append-nil}
 use Rattle.std.proofs.Common.{append_assoc, All, IsTrue, arith}

@@ -1,4 +1,4 @@
--- What is kept of the cards' master keys: how many pairs there are, and where those of a card from a key set stand.
+-- The stored pairs of the cards' master keys: how many there are, and the index of that of a card from a key set.
 use Rattle.std.proofs.Common.{◌≡◌, ℕ, zero, suc, ◌+◌, ◌*◌, ◌<◌, ◌≤◌, List, [], ◌∷◌, ◌++◌, length, take, get_or, None, Some, ap, sym, ◌∙◌, subst, refl, arith}
 use Rattle.std.proofs.Math.Nat.{suc-mul}
 use Rattle.std.proofs.lemmas.List.{length-append, length-map}

@@ -1,4 +1,4 @@
--- What the definitions of an issuer's key sets say: which lists are taken, and which key set an index names.
+-- What the definitions of an issuer's key sets state: which lists are valid, and which key set an index names.
 use Rattle.std.proofs.Common.{◌≡◌, ◌≢◌, ℕ, zero, suc, ◌+◌, ◌<◌, ◌≤◌, ◌==◌, if◌then◌else◌, true, false, ◌||◌, List, [], ◌∷◌, ◌++◌, length, get_or}
 use Rattle.std.proofs.Common.{take, drop, ap, sym, ◌∙◌, subst, inl, inr, Option, None, Some, append-nil, append_assoc, length-append, arith}
 use Rattle.std.proofs.lemmas.Bool.{eqb-false, ltb-true, ltb-false, cond-true, cond-false, cases_Bool}

@@ -1,4 +1,4 @@
--- The cards of an issuer: which lists of cards it takes, and which of them has a name.
+-- The cards of an issuer: which lists of cards are valid, and which card has a name.
 use Rattle.std.specs.Prelude.{◌≡◌, ◌≢◌, ℕ, ◌≤◌, Bool, ◌&&◌, not, ◌==◌, nat_eq, nat_le, if◌then◌else◌, List, [], ◌∷◌, ◌++◌, length, Option, None, Some}
 use Rattle.std.specs.Prelude.{IsTrue, All, AllPairs}
 use Rattle.std.specs.Cmp.Lexicographic.{pointwise}
@@ -26,17 +26,18 @@ number_of name cards = position_from (is_named name) 0 cards
 unfoldable pub may_follow : List CardInfo → CardInfo → Bool
 may_follow before card = is_bcd card.psn && not (list_any (is_named (name_of card)) before)
 
--- the place of the first of these cards that may not follow those before it, or none
+-- the index of the first of these cards that may not follow those before it, or none
 abbrev pub first_bad : List CardInfo → List CardInfo → Option ℕ
 first_bad before [] = None
 first_bad before (card ∷ cards) =
     if may_follow before card then first_bad (before ++ card ∷ []) cards else Some (length before)
 
--- the place at which a list of cards is refused, or none: 0 where it hasn't 1 to 4,096 cards, else that of its first bad card
+-- the index at which a list of cards is refused, or none: 0 if it hasn't 1 to 4,096 cards, else that of its first bad
+-- card
 unfoldable pub bad_card : List CardInfo → Option ℕ
 bad_card cards = if nat_le 1 (length cards) && nat_le (length cards) MAX_CARDS then first_bad [] cards else Some 0
 
--- a list of cards is refused at that card, or for want of memory
+-- a list of cards is refused at that card, or because memory ran out
 abbrev pub IsCardsFault : List CardInfo → CardsFault → Type 0
 IsCardsFault cards (Card index) = bad_card cards ≡ Some index
 IsCardsFault cards NoMemory = Unit {0}

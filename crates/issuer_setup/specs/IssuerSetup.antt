@@ -1,4 +1,4 @@
--- What an issuer has, which parts make one, the keys of a card for a request, and the shard of a card.
+-- An issuer and its parts, which parts are valid, the keys of a card for a request, and the shard of a card.
 use Rattle.std.specs.Prelude.{◌≡◌, ℕ, ◌%◌, true, false, List, Option, None, Some, slice_get}
 use Rattle.std.specs.Option.{option_map_or}
 use Rattle.issuer_base.specs.declared.request.Request.{Request}
@@ -29,7 +29,8 @@ abbrev pub fault_of_cards : CardsFault → IssuerFault
 fault_of_cards (BadCard index) = Card index
 fault_of_cards NoRoom = NoMemory
 
--- parts are refused at their first bad one: the number of shards, then the key sets, then the cards; or for want of memory
+-- parts are refused at their first bad one: the number of shards, then the key sets, then the cards; or because memory
+-- ran out
 abbrev pub IsFaultOf : ℕ → List KeySet → List CardInfo → IssuerFault → Type 0
 IsFaultOf shards keys cards Shards = are_shards shards ≡ false
 IsFaultOf shards keys cards (Key index) = (are_shards shards ≡ true) × (bad_key keys ≡ Some index)
@@ -37,7 +38,7 @@ IsFaultOf shards keys cards (Card index) =
     (are_shards shards ≡ true) × (bad_key keys ≡ None) × (bad_card cards ≡ Some index)
 IsFaultOf shards keys cards NoMemory = (are_shards shards ≡ true) × (bad_key keys ≡ None)
 
--- the master keys of a card from a key set, where there are both
+-- the master keys of a card from a key set, if there are both
 abbrev pub keys_from : Option KeySet → Option CardInfo → Option CardKeys
 keys_from (Some set) (Some card) = Some (card_keys set card.pan card.psn)
 keys_from _ _ = None
@@ -46,6 +47,6 @@ keys_from _ _ = None
 abbrev pub keys_of : Setup → ℕ → Request → Option CardKeys
 keys_of issuer card request = keys_from (key_of (dki request) issuer.keys) (slice_get issuer.cards card)
 
--- the shard of a card: its number modulo the number of shards; a name that no card has is of shard 0
+-- the shard of a card: its number modulo the number of shards; a name that no card has belongs to shard 0
 abbrev pub shard_of : Setup → CardName → ℕ
 shard_of issuer name = option_map_or (λ number. number % issuer.shards) (number_of name issuer.cards) 0

@@ -1,4 +1,4 @@
--- The key sets of an issuer: which lists of them it takes, and which of them a derivation key index names.
+-- The key sets of an issuer: which lists of key sets are valid, and which key set a derivation key index names.
 use Rattle.std.specs.Prelude.{◌≢◌, ℕ, ◌≤◌, Bool, ◌==◌, if◌then◌else◌, List, [], ◌∷◌, ◌++◌, length, Option, None, Some, AllPairs}
 use Rattle.std.specs.List.{find, list_any}
 use Rattle.issuer_base.specs.declared.limits.TheConstants.{MAX_KEY_SETS}
@@ -12,17 +12,17 @@ has_dki dki set = set.dki == dki
 abbrev pub key_of : ℕ → List KeySet → Option KeySet
 key_of dki keys = find (has_dki dki) keys
 
--- the place of the first of these key sets that repeats the index of one before it, or none
+-- the index of the first of these key sets whose derivation key index is that of one before it, or none
 abbrev pub first_repeat : List KeySet → List KeySet → Option ℕ
 first_repeat before [] = None
 first_repeat before (set ∷ keys) =
     if list_any (has_dki set.dki) before then Some (length before) else first_repeat (before ++ set ∷ []) keys
 
--- the place at which a list of key sets is refused, or none: 0 where there is no key set, else that of the first repeat
+-- the index at which a list of key sets is refused, or none: 0 if there is no key set, else that of the first repeat
 unfoldable pub bad_key : List KeySet → Option ℕ
 bad_key keys = if length keys == 0 then Some 0 else first_repeat [] keys
 
--- what an issuer's key sets are: 1 to 16, no two of one index
+-- what an issuer's key sets are: 1 to 16, no two of one derivation key index
 pub record AreKeys (keys : List KeySet) : Type 0 where
   pub some : 1 ≤ length keys
   pub few : length keys ≤ MAX_KEY_SETS

@@ -6,6 +6,6 @@ use Rattle.issuer_base.specs.declared.limits.TheConstants.{MAX_SHARDS}
 abbrev pub are_shards : ℕ → Bool
 are_shards shards = nat_le 1 shards && nat_le shards MAX_SHARDS
 
--- so many shards, where an issuer may have so many
+-- so many shards, if an issuer may have so many
 abbrev pub shards_from : ℕ → Option ℕ
 shards_from shards = if are_shards shards then Some shards else None

@@ -11,6 +11,6 @@ pub struct CardInfo {
     /// The card's sequence number, two decimal digits, tag 5F34.
     pub psn: u8,
 
-    /// How the issuer's cryptogram is made for it.
+    /// The method by which its ARPC is computed.
     pub method: Method,
 }

@@ -8,14 +8,14 @@ use issuer_base::Pan;
 use std::alloc::{AllocError, Global};
 use std::marker::Model;
 
-/// Why cards are none that an issuer may have.
+/// Why a list of cards is refused.
 #[derive(Clone, Copy, PartialEq, Eq, Debug)]
 pub enum CardsFault {
     /// The card of this index has a sequence number that isn't decimal, or the account and sequence
     /// number of an earlier card; or, at 0, there is no card or there are more than 4,096.
     Card(u32),
 
-    /// No memory was left for the order of the cards.
+    /// Out of memory: the order of the cards could not be allocated.
     NoMemory,
 }
 
@@ -41,7 +41,7 @@ pub struct Cards {
     /// The numbers of the cards, in the order of the cards' names.
     by_name: Vec<u32>,
 
-    /// The numbers that the digits of the cards' account numbers write, in the order of the cards' numbers.
+    /// The cards' account numbers as integers, in the order of the cards' numbers.
     accounts: Vec<u64>,
 }
 
@@ -61,7 +61,7 @@ impl Model for Cards {
 }
 
 impl Cards {
-    /// These cards, or the first that may not stand where it does. It takes memory for the order of their names.
+    /// These cards, or the first that isn't valid after those before it. Allocates the order of their names.
     pub fn new(alloc: Global, cards: Vec<CardInfo>) -> Result<Cards, CardsFault>
         ensures same { IfOk result (λ kept. (bad_card cards.items ≡ None) × (kept ≡ cards.items)) }
         ensures refused { IfErr result (IsCardsFault cards.items) }
@@ -83,7 +83,7 @@ impl Cards {
         self.kept.as_slice()
     }
 
-    /// The number of the card with this account and sequence number; `None` where no card has them.
+    /// The number of the card with this account and sequence number; `None` if no card has them.
     pub(crate) fn find(&self, pan: &Pan, psn: u8) -> Option<u32>
         ensures number { result ≡ number_of (record { pan = pan.now; psn = psn }) self.now }
         ensures valid { AreCards self.now }

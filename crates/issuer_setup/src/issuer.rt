@@ -20,7 +20,7 @@ use key_derive::{CardKeys, CardSecrets, KeySet, LazyKeys, SessionKey};
 use std::alloc::Global;
 use std::marker::Model;
 
-/// Why shards, key sets and cards make no issuer.
+/// Why shards, key sets and cards are refused.
 #[derive(Clone, Copy, PartialEq, Eq, Debug)]
 pub enum IssuerFault {
     /// The number of shards isn't 1 to 16.
@@ -33,7 +33,7 @@ pub enum IssuerFault {
     /// number of an earlier card; or, at 0, there is no card or there are more than 4,096.
     Card(u32),
 
-    /// No memory was left for the order of the cards or for their master keys.
+    /// Out of memory: the order of the cards or their master keys could not be allocated.
     NoMemory,
 }
 
@@ -62,8 +62,8 @@ impl From<NoMemory> for IssuerFault {
     }
 }
 
-/// An issuer: the number of its shards, its key sets, its cards, each with a number from 0, its place in the
-/// configuration, and its decision table.
+/// An issuer: the number of its shards, its key sets, its cards, and its decision table. A card's number is its
+/// index in the configuration, from 0.
 ///
 /// A contract sees the number of shards, the lists of the key sets and of the cards, and the table's rows.
 #[derive(Drop)]
@@ -95,8 +95,8 @@ impl Model for Issuer {
 }
 
 impl Issuer {
-    /// The issuer of just these parts. It derives no key yet, and takes memory for the master keys of each card from each key set: 304
-    /// bytes a pair, of which 256 are for a key that is kept.
+    /// The issuer of just these parts. It derives no key yet. It allocates the master keys of each card from each key
+    /// set: 304 bytes a pair, of which 256 are for a cached key.
     pub fn of(
         alloc: Global,
         shards: ShardCount,
@@ -116,8 +116,8 @@ impl Issuer {
         })
     }
 
-    /// The issuer of just these parts, or the first of them that is bad: the number of shards, then the key
-    /// sets, then the cards. It takes memory as [`Issuer::of`] does.
+    /// The issuer of just these parts, or the first invalid one: the number of shards, then the key sets, then
+    /// the cards. It allocates as [`Issuer::of`] does.
     pub fn new(
         alloc: Global,
         shards: u8,
@@ -159,7 +159,7 @@ impl Issuer {
         &self.table
     }
 
-    /// The key set with this derivation key index; `None` where no key set has it.
+    /// The key set with this derivation key index; `None` if no key set has it.
     pub fn key(&self, dki: u8) -> Option<&KeySet>
         ensures key { option_map (λ set. set.now) result ≡ key_of dki self.now.keys }
         ensures valid { AreKeys self.now.keys }
@@ -174,8 +174,8 @@ impl Issuer {
         self.keys.first()
     }
 
-    /// The master keys of this card from the key set that the request's derivation key index names; `None`
-    /// where no key set has that index. Both are derived now.
+    /// The master keys of this card from the key set that the request's derivation key index names; `None` if
+    /// no key set has that index. Both are derived now.
     pub fn keys_of(&self, card: u32, request: &Request) -> Option<CardKeys>
         requires { card < length self.now.cards }
         ensures { result ≡ keys_of self.now card request.now }
@@ -183,7 +183,7 @@ impl Issuer {
         Some(self.lazy_keys_of(card, request)?.pair())
     }
 
-    /// The same keys, of which each is derived when it is asked for.
+    /// The same keys, each derived on demand.
     pub fn lazy_keys_of(&self, card: u32, request: &Request) -> Option<LazyKeys>
         requires { card < length self.now.cards }
         ensures { result ≡ keys_of self.now card request.now }
@@ -191,8 +191,8 @@ impl Issuer {
         Some(self.secrets_of(card, request)?.keys())
     }
 
-    /// The session key for the cryptograms of this request, from the same keys. Where the card's key is kept, it sets up one key and enciphers
-    /// two blocks; else three keys and four blocks.
+    /// The session key for the cryptograms of this request, from the same keys. If the card's key is cached, this
+    /// computes one key schedule and enciphers two blocks; else three key schedules and four blocks.
     pub fn session_of(&self, card: u32, request: &Request) -> Option<SessionKey>
         requires { card < length self.now.cards }
         ensures { result ≡ option_map (λ keys. session_ac keys.ac.0 request.now.atc) (keys_of self.now card request.now) }
@@ -201,8 +201,9 @@ impl Issuer {
         Some(secrets.session(request.parts().atc))
     }
 
-    /// Keeps the card's master key for cryptograms from the key set that the request's derivation key index names set up, where there is such
-    /// a key set. Where it isn't kept yet, that sets up two keys and enciphers two blocks.
+    /// Caches the key schedule of the card's master key for cryptograms from the key set that the request's derivation
+    /// key index names, if there is such a key set. If it isn't cached yet, this computes two key schedules and
+    /// enciphers two blocks.
     pub fn keep(&mut self, card: u32, request: &Request)
         requires { card < length self.old.cards }
         ensures { self.new ≡ self.old }
@@ -212,8 +213,9 @@ impl Issuer {
         }
     }
 
-    /// Keeps the master key for cryptograms of each card from each key set. Of each key set the issuer's master keys are set up once, and for each
-    /// pair that isn't kept yet one key is set up and two blocks are enciphered.
+    /// Caches the key schedule of the master key for cryptograms of each card from each key set. Those of the issuer's
+    /// master keys are computed once a key set. For each pair that isn't cached yet one key schedule is computed, and
+    /// two blocks are enciphered.
     pub fn keep_all(&mut self)
         ensures { self.new ≡ self.old }
     {
@@ -229,7 +231,7 @@ impl Issuer {
         Some(self.kept.secrets_of(card, place))
     }
 
-    /// The number of the card with this account and sequence number; `None` where no card has them.
+    /// The number of the card with this account and sequence number; `None` if no card has them.
     pub fn card(&self, pan: &Pan, psn: u8) -> Option<u32>
         ensures number { result ≡ number_of (record { pan = pan.now; psn = psn }) self.now.cards }
         ensures valid { AreCards self.now.cards }

@@ -1,4 +1,4 @@
-//! The master keys of an issuer's cards: those for cryptograms are derived when they are first asked for, and kept set up.
+//! The master keys of an issuer's cards, derived on demand. The key schedules of those for cryptograms can be cached.
 ghost use Rattle.std.specs.Prelude.{◌≡◌, ◌+◌, ◌*◌, ◌<◌, ◌≤◌, ◌++◌, Some, length, slice_get, vec_len, vec_capacity, IfOk};
 ghost use Rattle.issuer_setup.specs.KeptKeys.{pairs_of, kept_keys};
 
@@ -8,8 +8,8 @@ use key_derive::{CardSecrets, KeySet, MasterCiphers};
 use std::alloc::{AllocError, Global};
 use std::marker::Model;
 
-/// The master keys of each card from each key set, of which those for cryptograms can be kept set up. The others are derived whenever they are
-/// asked for.
+/// The master keys of each card from each key set. The key schedules of those for cryptograms can be cached; the others
+/// are derived at each use.
 ///
 /// A contract sees how many key sets there are, and the list of the pairs of keys.
 #[derive(Drop)]
@@ -33,8 +33,8 @@ impl Model for KeptKeys {
 }
 
 impl KeptKeys {
-    /// The master keys of each card from each key set, of which none is derived yet: no key is set up and no block enciphered. It
-    /// takes the memory at first, 304 bytes a pair, of which 256 are for a key that is kept.
+    /// The master keys of each card from each key set, of which none is derived yet: no key schedule is computed and no
+    /// block enciphered. This allocates the memory, 304 bytes a pair, of which 256 are for a cached key.
     pub(crate) fn underived(
         alloc: Global,
         keys: &[KeySet],
@@ -54,7 +54,7 @@ impl KeptKeys {
         })
     }
 
-    /// The master keys of the card with this number from the key set at this place.
+    /// The master keys of the card with this number from the key set at index `place`.
     pub(crate) fn secrets_of(&self, card: u32, place: usize) -> &CardSecrets
         requires { card * self.now.sets + place < length self.now.pairs }
         ensures { slice_get self.now.pairs (card * self.now.sets + place) ≡ Some result.now }
@@ -62,7 +62,8 @@ impl KeptKeys {
         &self.pairs[card as usize * self.sets + place]
     }
 
-    /// Keeps the key for cryptograms of the card with this number from the key set at this place, where it isn't kept yet.
+    /// Caches the key for cryptograms of the card with this number from the key set at index `place`, unless it is
+    /// cached already.
     pub(crate) fn keep(&mut self, card: u32, place: usize)
         requires { card * self.old.sets + place < length self.old.pairs }
         ensures { self.new ≡ self.old }
@@ -71,8 +72,8 @@ impl KeptKeys {
         self.pairs[at].keep();
     }
 
-    /// Keeps the keys for cryptograms of all cards from each of these key sets, of which each master key is set up once where they are
-    /// those of the issuer.
+    /// Caches the keys for cryptograms of all cards from each of these key sets. If they are the issuer's, each master
+    /// key's schedule is computed once.
     pub(crate) fn keep_all(&mut self, keys: &[KeySet])
         requires { length keys.now ≤ MAX_KEY_SETS }
         ensures { self.new ≡ self.old }
@@ -88,7 +89,7 @@ impl KeptKeys {
     }
 }
 
-/// Keeps the keys for cryptograms of the pairs at this place and at each so many further on.
+/// Caches the cryptogram keys at `place` and every `step`-th pair after it: those of all cards from one key set.
 fn keep_set(pairs: &mut [CardSecrets], place: usize, step: usize, ciphers: &MasterCiphers)
     requires { (0 < step) × (step ≤ MAX_KEY_SETS) × (place < step) }
     ensures { pairs.new ≡ pairs.old }
@@ -100,7 +101,7 @@ fn keep_set(pairs: &mut [CardSecrets], place: usize, step: usize, ciphers: &Mast
     }
 }
 
-/// Adds the master keys of a card from each key set to pairs that have room for them.
+/// Appends the master keys of a card from each key set to pairs that have room for them.
 fn add_card(pairs: &mut Vec<CardSecrets>, keys: &[KeySet], card: &CardInfo)
     requires { length pairs.old.items + length keys.now ≤ vec_capacity pairs.old }
     ensures added { pairs.new.items ≡ pairs.old.items ++ pairs_of keys.now card.now }

@@ -30,8 +30,8 @@ impl Model for KeySets {
 }
 
 impl KeySets {
-    /// These key sets; or the index of the first that has the derivation key index of an earlier one, or 0 where
-    /// there is none.
+    /// These key sets; or the index of the first that has the derivation key index of an earlier one, or 0 if
+    /// there is no key set.
     pub fn new(keys: ArrayVec<KeySet, MAX_KEY_SETS>) -> Result<KeySets, u32>
         ensures same { IfOk result (λ kept. (bad_key keys.items ≡ None) × (kept ≡ keys.items)) }
         ensures refused { IfErr result (λ index. bad_key keys.items ≡ Some index) }
@@ -50,7 +50,7 @@ impl KeySets {
         self.kept.as_slice()
     }
 
-    /// The key set with this derivation key index; `None` where no key set has it.
+    /// The key set with this derivation key index; `None` if no key set has it.
     pub(crate) fn find(&self, dki: u8) -> Option<&KeySet>
         ensures key { option_map (λ set. set.now) result ≡ key_of dki self.now }
         ensures valid { AreKeys self.now }
@@ -58,7 +58,7 @@ impl KeySets {
         self.as_slice().iter().find(|set| set.dki == dki)
     }
 
-    /// The place of the key set with this derivation key index.
+    /// The index of the key set with this derivation key index.
     pub(crate) fn place_of(&self, dki: u8) -> Option<usize>
         ensures { result ≡ position (has_dki dki) self.now }
     {
@@ -85,7 +85,7 @@ fn bad_key(keys: &[KeySet]) -> Option<u32>
     first_repeat(keys)
 }
 
-/// The index of the first key set that has the derivation key index of an earlier one; `None` where none has.
+/// The index of the first key set that has the derivation key index of an earlier one; `None` if none has.
 fn first_repeat(keys: &[KeySet]) -> Option<u32>
     requires { length keys.now ≤ MAX_KEY_SETS }
     ensures { result ≡ first_repeat [] keys.now }

@@ -27,7 +27,7 @@ impl Model for ShardCount {
 }
 
 impl ShardCount {
-    /// So many shards; `None` where an issuer may not have so many.
+    /// So many shards; `None` if an issuer may not have so many.
     pub fn new(count: u8) -> Option<ShardCount>
         ensures { result ≡ shards_from count }
     {

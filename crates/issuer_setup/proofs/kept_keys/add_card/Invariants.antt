@@ -1,4 +1,4 @@
--- The card's pairs so far stand behind those of the cards before it.
+-- The card's pairs so far follow those of the cards before it.
 use Rattle.std.proofs.Common.{◌≡◌, ◌+◌, ◌++◌, take, vec_len, vec_capacity}
 use Rattle.issuer_setup.specs.KeptKeys.{pairs_of}
 use Rattle.issuer_setup.proofs.kept_keys.add_card.Given as goal

@@ -1,4 +1,4 @@
--- The pairs so far and those ahead are the ones of before.
+-- The pairs so far and the remaining ones are those of before.
 use Rattle.std.proofs.Common.{◌≡◌, ◌-◌, length}
 use Rattle.issuer_setup.proofs.kept_keys.keep_set.Given as goal
 

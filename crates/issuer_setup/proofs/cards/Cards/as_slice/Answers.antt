@@ -1,4 +1,4 @@
--- The cards that are kept are all ones that may stand.
+-- The stored cards are valid.
 use Rattle.issuer_setup.proofs.CardListLemmas.{bad_card-none}
 use Rattle.issuer_setup.proofs.cards.Cards.as_slice.Goals as goal
 

@@ -1,4 +1,4 @@
--- The cards that are searched are all ones that may stand.
+-- The searched cards are valid.
 use Rattle.issuer_setup.proofs.CardListLemmas.{bad_card-none}
 use Rattle.issuer_setup.proofs.cards.Cards.find.Goals as goal
 

@@ -1,4 +1,4 @@
--- The pair that is kept for the card and the place of its key set is one of those that are kept.
+-- The pair for the card and the index of its key set is one of the stored pairs.
 use Rattle.std.proofs.Common.{◌<◌, length, sym, ◌∙◌}
 use Rattle.issuer_base.specs.ChipData.{dki}
 use Rattle.issuer_setup.proofs.KeptKeysLemmas.{kept-within}

@@ -1,4 +1,4 @@
--- The pair that is kept for the card and the place of its key set has the card's master keys; no place, no keys.
+-- The pair stored for the card and the index of its key set has the card's master keys; no index, no keys.
 use Rattle.std.proofs.Common.{◌<◌, length, sym, ◌∙◌}
 use Rattle.issuer_base.specs.ChipData.{dki}
 use Rattle.issuer_setup.proofs.KeptKeysLemmas.{kept-within, kept-keys, no-keys}

@@ -1,4 +1,4 @@
--- What is kept says the same as before.
+-- The keys are the same as before.
 use Rattle.std.proofs.Common.{◌≡◌}
 use Rattle.issuer_setup.proofs.kept_keys.KeptKeys.keep_all.Given as goal
 

@@ -1,4 +1,4 @@
--- The key sets that are kept are all ones that may stand.
+-- The stored key sets are valid.
 use Rattle.issuer_setup.proofs.KeyListLemmas.{bad_key-none}
 use Rattle.issuer_setup.proofs.key_sets.KeySets.as_slice.Goals as goal
 
