@@ -1,4 +1,4 @@
--- What goes with a reply: the longest front that fits of the commands that aren't done, and always a front of the queue from there on.
+-- What goes with a reply: the longest prefix that fits of the undone commands, so a part of the queue without a gap.
 use Rattle.std.proofs.Common.{◌≡◌, ◌≤◌, true, false, Option, None, Some, List, [], ◌++◌, length, take, drop}
 use Rattle.std.proofs.Common.{refl, ap, sym, ◌∙◌, subst}
 use Rattle.std.proofs.lemmas.Bool.{cond-true, cond-false, cond_both}

@@ -1,4 +1,4 @@
--- Which requests and numbers are of a card: just those that name it.
+-- Which requests and account and sequence numbers are of a card: just those that name it.
 use Rattle.std.proofs.Common.{◌≡◌, ℕ, List, true, false, refl, sym, subst}
 use Rattle.std.proofs.lemmas.Bool.{and_parts, and_from, eqb-true, eq-eqb, false_from_ne_true}
 use lib.Pointwise.{bytes_decides}

@@ -1,4 +1,4 @@
--- A card gets its commands in order: each batch is a front of what the queue has from the first undone command on.
+-- A card gets its commands in order: each batch is a prefix of the undone commands at the time.
 use Rattle.std.proofs.Common.{◌≡◌, ℕ, ◌≤◌, ◌<◌, true, Option, Some, List, [], ◌∷◌, ◌++◌, length, take, drop}
 use Rattle.std.proofs.Common.{ap, sym, ◌∙◌, subst, inl, inr, arith, append-nil, append_assoc}
 use Rattle.std.proofs.lemmas.Bool.{cond-true, cond_both, cases_lt}

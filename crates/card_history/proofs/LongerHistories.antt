@@ -1,4 +1,5 @@
--- A history with one more record at its end: each record stays at its place, and what each step keeps holds of every history.
+-- A history with one more record at its end: each record keeps its index, and what each step preserves holds of every
+-- history.
 use Rattle.std.proofs.Common.{◌≡◌, ℕ, zero, suc, List, [], ◌∷◌, ◌++◌, length, take, Some, refl, arith, ap, sym, ◌∙◌, subst, inl, inr, ◌⊎◌}
 use Rattle.std.proofs.Common.{append-nil, append_assoc}
 use Rattle.std.proofs.lemmas.List.{take-append-le, take_all}

@@ -1,4 +1,4 @@
--- A card's decisions are the decided records of the history that are of the card, each with its place.
+-- A card's decisions are the decided records of the history that are of the card, each with its index.
 use Rattle.std.proofs.Common.{◌≡◌, ℕ, zero, suc, ◌+◌, true, false, cond, List, [], ◌∷◌, Contains, Some, refl, sym, subst, inl, inr, ◌⊎◌, add-zero, arith}
 use Rattle.std.proofs.lemmas.Bool.{cond-true, cond-false, cases_Bool}
 use Rattle.std.specs.List.{slice_get}

@@ -1,4 +1,4 @@
--- What one more record of a shard does to a card's scripts, and what stays sure of them after every history.
+-- How one more record of a shard changes a card's scripts, and what holds of them after every history.
 use Rattle.std.proofs.Common.{◌≡◌, ℕ, ◌+◌, ◌≤◌, max, nat_lt, nat_le, ◌&&◌, ◌==◌, true, false, cond, Option, None, Some}
 use Rattle.std.proofs.Common.{List, [], ◌∷◌, ◌++◌, length, drop, refl, ap, sym, ◌∙◌, subst, inl, inr, ◌⊎◌, arith}
 use Rattle.std.proofs.lemmas.Bool.{cond-true, cond-false, cond_both, and_parts, leb-true, ltb-true, ltb-false}

@@ -1,4 +1,4 @@
--- Which record may come next in a shard's history, and which histories are legal.
+-- Which record is a valid successor of a shard's history, and which histories are legal.
 use Rattle.std.specs.Prelude.{◌≡◌, ◌≤◌, ℕ, List, take, slice_get, Some, IsTrue}
 use Rattle.issuer_base.specs.declared.command.Command.{Command}
 use Rattle.issuer_base.specs.declared.limits.TheConstants.{MAX_STATUS}

@@ -1,4 +1,4 @@
--- What the records of a shard say of a card: its decisions, its recorded counters and their window.
+-- What a shard's history states of a card: its decisions, its recorded ATCs and their window.
 use Rattle.std.specs.Prelude.{ℕ, ◌+◌, ◌≤◌, max, Bool, ◌&&◌, ◌==◌, nat_eq, if◌then◌else◌, List, [], ◌∷◌, Option, None, Some}
 use Rattle.std.specs.Cmp.Lexicographic.{pointwise}
 use Rattle.std.specs.List.{last_or}
@@ -37,7 +37,7 @@ is_of card request = pointwise nat_eq request.pan card.pan && request.psn == car
 unfoldable pub has_numbers : CardName → List ℕ → ℕ → Bool
 has_numbers card pan psn = pointwise nat_eq pan card.pan && psn == card.psn
 
--- the card's decisions among records of which the first stands at this place, oldest first
+-- the card's decisions among records of which the first has this index, oldest first
 abbrev pub decided_from : ℕ → CardName → List Entry → List Decision
 decided_from place card [] = []
 decided_from place card (Decided request reply ∷ records) =
@@ -51,13 +51,13 @@ decided_from place card (Status pan psn status ∷ records) = decided_from (plac
 abbrev pub decided : CardName → List Entry → List Decision
 decided card history = decided_from 0 card history
 
--- the greatest transaction counter among these decisions, or none
+-- the greatest ATC among these decisions, or none
 abbrev pub greatest : List Decision → Option ℕ
 greatest [] = None
 greatest (decision ∷ decisions) =
     Some (option_map_or (λ counter. max decision.request.atc counter) (greatest decisions) decision.request.atc)
 
--- a counter is below the window where a greatest counter is as far above it as the window goes, or farther
+-- an ATC is below the window if the greatest ATC is 64 or more above it
 abbrev pub IsBelow : Option ℕ → ℕ → Type 0
 IsBelow None counter = ⊥
 IsBelow (Some top) counter = counter + WINDOW ≤ top
@@ -70,7 +70,7 @@ queue card (Queued pan psn command ∷ records) =
 queue card (Decided request reply ∷ records) = queue card records
 queue card (Status pan psn status ∷ records) = queue card records
 
--- the statuses that a card was given, oldest first
+-- the statuses that were set for a card, oldest first
 abbrev pub statuses : CardName → List Entry → List ℕ
 statuses card [] = []
 statuses card (Status pan psn status ∷ records) =
@@ -78,6 +78,6 @@ statuses card (Status pan psn status ∷ records) =
 statuses card (Decided request reply ∷ records) = statuses card records
 statuses card (Queued pan psn command ∷ records) = statuses card records
 
--- a card's status: the last one that it was given, or 0
+-- a card's status: the last one that was set, or 0
 abbrev pub status_of : CardName → List Entry → ℕ
 status_of card history = unwrap_or (last_or None (statuses card history)) 0

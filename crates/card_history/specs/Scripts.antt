@@ -1,5 +1,5 @@
--- What the records of a shard say of a card's script commands: which of them are done, which are in flight, which one the next reply
--- carries, and whether the card's scripts are halted. EMV 4.3 Book 3, section 10.10.
+-- What a shard's history states of a card's issuer script commands: which are done, which are in flight, which the next
+-- reply carries, and whether the card's scripts are halted. EMV 4.3 Book 3, section 10.10.
 use Rattle.std.specs.Prelude.{ℕ, ◌+◌, nat_lt, Bool, true, false, if◌then◌else◌, List, [], ◌∷◌, ◌++◌, length, take, drop, fold, Option, Some, None}
 use Rattle.std.specs.Option.{option_map_or}
 use Rattle.issuer_base.specs.declared.command.Command.{Command}
@@ -15,8 +15,8 @@ use Rattle.script_queue.specs.CommandQueue.{CommandQueue}
 use Rattle.script_queue.specs.ScriptTemplate.{fitting_front}
 use Rattle.card_history.specs.Records.{CardName, is_of, has_numbers}
 
--- a card's scripts: all commands that were queued for it, the oldest first, the greatest counter that was decided, how many of the
--- commands are done, what is in flight, and whether no command is sent any more
+-- a card's scripts: all commands that were queued for it, the oldest first, the greatest decided ATC, how many of the
+-- commands are done, the batch in flight, and whether no command is sent any more
 pub record Scripts : Type 0 where
   pub queue : List Command
   pub hi : Option ℕ
@@ -24,7 +24,7 @@ pub record Scripts : Type 0 where
   pub flight : Option Flight
   pub halted : Bool
 
--- before any record
+-- a card's scripts before any record
 abbrev pub no_scripts : Scripts
 no_scripts = record { queue = []; hi = None; done = 0; flight = None; halted = false }
 
@@ -32,7 +32,7 @@ no_scripts = record { queue = []; hi = None; done = 0; flight = None; halted = f
 abbrev pub undone : Scripts → List Command
 undone scripts = drop scripts.done scripts.queue
 
--- the commands that wait for the card, and the number of all
+-- the undone commands, and the number of all
 abbrev pub waiting : Scripts → CommandQueue
 waiting scripts = record { queued = length scripts.queue; undone = undone scripts }
 
@@ -40,7 +40,7 @@ waiting scripts = record { queued = length scripts.queue; undone = undone script
 abbrev pub in_flight : Scripts → List Command
 in_flight scripts = option_map_or (λ flight. take flight.size (undone scripts)) scripts.flight []
 
--- a command is queued behind the others
+-- a command is appended to the queue
 abbrev pub with_command : Command → Scripts → Scripts
 with_command command scripts = record {
   queue = scripts.queue ++ command ∷ [];
@@ -50,20 +50,21 @@ with_command command scripts = record {
   halted = scripts.halted;
 }
 
--- what the card tells of the flight: so many more commands are done, or none, or the scripts are halted for good
+-- the scripts after the card's report of the flight: so many more commands are done, or none, or the scripts are halted
+-- for good
 abbrev pub settled_by : Settled → Scripts → Scripts
 settled_by (Ran count) scripts =
     record { queue = scripts.queue; hi = scripts.hi; done = scripts.done + count; flight = None; halted = scripts.halted }
 settled_by Nothing scripts = record { queue = scripts.queue; hi = scripts.hi; done = scripts.done; flight = None; halted = scripts.halted }
 settled_by Halt scripts = record { queue = scripts.queue; hi = scripts.hi; done = scripts.done; flight = None; halted = true }
 
--- the flight with the reply on this counter: the longest front of the undone commands that one template carries, possibly none of
--- them; nothing flies to a card whose scripts are halted
+-- the flight of the reply on this ATC: the longest prefix of the undone commands that one template carries, possibly
+-- empty; there is none if the card's scripts are halted
 abbrev pub flight_from : ℕ → Scripts → Option Flight
 flight_from counter scripts =
     if scripts.halted then None else Some (record { counter = counter; size = length (fitting_front (undone scripts)) })
 
--- the reply on this counter takes off, which is the greatest one now
+-- the scripts once the flight of the reply on this ATC has begun; the ATC is the greatest one now
 abbrev pub launched : ℕ → Scripts → Scripts
 launched counter scripts = record {
   queue = scripts.queue;
@@ -73,20 +74,20 @@ launched counter scripts = record {
   halted = scripts.halted;
 }
 
--- a decision on a counter above the greatest: the flight settles by what the request's application data tell, and the next takes off
+-- a decision on an ATC above the greatest: the request's application data settle the flight, and the next one begins
 abbrev pub with_newest : Request → Scripts → Scripts
 with_newest request scripts =
     launched request.atc (settled_by (settled scripts.flight (last_online request) (script_count request)) scripts)
 
--- whether a counter is above the greatest one, or the first
+-- whether an ATC is above the greatest one, or the first
 abbrev pub is_newest : ℕ → Option ℕ → Bool
 is_newest counter greatest = option_map_or (λ top. nat_lt top counter) greatest true
 
--- a decision: one that isn't on the newest counter settles nothing, and leaves the flight
+-- a decision: one that isn't on the newest ATC settles nothing, and leaves the flight
 abbrev pub with_decision : Request → Scripts → Scripts
 with_decision request scripts = if is_newest request.atc scripts.hi then with_newest request scripts else scripts
 
--- what one record of the shard does to the card's scripts
+-- the card's scripts after one more record of the shard
 abbrev pub after_record : CardName → Scripts → Entry → Scripts
 after_record card scripts (Decided request reply) = if is_of card request then with_decision request scripts else scripts
 after_record card scripts (Queued pan psn command) = if has_numbers card pan psn then with_command command scripts else scripts
@@ -96,7 +97,7 @@ after_record card scripts (Status pan psn status) = scripts
 abbrev pub scripts_of : CardName → List Entry → Scripts
 scripts_of card history = fold (after_record card) no_scripts history
 
--- the batch that goes with the reply to this request: the new flight's commands, and none where the counter isn't the newest
+-- the batch that goes with the reply to this request: the new flight's commands, and none if the ATC isn't the newest
 abbrev pub batch_of : Request → Scripts → List Command
 batch_of request scripts = if is_newest request.atc scripts.hi then in_flight (with_newest request scripts) else []
 

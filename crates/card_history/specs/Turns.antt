@@ -14,39 +14,39 @@ use Rattle.script_queue.specs.CommandQueue.{TakesOneMore}
 use Rattle.card_history.specs.Records.{CardName, decided, card_of, greatest, IsBelow}
 use Rattle.card_history.specs.Scripts.{waiting, scripts_of}
 
--- the counter of the request is in the window of these decisions, and none of them is on it
+-- the request's ATC is in the window of these decisions, and none of them has it
 pub record IsUnused (decisions : List Decision) (request : Request) : Type 0 where
   pub in_window : IsBelow (greatest decisions) request.atc → ⊥
   pub unrecorded : All (λ decision. decision.request.atc ≢ request.atc) decisions
 
--- the counter is in the window, and this decision is on it
+-- the request's ATC is in the window, and this decision has it
 pub record IsUsed (decisions : List Decision) (request : Request) (decision : Decision) : Type 0 where
   pub in_window : IsBelow (greatest decisions) request.atc → ⊥
   pub recorded : Contains decisions decision
   pub same_counter : decision.request.atc ≡ request.atc
 
--- the counter is below the window that this greatest counter shows
+-- the request's ATC is below the window of this greatest ATC
 pub record IsTooOld (decisions : List Decision) (request : Request) (top : ℕ) : Type 0 where
   pub greatest_is : greatest decisions ≡ Some top
   pub below : request.atc + WINDOW ≤ top
 
--- what the shard has decided for the request's card
+-- the decisions of the request's card in the shard's history
 abbrev pub decided_for : Request → List Entry → List Decision
 decided_for request history = decided (card_of request) history
 
 -- what shard number `shard` may answer to a request, and its history afterwards; `reply_to` is the issuer's decision after a history
 abbrev pub Answers : ℕ → (List Entry → Request → Reply) → List Entry → Request → Answer → List Entry → Type 0
--- a new counter is decided, and its record stands at the place after the last
+-- an unused ATC is decided, and its record has the index after the last
 Answers shard reply_to before request (Fresh at place reply) after =
     IsUnused (decided_for request before) request × (at ≡ shard) × (place ≡ length before) × (reply ≡ reply_to before request)
     × (after ≡ before ++ Decided request reply ∷ [])
--- the same request again gets the reply that is kept for it
+-- a repeat gets its stored reply
 Answers shard reply_to before request (Kept at place reply) after =
     IsUsed (decided_for request before) request (record { request = request; reply = reply; place = place }) × (at ≡ shard) × (after ≡ before)
--- a counter below the window is too old
+-- an ATC below the window is too old
 Answers shard reply_to before request (Refused (Below top)) after =
     IsTooOld (decided_for request before) request top × (after ≡ before)
--- a counter that another request was decided on is taken
+-- an ATC on which another request was decided is taken
 Answers shard reply_to before request (Refused (Taken at place)) after =
     ((decision : Decision) × IsUsed (decided_for request before) request decision × (decision.place ≡ place) × (decision.request ≢ request))
     × (at ≡ shard) × (after ≡ before)
@@ -55,11 +55,11 @@ Answers shard reply_to before request _ after = ⊥
 
 -- what shard number `shard` may answer to a command for this card, and its history afterwards
 abbrev pub AnswersCommand : ℕ → List Entry → CardName → Command → Answer → List Entry → Type 0
--- a command that the card's queue takes waits for the card, and its record stands at the place after the last
+-- a command that the card's queue accepts is queued, and its record has the index after the last
 AnswersCommand shard before card command (Queued at place) after =
     TakesOneMore (waiting (scripts_of card before)) × (at ≡ shard) × (place ≡ length before)
     × (after ≡ before ++ IsQueued card.pan card.psn command ∷ [])
--- one that it doesn't take is refused
+-- one that the queue doesn't accept is refused
 AnswersCommand shard before card command (Refused QueueFull) after =
     (TakesOneMore (waiting (scripts_of card before)) → ⊥) × (after ≡ before)
 -- no other answer is possible
