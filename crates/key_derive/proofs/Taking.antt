@@ -1,4 +1,4 @@
--- Digits that are taken from nibbles until there are sixteen.
+-- Digits that are collected from nibbles until there are sixteen.
 use Rattle.std.proofs.Common.{◌≡◌, ℕ, zero, suc, ◌+◌, ◌-◌, ◌<◌, ◌≤◌, Bool, true, false, not, cond, List, [], ◌∷◌, ◌++◌, length, get_or, take, refl}
 use Rattle.std.proofs.Common.{sym, ap, ◌∙◌, map, filter, append_assoc, arith, le-leb}
 use Rattle.std.proofs.lemmas.Bool.{lt-leb}

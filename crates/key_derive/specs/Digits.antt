@@ -3,7 +3,7 @@ use Rattle.std.specs.Prelude.{ℕ, ◌+◌, ◌-◌, ◌*◌, ◌%◌, Bool, not
 use Rattle.std.specs.List.{flat_map}
 use Rattle.issuer_base.specs.ChipData.{digits_of}
 
--- the bytes that digits make, two in a byte, the first in the high nibble
+-- the digits packed two in a byte, the first in the high nibble
 unfoldable pub packed : List ℕ → List ℕ
 packed [] = []
 packed (digit ∷ []) = []
@@ -13,11 +13,11 @@ packed (high ∷ low ∷ digits) = (16 * high + low) ∷ packed digits
 abbrev pub card_digits : List ℕ → ℕ → List ℕ
 card_digits pan psn = pan ++ digits_of psn
 
--- the rightmost sixteen of some digits, with zeros on the left where there are fewer
+-- the rightmost sixteen of some digits, padded with zeros on the left if there are fewer
 unfoldable pub rightmost16 : List ℕ → List ℕ
 rightmost16 digits = drop (length digits) (replicate 16 0 ++ digits)
 
--- the digits with one zero on the left where their number is odd
+-- the digits, padded with one zero on the left if their number is odd
 unfoldable pub evened : List ℕ → List ℕ
 evened digits = replicate (length digits % 2) 0 ++ digits
 
@@ -29,7 +29,7 @@ is_digit nibble = nat_le nibble 9
 abbrev pub letters : List ℕ → List ℕ
 letters nibbles = map (λ letter. letter - 10) (filter (λ nibble. not (is_digit nibble)) nibbles)
 
--- the first sixteen decimal nibbles of a digest; where there are fewer, its nibbles A to F follow, as 0 to 5
+-- the first sixteen decimal nibbles of a digest; if there are fewer, its nibbles A to F follow, as 0 to 5: Annex A1.4.2
 unfoldable pub decimal16 : List ℕ → List ℕ
 decimal16 digest =
     let nibbles = flat_map digits_of digest in

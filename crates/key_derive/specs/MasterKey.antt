@@ -22,8 +22,8 @@ diversified imk block = map with_odd_parity (tdes_encipher imk block ++ tdes_enc
 unfoldable pub option_a : List ℕ → List ℕ → ℕ → List ℕ
 option_a imk pan psn = diversified imk (packed (rightmost16 (card_digits pan psn)))
 
--- option B, Annex A1.4.2: where the account number has more than sixteen digits, the block is sixteen decimal
--- digits of the digest of all its digits and those of the sequence number; otherwise it is option A
+-- option B, Annex A1.4.2: if the account number has more than sixteen digits, the block is sixteen decimal digits of
+-- the digest of all its digits and those of the sequence number; otherwise it is option A
 unfoldable pub option_b : List ℕ → List ℕ → ℕ → List ℕ
 option_b imk pan psn =
     if nat_le (length pan) 16 then option_a imk pan psn

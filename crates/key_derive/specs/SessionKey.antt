@@ -6,11 +6,11 @@ use Rattle.des_block.specs.Cipher.{tdes_encipher}
 unfoldable pub session_key : List ℕ → List ℕ → List ℕ
 session_key mk value = tdes_encipher mk (slice_set value 2 0xF0) ++ tdes_encipher mk (slice_set value 2 0x0F)
 
--- the transaction counter in two bytes, the more significant first
+-- the ATC in two bytes, big-endian
 abbrev pub counter_bytes : ℕ → List ℕ
 counter_bytes atc = atc / 256 ∷ atc % 256 ∷ []
 
--- the key for cryptograms: the value is the transaction counter and six zeros
+-- the key for cryptograms: the value is the ATC and six zeros
 unfoldable pub session_ac : List ℕ → ℕ → List ℕ
 session_ac mk atc = session_key mk (counter_bytes atc ++ replicate 6 0)
 

@@ -15,17 +15,17 @@ pub struct KeySet {
     /// The derivation key index.
     pub dki: u8,
 
-    /// How a card's keys are derived from these.
+    /// The option by which a card's keys are derived from these.
     pub option: MasterOption,
 
     /// The issuer's master key for application cryptograms.
     pub ac: Key16,
 
-    /// The issuer's master key for the integrity of secure messages.
+    /// The issuer's master key for secure messaging for integrity.
     pub smi: Key16,
 }
 
-/// The index 0, option A and keys of zeros: what fills the unused places of an array of key sets.
+/// The index 0, option A and keys of zeros: what fills the unused elements of an array of key sets.
 impl Default for KeySet {
     ghost use Rattle.std.specs.Prelude.{◌≡◌, replicate};
     ghost use Rattle.issuer_base.specs.declared.answer.MasterOption.TheVariants.{A};
@@ -48,11 +48,11 @@ pub struct CardKeys {
     /// For application cryptograms.
     pub ac: Key16,
 
-    /// For the integrity of secure messages.
+    /// For secure messaging for integrity.
     pub smi: Key16,
 }
 
-/// A key set with its master keys set up, once for all cards.
+/// A key set with its master keys' key schedules, computed once for all cards.
 ///
 /// A contract sees the key set.
 #[derive(Drop)]
@@ -62,7 +62,7 @@ pub struct MasterCiphers {
     /// For application cryptograms.
     ac: Tdes,
 
-    /// For the integrity of secure messages.
+    /// For secure messaging for integrity.
     smi: Tdes,
 }
 
@@ -78,7 +78,7 @@ impl Model for MasterCiphers {
 }
 
 impl MasterCiphers {
-    /// Sets up both master keys of the key set.
+    /// Computes the key schedules of both master keys of the key set.
     pub fn new(set: &KeySet) -> MasterCiphers
         ensures { result ≡ set.now }
     {
@@ -89,7 +89,7 @@ impl MasterCiphers {
         }
     }
 
-    /// The master keys of a card from those of this key set. Sets up no key, and enciphers four blocks.
+    /// The master keys of a card from those of this key set. Computes no key schedule, and enciphers four blocks.
     pub fn card_keys(&self, pan: &Pan, psn: u8) -> CardKeys
         ensures { result ≡ card_keys self.now pan.now psn }
     {
@@ -115,8 +115,8 @@ impl MasterCiphers {
     }
 }
 
-/// The master keys of a card from those of its issuer, which are set up for it. Of several cards, set up
-/// [`MasterCiphers`] once.
+/// The master keys of a card from those of its issuer, whose key schedules are computed for it. For several
+/// cards, use one [`MasterCiphers`].
 pub fn card_keys(set: &KeySet, pan: &Pan, psn: u8) -> CardKeys
     ensures { result ≡ card_keys set.now pan.now psn }
 {

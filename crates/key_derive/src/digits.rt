@@ -8,8 +8,8 @@ ghost use Rattle.key_derive.specs.Digits.{packed, card_digits, is_digit, letters
 use issuer_base::Pan;
 use std::marker::Model;
 
-/// Sixteen decimal digits of a digest, two in a byte: its decimal nibbles from the left and, where they
-/// are fewer, its nibbles A to F as 0 to 5. EMV 4.3 Book 2, Annex A1.4.2.
+/// Sixteen decimal digits of a digest, two in a byte: its decimal nibbles from the left and, if they are
+/// fewer, its nibbles A to F as 0 to 5. EMV 4.3 Book 2, Annex A1.4.2.
 pub fn decimal16(digest: &[u8; 20]) -> [u8; 8]
     ensures { result ≡ decimal16 digest.now }
 {
@@ -30,9 +30,9 @@ fn nibbles_of(bytes: &[u8; 20]) -> [u8; 40]
     nibbles
 }
 
-/// Digits that are taken one at a time until there are sixteen.
+/// Digits that are collected one at a time until there are sixteen.
 ///
-/// A contract sees the list of the digits taken.
+/// A contract sees the list of the collected digits.
 #[derive(Drop)]
 struct Taken {
     digits: [u8; 16],
@@ -70,7 +70,7 @@ impl Taken {
     }
 }
 
-/// The first sixteen digits that these nibbles give: the decimal ones, and after them A to F as 0 to 5.
+/// The first sixteen digits of these nibbles: the decimal ones, and after them A to F as 0 to 5.
 fn sixteen_of(nibbles: &[u8; 40]) -> Taken
     requires { (k : ℕ) → slice_index nibbles.now k < 16 }
     ensures { result ≡ take 16 (filter is_digit nibbles.now ++ letters nibbles.now) }
@@ -97,7 +97,7 @@ pub fn written(pan: &Pan, psn: u8) -> [u8; 11]
     packed(&row_of(pan, psn))
 }
 
-// An account number has at most 19 digits, so the row begins with a zero at least.
+// An account number has at most 19 digits, so the row begins with at least one zero.
 fn row_of(pan: &Pan, psn: u8) -> [u8; 22]
     ensures exact { result ≡ replicate (20 - length pan.now) 0 ++ card_digits pan.now psn }
     ensures nibbles { (k : ℕ) → slice_index result k < 16 }
@@ -112,7 +112,7 @@ fn row_of(pan: &Pan, psn: u8) -> [u8; 22]
     row
 }
 
-/// The bytes that digits make, two in a byte.
+/// The digits packed two in a byte, the first in the high nibble.
 fn packed<const N: usize>(digits: &[u8]) -> [u8; N]
     requires pairs { length digits.now ≡ 2 * N }
     requires nibbles { (k : ℕ) → slice_index digits.now k < 16 }

@@ -1,4 +1,4 @@
-//! A card's master keys, of which the one for cryptograms can be kept set up.
+//! A card's master keys, of which the one for cryptograms can be cached with its key schedule.
 ghost use Rattle.std.specs.Prelude.{◌≡◌};
 ghost use Rattle.key_derive.specs.CardKey.{card_keys};
 ghost use Rattle.key_derive.specs.SessionKey.{session_ac};
@@ -10,15 +10,15 @@ use des_block::{Key16, Tdes};
 use issuer_base::Pan;
 use std::marker::Model;
 
-/// A card's master keys as its issuer has them: underived at first, and from the time that it is asked to keep it on with the one for
-/// application cryptograms set up, which takes 256 bytes of its 304.
+/// A card's master keys, derived on demand. [`CardSecrets::keep`] derives the key for application cryptograms once and
+/// caches its key schedule, in 256 of the value's 304 bytes.
 ///
 /// A contract sees the pair of keys, which is the same before and after.
 #[derive(Drop)]
 pub struct CardSecrets {
     keys: LazyKeys,
 
-    /// The key for application cryptograms, where it is kept.
+    /// The key schedule of the key for application cryptograms, if it is cached.
     ac: Option<Tdes>,
 }
 
@@ -35,7 +35,8 @@ impl Model for CardSecrets {
 }
 
 impl CardSecrets {
-    /// The master keys of a card from those of its issuer, of which none is derived yet. It sets up no key and enciphers nothing.
+    /// The master keys of a card from those of its issuer, of which none is derived yet. Computes no key schedule and
+    /// enciphers nothing.
     pub fn of(set: &KeySet, pan: &Pan, psn: u8) -> CardSecrets
         ensures { result ≡ card_keys set.now pan.now psn }
     {
@@ -45,15 +46,15 @@ impl CardSecrets {
         }
     }
 
-    /// The master keys, of which none is derived by this.
+    /// The master keys. This derives none.
     pub fn keys(&self) -> LazyKeys
         ensures { result ≡ self.now }
     {
         self.keys.copy()
     }
 
-    /// The session key for the cryptograms of the transaction with this counter. Where the master key is kept, it sets up one key and
-    /// enciphers two blocks; else three keys and four blocks.
+    /// The session key for the cryptograms of the transaction with this ATC. If the master key is cached, this computes
+    /// one key schedule and enciphers two blocks; else three key schedules and four blocks.
     pub fn session(&self, atc: u16) -> SessionKey
         ensures { result ≡ session_ac self.now.ac.0 atc }
     {
@@ -63,8 +64,8 @@ impl CardSecrets {
         }
     }
 
-    /// Keeps the key for application cryptograms. Where it isn't kept yet, it sets up the issuer's master key, enciphers two blocks, and
-    /// sets up the card's.
+    /// Caches the key for application cryptograms. If it isn't cached yet, this computes the issuer's key schedule,
+    /// enciphers two blocks, and computes the card's key schedule.
     pub fn keep(&mut self)
         ensures { self.new ≡ self.old }
     {
@@ -74,8 +75,8 @@ impl CardSecrets {
         }
     }
 
-    /// Keeps the key for application cryptograms, as [`CardSecrets::keep`] does. Of a card of this key set, the issuer's master key isn't
-    /// set up again.
+    /// Caches the key for application cryptograms, as [`CardSecrets::keep`] does. For a card of this key set, the
+    /// issuer's key schedule isn't computed again.
     pub fn keep_by(&mut self, ciphers: &MasterCiphers)
         ensures { self.new ≡ self.old }
     {
@@ -85,7 +86,7 @@ impl CardSecrets {
         }
     }
 
-    /// Keeps this key, which is the one for application cryptograms.
+    /// Caches the key schedule of this key, which is the one for application cryptograms.
     fn keep_key(&mut self, ac: Key16)
         requires { ac ≡ self.old.ac }
         ensures { self.new ≡ self.old }

@@ -1,4 +1,4 @@
-//! A card's master keys, which are derived when they are asked for.
+//! A card's master keys, derived on demand.
 ghost use Rattle.std.specs.Prelude.{◌≡◌};
 ghost use Rattle.key_derive.specs.CardKey.{card_keys};
 
@@ -8,8 +8,8 @@ use des_block::{Key16, Tdes};
 use issuer_base::Pan;
 use std::marker::Model;
 
-/// A card's master keys. None of them need be derived before it is asked for: a host sees few of its cards often, and few replies
-/// carry a secure message.
+/// A card's master keys, derived on demand: a host sees few of its cards often, and few replies carry an issuer script
+/// command.
 ///
 /// A contract sees the pair of keys.
 #[derive(Drop)]
@@ -17,13 +17,13 @@ pub struct LazyKeys {
     source: KeySource,
 }
 
-/// Where a card's master keys come from.
+/// The keys, or what they are derived from.
 #[derive(Clone, Copy)]
 pub(crate) enum KeySource {
-    /// They are these.
+    /// These keys.
     Derived(CardKeys),
 
-    /// They are what the issuer's master keys make of this block of digits.
+    /// The keys derived from this block of digits by the issuer's master keys.
     Underived {
         ac: Key16,
         smi: Key16,
@@ -41,8 +41,8 @@ impl Model for LazyKeys {
 }
 
 impl LazyKeys {
-    /// The master keys of a card from those of its issuer, of which none is derived yet. It sets up no key and enciphers nothing; option
-    /// B hashes an account number of more than sixteen digits.
+    /// The master keys of a card from those of its issuer, of which none is derived yet. Computes no key schedule and
+    /// enciphers nothing; option B hashes an account number of more than sixteen digits.
     pub fn of(set: &KeySet, pan: &Pan, psn: u8) -> LazyKeys
         ensures { result ≡ card_keys set.now pan.now psn }
     {
@@ -55,8 +55,8 @@ impl LazyKeys {
         }
     }
 
-    /// The key for application cryptograms. Where it isn't derived yet, it sets up the issuer's master key and enciphers two
-    /// blocks, each time it is called.
+    /// The key for application cryptograms. If it isn't derived yet, each call computes the issuer's key schedule and
+    /// enciphers two blocks.
     pub fn ac(&self) -> Key16
         ensures { result ≡ self.now.ac }
     {
@@ -66,7 +66,7 @@ impl LazyKeys {
         }
     }
 
-    /// The key for the integrity of secure messages, at the same cost.
+    /// The key for secure messaging for integrity, at the same cost.
     pub fn smi(&self) -> Key16
         ensures { result ≡ self.now.smi }
     {
@@ -86,7 +86,7 @@ impl LazyKeys {
         }
     }
 
-    /// A copy, in which no more is derived.
+    /// A copy. It derives nothing.
     pub fn copy(&self) -> LazyKeys
         ensures { result ≡ self.now }
     {
@@ -95,8 +95,8 @@ impl LazyKeys {
         }
     }
 
-    /// The key for application cryptograms. Where it is to be derived from the master key that these ciphers have set up, it sets up
-    /// none.
+    /// The key for application cryptograms. If it is to be derived from the master key of these ciphers, this computes
+    /// no key schedule.
     pub(crate) fn ac_by(&self, ciphers: &MasterCiphers) -> Key16
         ensures { result ≡ self.now.ac }
     {
@@ -109,7 +109,7 @@ impl LazyKeys {
     }
 }
 
-/// Keys that are both derived.
+/// The keys, both derived already.
 impl From<CardKeys> for LazyKeys {
     ghost use Rattle.std.specs.Prelude.{◌≡◌};
 

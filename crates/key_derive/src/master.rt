@@ -13,15 +13,15 @@ use sha1::Sha1;
 const LONGEST_UNHASHED: usize = 16;
 
 /// A card's master key by option A: EMV 4.3 Book 2, Annex A1.4.1. The sequence number is two decimal
-/// digits, 00 where the card has none. Sets up one key and enciphers two blocks.
+/// digits, 00 if the card has none. Computes one key schedule and enciphers two blocks.
 pub fn option_a(imk: &Key16, pan: &Pan, psn: u8) -> Key16
     ensures { result.0 ≡ option_a imk.now.0 pan.now psn }
 {
     diversified(&Tdes::new(imk), block_a(pan, psn))
 }
 
-/// A card's master key by option B: EMV 4.3 Book 2, Annex A1.4.2. An account number of at most sixteen
-/// digits gives the key of option A, and a longer one is hashed.
+/// A card's master key by option B: EMV 4.3 Book 2, Annex A1.4.2. For an account number of at most sixteen
+/// digits it is the key of option A; a longer one is hashed.
 pub fn option_b(imk: &Key16, pan: &Pan, psn: u8) -> Key16
     ensures exact { result.0 ≡ option_b imk.now.0 pan.now psn }
     ensures short { length pan.now ≤ 16 → result.0 ≡ option_a imk.now.0 pan.now psn }
@@ -36,7 +36,7 @@ pub fn master_key(option: MasterOption, imk: &Key16, pan: &Pan, psn: u8) -> Key1
     diversified(&Tdes::new(imk), block_of(option, pan, psn))
 }
 
-/// The block that an issuer's master key makes a card's of by this option, for any such key.
+/// The block from which any issuer's master key derives a card's by this option.
 pub(crate) fn block_of(option: MasterOption, pan: &Pan, psn: u8) -> [u8; 8]
     ensures { (imk : List ℕ) → master_key option imk pan.now psn ≡ diversified imk result }
 {
@@ -65,13 +65,13 @@ fn block_b(pan: &Pan, psn: u8) -> [u8; 8]
     if len <= LONGEST_UNHASHED {
         return block_a(pan, psn);
     }
-    // The bytes before the first digit or, where the digits are odd in number, before the zero in front of it.
+    // The bytes before the first digit or, if the number of digits is odd, before the zero that pads them.
     let unused = 11 - (len + 3) / 2;
     let digest = Sha1::digest(&written(pan, psn)[unused..]);
     decimal16(&digest)
 }
 
-/// The key that an issuer's master key, set up in this cipher, gives for a block of sixteen digits.
+/// The key derived from a block of sixteen digits by the issuer's master key of this cipher.
 pub(crate) fn diversified(tdes: &Tdes, block: [u8; 8]) -> Key16
     ensures { (imk : List ℕ) → HasKeyPair tdes.now imk → result.0 ≡ diversified imk block }
 {
@@ -79,7 +79,7 @@ pub(crate) fn diversified(tdes: &Tdes, block: [u8; 8]) -> Key16
     in_odd_parity(joined(left, right))
 }
 
-/// The block with each bit turned over.
+/// The block with each bit inverted.
 fn complement(mut block: [u8; 8]) -> [u8; 8]
     ensures { result ≡ complement block }
 {
@@ -99,7 +99,7 @@ pub fn joined(left: [u8; 8], right: [u8; 8]) -> Key16
     Key16(bytes)
 }
 
-/// The key with each byte in odd parity. In a function of its own the compiler takes all bytes in one step.
+/// The key with each byte in odd parity. In a function of its own the compiler handles all bytes in one step.
 #[inline(never)]
 fn in_odd_parity(key: Key16) -> Key16
     ensures { result.0 ≡ map with_odd_parity key.0 }

@@ -8,7 +8,7 @@ use crate::master::joined;
 use des_block::{Key16, Tdes};
 use std::marker::Model;
 
-/// The session key for the cryptograms of one transaction, set up once for the check and for the reply.
+/// The session key for the cryptograms of one transaction, with its key schedule for both the check and the reply.
 ///
 /// A contract sees the list of its sixteen bytes.
 #[derive(Drop)]
@@ -29,15 +29,15 @@ impl Model for SessionKey {
 }
 
 impl SessionKey {
-    /// The key of the transaction with this counter, from the card's master key for cryptograms, as `session_ac` gives it.
-    /// Sets up the master key and the session key, and enciphers two blocks.
+    /// The key of the transaction with this ATC, from the card's master key for cryptograms, as `session_ac` computes
+    /// it. Computes the key schedules of the master key and of the session key, and enciphers two blocks.
     pub fn for_cryptograms(master: &Key16, atc: u16) -> SessionKey
         ensures { result ≡ session_ac master.now.0 atc }
     {
         SessionKey::under(&Tdes::new(master), atc)
     }
 
-    /// The same key, from the card's master key set up in this cipher. Sets up the session key, and enciphers two blocks.
+    /// The same key, from the card's master key of this cipher. Computes one key schedule, and enciphers two blocks.
     pub fn under(master: &Tdes, atc: u16) -> SessionKey
         ensures { (mk : List ℕ) → HasKeyPair master.now mk → result ≡ session_ac mk atc }
     {
@@ -54,8 +54,8 @@ impl SessionKey {
     }
 }
 
-/// The session key for a transaction's cryptograms, from the card's master key and its transaction counter:
-/// EMV 4.3 Book 2, Annex A1.3.1. Sets up one key and enciphers two blocks.
+/// The session key for a transaction's cryptograms, from the card's master key and the ATC: EMV 4.3 Book 2,
+/// Annex A1.3.1. Computes one key schedule and enciphers two blocks.
 pub fn session_ac(mk: &Key16, atc: u16) -> Key16
     ensures { result.0 ≡ session_ac mk.now.0 atc }
 {
@@ -69,7 +69,7 @@ fn session_ac_under(master: &Tdes, atc: u16) -> Key16
     session_key(master, [high, low, 0, 0, 0, 0, 0, 0])
 }
 
-/// The session key for a transaction's secure messages, from the card's master key and the application
+/// The session key for a transaction's secure messaging, from the card's master key and the application
 /// cryptogram of the first GENERATE AC: EMV 4.3 Book 2, Annex A1.3.1.
 pub fn session_sm(mk: &Key16, ac: &[u8; 8]) -> Key16
     ensures { result.0 ≡ session_sm mk.now.0 ac.now }

@@ -1,4 +1,4 @@
--- Forty nibbles give digits and letters enough, so sixteen are taken, and packed two in a byte.
+-- Forty nibbles have digits and letters enough, so sixteen are collected, and packed two in a byte.
 use Rattle.std.proofs.Common.{◌≡◌, ◌≤◌, ◌++◌, filter, take, length, ap, ◌∙◌, arith, rules}
 use Rattle.key_derive.specs.Digits.{decimal16, packed, is_digit, letters}
 use Rattle.key_derive.proofs.Taking.{taken-all, length-digits-letters}

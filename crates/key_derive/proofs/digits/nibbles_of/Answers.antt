@@ -1,4 +1,4 @@
--- Both nibbles of the next byte stand behind those of the bytes before.
+-- Both nibbles of the next byte follow those of the bytes before.
 use Rattle.std.proofs.Common.{◌<◌, ◌*◌, get_or, refl, ap, ◌∙◌, sym, arith, rules}
 use Rattle.std.proofs.lemmas.List.{take_all, length-set}
 use Rattle.std.specs.List.{flat_map}

@@ -1,4 +1,4 @@
--- The front of the row has the nibbles of the bytes so far, and each is below sixteen.
+-- The row's prefix has the nibbles of the bytes so far, and each is below sixteen.
 use Rattle.std.proofs.Common.{◌≡◌, ◌*◌, take, length}
 use Rattle.std.specs.List.{flat_map}
 use Rattle.issuer_base.specs.ChipData.{digits_of}

@@ -1,4 +1,4 @@
--- All pairs of digits are packed, so the bytes are what the digits make.
+-- All pairs of digits are packed, so the bytes are the packed digits.
 use Rattle.std.proofs.Common.{arith}
 use Rattle.key_derive.proofs.Packing.{packed-all}
 use Rattle.key_derive.proofs.digits.packed.Goals as goal

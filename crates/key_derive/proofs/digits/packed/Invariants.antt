@@ -1,4 +1,4 @@
--- Each byte so far is made of its two digits.
+-- Each byte so far is packed from its two digits.
 use Rattle.std.proofs.Common.{◌≡◌, ℕ, ◌+◌, ◌*◌, ◌<◌, length, get_or}
 use Rattle.key_derive.proofs.digits.packed.Given as goal
 

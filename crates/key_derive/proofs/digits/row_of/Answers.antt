@@ -1,4 +1,4 @@
--- An account number has at most 19 digits, so it fits into the row with its card's number behind it.
+-- An account number has at most 19 digits, so it fits into the row, followed by the card's sequence number.
 use Rattle.std.proofs.Common.{sym, refl, subst, arith}
 use Rattle.issuer_base.proofs.CardNumberLemmas.{length-pan}
 use Rattle.key_derive.proofs.Packing.{row-written, length-row_part}

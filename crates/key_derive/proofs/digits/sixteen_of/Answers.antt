@@ -1,4 +1,4 @@
--- A nibble that is a digit, and after all digits one that is a letter, is taken behind the others; any other is passed over.
+-- A nibble that is a digit, and after all digits one that is a letter, is appended; any other is skipped.
 use Rattle.std.proofs.Common.{◌∙◌, filter, arith}
 use Rattle.key_derive.specs.Digits.{is_digit}
 use Rattle.key_derive.proofs.Taking.{digits-taken, digits-passed_over, letters-taken, letters-passed_over}

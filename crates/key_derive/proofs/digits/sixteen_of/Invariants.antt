@@ -1,4 +1,4 @@
--- Taken are the first sixteen of the digits so far, and then of all digits and the letters so far.
+-- Collected are the first sixteen of the digits so far, and then of all digits and the letters so far.
 use Rattle.std.proofs.Common.{◌≡◌, ◌++◌, take, filter}
 use Rattle.key_derive.specs.Digits.{is_digit, letters}
 use Rattle.key_derive.proofs.digits.sixteen_of.Given as goal

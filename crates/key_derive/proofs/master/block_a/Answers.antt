@@ -1,4 +1,4 @@
--- The last eight bytes of the written card number are the sixteen digits that option A takes.
+-- The last eight bytes of the packed card number are the sixteen digits of option A.
 use Rattle.std.proofs.Common.{◌≡◌, length, drop, sym, ap, ◌∙◌, arith, rules}
 use Rattle.std.proofs.lemmas.List.{take_all, length-drop}
 use Rattle.key_derive.specs.MasterKey.{diversified, option_a}

@@ -1,4 +1,4 @@
--- A short account number goes by option A; a long one is hashed without the zeros before it.
+-- A short account number uses option A; a long one is hashed without the zeros before it.
 use Rattle.std.proofs.Common.{◌≡◌, ◌<◌, ◌≤◌, ◌+◌, ◌-◌, ◌/◌, length, drop, sym, ap, ◌∙◌, arith, rules}
 use Rattle.std.proofs.lemmas.List.{take_all, length-drop}
 use Rattle.sha1.specs.Sha1.{sha1}

@@ -1,4 +1,4 @@
--- One more byte has all its bits turned over.
+-- One more byte has all its bits inverted.
 use Rattle.std.proofs.Common.{bit_xor, refl, arith}
 use Rattle.key_derive.proofs.Blocks.{map-over}
 use Rattle.key_derive.proofs.master.complement.Goals as goal

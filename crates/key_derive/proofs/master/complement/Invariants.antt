@@ -1,4 +1,4 @@
--- The bytes so far have all their bits turned over, and the others stand as they were.
+-- The bytes so far have all their bits inverted, and the others are unchanged.
 use Rattle.std.proofs.Common.{◌≡◌, ◌++◌, map, take, drop, bit_xor}
 use Rattle.key_derive.proofs.master.complement.Given as goal
 

@@ -1,4 +1,4 @@
--- The bytes so far are set to odd parity, and the others stand as they were.
+-- The bytes so far are set to odd parity, and the others are unchanged.
 use Rattle.std.proofs.Common.{◌≡◌, ◌++◌, map, take, drop}
 use Rattle.key_derive.specs.MasterKey.{with_odd_parity}
 use Rattle.key_derive.proofs.master.in_odd_parity.Given as goal

@@ -1,4 +1,4 @@
--- The two bytes of the counter, and zeros behind, are what the session key for cryptograms is made of.
+-- The session key for cryptograms is derived from the two bytes of the ATC, followed by zeros.
 use Rattle.std.proofs.Common.{◌≡◌, ◌/◌, ◌%◌, [], ◌∷◌, get_or, ap, ap₂, ◌∙◌, arith}
 use Rattle.key_derive.specs.SessionKey.{session_key, session_ac}
 use Rattle.key_derive.proofs.session.session_ac_under.Goals as goal

@@ -1,4 +1,4 @@
--- The halves of the session key are two encipherments, told apart by their third byte.
+-- The halves of the session key are two encipherments that differ in the third byte of the block.
 use Rattle.std.proofs.Common.{◌++◌, ap, ap₂, ◌∙◌}
 use Rattle.des_block.specs.Cipher.{tdes_encipher}
 use Rattle.key_derive.specs.SessionKey.{session_key}

@@ -1,4 +1,4 @@
--- The session key for script commands is made of the request's cryptogram.
+-- The session key for secure messaging is derived from the request's cryptogram.
 use Rattle.key_derive.specs.SessionKey.{session_sm}
 use Rattle.key_derive.proofs.session.session_sm.Goals as goal
 

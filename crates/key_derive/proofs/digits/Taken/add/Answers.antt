@@ -1,4 +1,4 @@
--- Sixteen digits that are taken stay the first sixteen, whatever comes behind.
+-- Sixteen collected digits stay the first sixteen, whatever follows.
 use Rattle.key_derive.proofs.Taking.{take-full}
 use Rattle.key_derive.proofs.digits.Taken.add.Goals as goal
 
