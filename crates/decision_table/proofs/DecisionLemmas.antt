@@ -1,4 +1,4 @@
--- What the definition of a decision says: which row it is, and that a table always has one.
+-- What the definition of a decision states: which row it is, and that a table always has one.
 use Rattle.std.proofs.Common.{◌≡◌, ℕ, zero, suc, ◌<◌, ◌==◌, true, false, List, [], ◌∷◌, refl, ap, sym, ◌∙◌, subst, inl, inr, Option, None, Some, IsTrue}
 use Rattle.std.proofs.Common.{IsSome, bit_and, arith}
 use Rattle.std.proofs.lemmas.Bool.{cond-true, cond-false, cases_Bool, and_parts, and_from, eqb-true, le-leb}

@@ -1,4 +1,4 @@
--- What the definition of a table says beside that of its first bad row.
+-- The definition of a table against that of its first invalid row.
 use Rattle.std.proofs.Common.{◌≡◌, ℕ, suc, ◌≤◌, ◌↔◌, ◌==◌, true, false, ◌&&◌, ◌||◌, not, List, [], ◌∷◌, length, refl, ap, sym, ◌∙◌, inl, inr, Option, None}
 use Rattle.std.proofs.Common.{Some, IsTrue, arith}
 use Rattle.std.proofs.lemmas.Bool.{cond-true, cond-false, cases_Bool, ne_eqb}

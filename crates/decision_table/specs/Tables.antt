@@ -5,7 +5,8 @@ use Rattle.std.specs.List.{list_all}
 use Rattle.decision_table.specs.declared.row.TableRow.{TableRow}
 use Rattle.decision_table.specs.declared.row.TheConstants.{MAX_AMOUNT}
 
--- bit 8 of byte 2 of the row's card status update is set exactly where the row approves; that layout is this project's profile
+-- bit 8 of byte 2 of the row's card status update is set exactly if the row approves; that layout is this project's
+-- profile
 unfoldable pub tells_approval : TableRow → Bool
 tells_approval row =
     if row.approve then bit_and (slice_index row.csu 1) 0x80 == 0x80 else not (bit_and (slice_index row.csu 1) 0x80 == 0x80)
@@ -21,13 +22,14 @@ takes_all row =
     && row.most == MAX_AMOUNT
     && is_none row.status
 
--- there is a last row, and it takes all
+-- there is a last row, and it matches every request
 abbrev pub ends_in_all : List TableRow → Bool
 ends_in_all [] = false
 ends_in_all (row ∷ []) = takes_all row
 ends_in_all (row ∷ next ∷ rows) = ends_in_all (next ∷ rows)
 
--- rows are a table where each tells its approval, and there is a last one, which takes all
+-- rows are a table if each has its approval in its card status update, and there is a last one, which matches every
+-- request
 unfoldable pub is_table : List TableRow → Bool
 is_table rows = list_all tells_approval rows && ends_in_all rows
 
@@ -35,15 +37,16 @@ is_table rows = list_all tells_approval rows && ends_in_all rows
 unfoldable pub table_from : List TableRow → Option (List TableRow)
 table_from rows = if is_table rows then Some rows else None
 
--- a row may stand before these rows where it tells its approval and, if there are none, takes all
+-- a row is valid before these rows if its card status update has its approval and, if there are none, it matches every
+-- request
 unfoldable pub may_stand : TableRow → List TableRow → Bool
 may_stand row after = tells_approval row && (not (length after == 0) || takes_all row)
 
--- the place of the first of these rows that may not stand where it does, counted from this one, or none
+-- the index of the first invalid one of these rows, counted from this index, or none
 abbrev pub first_bad_from : ℕ → List TableRow → Option ℕ
 first_bad_from place [] = None
 first_bad_from place (row ∷ rows) = if may_stand row rows then first_bad_from (suc place) rows else Some place
 
--- the place of the first row that may not stand where it does, or none
+-- the index of the first invalid row, or none
 abbrev pub first_bad_row : List TableRow → Option ℕ
 first_bad_row rows = first_bad_from 0 rows

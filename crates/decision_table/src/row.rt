@@ -10,28 +10,28 @@ use issuer_base::Request;
 /// The greatest amount of a request, in the currency's smallest unit: twelve decimal digits.
 pub const MAX_AMOUNT: u64 = 999_999_999_999;
 
-/// One row of a decision table: which requests it fits, and what it decides.
+/// One row of a decision table: which requests it matches, and what it decides.
 #[derive(Clone, Copy, PartialEq, Eq, Default, Debug)]
 pub struct TableRow {
-    /// Which bits of the terminal verification results, tag 95, are looked at.
+    /// Which bits of the terminal verification results, tag 95, are compared.
     pub tvr_mask: [u8; 5],
 
-    /// What these bits have to be.
+    /// The required value of these bits.
     pub tvr_value: [u8; 5],
 
-    /// Which bits of the card verification results are looked at.
+    /// Which bits of the card verification results are compared.
     pub cvr_mask: [u8; 5],
 
-    /// What these bits have to be.
+    /// The required value of these bits.
     pub cvr_value: [u8; 5],
 
     /// The least amount, in the currency's smallest unit.
     pub least: u64,
 
-    /// The greatest amount, which still fits.
+    /// The greatest amount, in the same unit, inclusive.
     pub most: u64,
 
-    /// The status that the card has to have; `None` where it may have any.
+    /// The required status of the card; `None` if it may have any.
     pub status: Option<u8>,
 
     /// The authorisation response code of the reply, tag 8A.
@@ -40,12 +40,12 @@ pub struct TableRow {
     /// Whether the reply approves.
     pub approve: bool,
 
-    /// The card status update of the reply. Its layout is this project's profile: byte 2 bit 8 is set exactly where
+    /// The card status update of the reply. Its layout is this project's profile: byte 2 bit 8 is set exactly if
     /// the reply approves.
     pub csu: [u8; 4],
 }
 
-/// Whether the row fits a card of this status and this request, whose amount is given beside it.
+/// Whether the row matches a card of this status and this request, whose amount is also given.
 #[tactic(auto, unfolding(crate::specs::Fitting::fits))]
 pub(crate) fn fits(row: &TableRow, status: u8, request: &Request, amount: u64) -> bool
     requires { amount ≡ amount_value request.now }
@@ -58,7 +58,7 @@ pub(crate) fn fits(row: &TableRow, status: u8, request: &Request, amount: u64) -
         && has_bits(&row.cvr_mask, &row.cvr_value, &request.cvr())
 }
 
-/// Whether a row for this status, or for any, is one for a card of that status.
+/// Whether a row that requires this status, or none, matches a card of that status.
 fn is_for(wanted: Option<u8>, status: u8) -> bool
     ensures { result ≡ is_for wanted status }
 {
@@ -68,7 +68,7 @@ fn is_for(wanted: Option<u8>, status: u8) -> bool
     }
 }
 
-/// Whether the bits that the mask picks out of these bytes are the value.
+/// Whether these bytes under the mask are the value.
 fn has_bits(mask: &[u8; 5], value: &[u8; 5], bytes: &[u8; 5]) -> bool
     ensures { result ≡ has_bits mask.now value.now bytes.now }
 {
@@ -80,7 +80,7 @@ fn has_bits(mask: &[u8; 5], value: &[u8; 5], bytes: &[u8; 5]) -> bool
     true
 }
 
-/// Whether the row's card status update says what the row decides.
+/// Whether the row's card status update has the row's approval.
 #[tactic(auto, unfolding(crate::specs::Tables::tells_approval))]
 pub fn tells_approval(row: &TableRow) -> bool
     ensures { result ≡ tells_approval row.now }
@@ -89,7 +89,7 @@ pub fn tells_approval(row: &TableRow) -> bool
     if row.approve { approved } else { !approved }
 }
 
-/// Whether the row looks at no bit, amount or status, and so fits every request.
+/// Whether the row compares no bit, amount or status, and so matches every request.
 #[tactic(auto, unfolding(crate::specs::Tables::takes_all))]
 pub(crate) fn takes_all(row: &TableRow) -> bool
     ensures { result ≡ takes_all row.now }

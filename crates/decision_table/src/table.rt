@@ -11,8 +11,8 @@ use arrayvec::ArrayVec;
 use issuer_base::{MAX_TABLE_ROWS, Request};
 use std::marker::Model;
 
-/// The rows by which an issuer decides: the first one that fits a request decides it, and the last one
-/// fits every request.
+/// The rows by which an issuer decides: the first one that matches a request decides it, and the last one
+/// matches every request.
 ///
 /// A contract sees the list of its rows.
 #[derive(Drop)]
@@ -35,9 +35,9 @@ impl Model for Table {
 }
 
 impl Table {
-    /// The table of these rows. `None` where there is no row, or byte 2 bit 8 of a row's card status
-    /// update isn't its approval, or the last row isn't one with zero masks and values, amounts from 0 to
-    /// 999,999,999,999 and no status.
+    /// The table of these rows. Byte 2 bit 8 of each row's card status update has to be its approval. The
+    /// last row has to have zero masks and values, amounts from 0 to 999,999,999,999 and no status. `None`
+    /// otherwise, and if there is no row.
     #[tactic(auto, unfolding(crate::specs::Tables::table_from))]
     pub fn new(rows: ArrayVec<TableRow, MAX_TABLE_ROWS>) -> Option<Table>
         ensures { result ≡ table_from rows.items }
@@ -58,7 +58,7 @@ impl Table {
     }
 }
 
-/// The row that decides a request of a card with this status: the first one that fits.
+/// The row that decides a request of a card with this status: the first one that matches.
 pub fn decide<'a>(table: &'a Table, status: u8, request: &Request) -> &'a TableRow
     ensures exact { decision table.now status request.now ≡ Some result.now }
     ensures first { IsDecision table.now status request.now result.now }
@@ -72,9 +72,9 @@ pub fn decide<'a>(table: &'a Table, status: u8, request: &Request) -> &'a TableR
     .unwrap()
 }
 
-/// The index of the first row that may not stand where it does: its card status update doesn't say its
-/// approval, or it is the last one and isn't the last row that `Table::new` wants. Rows are a table where
-/// there is one and this is `None`.
+/// The index of the first invalid row: its card status update doesn't have its approval, or it is the last
+/// one and isn't the last row that `Table::new` requires. Rows are a table if there is one and this is
+/// `None`.
 pub fn first_bad_row(rows: &[TableRow]) -> Option<usize>
     ensures exact { result ≡ first_bad_row rows.now }
     ensures table { IsTrue (is_table rows.now) ↔ ((1 ≤ length rows.now) × (result ≡ None)) }
@@ -93,7 +93,7 @@ fn is_table(rows: &[TableRow]) -> bool
     !rows.is_empty() && first_bad_row(rows).is_none()
 }
 
-/// Whether a row may stand before these rows.
+/// Whether a row is valid before these rows.
 #[tactic(auto, unfolding(crate::specs::Tables::may_stand))]
 fn may_stand(row: &TableRow, after: &[TableRow]) -> bool
     ensures { result ≡ may_stand row.now after.now }
@@ -101,7 +101,7 @@ fn may_stand(row: &TableRow, after: &[TableRow]) -> bool
     tells_approval(row) && (!after.is_empty() || takes_all(row))
 }
 
-/// The first row that fits a card of this status and this request, whose amount is given beside it.
+/// The first row that matches a card of this status and this request, whose amount is also given.
 fn find_row<'a>(
     rows: &'a [TableRow],
     status: u8,

@@ -1,4 +1,4 @@
--- The bytes from here on have the bits that are asked exactly where all the bytes have them.
+-- The bytes from here on have the required bits exactly if all the bytes have them.
 use Rattle.std.proofs.Common.{◌≡◌, drop}
 use Rattle.decision_table.specs.Fitting.{has_bits}
 use Rattle.decision_table.proofs.row.has_bits.Given as goal

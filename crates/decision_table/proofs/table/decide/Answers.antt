@@ -1,4 +1,4 @@
--- A table has a row for every amount, so the search finds one, and it is the first that fits.
+-- A table has a row for every amount, so the search finds one, and it is the first that matches.
 use Rattle.std.proofs.Common.{◌≡◌, ◌<◌, Some, IsTrue, arith}
 use Rattle.std.proofs.lemmas.Grind.{common_steps}
 use Rattle.issuer_base.specs.ChipData.{amount_value}

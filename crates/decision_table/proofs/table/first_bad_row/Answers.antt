@@ -1,4 +1,4 @@
--- Rows are a table exactly where no row is one that may not stand.
+-- Rows are a table exactly if no row is invalid.
 use Rattle.std.proofs.Common.{◌≡◌, None, Some, arith}
 use Rattle.std.proofs.lemmas.Grind.{common_steps}
 use Rattle.decision_table.specs.Tables.{first_bad_row}

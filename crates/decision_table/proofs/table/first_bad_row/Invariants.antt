@@ -1,4 +1,4 @@
--- The first bad row among the rows from here on is the first of all.
+-- The first invalid row among the rows from here on is the first of all.
 use Rattle.std.proofs.Common.{◌≡◌, drop}
 use Rattle.decision_table.specs.Tables.{first_bad_from}
 use Rattle.decision_table.proofs.table.first_bad_row.Given as goal
