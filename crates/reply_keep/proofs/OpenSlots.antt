@@ -1,4 +1,4 @@
--- All slots as those that are open, and what a decision that is kept makes of them.
+-- All slots computed from the open ones, and how a stored decision changes them.
 use Rattle.std.proofs.Common.{◌≡◌, ℕ, ◌+◌, ◌-◌, ◌<◌, ◌≤◌, List, [], ◌∷◌, ◌++◌, length, replicate, set, get_or, Option, None, refl, ap, sym, ◌∙◌, arith}
 use Rattle.std.proofs.Common.{append_assoc}
 use Rattle.std.proofs.lemmas.List.{get_or_default, get_or_append_left, get_or-append_right, set-append_left, set-append_right, replicate-append-replicate}

@@ -1,4 +1,4 @@
--- What is in the slots: none at first, and the decision that was kept last in its own.
+-- What is in the slots: nothing at first, and the decision that was stored last in its own.
 use Rattle.std.proofs.Common.{◌≡◌, ◌≢◌, ℕ, ◌<◌, ◌==◌, if◌then◌else◌, inl, inr, refl, ap, sym, ◌∙◌, arith}
 use Rattle.std.proofs.Common.{List, length, replicate, get_or, Option, Some, None, option_and_then}
 use Rattle.std.proofs.Math.ListN.{get_or-eq_default}

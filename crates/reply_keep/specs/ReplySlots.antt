@@ -1,14 +1,14 @@
--- The decisions that are kept for a card, so that a repeat gets its reply again: one slot for each residue of the transaction
--- counter modulo the window.
+-- The stored decisions of a card, so that a repeat gets its reply again: one slot for each residue of the ATC modulo
+-- the window.
 use Rattle.std.specs.Prelude.{ℕ, ◌-◌, ◌%◌, ◌==◌, if◌then◌else◌, List, ◌++◌, length, replicate, slice_index_or, slice_set, Option, None, Some, option_and_then}
 use Rattle.issuer_base.specs.declared.limits.TheConstants.{WINDOW}
 use Rattle.card_history.specs.declared.decision.Decision.{Decision}
 
--- the slot of a counter
+-- the slot of an ATC
 abbrev pub slot_of : ℕ → ℕ
 slot_of counter = counter % WINDOW
 
--- no decision is kept
+-- no decision is stored
 unfoldable pub none_kept : List (Option Decision)
 none_kept = replicate WINDOW None
 
@@ -16,12 +16,12 @@ none_kept = replicate WINDOW None
 abbrev pub in_slot : ℕ → List (Option Decision) → Option Decision
 in_slot slot slots = slice_index_or slots slot None
 
--- the decision that is kept on a counter: that in the counter's slot, where it is on just this counter
+-- the stored decision on an ATC: that in the ATC's slot, if it is on just this ATC
 abbrev pub kept_on : ℕ → List (Option Decision) → Option Decision
 kept_on counter slots =
     option_and_then (λ decision. if decision.request.atc == counter then Some decision else None) (in_slot (slot_of counter) slots)
 
--- the slots with this decision in its own, in place of what stood there
+-- the slots with this decision in its own, which overwrites what was there
 abbrev pub with_kept : Decision → List (Option Decision) → List (Option Decision)
 with_kept decision slots = slice_set slots (slot_of decision.request.atc) (Some decision)
 

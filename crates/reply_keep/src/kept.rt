@@ -1,4 +1,4 @@
-//! The slots of kept decisions.
+//! The slots of a card's decisions.
 ghost use Rattle.std.specs.Prelude.{◌≡◌, ◌+◌, ◌-◌, ◌≤◌, ◌++◌, None, length, replicate, vec_capacity, IfOk, option_copied};
 ghost use Rattle.reply_keep.specs.ReplySlots.{none_kept, in_slot, kept_on, with_kept, all_slots};
 
@@ -7,10 +7,10 @@ use issuer_base::{NoMemory, WINDOW};
 use std::alloc::Global;
 use std::marker::Model;
 
-/// The decisions that are kept for a card, each in the slot of its counter's residue modulo [`WINDOW`].
+/// The stored decisions of a card, each in the slot of its ATC's residue modulo [`WINDOW`].
 ///
-/// A contract sees all slots. Those behind the open ones are empty: a slot is opened once a decision is kept in it or
-/// behind it.
+/// A contract sees all slots. Those after the open ones are empty: a slot is opened once a decision is stored in it or
+/// after it.
 #[derive(Drop)]
 pub struct Kept {
     opened: Vec<Option<KeptEntry>>,
@@ -30,7 +30,7 @@ impl Model for Kept {
 }
 
 impl Kept {
-    /// No decisions, and room for one in each slot. No other call takes memory.
+    /// No decisions, and room for one in each slot. No other call allocates.
     pub fn new(alloc: Global) -> Result<Kept, NoMemory>
         ensures { IfOk result (λ kept. kept ≡ none_kept) }
     {
@@ -38,7 +38,7 @@ impl Kept {
         Ok(Kept { opened })
     }
 
-    /// The decision that is kept on this counter.
+    /// The stored decision on this ATC.
     pub fn find(&self, counter: u16) -> Option<&KeptEntry>
         ensures { option_copied result ≡ kept_on counter self.now }
     {
@@ -46,7 +46,7 @@ impl Kept {
         found.filter(|decision| decision.request.parts().atc == counter)
     }
 
-    /// Keeps a decision in its counter's slot, in place of what is there.
+    /// Stores a decision in its ATC's slot, and overwrites what is there.
     pub fn keep(&mut self, item: KeptEntry)
         ensures { self.new ≡ with_kept item self.old }
     {
@@ -60,7 +60,7 @@ impl Kept {
     }
 }
 
-/// The decision in a slot, which is empty where it isn't open.
+/// The decision in a slot, which is empty if it isn't open.
 fn in_slot(opened: &[Option<KeptEntry>], slot: usize) -> Option<&KeptEntry>
     ensures { option_copied result ≡ in_slot slot (all_slots opened.now) }
 {

@@ -1,7 +1,7 @@
-//! The decisions that are kept for a card, so that a repeat of a request gets the reply that was given first.
+//! The stored decisions of a card, so that a repeat of a request gets the first reply again.
 //!
-//! There is one slot for each residue of the transaction counter modulo the window. [`Kept::new`] takes them all, so no later
-//! call takes memory.
+//! There is one slot for each residue of the ATC modulo the window. [`Kept::new`] allocates them all, so no later call
+//! allocates.
 #![tactic(auto)]
 
 mod kept;

@@ -1,4 +1,4 @@
--- A slot that is open has what stands there, and one that isn't is empty.
+-- An open slot has what is in it, and one that isn't open is empty.
 use Rattle.std.proofs.Common.{◌≡◌, option_copied, sym, ◌∙◌, rules}
 use Rattle.reply_keep.proofs.OpenSlots.{in_slot-read, in_slot-unopened}
 use Rattle.reply_keep.proofs.kept.in_slot.Goals as goal

@@ -1,4 +1,4 @@
--- The decision takes its slot, which is open or is opened with it.
+-- The decision is stored in its slot, which is open or is opened with it.
 use Rattle.std.proofs.Common.{◌≡◌, ◌<◌, ◌≤◌, set, Some, length, ap, ◌∙◌, arith, rules}
 use Rattle.reply_keep.specs.ReplySlots.{slot_of, all_slots}
 use Rattle.reply_keep.proofs.SlotLemmas.{slot_of-below}
