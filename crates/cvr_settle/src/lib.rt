@@ -1,4 +1,4 @@
-//! What a card tells of the script commands that the last reply carried to it.
+//! What a card reports of the issuer script commands that the last reply carried to it.
 #![tactic(auto)]
 
 mod settlement;
