@@ -1,4 +1,4 @@
--- The longest front that fits, taken command by command while there is room.
+-- The longest prefix that fits, extended command by command while there is room.
 use Rattle.std.proofs.Common.{◌≡◌, ℕ, zero, suc, ◌+◌, ◌-◌, ◌*◌, ◌≤◌, ◌<◌, Bool, true, false, cond, inl, inr, if◌then◌else◌, nat_le}
 use Rattle.std.proofs.Common.{List, [], ◌∷◌, length, take, map, filter, sum_by, Option, Some, None, refl, ap, sym, ◌∙◌, length-take, arith}
 use Rattle.std.specs.List.{last_or}

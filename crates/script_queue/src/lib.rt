@@ -1,6 +1,6 @@
-//! The script commands that wait for a card, in the order in which they were queued.
+//! The issuer script commands that are queued for a card, oldest first.
 //!
-//! [`Queue::new`] takes the room for all of them, so no later call takes memory.
+//! [`Queue::new`] allocates the room for all of them, so no later call allocates.
 #![tactic(auto)]
 
 mod queue;

@@ -1,4 +1,4 @@
-//! The queue of a card: its undone commands in a ring of fixed size, and the count of all.
+//! The queue of a card: its undone commands in a ring buffer of fixed size, and the count of all.
 ghost use Rattle.std.specs.Prelude.{◌≡◌, ◌+◌, ◌<◌, ◌≤◌, ◌↔◌, [], ◌∷◌, ◌++◌, length, take, drop, slice_get, Some, IfOk, IsOk, OnErr};
 ghost use Rattle.script_queue.specs.CommandQueue.{no_commands, TakesOneMore};
 ghost use Rattle.script_queue.specs.ScriptTemplate.{fitting_front};
@@ -11,7 +11,7 @@ use issuer_base::{
 use std::alloc::Global;
 use std::marker::Model;
 
-/// The script commands of a card: those that aren't done yet, the oldest first, and how many were ever queued.
+/// The issuer script commands of a card: the undone ones, the oldest first, and how many were ever queued.
 #[derive(Drop)]
 pub struct Queue {
     commands: HeapCircularBuffer<Command>,
@@ -33,7 +33,7 @@ impl Model for Queue {
 }
 
 impl Queue {
-    /// A queue of no commands, with room for [`MAX_UNDONE`] of them. No other call takes memory.
+    /// A queue of no commands, with room for [`MAX_UNDONE`] of them. No other call allocates.
     pub fn new(alloc: Global) -> Result<Queue, NoMemory>
         ensures { IfOk result (λ queue. queue ≡ no_commands) }
     {
@@ -44,7 +44,7 @@ impl Queue {
         })
     }
 
-    /// How many commands aren't done yet, at most [`MAX_UNDONE`].
+    /// How many commands are undone, at most [`MAX_UNDONE`].
     pub fn undone(&self) -> u8
         ensures count { result ≡ length self.now.undone }
         ensures within { result ≤ MAX_UNDONE }
@@ -52,7 +52,7 @@ impl Queue {
         self.commands.len() as u8
     }
 
-    /// How many commands were ever queued, the done ones counted in.
+    /// How many commands were ever queued, including the done ones.
     pub fn queued(&self) -> u32
         ensures count { result ≡ self.now.queued }
         ensures undone { length self.now.undone ≤ result }
@@ -60,7 +60,7 @@ impl Queue {
         self.queued
     }
 
-    /// Queues a command behind the others, and gives its number: the first command that was ever queued has the number 0.
+    /// Appends a command, and returns its number: the first command that was ever queued has the number 0.
     pub fn push(&mut self, command: Command) -> Result<u32, QueueFull>
         ensures taken { IsOk result ↔ TakesOneMore self.old }
         ensures number { IfOk result (λ number. number ≡ self.old.queued) }
@@ -84,7 +84,7 @@ impl Queue {
         self.commands.get(usize::from(index)).unwrap()
     }
 
-    /// `count` undone commands after the first `skip`, in two parts, as they lie in memory.
+    /// `count` undone commands after the first `skip`, as the two slices of the ring buffer.
     pub fn part(&self, skip: u8, count: u8) -> (&[Command], &[Command])
         requires { skip + count ≤ length self.now.undone }
         ensures { result.0.now ++ result.1.now ≡ take count (drop skip self.now.undone) }
@@ -93,7 +93,7 @@ impl Queue {
         between(first, second, usize::from(skip), usize::from(count))
     }
 
-    /// Takes away the first `count` undone commands, which are done now.
+    /// Removes the first `count` undone commands, which are done now.
     pub fn advance(&mut self, count: u8)
         requires { count ≤ length self.old.undone }
         ensures { self.new ≡ record { queued = self.old.queued; undone = drop count self.old.undone } }
@@ -130,7 +130,7 @@ impl Queue {
     }
 }
 
-/// The items from `skip` on, `count` of them, of a list that lies in two parts.
+/// `count` items after the first `skip` of a list that is given as two slices.
 fn between<'a>(
     first: &'a [Command],
     second: &'a [Command],

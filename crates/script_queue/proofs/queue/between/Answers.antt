@@ -1,4 +1,4 @@
--- Items that begin in the second part stand there; others go on in the second part where the first ends.
+-- Items that begin in the second slice are there; others continue in the second slice where the first ends.
 use Rattle.std.proofs.Common.{◌≡◌, ℕ, ◌+◌, ◌-◌, ◌≤◌, List, ◌++◌, length, take, drop, ap, sym, ◌∙◌, arith}
 use Rattle.std.proofs.lemmas.List.{drop-append-le, take_rest}
 use Rattle.std.proofs.Math.Seq.{take-append-add, drop-append-add}

@@ -1,4 +1,4 @@
--- Where the loop ends, no more commands fit: so those that it took are the longest front that fits.
+-- When the loop ends, no more commands fit: so the commands so far are the longest prefix that fits.
 use Rattle.std.proofs.Common.{◌≡◌, ℕ, ◌+◌, ◌-◌, ◌<◌, ◌≤◌, List, [], ◌∷◌, length, drop, Some, ap, ◌∙◌, arith, length-drop}
 use Rattle.std.proofs.lemmas.List.{drop_more, drop_all}
 use Rattle.std.proofs.lemmas.Option.{slice_get_within, get_or_from_slice_get}

@@ -1,4 +1,4 @@
--- So far the commands fit, and the room is what they leave.
+-- The commands so far fit, and `room` is the remaining room.
 use Rattle.std.proofs.Common.{drop}
 use Rattle.script_queue.proofs.FittingFronts.{FitsSoFar}
 use Rattle.script_queue.proofs.queue.Queue.fitting_after.Given as goal
