@@ -1,4 +1,4 @@
--- One bit that is set, and the sets that the words then are.
+-- One bit that is set, and the sets of the words after that.
 use Rattle.std.proofs.Common.{◌≡◌, ℕ, ◌+◌, ◌-◌, ◌*◌, ◌/◌, ◌%◌, ◌^◌, ◌<◌, ◌≤◌, ◌⊎◌, List, []}
 use Rattle.std.proofs.Common.{◌++◌, length, set, get_or, bit_and, bit_or, w64, inl, inr, sym, ap, ◌∙◌, refl, subst}
 use Rattle.std.proofs.Common.{Bool, true, false, ◌&&◌, ◌||◌, eqb, ltb, arith, get_or-set_same, get_or-set_other, replicate}

@@ -1,4 +1,4 @@
-//! A set of transaction counters for each of so many cards.
+//! A set of ATCs for each of so many cards.
 ghost use Rattle.std.specs.Prelude.{◌≡◌, ℕ, Bool, true, false, ◌+◌, ◌-◌, ◌*◌, ◌/◌, ◌<◌, ◌≤◌, ◌^◌, ◌==◌, ◌&&◌, ◌||◌, ◌++◌, length, replicate, take, slice_index, vec_capacity, IfOk};
 ghost use Rattle.counter_bits.specs.CounterSets.{has, times, one_if, word_of};
 
@@ -6,21 +6,21 @@ use issuer_base::NoMemory;
 use std::alloc::Global;
 use std::marker::Model;
 
-/// How many transaction counters a card has: 0 to 65,535.
+/// How many ATCs a card has: 0 to 65,535.
 pub const COUNTERS: u32 = 65_536;
 
-/// How many counters a word has, one bit each.
+/// How many ATCs a word has, one bit each.
 pub(crate) const WORD_COUNTERS: usize = 64;
 
-/// How many words the set of a card takes: 8,192 bytes.
+/// How many words the set of a card has: 8,192 bytes.
 pub(crate) const CARD_WORDS: usize = 1_024;
 
-/// A set of transaction counters for each of so many cards, in memory of fixed size.
+/// A set of ATCs for each of so many cards, as a bitmap in memory of fixed size.
 ///
-/// The words of all cards for counters 0 to 63 stand first, then those for the next 64, and so on. A word is opened once a counter
-/// is added in it or behind it; those that aren't open yet are 0. So cards with low counters take little of the memory.
+/// The words of all cards for ATCs 0 to 63 come first, then those for the next 64, and so on. A word is opened once an
+/// ATC is added in it or after it; those that aren't open yet are 0. So cards with low ATCs use little of the memory.
 ///
-/// A contract sees how many sets there are, and which counters each has.
+/// A contract sees how many sets there are, and which ATCs each has.
 #[derive(Drop)]
 pub struct CounterBits {
     cards: u32,
@@ -40,7 +40,7 @@ impl Model for CounterBits {
 }
 
 impl CounterBits {
-    /// An empty set for each of so many cards. No other call takes memory for the sets.
+    /// An empty set for each of so many cards. No other call allocates for the sets.
     pub fn new(alloc: Global, cards: u32) -> Result<CounterBits, NoMemory>
         ensures cards { IfOk result (λ bits. bits.cards ≡ cards) }
         ensures empty { IfOk result (λ bits. (index counter : ℕ) → has bits index counter ≡ false) }
@@ -56,7 +56,7 @@ impl CounterBits {
         self.cards
     }
 
-    /// Adds a counter to the set of this card.
+    /// Adds an ATC to the set of this card.
     pub fn add(&mut self, index: usize, counter: u16)
         requires { index < self.old.cards }
         ensures added { (other_index other : ℕ)
@@ -68,7 +68,7 @@ impl CounterBits {
         self.opened[word] |= 1 << (counter as u32 % 64);
     }
 
-    /// Whether the set of this card has the counter.
+    /// Whether the set of this card has the ATC.
     pub fn has(&self, index: usize, counter: u16) -> bool
         requires { index < self.now.cards }
         ensures { result ≡ has self.now index counter }
@@ -77,8 +77,8 @@ impl CounterBits {
         (word >> (counter as u32 % 64)) & 1 == 1
     }
 
-    /// Lists each counter of this card's set once, beside this number, behind what the list has. Where memory runs out, some of
-    /// them may stand there.
+    /// Appends to the list each ATC of this card's set once, paired with this number. If memory runs out, some of them
+    /// may have been appended.
     pub fn list_into(
         &self,
         index: usize,
@@ -96,7 +96,7 @@ impl CounterBits {
         Ok(())
     }
 
-    /// Lists the counters of this word of the card's set. A word without counters is passed over.
+    /// Appends the ATCs of this word of the card's set. An empty word is skipped.
     fn list_word(
         &self,
         index: usize,
@@ -120,7 +120,7 @@ impl CounterBits {
         Ok(())
     }
 
-    /// Whether this word of the card's set has no counter.
+    /// Whether this word of the card's set has no ATC.
     fn is_empty(&self, index: usize, block: usize) -> bool
         requires card { index < self.now.cards }
         requires word { block < CARD_WORDS }
@@ -129,7 +129,7 @@ impl CounterBits {
         word_at(self.opened.as_slice(), block * self.cards as usize + index) == 0
     }
 
-    /// Lists this counter where the card's set has it.
+    /// Appends this ATC if the card's set has it.
     fn list_one(
         &self,
         index: usize,
@@ -149,7 +149,7 @@ impl CounterBits {
     }
 }
 
-/// The place of the word with the bit of this counter of this card, of so many cards.
+/// The index of the word with the bit of this ATC of this card, of so many cards.
 fn word_of(cards: u32, index: usize, counter: u16) -> usize
     requires { index < cards }
     ensures place { result ≡ word_of cards index counter }
@@ -158,7 +158,7 @@ fn word_of(cards: u32, index: usize, counter: u16) -> usize
     (counter as usize >> 6) * cards as usize + index
 }
 
-/// The word at a place, which is 0 where it isn't open.
+/// The word at an index, which is 0 if it isn't open.
 fn word_at(opened: &[u64], word: usize) -> u64
     ensures { result ≡ slice_index opened.now word }
 {

@@ -1,4 +1,4 @@
-//! Sets of transaction counters, one bit a counter.
+//! Sets of ATCs as bitmaps, one bit an ATC.
 #![tactic(auto)]
 
 mod counter_bits;

@@ -1,4 +1,4 @@
--- The words are opened up to the one that is asked for.
+-- The words are opened up to the requested one.
 use Rattle.std.proofs.Common.{ℕ, ◌++◌, replicate, ap, ◌∙◌, arith}
 use Rattle.counter_bits.proofs.counter_bits.open_to.Goals as goal
 

@@ -1,4 +1,4 @@
--- A word that is 0 has no counter.
+-- A word that is 0 has no ATC.
 use Rattle.std.proofs.Common.{ℕ, ◌*◌, ◌+◌, List, ap, sym, ◌∙◌, get_or}
 use Rattle.counter_bits.specs.CounterSets.{CounterSets, has}
 use Rattle.counter_bits.proofs.Bits.{no-counter}

@@ -1,4 +1,4 @@
--- The counters of one word more are listed.
+-- The ATCs of one more word are appended.
 use Rattle.std.proofs.Common.{◌+◌, ◌/◌, ◌&&◌, Bool, ap, ◌∙◌, eqb, arith}
 use Rattle.counter_bits.specs.declared.counter_bits.TheConstants.{WORD_COUNTERS}
 use Rattle.counter_bits.specs.CounterSets.{times, has, one_if}

@@ -1,4 +1,4 @@
--- The list has the counters of the words so far, behind what it had.
+-- The ATCs of the words so far are appended to the list.
 use Rattle.std.proofs.Common.{◌≡◌, ◌≤◌, ◌+◌, ◌/◌, ℕ, length, take, eqb, ltb, ◌&&◌}
 use Rattle.counter_bits.specs.declared.counter_bits.TheConstants.{WORD_COUNTERS}
 use Rattle.counter_bits.specs.CounterSets.{has, times, one_if}

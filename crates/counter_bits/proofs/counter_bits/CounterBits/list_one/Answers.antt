@@ -1,4 +1,4 @@
--- A counter that is in the set is listed.
+-- An ATC that is in the set is appended.
 use Rattle.std.proofs.Common.{ℕ, ◌+◌, ap, sym, ◌∙◌, eqb}
 use Rattle.counter_bits.specs.CounterSets.{times}
 use Rattle.counter_bits.proofs.Listing.{times-push, counted-listed}

@@ -1,4 +1,4 @@
--- One counter of the word more is listed where it is in the set.
+-- One more ATC of the word is appended if it is in the set.
 use Rattle.std.proofs.Common.{◌≡◌, ◌+◌, ◌/◌, ◌&&◌, Bool, ap, ◌∙◌, eqb, arith}
 use Rattle.counter_bits.specs.declared.counter_bits.TheConstants.{WORD_COUNTERS}
 use Rattle.counter_bits.specs.CounterSets.{times, has, one_if}

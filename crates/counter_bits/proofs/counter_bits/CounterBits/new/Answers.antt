@@ -1,4 +1,4 @@
--- Where no word is open the sets are empty.
+-- If no word is open the sets are empty.
 use Rattle.counter_bits.proofs.Bits.{no-bits}
 use Rattle.counter_bits.proofs.counter_bits.CounterBits.new.Goals as goal
 
