@@ -1,4 +1,5 @@
--- The commands of a batch, sealed one after another, and the script template that carries them: EMV 4.3 Book 3, section 10.10.
+-- The commands of a batch, sealed one after another, and the issuer script template of them: EMV 4.3 Book 3, section
+-- 10.10.
 use Rattle.std.specs.Prelude.{◌<◌, ◌≤◌, ℕ, List, [], ◌∷◌, ◌++◌, length, All, IsTrue}
 use Rattle.std.specs.List.{flat_map}
 use Rattle.std.specs.Int.{w32, to_be_bytes}
@@ -9,13 +10,13 @@ use Rattle.issuer_base.specs.ScriptTemplate.{template_size}
 use Rattle.tlv_objects.specs.Writing.{object_text}
 use Rattle.secure_msg.specs.Sealing.{command_mac, sealed_command}
 
--- the commands of a batch, each sealed at the MAC of the command before it, and the first at the chain that is given: for a
+-- the commands of a batch, each sealed at the MAC of the command before it, and the first at the given chain: for a
 -- card the application cryptogram
 unfoldable pub sealed_commands : List ℕ → List ℕ → List Command → List (List ℕ)
 sealed_commands key chain [] = []
 sealed_commands key chain (command ∷ later) = sealed_command key chain command ∷ sealed_commands key (command_mac key chain command) later
 
--- commands that one template carries: there is one, each is a command of the host, and their template isn't too long
+-- commands that one template can carry: there is one, each is a command of the host, and their template isn't too long
 pub record IsBatch (commands : List Command) : Type 0 where
   pub some : 0 < length commands
   pub form : All (λ command. IsTrue (is_command command)) commands

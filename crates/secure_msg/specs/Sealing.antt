@@ -1,5 +1,5 @@
--- Sealed commands: secure messaging of format 2, EMV 4.3 Book 2, section 9. That the MAC of a command is chained to the one
--- before it, by the eight bytes that its text begins with, is this project's profile.
+-- Sealed commands: secure messaging of format 2, EMV 4.3 Book 2, section 9. That the MAC of a command is chained to the
+-- one before it, by the first eight bytes under it, is this project's profile.
 use Rattle.std.specs.Prelude.{◌≡◌, ◌≤◌, ℕ, ◌+◌, ◌-◌, if◌then◌else◌, List, [], ◌∷◌, ◌++◌, length, take, Option, Some, None, IsTrue}
 use Rattle.std.specs.Str.{bytes_eq}
 use Rattle.issuer_base.specs.declared.command.Command.{Command}
@@ -16,7 +16,7 @@ sent_bytes command = command.cla ∷ command.ins ∷ command.p1 ∷ command.p2 �
 unfoldable pub command_mac : List ℕ → List ℕ → Command → List ℕ
 command_mac key chain command = retail_mac key (chain ++ sent_bytes command)
 
--- a sealed command: as it is sent, and its whole MAC
+-- a sealed command: the bytes that are sent, and the whole MAC
 unfoldable pub sealed_command : List ℕ → List ℕ → Command → List ℕ
 sealed_command key chain command = sent_bytes command ++ command_mac key chain command
 
@@ -25,14 +25,14 @@ abbrev pub unsealed_bytes : List ℕ → List ℕ
 unsealed_bytes (cla ∷ ins ∷ p1 ∷ p2 ∷ lc ∷ rest) = cla ∷ ins ∷ p1 ∷ p2 ∷ take (length rest - 8) rest
 unsealed_bytes _ = []
 
--- a command and the next chain, where the command is sealed to these bytes at the chain
+-- a command and the next chain, if these bytes are the command, sealed at the chain
 abbrev pub if_sealed : List ℕ → List ℕ → List ℕ → Option Command → Option (Command × List ℕ)
 if_sealed key chain bytes None = None
 if_sealed key chain bytes (Some command) =
     if bytes_eq (sealed_command key chain command) bytes then Some (command, command_mac key chain command) else None
 
--- the command that sealed bytes open to at a chain, and the next chain: without Lc and MAC they are a command of the host, which
--- is sealed to just these bytes
+-- the command that sealed bytes open to at a chain, and the next chain: without Lc and MAC they encode a command of the
+-- host, and they are that command, sealed at the chain
 unfoldable pub opened_command : List ℕ → List ℕ → List ℕ → Option (Command × List ℕ)
 opened_command key chain bytes = if_sealed key chain bytes (command_of (unsealed_bytes bytes))
 

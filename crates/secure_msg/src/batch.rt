@@ -1,4 +1,4 @@
-//! The template that carries a batch of sealed commands.
+//! The issuer script template that carries a batch of sealed commands.
 
 ghost use Rattle.std.specs.Prelude.{◌≡◌, ℕ, ◌+◌, ◌≤◌, ◌↔◌, List, [], ◌++◌, length, fold, sum_by, IsTrue};
 ghost use Rattle.std.specs.List.{flat_map};
@@ -16,20 +16,20 @@ use issuer_base::{BARE_COMMAND_BYTES, BARE_TEMPLATE_BYTES, Command, MAX_TEMPLATE
 use retail_mac::MacRun;
 use tlv_objects::{ROOM, put};
 
-/// The tag of an issuer script template whose commands a card runs after its last cryptogram.
+/// The tag of an issuer script template whose commands a card runs after its final cryptogram.
 const SCRIPT_TEMPLATE: u32 = 0x72;
 
 /// The tag of the script's identifier: here the number of its first command in the card's queue.
 const SCRIPT_IDENTIFIER: u32 = 0x9F18;
 
-/// The tag of a script command.
+/// The tag of an issuer script command.
 const SCRIPT_COMMAND: u32 = 0x86;
 
 /// The bytes of a script template.
 pub type Template = ArrayVec<u8, MAX_TEMPLATE_BYTES>;
 
-/// Whether one template carries these commands, which is the condition of `template`: there is one, each is a command of the
-/// host, and they fit.
+/// Whether one template can carry these commands, as `template` requires: there is one, each is a command that the host
+/// sends, and they fit.
 pub fn is_batch(commands: &[Command]) -> bool
     ensures { IsTrue result ↔ IsBatch commands.now }
 {
@@ -44,7 +44,7 @@ pub fn is_batch(commands: &[Command]) -> bool
 }
 
 /// The template of a batch for the card that made this application cryptogram. `first` is the number of the batch's first
-/// command in the card's queue. Sets up the key once, however many commands there are.
+/// command in the card's queue. Computes the key schedules once, however many commands there are.
 pub fn template(key: &Key16, ac: &[u8; 8], first: u32, commands: &[Command]) -> Template
     requires { IsBatch commands.now }
     ensures { result.items ≡ template_bytes key.now.0 ac.now first commands.now }
@@ -52,7 +52,7 @@ pub fn template(key: &Key16, ac: &[u8; 8], first: u32, commands: &[Command]) -> 
     template_of(key, ac, first, commands, &[])
 }
 
-/// The template, as `template` gives it, of a batch that lies in two pieces, as in a ring.
+/// As `template`, for a batch that is given as two slices, as in a ring buffer.
 pub fn template_of(
     key: &Key16,
     ac: &[u8; 8],
@@ -75,7 +75,7 @@ pub fn template_of(
     template
 }
 
-/// Writes an object for each command, sealed in a run that has taken nothing, and gives the chain behind them.
+/// Appends an object for each command, sealed by a MAC run over no bytes yet, and returns the next chain.
 fn write_sealed(
     value: &mut ArrayVec<u8, ROOM>,
     run: &mut MacRun,
@@ -97,7 +97,7 @@ fn write_sealed(
     chain
 }
 
-/// Writes an object behind bytes that leave room for it.
+/// Appends an object to bytes that leave room for it.
 fn write(bytes: &mut ArrayVec<u8, ROOM>, tag: u32, value: &[u8])
     requires tag { IsTrue (is_tag_number tag) }
     requires room { length bytes.old.items + length (object_text tag value.now) ≤ ROOM }

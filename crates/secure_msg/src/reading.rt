@@ -1,4 +1,4 @@
-//! The command that bytes are, before it is sealed.
+//! Parsing the bytes of a command that isn't sealed yet.
 
 ghost use Rattle.std.specs.Prelude.{◌≡◌, ℕ, ◌↔◌, List, Some, IfOk, OnErr, IsTrue};
 ghost use Rattle.std.specs.Result.{result_ok};
@@ -15,8 +15,8 @@ const SECURE_MESSAGING: u8 = 0x04;
 /// The instructions of card block, application unblock, application block, PIN change or unblock, put data and update record.
 const INSTRUCTIONS: [u8; 6] = [0x16, 0x18, 0x1E, 0x24, 0xDA, 0xDC];
 
-/// Reads a command of the host: class, instruction, two parameters and the data, without their length. Other bytes are a
-/// `BadCommand`.
+/// Parses a command that the host sends: class, instruction, two parameters and the data, without their length. Other
+/// bytes are a `BadCommand`.
 #[tactic(auto, unfolding(crate::specs::Commands::command_of))]
 pub fn read_command(bytes: &[u8]) -> Result<Command, BadCommand>
     ensures exact { result_ok result ≡ command_of bytes.now }
@@ -29,7 +29,7 @@ pub fn read_command(bytes: &[u8]) -> Result<Command, BadCommand>
     command_with(*cla, *ins, *p1, *p2, body).ok_or(BadCommand)
 }
 
-/// The command of these parts, if the host has such a command.
+/// The command of these parts, if the host sends such a command.
 pub(crate) fn command_with(cla: u8, ins: u8, p1: u8, p2: u8, data: &[u8]) -> Option<Command>
     ensures { result ≡ if_allowed (record { cla = cla; ins = ins; p1 = p1; p2 = p2; body = record { items = «data».now } }) }
 {
@@ -48,14 +48,14 @@ pub(crate) fn command_with(cla: u8, ins: u8, p1: u8, p2: u8, data: &[u8]) -> Opt
     Some(command)
 }
 
-/// Whether the host has such a command.
+/// Whether the host sends such a command.
 pub(crate) fn is_command(command: &Command) -> bool
     ensures { result ≡ is_command command.now }
 {
     command.cla & 0x0F == SECURE_MESSAGING && INSTRUCTIONS.contains(&command.ins)
 }
 
-/// Bytes are read as a command exactly where they are its bytes, it is one of the host's, and its data are not too long.
+/// Bytes are parsed as a command exactly if they are its bytes, the host sends it, and its data are not too long.
 pub fn commands_have_one_text()
     ensures { (bytes : List ℕ) (command : Command) → (command_of bytes ≡ Some command) ↔ AreBytesOf bytes command }
 {}

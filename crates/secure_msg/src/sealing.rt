@@ -1,4 +1,4 @@
-//! Commands that are sealed at a chain, and sealed commands that are opened.
+//! Sealing commands at a chain, and opening sealed ones.
 
 ghost use Rattle.std.specs.Prelude.{◌≡◌, ℕ, ◌+◌, ◌≤◌, List, [], ◌∷◌, ◌++◌, length, Some, IfSome, IfNone, IsTrue};
 ghost use Rattle.issuer_base.specs.declared.command.Command.{Command};
@@ -13,7 +13,7 @@ use des_block::Key16;
 use issuer_base::{Command, MAX_BODY_BYTES};
 use retail_mac::MacRun;
 
-/// How many bytes stand before the data of a command that is sent: class, instruction, two parameters and Lc.
+/// How many bytes precede the data of a command that is sent: class, instruction, two parameters and Lc.
 const HEADER_BYTES: usize = 5;
 
 /// How many bytes a MAC has.
@@ -25,7 +25,7 @@ pub const MAX_SEALED_BYTES: usize = HEADER_BYTES + MAX_BODY_BYTES + MAC_BYTES;
 /// The bytes of a sealed command.
 pub type SealedCommand = ArrayVec<u8, MAX_SEALED_BYTES>;
 
-/// Seals a command at a chain, and gives the next chain beside it: the MAC that the sealed command ends with.
+/// Seals a command at a chain. Returns it and the next chain: the MAC that the sealed command ends with.
 pub fn seal(key: &Key16, chain: &[u8; 8], command: &Command) -> (SealedCommand, [u8; 8])
     requires { IsTrue (is_command command.now) }
     ensures sealed { result.0.items ≡ sealed_command key.now.0 chain.now command.now }
@@ -34,7 +34,7 @@ pub fn seal(key: &Key16, chain: &[u8; 8], command: &Command) -> (SealedCommand, 
     seal_in(&mut MacRun::new(key), chain, command)
 }
 
-/// Seals a command in a run that has taken nothing, and leaves it so.
+/// Seals a command by a MAC run over no bytes yet, and leaves the run so.
 pub(crate) fn seal_in(
     run: &mut MacRun,
     chain: &[u8; 8],
@@ -67,8 +67,8 @@ fn sent(command: &Command) -> SealedCommand
     sent
 }
 
-/// Opens a sealed command at a chain, and gives the next chain beside it. None where these bytes are no command of the host
-/// that was sealed at this chain.
+/// Opens a sealed command at a chain. Returns it and the next chain; `None` if these bytes are no command of the host,
+/// sealed at this chain.
 pub fn unseal(key: &Key16, chain: &[u8; 8], bytes: &[u8]) -> Option<(Command, [u8; 8])>
     ensures exact { result ≡ opened_command key.now.0 chain.now bytes.now }
     ensures sealed { IfSome result (λ found. AreSealed key.now.0 chain.now bytes.now found.0 found.1) }
@@ -82,7 +82,7 @@ pub fn unseal(key: &Key16, chain: &[u8; 8], bytes: &[u8]) -> Option<(Command, [u
     Some((command, next))
 }
 
-/// The command of the bytes without Lc and MAC, whatever these are.
+/// The command of the bytes without Lc and MAC, which aren't checked.
 #[tactic(auto, unfolding(crate::specs::Commands::command_of))]
 fn unsealed(bytes: &[u8]) -> Option<Command>
     ensures { result ≡ command_of (unsealed_bytes bytes.now) }
@@ -94,7 +94,7 @@ fn unsealed(bytes: &[u8]) -> Option<Command>
     command_with(*cla, *ins, *p1, *p2, body)
 }
 
-/// What a command is sealed to at a chain opens there to that command and the next chain, and nothing else opens there.
+/// At each chain, a sealed command opens to the command and the next chain, and nothing else opens.
 pub fn only_sealed_commands_open()
     ensures opens { (key chain bytes next : List ℕ) (command : Command)
         → AreSealed key chain bytes command next → opened_command key chain bytes ≡ Some (command, next) }

@@ -1,4 +1,4 @@
--- The batch's number, the front commands and the back ones behind them, all in one chain, are the template's value.
+-- The batch's number, the front commands and then the back ones, all in one chain, are the template's value.
 use Rattle.std.proofs.Common.{◌≡◌, ℕ, List, ◌++◌, fold, ap, ap₂, ◌∙◌, sym, append_assoc}
 use Rattle.std.specs.Int.{w32, to_be_bytes}
 use Rattle.tlv_objects.specs.Writing.{object_text}

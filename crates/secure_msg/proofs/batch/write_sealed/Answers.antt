@@ -1,4 +1,4 @@
--- One more sealed command stands behind the others, and its MAC is the next link of the chain.
+-- One more sealed command is appended, and its MAC is the next chain.
 use Rattle.std.proofs.Common.{◌≡◌, ◌+◌, ℕ, List, ◌∷◌, length, drop, sum_by, ap, ◌∙◌, sym, arith, length-append}
 use Rattle.std.proofs.lemmas.List.{drop_more}
 use Rattle.std.proofs.lemmas.List.Sums.{sum_by-cons}

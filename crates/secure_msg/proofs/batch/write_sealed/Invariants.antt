@@ -1,4 +1,4 @@
--- The sealed commands so far are written, the chain is at the last one's MAC, and the rest still fits.
+-- The sealed commands so far are written, the chain is at the last one's MAC, and the remaining ones still fit.
 use Rattle.std.proofs.Common.{◌≡◌, ◌+◌, ℕ, List, [], length, drop, sum_by}
 use Rattle.retail_mac.specs.Run.{IsRun}
 use Rattle.issuer_base.specs.ScriptTemplate.{sealed_size}

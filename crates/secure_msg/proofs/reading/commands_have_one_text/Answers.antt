@@ -1,4 +1,4 @@
--- Bytes are a command's exactly where the command is read from them.
+-- Bytes are a command's exactly if the command is parsed from them.
 use Rattle.secure_msg.proofs.Forms.{command_of-Some, command_of-AreBytesOf}
 use Rattle.secure_msg.proofs.reading.commands_have_one_text.Goals as goal
 

@@ -1,4 +1,4 @@
--- A command of secure messaging is one exactly where its instruction is listed; any other is none.
+-- A command of secure messaging is the host's exactly if its instruction is listed; any other isn't.
 use Rattle.std.proofs.Common.{◌≡◌, ◌==◌, ◌&&◌, false, ℕ, Bool, ap, sym, ◌∙◌, bit_and}
 use Rattle.std.proofs.Math.Path.{fun_ext}
 use Rattle.std.proofs.lemmas.Bool.{eq-eqb, ne_eqb}

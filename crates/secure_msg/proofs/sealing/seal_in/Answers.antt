@@ -1,4 +1,4 @@
--- The MAC over the chain and the command as it is sent stands behind it, and is the next chain.
+-- The MAC of the chain and the command as it is sent is appended to it, and is the next chain.
 use Rattle.std.proofs.Common.{◌≡◌, ◌++◌, [], length, ap, ap₂, ◌∙◌, arith}
 use Rattle.retail_mac.specs.Mac.{retail_mac}
 use Rattle.secure_msg.specs.Sealing.{command_mac, sealed_command}
