@@ -1,4 +1,4 @@
--- Pieces that are joined one after another.
+-- Pieces that are appended one after another.
 use Rattle.std.proofs.Common.{◌≡◌, ℕ, ◌^◌, ◌<◌, ◌/◌, ◌%◌, List, [], ◌∷◌, ◌++◌, ap, ◌∙◌, arith, w16}
 use Rattle.std.specs.Int.{to_be_bytes}
 use Rattle.key_derive.specs.SessionKey.{counter_bytes}

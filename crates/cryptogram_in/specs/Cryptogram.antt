@@ -4,8 +4,8 @@ use Rattle.issuer_base.specs.declared.request.Parts.{Parts}
 use Rattle.key_derive.specs.SessionKey.{counter_bytes, session_ac}
 use Rattle.retail_mac.specs.Mac.{retail_mac}
 
--- what the cryptogram is a MAC of: the ten data of section 8.1.1, in its order, and the issuer
--- application data, which is this project's profile
+-- the data under the cryptogram: the ten data elements of section 8.1.1, in its order, and the issuer application data,
+-- which is this project's profile
 unfoldable pub input : Parts → List ℕ
 input request =
     request.amount ++ request.other ++ request.country ++ request.tvr ++ request.currency ++ request.date
@@ -15,6 +15,6 @@ input request =
 unfoldable pub cryptogram_under : List ℕ → Parts → List ℕ
 cryptogram_under session request = retail_mac session (input request)
 
--- the cryptogram by a card's master key: the one under the session key of the request's transaction counter
+-- the cryptogram by a card's master key: the one under the session key of the request's ATC
 unfoldable pub application_cryptogram : List ℕ → Parts → List ℕ
 application_cryptogram mk request = cryptogram_under (session_ac mk request.atc) request

@@ -1,12 +1,12 @@
-//! Bytes that are joined piece by piece.
+//! Bytes that are appended piece by piece.
 
 ghost use Rattle.std.specs.Prelude.{◌≡◌, ◌+◌, ◌≤◌, [], ◌++◌, length};
 
 use std::marker::Model;
 
-/// Bytes that are joined piece by piece, at most 65.
+/// A buffer to which pieces are appended, at most 65 bytes in all.
 ///
-/// A contract sees the list of the bytes joined so far.
+/// A contract sees the list of the bytes so far.
 #[derive(Drop)]
 pub struct Joined {
     bytes: [u8; 65],
@@ -33,7 +33,7 @@ impl Joined {
         }
     }
 
-    /// Adds a piece at the end.
+    /// Appends a piece.
     pub fn add(&mut self, piece: &[u8])
         requires { length self.old + length piece.now ≤ 65 }
         ensures joined { self.new ≡ self.old ++ piece.now }

@@ -13,8 +13,8 @@ use joined::Joined;
 use key_derive::SessionKey;
 use retail_mac::mac_under;
 
-/// What the application cryptogram is a MAC of: the ten data that EMV 4.3 Book 2, section 8.1.1 recommends, and
-/// the issuer application data whole, which is this project's profile.
+/// The data under the application cryptogram: the ten data elements that EMV 4.3 Book 2, section 8.1.1
+/// recommends, and the whole issuer application data, which is this project's profile.
 pub fn input(request: &Request) -> [u8; 65]
     ensures { result ≡ input request.now }
 {
@@ -40,8 +40,8 @@ fn counter_bytes(atc: u16) -> [u8; 2]
     atc.to_be_bytes()
 }
 
-/// The application cryptogram that a card makes over the request under this session key: EMV 4.3 Book 2, section
-/// 8.1.2. It takes eleven block operations of DES, for the MAC of nine blocks, and sets up no key.
+/// The application cryptogram that a card computes over the request under this session key: EMV 4.3 Book 2,
+/// section 8.1.2. Eleven block operations of DES, for the MAC of nine blocks, and no key schedule.
 pub fn expected_under(session: &SessionKey, request: &Request) -> [u8; 8]
     ensures { result ≡ cryptogram_under session.now request.now }
 {
@@ -55,11 +55,11 @@ pub fn holds_under(session: &SessionKey, request: &Request) -> bool
     expected_under(session, request) == request.parts().ac
 }
 
-/// The application cryptogram that a card with this master key makes over the request: EMV 4.3 Book 2, section
+/// The application cryptogram that a card with this master key computes over the request: EMV 4.3 Book 2, section
 /// 8.1.2.
 ///
-/// It takes four key schedules of DES, two for the session key's derivation and two for the MAC, and seventeen
-/// block operations of DES: six for the two halves of the session key and eleven for the MAC of nine blocks.
+/// Four key schedules of DES, two for the session key's derivation and two for the MAC, and seventeen block
+/// operations of DES: six for the two halves of the session key and eleven for the MAC of nine blocks.
 pub fn expected(mk: &Key16, request: &Request) -> [u8; 8]
     ensures { result ≡ application_cryptogram mk.now.0 request.now }
 {

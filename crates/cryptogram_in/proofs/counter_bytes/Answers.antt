@@ -1,4 +1,4 @@
--- The two bytes of a number are those of the transaction counter, its high byte first.
+-- The two bytes of a number are those of the ATC, big-endian.
 use Rattle.std.proofs.Common.{◌∙◌, arith}
 use Rattle.cryptogram_in.proofs.Pieces.{to_be_bytes-counter}
 use Rattle.cryptogram_in.proofs.counter_bytes.Goals as goal

@@ -1,4 +1,4 @@
--- The expected cryptogram under a master key is the one under the session key of the request's counter.
+-- The expected cryptogram under a master key is the one under the session key of the request's ATC.
 use Rattle.std.proofs.Common.{ap, ◌∙◌}
 use Rattle.cryptogram_in.specs.Cryptogram.{cryptogram_under, application_cryptogram}
 use Rattle.cryptogram_in.proofs.expected.Goals as goal

@@ -1,4 +1,4 @@
--- A request's cryptogram holds under a master key exactly where it holds under the session key of its counter.
+-- A request's cryptogram holds under a master key exactly if it holds under the session key of its ATC.
 use Rattle.std.proofs.Common.{◌≡◌, sym, ap, ◌∙◌}
 use Rattle.cryptogram_in.specs.Cryptogram.{cryptogram_under, application_cryptogram}
 use Rattle.cryptogram_in.proofs.holds.Goals as goal

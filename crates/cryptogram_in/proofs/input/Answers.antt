@@ -1,4 +1,4 @@
--- Piece behind piece, from the amount to the issuer application data, makes the input of the cryptogram.
+-- The pieces, from the amount to the issuer application data, appended in order, are the input of the cryptogram.
 use Rattle.std.proofs.Common.{[], ◌∷◌, ◌++◌, ap, ◌∙◌}
 use Rattle.cryptogram_in.specs.Cryptogram.{input}
 use Rattle.cryptogram_in.proofs.Pieces.{piece-joined}
