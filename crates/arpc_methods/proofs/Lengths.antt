@@ -1,4 +1,4 @@
--- How long the issuer's cryptograms and the values of tag 91 are.
+-- How long the ARPCs and the values of tag 91 are.
 use Rattle.std.proofs.Common.{◌≡◌, ℕ, ◌≤◌, List, ◌++◌, length, arith}
 use Rattle.std.proofs.lemmas.List.{length-append, length-take-le}
 use Rattle.issuer_base.specs.declared.answer.Method.{Method}

@@ -1,4 +1,4 @@
--- The issuer's cryptogram and the issuer authentication data: EMV 4.3 Book 2, section 8.2.
+-- The ARPC and the issuer authentication data: EMV 4.3 Book 2, section 8.2.
 use Rattle.std.specs.Prelude.{ℕ, List, ◌++◌, take, replicate}
 use Rattle.des_block.specs.Cipher.{tdes_encipher}
 use Rattle.retail_mac.specs.Mac.{retail_mac, xor_bytes}
@@ -13,8 +13,8 @@ method1 sk ac arc = tdes_encipher sk (xor_bytes ac (arc ++ replicate 6 0))
 unfoldable pub method2 : List ℕ → List ℕ → List ℕ → List ℕ
 method2 sk ac csu = take 4 (retail_mac sk (ac ++ csu))
 
--- tag 91: the issuer's cryptogram, and what the card needs beside it; that method 1 ends with the response code and
--- that method 2 has no proprietary data is this project's profile
+-- the value of tag 91: the ARPC, and the response code or the status update; that method 1 ends with the response code
+-- and that method 2 has no proprietary data is this project's profile
 unfoldable pub value91 : Method → List ℕ → List ℕ → List ℕ → List ℕ → List ℕ
 value91 One sk ac arc csu = method1 sk ac arc ++ arc
 value91 Two sk ac arc csu = method2 sk ac csu ++ csu

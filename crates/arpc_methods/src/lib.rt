@@ -1,4 +1,4 @@
-//! The issuer's answer to an application cryptogram: EMV 4.3 Book 2, section 8.2.
+//! The ARPC, and the issuer authentication data: EMV 4.3 Book 2, section 8.2.
 #![tactic(auto)]
 
 ghost use Rattle.std.specs.Prelude.{◌≡◌, ℕ, ◌+◌, ◌≤◌, List, ◌++◌, length};
@@ -10,8 +10,8 @@ use des_block::{Key16, Tdes};
 use issuer_base::Method;
 use retail_mac::mac_under;
 
-/// The issuer's cryptogram by method 1: triple DES under the session key for cryptograms of the application
-/// cryptogram, the response code joined to its first two bytes by xor. EMV 4.3 Book 2, section 8.2.1.
+/// The ARPC by method 1: triple DES, under the session key for cryptograms, of the application cryptogram with the
+/// response code xored into its first two bytes. EMV 4.3 Book 2, section 8.2.1.
 pub fn method1(sk: &Key16, ac: &[u8; 8], arc: [u8; 2]) -> [u8; 8]
     ensures { result ≡ method1 sk.now.0 ac.now arc }
 {
@@ -27,9 +27,8 @@ fn method1_under(cipher: &Tdes, ac: &[u8; 8], arc: [u8; 2]) -> [u8; 8]
     cipher.encipher(block)
 }
 
-/// The issuer's cryptogram by method 2: the first four bytes of the MAC, under the session key for cryptograms, of
-/// the application cryptogram and the card status update. EMV 4.3 Book 2, section 8.2.2, without proprietary
-/// authentication data.
+/// The ARPC by method 2: the first four bytes of the MAC, under the session key for cryptograms, of the application
+/// cryptogram and the card status update. EMV 4.3 Book 2, section 8.2.2, without proprietary authentication data.
 pub fn method2(sk: &Key16, ac: &[u8; 8], csu: [u8; 4]) -> [u8; 4]
     ensures { result ≡ method2 sk.now.0 ac.now csu }
 {
@@ -52,8 +51,8 @@ fn text_of(ac: &[u8; 8], csu: [u8; 4]) -> [u8; 12]
     text
 }
 
-/// The issuer authentication data, the value of tag 91: the issuer's cryptogram and, under method 1, the response
-/// code or, under method 2, the card status update.
+/// The issuer authentication data, the value of tag 91: the ARPC and, by method 1, the response code or, by method 2,
+/// the card status update.
 pub fn value91(
     method: Method,
     sk: &Key16,
@@ -66,7 +65,7 @@ pub fn value91(
     value91_under(method, &Tdes::new(sk), ac, arc, csu)
 }
 
-/// The issuer authentication data, as `value91` gives it, under a session key for cryptograms that is set up.
+/// As `value91`, under a session key for cryptograms whose key schedule is given.
 pub fn value91_under(
     method: Method,
     cipher: &Tdes,

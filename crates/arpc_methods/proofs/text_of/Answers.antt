@@ -1,4 +1,4 @@
--- The text under the MAC is the request's cryptogram with the status update behind it.
+-- The text under the MAC is the request's cryptogram, followed by the status update.
 use Rattle.arpc_methods.proofs.Blocks.{parts-joined}
 use Rattle.arpc_methods.proofs.text_of.Goals as goal
 

@@ -1,4 +1,4 @@
--- By either method the value of tag 91 is the issuer's cryptogram with what it vouches for behind it.
+-- By either method the value of tag 91 is the ARPC, followed by the data that it authenticates.
 use Rattle.std.proofs.Common.{◌++◌, sym, ap, ◌∙◌}
 use Rattle.arpc_methods.specs.Arpc.{value91}
 use Rattle.arpc_methods.proofs.value91_under.Goals as goal
