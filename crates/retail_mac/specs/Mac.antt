@@ -21,11 +21,11 @@ xor_bytes [] ys = []
 xor_bytes (x ∷ xs) [] = []
 xor_bytes (x ∷ xs) (y ∷ ys) = bit_xor x y ∷ xor_bytes xs ys
 
--- the block that both chains start with
+-- the IV of both chains
 unfoldable pub zero_block : List ℕ
 zero_block = replicate 8 0
 
--- a step of the MAC's chain: the block is joined by xor with what came before, and enciphered by DES
+-- a step of the MAC's chain: the block xor the previous result, enciphered by DES
 unfoldable pub chained : List ℕ → List ℕ → List ℕ → List ℕ
 chained key before block = des_encipher key (xor_bytes before block)
 
@@ -35,13 +35,13 @@ retail_mac key text =
     let last = fold (chained (take 8 key)) zero_block (padded_blocks text) in
     des_encipher (take 8 key) (des_decipher (drop 8 key) last)
 
--- each block is joined by xor with the block before it in the result, and enciphered by triple DES
+-- CBC from a block: each block xor the previous one of the result, enciphered by triple DES
 unfoldable pub cbc_from : List ℕ → List ℕ → List (List ℕ) → List ℕ
 cbc_from key before [] = []
 cbc_from key before (block ∷ rest) =
     let next = tdes_encipher key (xor_bytes before block) in
     next ++ cbc_from key next rest
 
--- triple DES in CBC over the padded text, with a zero start block
+-- triple DES in CBC over the padded text, with a zero IV
 unfoldable pub cbc : List ℕ → List ℕ → List ℕ
 cbc key text = cbc_from key zero_block (padded_blocks text)

@@ -7,7 +7,7 @@ ghost use Rattle.retail_mac.specs.Mac.{blocks, xor_bytes, chained};
 
 use des_block::{Des, PermutedBlock, Tdes};
 
-/// The block of eight bytes at `at`, as a number, its first byte the highest.
+/// The block of eight bytes at offset `at`, as a big-endian number.
 #[inline]
 pub(crate) fn word_at(text: &[u8], at: usize) -> u64
     requires { at + 8 ≤ length text.now }
@@ -25,7 +25,7 @@ pub(crate) fn word_at(text: &[u8], at: usize) -> u64
     ])
 }
 
-/// The last block of a padded text, of which these bytes are left behind the whole blocks.
+/// The last block of the padded text, from the bytes that remain after the whole blocks.
 #[inline]
 pub(crate) fn last_word(rest: &[u8]) -> u64
     requires { length rest.now < 8 }
@@ -37,7 +37,7 @@ pub(crate) fn last_word(rest: &[u8]) -> u64
     u64::from_be_bytes(block)
 }
 
-/// Takes the chain over the whole blocks of a text.
+/// Extends the chain over the whole blocks of a text.
 #[inline]
 pub(crate) fn chained(cipher: &Des, chain: &mut PermutedBlock, text: &[u8])
     ensures { (key : List ℕ) → HasKey cipher.now key
@@ -49,7 +49,7 @@ pub(crate) fn chained(cipher: &Des, chain: &mut PermutedBlock, text: &[u8])
     }
 }
 
-/// The MAC that ends a chain, of a text of which these bytes are left behind the whole blocks.
+/// The MAC that ends a chain, from the bytes that remain after the text's whole blocks.
 #[inline]
 pub(crate) fn ended(cipher: &Tdes, chain: &PermutedBlock, rest: &[u8]) -> [u8; 8]
     requires { length rest.now < 8 }

@@ -1,8 +1,8 @@
 //! The retail MAC and CBC encipherment under a key of sixteen bytes.
 //!
-//! Both pad the text with a byte 80 and the fewest bytes 00 to whole blocks of eight bytes. A text of n blocks so padded takes two
-//! key schedules; its MAC takes n - 1 blocks of DES and one of triple DES, its encipherment n blocks of triple DES. Neither takes
-//! memory, nor copies the text; a MAC over pieces copies a block that two pieces share.
+//! Both pad the text with a byte 80 and the fewest bytes 00 to whole blocks of eight bytes. A text of n blocks so
+//! padded costs two key schedules; its MAC costs n - 1 blocks of DES and one of triple DES, its encipherment n blocks
+//! of triple DES. Neither allocates, nor copies the text; a MAC over pieces copies a block that two pieces share.
 #![tactic(auto)]
 
 mod chain;
@@ -19,7 +19,7 @@ use chain::{chained, ended, last_word, word_at};
 use des_block::{Key16, PermutedBlock, Tdes};
 pub use run::MacRun;
 
-/// The enciphered text does not fit into what is left of the output.
+/// The enciphered text does not fit into the remaining output.
 #[derive(Clone, Copy, PartialEq, Eq, Debug)]
 pub struct Full;
 
@@ -30,7 +30,7 @@ pub fn mac(key: &Key16, text: &[u8]) -> [u8; 8]
     mac_under(&Tdes::new(key), text)
 }
 
-/// The MAC of a text under a key that is set up: ISO/IEC 9797-1, algorithm 3 with padding method 2, over DES.
+/// The MAC of a text under a key whose schedule is given: ISO/IEC 9797-1, algorithm 3 with padding method 2, over DES.
 pub fn mac_under(cipher: &Tdes, text: &[u8]) -> [u8; 8]
     ensures { (key : List ℕ) → HasKeyPair cipher.now key → result ≡ retail_mac key text.now }
 {
@@ -40,7 +40,7 @@ pub fn mac_under(cipher: &Tdes, text: &[u8]) -> [u8; 8]
     ended(cipher, &chain, &text[8 * whole..])
 }
 
-/// Appends the bytes of a word, its highest byte first.
+/// Appends the bytes of a word, big-endian.
 #[inline]
 fn append(out: &mut ArrayVec<u8, 160>, word: u64)
     requires { array_vec_len out.old + 8 ≤ 160 }
@@ -57,7 +57,7 @@ fn append(out: &mut ArrayVec<u8, 160>, word: u64)
     out.push(h);
 }
 
-/// Appends the text, padded and enciphered by triple DES in CBC with a zero start block. `Full` comes where it does not fit.
+/// Appends the text, padded and enciphered by triple DES in CBC with a zero IV. `Full` if it does not fit.
 pub fn cbc_encipher(key: &Key16, text: &[u8], out: &mut ArrayVec<u8, 160>) -> Result<(), Full>
     ensures full { IsErr result ↔ (160 < array_vec_len out.old + length (padded text.now)) }
     ensures unchanged { OnErr result (out.new ≡ out.old) }

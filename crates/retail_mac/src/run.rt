@@ -1,4 +1,4 @@
-//! The MAC of a text that comes in pieces.
+//! The MAC of a text, computed incrementally.
 
 ghost use Rattle.std.specs.Prelude.{◌≡◌, ℕ, ◌+◌, ◌-◌, ◌<◌, ◌≤◌, List, [], ◌++◌, length, take, drop};
 ghost use Rattle.arrayvec.specs.ArrayVec.{array_vec_len};
@@ -9,17 +9,17 @@ use crate::chain::{chained, ended};
 use arrayvec::ArrayVec;
 use des_block::{Key16, PermutedBlock, Tdes};
 
-/// A MAC over a text that comes piece by piece, however the text is cut. Of the text only a part of a block is kept.
+/// A MAC over a text that comes in pieces of any lengths. Of the text only a partial block is buffered.
 #[derive(Drop)]
 pub struct MacRun {
     cipher: Tdes,
     chain: PermutedBlock,
-    /// The bytes behind the whole blocks.
+    /// The bytes after the whole blocks.
     part: ArrayVec<u8, 7>,
 }
 
 impl MacRun {
-    /// Sets up the key. Nothing is taken yet.
+    /// A run over no bytes yet. Computes the key schedules.
     pub fn new(key: &Key16) -> MacRun
         ensures { IsRun result key.now.0 [] }
     {
@@ -30,7 +30,7 @@ impl MacRun {
         }
     }
 
-    /// Takes a piece behind what was taken.
+    /// Appends a piece to the text.
     pub fn update(&mut self, piece: &[u8])
         ensures { (key text : List ℕ) → IsRun self.old key text → IsRun self.new key (text ++ piece.now) }
     {
@@ -47,7 +47,7 @@ impl MacRun {
         ended(&self.cipher, &self.chain, self.part.as_slice())
     }
 
-    /// The MAC of the text, behind which nothing is taken again and the key is kept.
+    /// The MAC of the text. Afterwards the run is over no bytes, under the same key.
     pub fn take(&mut self) -> [u8; 8]
         ensures mac { (key text : List ℕ) → IsRun self.old key text → result ≡ retail_mac key text }
         ensures again { (key text : List ℕ) → IsRun self.old key text → IsRun self.new key [] }
@@ -58,7 +58,7 @@ impl MacRun {
         mac
     }
 
-    /// Takes as much of the piece as the block that was begun still needs, if one was, and gives what is left.
+    /// Completes a partial block, if there is one, from the piece, and returns the remainder of the piece.
     fn complete<'a>(&mut self, piece: &'a [u8]) -> &'a [u8]
         ensures taken { (key text : List ℕ) → IsRun self.old key text
             → IsRun self.new key (text ++ take (length piece.now - length result.now) piece.now) }
@@ -83,7 +83,7 @@ impl MacRun {
     }
 }
 
-/// The block that a part and what it still needs make.
+/// The block of a partial one and the bytes that complete it.
 fn joined(part: &[u8], front: &[u8]) -> [u8; 8]
     requires { length part.now + length front.now ≡ 8 }
     ensures { result ≡ part.now ++ front.now }

@@ -1,4 +1,4 @@
--- Eight bytes that are pushed one by one are the word's, its highest first.
+-- Eight bytes that are pushed one by one are the word's, big-endian.
 use Rattle.retail_mac.proofs.Blocks.{eight_pushed}
 use Rattle.retail_mac.proofs.append.Goals as goal
 

@@ -1,4 +1,4 @@
--- One more block is enciphered behind the others, the padded one last; refused is exactly what doesn't fit.
+-- One more enciphered block is appended, the padded one last; a text is refused exactly if it doesn't fit.
 use Rattle.std.proofs.Common.{refl, ap, ◌≡◌, ◌∙◌, ◌-◌, ◌/◌, ◌*◌, List, ℕ, ◌∷◌, ◌++◌, length, drop, replicate, arith, length-drop}
 use Rattle.std.proofs.lemmas.List.{take_rest}
 use Rattle.des_block.specs.Cipher.{word_bytes}

@@ -1,4 +1,4 @@
--- The output so far is what it was and the enciphered blocks so far, of which the last is kept.
+-- The output so far is what it was, followed by the enciphered blocks so far, of which `previous` is the last.
 use Rattle.retail_mac.proofs.Blocks.{Enciphers}
 use Rattle.retail_mac.proofs.cbc_encipher.Given as goal
 

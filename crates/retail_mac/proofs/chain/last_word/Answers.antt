@@ -1,4 +1,4 @@
--- The bytes that are left, a byte 80 and zeros make the last block.
+-- The remaining bytes, a byte 80 and zeros are the last block.
 use Rattle.std.proofs.Common.{arith}
 use Rattle.retail_mac.proofs.Blocks.{last_word_is}
 use Rattle.retail_mac.proofs.chain.last_word.Goals as goal

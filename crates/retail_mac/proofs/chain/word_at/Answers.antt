@@ -1,4 +1,4 @@
--- Eight bytes from a place, their first the highest, are the block there.
+-- Eight bytes from an offset, big-endian, are the block there.
 use Rattle.std.proofs.Common.{arith}
 use Rattle.retail_mac.proofs.Blocks.{word_at_is}
 use Rattle.retail_mac.proofs.chain.word_at.Goals as goal

@@ -1,4 +1,4 @@
--- A block that was begun is filled up, or stays begun.
+-- A partial block is completed, or stays partial.
 use Rattle.std.proofs.Common.{◌≡◌, ◌-◌, ◌/◌, ◌*◌, ◌++◌, List, ℕ, length, take, drop, fold, sym, ap, ◌∙◌, subst, arith, length-append}
 use Rattle.std.proofs.lemmas.List.{take_all, drop_all}
 use Rattle.des_block.specs.Cipher.{word_bytes}

@@ -1,4 +1,4 @@
--- The chain over the whole blocks, ended with the part that is kept, gives the MAC of all that was taken.
+-- The chain over the whole blocks, ended with the buffered bytes, is the MAC of the whole text.
 use Rattle.std.proofs.Common.{◌∙◌}
 use Rattle.retail_mac.proofs.Pieces.{retail_mac-end}
 use Rattle.retail_mac.proofs.run.MacRun.finish.Goals as goal

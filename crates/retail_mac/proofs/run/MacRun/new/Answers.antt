@@ -1,4 +1,4 @@
--- A run that has taken nothing.
+-- A run over no bytes yet.
 use Rattle.std.proofs.Common.{ap, ◌∙◌}
 use Rattle.des_block.specs.Cipher.{word_bytes}
 use Rattle.retail_mac.specs.Mac.{blocks}

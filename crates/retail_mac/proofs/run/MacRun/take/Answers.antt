@@ -1,4 +1,4 @@
--- A run that begins anew.
+-- A run that starts over.
 use Rattle.std.proofs.Common.{ap, ◌∙◌}
 use Rattle.des_block.specs.Cipher.{word_bytes}
 use Rattle.retail_mac.specs.Mac.{blocks}

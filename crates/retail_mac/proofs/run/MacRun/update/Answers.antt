@@ -1,4 +1,4 @@
--- What a block that was begun needs, the whole blocks, and the rest.
+-- The bytes that complete a partial block, the whole blocks, and the remainder.
 use Rattle.std.proofs.Common.{◌≡◌, ◌-◌, ◌/◌, ◌*◌, ◌++◌, List, ℕ, length, take, drop, fold, ap, ◌∙◌, subst, append_assoc}
 use Rattle.std.proofs.lemmas.List.{take-append-drop, take_rest}
 use Rattle.des_block.specs.Cipher.{word_bytes}
