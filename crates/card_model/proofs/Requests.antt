@@ -1,4 +1,4 @@
--- The requests of a card have the form of a request, and their cryptogram is over what else they say.
+-- The requests of a card have the form of a request, and their cryptogram is over their other fields.
 use Rattle.std.proofs.Common.{◌≡◌, ℕ, ◌/◌, ◌%◌, true, List, [], ◌∷◌, ◌++◌, replicate, Some, IsTrue, refl, ap, ap₂, sym, ◌∙◌}
 use Rattle.std.proofs.lemmas.Bool.{and_from}
 use Rattle.std.specs.List.{list_all}

@@ -1,4 +1,4 @@
--- What a card keeps, what it writes into a request, and when the issuer's answer to it is right.
+-- A card's state, its requests, and which answers of the issuer it accepts.
 use Rattle.std.specs.Prelude.{ℕ, ◌+◌, ◌*◌, Bool, ◌&&◌, nat_le, if◌then◌else◌, List, [], ◌∷◌, ◌++◌, length, take, drop, replicate}
 use Rattle.std.specs.Prelude.{Option}
 use Rattle.std.specs.Str.{bytes_eq}
@@ -11,19 +11,19 @@ use Rattle.cryptogram_in.specs.Cryptogram.{application_cryptogram}
 use Rattle.arpc_methods.specs.Arpc.{value91}
 use Rattle.card_model.specs.declared.terminal.Terminal.{Terminal}
 
--- a card: what it was issued with, and what it keeps from one transaction to the next
+-- a card's state: what it was issued with, and what it stores from one transaction to the next
 pub record CardState : Type 0 where
-  -- its account number, sequence number, derivation key index, method of the issuer's cryptogram, and master keys
+  -- its account number, sequence number, derivation key index, ARPC method, and master keys
   pub pan : List ℕ
   pub psn : ℕ
   pub dki : ℕ
   pub method : Method
   pub keys : CardKeys
-  -- the transaction counter
+  -- the ATC
   pub atc : ℕ
-  -- the last online ATC register: the counter of the last transaction in which it found the issuer's cryptogram right
+  -- the last online ATC register: the ATC of the last transaction in which it verified an ARPC
   pub register : ℕ
-  -- how many script commands it ran since then, and whether it refused one
+  -- how many issuer script commands it ran since then, and whether it refused one
   pub count : ℕ
   pub failed : Bool
   -- the request of the open transaction, if one is open
@@ -37,8 +37,9 @@ pub record CardState : Type 0 where
 unfoldable pub script_results : CardState → ℕ
 script_results card = 16 * card.count + (if card.failed then 8 else 0)
 
--- the issuer application data of a card that asks to go online, which are this project's profile: 0F, the common core identifier,
--- the derivation key index, the card verification results with an ARQC, eight counters, 0F, the register, and zeros
+-- the issuer application data of a card that requests to go online, this project's profile: 0F, the common core
+-- identifier, the derivation key index, the card verification results with an ARQC, eight counters, 0F, the register,
+-- and zeros
 unfoldable pub application_data : CardState → List ℕ
 application_data card =
     0x0F ∷ 0xA5 ∷ card.dki ∷ 0xA0 ∷ 0 ∷ 0 ∷ script_results card ∷ 0 ∷ []
@@ -69,8 +70,8 @@ unfoldable pub next_request : CardState → Terminal → Parts
 next_request card terminal =
     let fields = next_fields card terminal in record fields { ac = application_cryptogram card.keys.ac.0 fields }
 
--- the value of tag 91 is the issuer's answer to the card's request by the card's method: with this response code or, under method 2,
--- with the card status update that the value has behind its first four bytes
+-- the value of tag 91 is the issuer's answer to the card's request by the card's method: with this response code or, by
+-- method 2, with the card status update that the value has after its first four bytes
 unfoldable pub is_answer : CardState → Parts → List ℕ → List ℕ → Bool
 is_answer card request value arc =
     nat_le 8 (length value)

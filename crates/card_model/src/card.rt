@@ -20,20 +20,20 @@ use secure_msg::unseal;
 use std::alloc::Global;
 use std::marker::Model;
 
-/// The last transaction counter: a card that reached it makes no more requests.
+/// The last ATC: a card that reached it makes no more requests.
 pub const LAST_COUNTER: u16 = 65_535;
 
-/// How many script commands the card verification results can count.
+/// How many issuer script commands the card verification results can count.
 pub const MOST_COUNTED: u8 = 15;
 
-/// The application interchange profile of every card: offline and online checks of the card, and an issuer that answers by a
-/// cryptogram.
+/// The application interchange profile of every card, tag 82: DDA, cardholder verification, terminal risk management and
+/// CDA. EMV 4.3 Book 3, Annex C1.
 const PROFILE: [u8; 2] = [0x39, 0x00];
 
 /// The cryptogram information data of an ARQC, a request to go online.
 const ARQC: u8 = 0x80;
 
-/// The bit of the card verification results that says that a script command was refused.
+/// The bit of the card verification results that is set if an issuer script command was refused.
 const SCRIPT_FAILED: u8 = 0x08;
 
 /// A chip card.
@@ -82,7 +82,8 @@ impl Model for Card {
 }
 
 impl Card {
-    /// A new card: its counters are 0, no transaction is open, and it ran no command. `alloc` serves every `run`.
+    /// A new card: its counters are 0, no transaction is open, and it ran no command. Each `run` allocates from
+    /// `alloc`.
     #[tactic(auto, unfolding(crate::specs::CardSteps::new_card))]
     pub fn new(alloc: Global, pan: Pan, psn: u8, dki: u8, method: Method, keys: CardKeys) -> Card
         requires { IsTrue (is_bcd psn) }
@@ -104,8 +105,8 @@ impl Card {
         }
     }
 
-    /// A tap at a terminal: the card counts the transaction, closes what was open, and opens a request to go online with its
-    /// application cryptogram. `None` where the card is at its last counter, and then it stays as it was.
+    /// A tap at a terminal: the card increments its ATC, closes any open transaction, and opens a request to go online
+    /// with its application cryptogram. `None` if the card is at its last ATC, and then it stays as it was.
     pub fn tap(&mut self, terminal: &Terminal) -> Option<Request>
         requires { IsTrue (list_all is_bcd terminal.now.amount) }
         ensures step { CardStep self.old (Tap terminal.now result) self.new }
@@ -123,8 +124,8 @@ impl Card {
         Some(request)
     }
 
-    /// The issuer's answer to the open request: the value of tag 91, and the response code. Whether the card found it right; the
-    /// card takes one right answer to a request. Where it is false the card stays as it was.
+    /// Checks the issuer's answer to the open request: the value of tag 91, and the response code. Returns whether the
+    /// card accepts it; the card accepts one answer to a request. If it doesn't, it stays as it was.
     pub fn authenticate(&mut self, value91: &[u8], arc: [u8; 2]) -> bool
         ensures step { CardStep self.old (Authenticate value91.now arc result) self.new }
         ensures unchanged { OnFalse result (self.new ≡ self.old) }
@@ -148,8 +149,9 @@ impl Card {
         true
     }
 
-    /// A sealed script command. Whether the card ran it: it runs what was sealed at its chain, in a transaction that was
-    /// authenticated, and no more commands than it can count. Where no memory is left the card stays as it was.
+    /// Receives a sealed issuer script command. Returns whether the card ran it: it runs what was sealed at its chain,
+    /// in a transaction that was authenticated, and no more commands than it can count. If memory runs out the card
+    /// stays as it was.
     pub fn run(&mut self, bytes: &[u8]) -> Result<bool, NoMemory>
         ensures step { IfOk result (λ answer. CardStep self.old (Run bytes.now answer) self.new) }
         ensures unchanged { OnErr result (self.new ≡ self.old) }
@@ -219,7 +221,7 @@ impl Card {
         }
     }
 
-    /// The issuer application data of a card that asks to go online: this project's profile.
+    /// The issuer application data of a card that requests to go online: this project's profile.
     fn application_data(&self) -> [u8; 32]
         ensures { result ≡ application_data self.now }
     {
@@ -231,7 +233,7 @@ impl Card {
         ]
     }
 
-    /// Byte 4 of the card verification results: how many script commands were run, and whether one was refused.
+    /// Byte 4 of the card verification results: how many issuer script commands were run, and whether one was refused.
     #[tactic(auto, unfolding(crate::specs::Application::script_results))]
     fn script_results(&self) -> u8
         ensures { result ≡ script_results self.now }
@@ -241,8 +243,8 @@ impl Card {
     }
 }
 
-/// Whether this is the value of tag 91 for a cryptogram: with this response code or, under method 2, with the card status update
-/// that the value has behind its first four bytes.
+/// Whether this is the value of tag 91 for a cryptogram: with this response code or, by method 2, with the card status
+/// update that the value has after its first four bytes.
 fn is_answer(method: Method, session: &Key16, ac: &[u8; 8], value: &[u8], arc: [u8; 2]) -> bool
     ensures { result ≡ (nat_le 8 (length value.now)
         && bytes_eq value.now (value91 method session.now.0 ac.now arc (take 4 (drop 4 value.now)))) }
@@ -254,7 +256,7 @@ fn is_answer(method: Method, session: &Key16, ac: &[u8; 8], value: &[u8], arc: [
     value == expected.as_slice()
 }
 
-/// The command that these bytes open to, and the next chain, where one more command can be counted.
+/// The command that these bytes open to, and the next chain, if one more command can be counted.
 #[tactic(auto, unfolding(crate::specs::CardSteps::opened_within))]
 fn opened_within(
     count: u8,

@@ -1,6 +1,6 @@
-//! What a terminal gives to a transaction.
+//! The terminal's data of a transaction.
 
-/// What a terminal gives to a transaction: EMV 4.3 Book 3, Annex A.
+/// The terminal's data of a transaction: EMV 4.3 Book 3, Annex A.
 #[derive(Clone, Copy, PartialEq, Eq, Debug)]
 pub struct Terminal {
     /// The terminal verification results, tag 95.

@@ -1,4 +1,4 @@
--- The two bytes of the register stand in the issuer application data, its high byte first.
+-- The issuer application data have the two bytes of the register, big-endian.
 use Rattle.std.proofs.Common.{◌/◌, ◌%◌, get_or, ap, ◌∙◌, arith}
 use Rattle.cryptogram_in.proofs.Pieces.{to_be_bytes-counter}
 use Rattle.card_model.specs.Application.{CardState}

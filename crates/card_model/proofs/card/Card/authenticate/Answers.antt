@@ -1,4 +1,5 @@
--- A card without an open request, or that was answered before, stays as it is; else the answer is right or wrong.
+-- A card without an open request, or that accepted an answer before, stays as it is; else it accepts or refuses the
+-- answer.
 use Rattle.std.proofs.Common.{false, ◌∙◌, sym}
 use Rattle.card_model.specs.CardSteps.{with_answer}
 use Rattle.card_model.proofs.Steps.{answer-closed, answer-twice, answer-wrong, answer-right, no_chain, is_answer-under}

@@ -1,4 +1,4 @@
--- The card's fields make a request, and the cryptogram that is put into it is the card's own.
+-- The card's fields are those of a request, and the cryptogram in it is the card's own.
 use Rattle.std.proofs.Common.{is_some, IsTrue, ap, sym, ◌∙◌}
 use Rattle.issuer_base.specs.ChipData.{is_bcd, request_from}
 use Rattle.cryptogram_in.specs.Cryptogram.{application_cryptogram}

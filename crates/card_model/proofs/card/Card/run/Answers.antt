@@ -1,4 +1,4 @@
--- A command comes too early, is refused and noted as a failure, or is run, counted and chained.
+-- A command comes too early, is refused and sets the failed bit, or is run, counted and chained.
 use Rattle.std.proofs.Common.{◌<◌, ◌∙◌, sym, arith}
 use Rattle.card_model.specs.declared.card.TheConstants.{MOST_COUNTED}
 use Rattle.card_model.specs.CardSteps.{with_command, with_failure}

@@ -1,4 +1,4 @@
--- A card at its last counter stays as it is; any other opens its next request.
+-- A card at its last ATC stays as it is; any other opens its next request.
 use Rattle.card_model.proofs.Steps.{tap-last, tap-next}
 use Rattle.card_model.specs.CardSteps.{with_open}
 use Rattle.card_model.proofs.card.Card.tap.Goals as goal
