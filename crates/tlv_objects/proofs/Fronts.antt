@@ -1,4 +1,4 @@
--- The object at the front of a text: what is read is spelled there, and what is spelled there is read.
+-- The object at the start of a text: what is parsed is encoded there, and what is encoded there is parsed.
 use Rattle.std.proofs.Common.{◌≡◌, ℕ, suc, ◌+◌, ◌*◌, ◌≤◌, Bool, true, false, cond, not, ◌&&◌, List, [], ◌∷◌, ◌++◌, length, take, drop, Option, Some}
 use Rattle.std.proofs.Common.{None, option_and_then, nat_lt, nat_eq, refl, sym, ap, ◌∙◌, subst, append_assoc, arith, tests, rules, length-append}
 use Rattle.std.proofs.Common.{take-append-drop, length-take-le, zero-add, le-ltb, ne_eqb}

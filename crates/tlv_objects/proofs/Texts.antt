@@ -1,4 +1,4 @@
--- The objects of a text: what stands in front of it, and that its objects cover it.
+-- The objects of a text: after leading bytes, and that they cover it.
 use Rattle.std.proofs.Common.{◌≡◌, ◌≢◌, ℕ, zero, suc, ◌+◌, ◌-◌, ◌<◌, ◌≤◌, ◌⊎◌, true, false, List, [], ◌∷◌, ◌++◌, length, replicate, Option, Some}
 use Rattle.std.proofs.Common.{None, slice_get, refl, sym, ap, ◌∙◌, subst, inl, inr, arith, length-append, append-nil, eqb-true, one-add, ne_eqb}
 use Rattle.std.proofs.Common.{take_while, drop, ◌==◌, add-zero}

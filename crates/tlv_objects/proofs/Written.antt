@@ -1,4 +1,4 @@
--- The text of an object is a spelling of it, and reads as that object alone.
+-- The text of an object is an encoding of it, and parses as that object alone.
 use Rattle.std.proofs.Common.{◌≡◌, ℕ, ◌+◌, ◌/◌, ◌%◌, ◌<◌, Bool, true, false, cond, List, [], ◌∷◌, ◌++◌, length, IsTrue, nat_lt, refl, sym, ap, ◌∙◌}
 use Rattle.std.proofs.Common.{append-nil, arith, tests, rules}
 use Rattle.std.proofs.lemmas.Bool.{and_parts}

@@ -2,13 +2,13 @@
 use Rattle.std.specs.Prelude.{ℕ, zero, suc, ◌+◌, ◌-◌, ◌*◌, Bool, List, [], ◌∷◌, length, take, drop, Option, Some, None, option_and_then, bit_and}
 use Rattle.std.specs.Prelude.{nat_lt, ◌==◌, if◌then◌else◌}
 
--- an object: its tag as a number, the bytes of its value, and the place where it begins
+-- an object: its tag as a number, the bytes of its value, and the offset where it begins
 pub record TlvObject : Type 0 where
   pub tag : ℕ
   pub value : List ℕ
   pub at : ℕ
 
--- what a text holds: its objects in order, and the place where it is torn, if it is torn
+-- what a text holds: its objects in order, and the offset where it is malformed, if it is
 pub record TlvText : Type 0 where
   pub objects : List TlvObject
   pub torn : Option ℕ
@@ -17,11 +17,11 @@ infixl 10 ◌>>=◌
 abbrev pub ◌>>=◌ : {A B : Type 0} → Option A → (A → Option B) → Option B
 o >>= f = option_and_then f o
 
--- a tag goes on behind its first byte where the low five bits of that byte are all set
+-- a tag has more bytes after its first one if the low five bits of that byte are all set
 abbrev pub opens_long_tag : ℕ → Bool
 opens_long_tag byte = bit_and byte 31 == 31
 
--- a later byte of a tag is its last where bit 8 is clear
+-- a later byte of a tag is its last if bit 8 is clear
 abbrev pub ends_tag : ℕ → Bool
 ends_tag byte = nat_lt byte 128
 
@@ -35,7 +35,7 @@ tag_from_second tag [] = None
 tag_from_second tag (byte ∷ rest) =
     if ends_tag byte then Some (256 * tag + byte, rest) else tag_from_third (256 * tag + byte) rest
 
--- the tag at the front of a text as a number, and what stands behind it
+-- the tag at the start of a text as a number, and the bytes after it
 unfoldable pub tag_at : List ℕ → Option (ℕ × List ℕ)
 tag_at [] = None
 tag_at (byte ∷ rest) = if opens_long_tag byte then tag_from_second byte rest else Some (byte, rest)
@@ -51,19 +51,19 @@ long_length [] = None
 long_length (high ∷ []) = None
 long_length (high ∷ low ∷ rest) = Some (256 * high + low, rest)
 
--- the length at the front of a text, and what stands behind it: a byte below 128, or 81 and one byte, or 82 and two
+-- the length at the start of a text, and the bytes after it: a byte below 128, or 81 and one byte, or 82 and two
 unfoldable pub length_at : List ℕ → Option (ℕ × List ℕ)
 length_at [] = None
 length_at (byte ∷ rest) =
     if nat_lt byte 128 then Some (byte, rest) else (if byte == 129 then short_length rest else (if byte == 130 then long_length rest else None))
 
--- an object at the front of a text: its tag, its value, and what stands behind it
+-- an object at the start of a text: its tag, its value, and the bytes after it
 pub record FrontObject : Type 0 where
   pub tag : ℕ
   pub value : List ℕ
   pub rest : List ℕ
 
--- the object at the front of a text, none where the tag, the length or the value ends early or has no such form
+-- the object at the start of a text, none if the tag, the length or the value ends early or has no such encoding
 unfoldable pub front_object : List ℕ → Option FrontObject
 front_object bytes = do
   tag ← tag_at bytes
@@ -74,16 +74,17 @@ front_object bytes = do
 abbrev pub no_more : TlvText
 no_more = record { objects = []; torn = None }
 
--- torn at this place
+-- malformed at this offset
 abbrev pub torn_at : ℕ → TlvText
 torn_at at = record { objects = []; torn = Some at }
 
--- the same text with an object in front
+-- the same text with an object before it
 abbrev pub in_front : TlvObject → TlvText → TlvText
 in_front object text = record { objects = object ∷ text.objects; torn = text.torn }
 
--- The objects of a text that stands at a place, of which the first bytes are inside an object that was read and are passed over.
--- A 00 byte where an object may begin is passed over too. Where none begins, the text is torn.
+-- The objects of a text that begins at an offset; its first `inside` bytes belong to an object that was read, and are
+-- skipped. A 00 byte where an object may begin is skipped too. At any other byte where none begins, the text is
+-- malformed.
 unfoldable pub objects_from : (inside at : ℕ) → List ℕ → TlvText
 objects_from inside at [] = no_more
 objects_from (suc inside) at (byte ∷ rest) = objects_from inside (at + 1) rest
@@ -97,11 +98,11 @@ objects_from zero at (suc byte ∷ rest) = elim (front_object (suc byte ∷ rest
 abbrev pub objects_of : List ℕ → TlvText
 objects_of bytes = objects_from 0 0 bytes
 
--- what a cursor has ahead of it, and at which place of the text
+-- the unread bytes of a cursor, and their offset in the text
 pub record Ahead : Type 0 where
   pub bytes : List ℕ
   pub at : ℕ
 
--- the objects ahead of a cursor
+-- the unread objects of a cursor
 abbrev pub objects_ahead : Ahead → TlvText
 objects_ahead ahead = objects_from 0 ahead.at ahead.bytes

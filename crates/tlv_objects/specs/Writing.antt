@@ -1,8 +1,8 @@
--- The shortest text of an object: EMV 4.3 Book 3, Annex B.
+-- The shortest encoding of an object: EMV 4.3 Book 3, Annex B.
 use Rattle.std.specs.Prelude.{ℕ, ◌/◌, ◌%◌, Bool, ◌&&◌, List, [], ◌∷◌, ◌++◌, length, nat_lt, if◌then◌else◌}
 use Rattle.tlv_objects.specs.Grammar.{is_tag}
 
--- the bytes of a tag, the most significant first: none in front of another is zero
+-- the bytes of a tag, big-endian, without leading zeros
 abbrev pub tag_bytes : ℕ → List ℕ
 tag_bytes tag =
     if nat_lt tag 0x100 then tag ∷ []
@@ -14,11 +14,11 @@ tag_bytes tag =
 abbrev pub is_tag_number : ℕ → Bool
 is_tag_number tag = nat_lt tag 0x1000000 && is_tag (tag_bytes tag)
 
--- the shortest spelling of a length below 65,536
+-- the shortest encoding of a length below 65,536
 abbrev pub length_bytes : ℕ → List ℕ
 length_bytes n =
     if nat_lt n 128 then n ∷ [] else (if nat_lt n 256 then 129 ∷ n ∷ [] else 130 ∷ n / 256 ∷ n % 256 ∷ [])
 
--- the tag, the shortest spelling of the value's length, the value
+-- the tag, the shortest encoding of the value's length, and the value
 abbrev pub object_text : ℕ → List ℕ → List ℕ
 object_text tag value = tag_bytes tag ++ (length_bytes (length value) ++ value)

@@ -11,17 +11,17 @@ use std::marker::Model;
 pub struct Object<'a> {
     /// The one to three bytes of the tag as a big-endian number, as 0x9F02.
     pub tag: u32,
-    /// The value, which lies in the text.
+    /// The value, a slice of the text.
     pub value: &'a [u8],
-    /// The place in the text where the object begins.
+    /// The offset in the text where the object begins.
     pub at: usize,
 }
 
 /// Why the objects of a text end before the text does.
 #[derive(Clone, Copy, Debug, PartialEq, Eq)]
 pub enum TlvFault {
-    /// What begins at this place is no object: its tag, length or value ends early, its tag has more than three
-    /// bytes, or its length has a form that is not taken.
+    /// What begins at this offset is no object: its tag, length or value ends early, its tag has more than three
+    /// bytes, or its length has an encoding that is not accepted.
     Torn(usize),
 }
 
@@ -44,7 +44,7 @@ impl<'a> Model for Objects<'a> {
 }
 
 impl<'a> Objects<'a> {
-    /// A cursor in front of the text.
+    /// A cursor at the start of the text.
     pub fn new(bytes: &'a [u8]) -> Objects<'a>
         ensures { result ≡ record { bytes = bytes.now; at = 0 } }
     {
@@ -54,7 +54,7 @@ impl<'a> Objects<'a> {
         }
     }
 
-    // Passes over the 00 bytes in front of the next object, where there mostly is none.
+    // Skips the 00 bytes before the next object, of which there is mostly none.
     #[inline(always)]
     fn pass_zeros(&mut self)
         ensures same { objects_ahead self.new ≡ objects_ahead self.old }
@@ -88,7 +88,7 @@ impl<'a> Iterator for Objects<'a> {
 
     ghost remaining = { λ cursor. at_most (length cursor.bytes) };
 
-    /// The next object, or the fault that ends the text. After a fault there is nothing more.
+    /// The next object, or the fault that ends the objects. After a fault the cursor is exhausted.
     #[inline(always)]
     fn next(&mut self) -> Option<Result<Object<'a>, TlvFault>> {
         self.pass_zeros();
@@ -105,8 +105,8 @@ impl<'a> Iterator for Objects<'a> {
     }
 }
 
-/// The objects of a text cover it: each is spelled at its place, and between them stand only 00 bytes, up to the end
-/// of the text or to the place where it is torn, where no object begins. Nothing else covers it so.
+/// The objects of a text cover it: each is encoded at its offset, and between them are only 00 bytes. So it is up to
+/// the end of the text, or to the offset where it is malformed, where no object begins. Nothing else covers it so.
 pub fn objects_cover_the_text()
     ensures covered { (text : List ℕ) → Covers 0 text (objects_of text).objects (objects_of text).torn }
     ensures only { (text : List ℕ) (objects : List TlvObject) (torn : Option ℕ)

@@ -1,6 +1,6 @@
-//! BER-TLV data objects, as in EMV 4.3 Book 3, Annex B: a cursor that lends the objects of a text, and a call that
-//! writes one. A tag has one to three bytes, a length one byte or 81 and one or 82 and two, and 00 bytes may stand
-//! before, between and after objects.
+//! BER-TLV data objects, as in EMV 4.3 Book 3, Annex B: a cursor that returns the objects of a text, borrowed from it,
+//! and a call that writes one. A tag has one to three bytes, a length one byte or 81 and one or 82 and two, and 00
+//! bytes may occur before, between and after objects.
 #![tactic(auto)]
 
 mod cursor;

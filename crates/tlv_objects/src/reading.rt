@@ -1,15 +1,15 @@
-//! Reading the parts of an object from the front of a text.
+//! Parsing the parts of an object at the start of a text.
 ghost use Rattle.std.specs.Prelude.{◌≡◌, ◌==◌, option_map, take_while, length};
 ghost use Rattle.tlv_objects.specs.Tlv.{tag_at, length_at, front_object};
 
-/// The number of 00 bytes at the front.
+/// The number of leading 00 bytes.
 pub(crate) fn zeros_in_front(bytes: &[u8]) -> usize
     ensures { result ≡ length (take_while (λ byte. byte == 0) bytes.now) }
 {
     bytes.iter().take_while(|byte| **byte == 0).count()
 }
 
-/// The tag at the front, and the bytes behind it.
+/// The tag at the start, and the bytes after it.
 #[tactic(auto, unfolding(crate::specs::Tlv::tag_at))]
 #[inline(always)]
 fn read_tag(bytes: &[u8]) -> Option<(u32, &[u8])>
@@ -34,7 +34,7 @@ fn read_tag(bytes: &[u8]) -> Option<(u32, &[u8])>
     }
 }
 
-/// The length at the front, and the bytes behind it.
+/// The length at the start, and the bytes after it.
 #[tactic(auto, unfolding(crate::specs::Tlv::length_at))]
 #[inline(always)]
 fn read_length(bytes: &[u8]) -> Option<(usize, &[u8])>
@@ -55,7 +55,7 @@ fn read_length(bytes: &[u8]) -> Option<(usize, &[u8])>
     }
 }
 
-/// The tag and the value of the object at the front, and the bytes behind it.
+/// The tag and the value of the object at the start, and the bytes after it.
 #[tactic(auto, unfolding(crate::specs::Tlv::front_object))]
 #[inline(always)]
 pub(crate) fn read_object(bytes: &[u8]) -> Option<(u32, &[u8], &[u8])>

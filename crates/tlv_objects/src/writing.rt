@@ -1,4 +1,4 @@
-//! Writing an object in its shortest form.
+//! Writing an object in its shortest encoding.
 ghost use Rattle.std.specs.Prelude.{◌≡◌, ◌+◌, ◌<◌, ◌≤◌, ◌↔◌, ◌++◌, length, IsTrue, IsErr, OnOk, OnErr};
 ghost use Rattle.arrayvec.specs.ArrayVec.{array_vec_len};
 ghost use Rattle.tlv_objects.specs.Tlv.{objects_of, in_front, no_more};
@@ -6,14 +6,14 @@ ghost use Rattle.tlv_objects.specs.Writing.{is_tag_number, tag_bytes, length_byt
 
 use arrayvec::ArrayVec;
 
-/// The room that is left is too small for an object.
+/// The remaining room is too small for an object.
 #[derive(Clone, Copy, Debug, PartialEq, Eq)]
 pub struct Full;
 
-/// How many bytes the objects written in one place may take: a reply to a card has fewer.
+/// The capacity, in bytes, of the buffer that objects are written to: a reply to a card has fewer.
 pub const ROOM: usize = 160;
 
-/// The bytes of a tag that is given as a number, the most significant first, with no 00 in front of another.
+/// The bytes of a tag that is given as a number, big-endian, without leading 00 bytes.
 pub fn tag_bytes(tag: u32) -> ArrayVec<u8, 4>
     ensures { result.items ≡ tag_bytes tag }
 {
@@ -30,7 +30,7 @@ pub fn tag_bytes(tag: u32) -> ArrayVec<u8, 4>
     ArrayVec::try_from(&bytes[zeros..]).unwrap()
 }
 
-// The bytes in front of a value: a tag of up to three and a length of up to three.
+// The bytes before a value: a tag of up to three and a length of up to three.
 type Head = ArrayVec<u8, 6>;
 
 fn head_of(tag: u32, length: usize) -> Head
@@ -61,7 +61,7 @@ fn push_length(head: &mut Head, length: usize)
     head.push((length % 0x100) as u8);
 }
 
-/// Writes an object in its shortest form behind what is there. Where it doesn't fit, nothing changes.
+/// Appends an object in its shortest encoding. If it doesn't fit, nothing changes.
 pub fn put(out: &mut ArrayVec<u8, ROOM>, tag: u32, value: &[u8]) -> Result<(), Full>
     requires tag { IsTrue (is_tag_number tag) }
     requires length { length value.now ≤ 65535 }
@@ -70,7 +70,7 @@ pub fn put(out: &mut ArrayVec<u8, ROOM>, tag: u32, value: &[u8]) -> Result<(), F
         ↔ (ROOM < array_vec_len out.old + length (object_text tag value.now)) }
     ensures err { OnErr result (out.new ≡ out.old) }
 
-    // What is written reads as that object and nothing more.
+    // What is written parses as that object and nothing more.
     ensures alone { objects_of (object_text tag value.now)
         ≡ in_front (record { tag = tag; value = value.now; at = 0 }) no_more }
 {

@@ -1,4 +1,4 @@
--- What is written reads as the object alone.
+-- What is written parses as the object alone.
 use Rattle.tlv_objects.proofs.Written.{objects_of-object_text}
 use Rattle.tlv_objects.proofs.writing.put.Goals as goal
 

@@ -1,4 +1,4 @@
--- Past the 00 bytes in front the objects are the same.
+-- After the leading 00 bytes the objects are the same.
 use Rattle.tlv_objects.proofs.Texts.{length-take_while_zero, objects_past_zeros, no_zero_past_zeros}
 use Rattle.tlv_objects.proofs.cursor.Objects.pass_zeros.Goals as goal
 
