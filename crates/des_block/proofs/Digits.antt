@@ -1,4 +1,4 @@
--- Binary digits and the numbers that they write.
+-- Binary digits and their values.
 use Rattle.std.proofs.Common.{◌≡◌, ℕ, zero, suc, ◌+◌, ◌-◌, ◌*◌, ◌/◌, ◌%◌, ◌^◌, ◌<◌, ◌≤◌, ◌==◌, Bool, true, false, List, [], ◌∷◌, ◌++◌, length, take, drop}
 use Rattle.std.proofs.Common.{slice_index_or, bit_xor, refl, sym, ap, ◌∙◌, arith, pow-suc, mod-lt, length-append}
 use Rattle.std.proofs.lemmas.Nat.{mod-pow-add, shr_high, mod_low, shr_split, shr-shr, xor_block, xor_shr, xor_mod}

@@ -1,4 +1,4 @@
--- What goes through xor: functions of words, and bits picked by a table. Two such functions agree if they agree on the
+-- Functions additive over xor: of words, and bits selected by a table. Two such functions agree if they agree on the
 -- powers of two.
 use Rattle.std.proofs.Common.{◌≡◌, ℕ, zero, suc, ◌+◌, ◌-◌, ◌*◌, ◌/◌, ◌%◌, ◌^◌, ◌<◌, ◌≤◌, min, ◌==◌, Bool, true, false, List, [], ◌∷◌, ◌++◌, length, map}
 use Rattle.std.proofs.Common.{slice_index_or, bit_xor, bit_and, refl, sym, ap, ap₂, ◌∙◌, arith, pow_pos, mod-lt, add-zero}

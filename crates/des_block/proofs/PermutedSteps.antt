@@ -1,4 +1,5 @@
--- Blocks in permuted halves: IP and its inverse lead between them and their numbers, xor goes through, and the rounds are the cipher.
+-- Blocks as their halves after IP: IP and its inverse convert between them and their numbers, xor commutes with IP, and
+-- the rounds are the cipher.
 use Rattle.std.proofs.Common.{◌≡◌, ℕ, ◌^◌, ◌<◌, Bool, List, ◌++◌, length, take, drop, reverse, fold, bit_xor, refl, sym, ap, ap₂, ◌∙◌, arith, subst}
 use Rattle.std.proofs.Common.{take-append-drop}
 use Rattle.des_block.specs.Bits.{bits, number, picked}

@@ -1,4 +1,4 @@
--- The steps of the plain body.
+-- The steps of the reference implementation.
 use Rattle.std.proofs.Common.{ap₂, set, length-set, length-drop, length-take, append_assoc, append-nil, drop-drop, ◌≡◌, ℕ, zero, suc, ◌+◌, ◌-◌, ◌*◌, ◌/◌, ◌%◌}
 use Rattle.std.proofs.Common.{◌^◌, ◌<◌, ◌≤◌, Bool, true, false, List, [], ◌∷◌, ◌++◌, length, map, take, drop, slice_index, slice_index_or, bit_xor, bit_or}
 use Rattle.std.proofs.Common.{bit_and, refl, sym, ap, ◌∙◌, arith, pow_pos, pow_mono, mod-lt, length-append, length-take-le, fold, get_or}

@@ -1,4 +1,4 @@
--- Numbers as binary digits, and tables that pick digits by their places.
+-- Numbers as binary digits, and tables that select digits by their positions.
 use Rattle.std.specs.Prelude.{ℕ, zero, suc, ◌+◌, ◌-◌, ◌*◌, ◌/◌, ◌%◌, ◌^◌, ◌==◌, Bool, true, false, List, [], ◌∷◌, length, map, slice_index_or}
 use mathlib.Core.Bool.{xor}
 
@@ -12,7 +12,7 @@ abbrev pub digit : Bool → ℕ
 digit true = 1
 digit false = 0
 
--- the number that binary digits write, the highest first
+-- the value of binary digits, the highest first
 unfoldable pub number : List Bool → ℕ
 number [] = 0
 number (b ∷ bs) = digit b * 2 ^ length bs + number bs

@@ -5,7 +5,7 @@ use Rattle.des_block.specs.Bits.{bits, number, picked, xor_bits}
 use Rattle.des_block.specs.Tables.{initial_permutation, inverse_permutation, expansion, box_permutation, key_choice_left, key_choice_right, round_key_choice}
 use Rattle.des_block.specs.Tables.{rotations, s_boxes}
 
--- what an S box gives for six bits: the first and the last are its row, the inner four its column
+-- the output of an S box for six bits: the first and the last are its row, the inner four its column
 unfoldable pub box_output : List ℕ → List Bool → List Bool
 box_output box six =
     bits 4 (slice_index box (16 * number (picked (1 ∷ 6 ∷ []) six) + number (picked (2 ∷ 3 ∷ 4 ∷ 5 ∷ []) six)))
@@ -29,7 +29,7 @@ pub record Halves : Type 0 where
 unfoldable pub halves : List Bool → Halves
 halves bs = record { left = take 32 bs; right = drop 32 bs }
 
--- a round takes (L, R) to (R, L xor f(R, K))
+-- a round maps (L, R) to (R, L xor f(R, K))
 unfoldable pub round : Halves → List Bool → Halves
 round h key = record { left = h.right; right = xor_bits h.left (cipher_function h.right key) }
 
@@ -39,11 +39,11 @@ ciphered keys block =
     let end = fold round (halves (picked initial_permutation block)) keys in
     picked inverse_permutation (end.right ++ end.left)
 
--- bits turned left by n places
+-- bits rotated left by n
 unfoldable pub turned : ℕ → List Bool → List Bool
 turned n bs = drop n bs ++ take n bs
 
--- for each rotation a round key: C and D are turned left, and PC-2 picks 48 of their bits
+-- for each rotation a round key: C and D are rotated left, and PC-2 selects 48 of their bits
 unfoldable pub keys_from : List Bool → List Bool → List ℕ → List (List Bool)
 keys_from c d [] = []
 keys_from c d (n ∷ ns) =
@@ -53,7 +53,7 @@ keys_from c d (n ∷ ns) =
 unfoldable pub round_keys : List Bool → List (List Bool)
 round_keys key = keys_from (picked key_choice_left key) (picked key_choice_right key) rotations
 
--- the eight bytes of a number, the highest first
+-- the eight bytes of a number, big-endian
 unfoldable pub word_bytes : ℕ → List ℕ
 word_bytes n = to_be_bytes w64 n
 
@@ -69,7 +69,7 @@ block_bytes bs = word_bytes (number bs)
 unfoldable pub des_encipher : List ℕ → List ℕ → List ℕ
 des_encipher key block = block_bytes (ciphered (round_keys (block_bits key)) (block_bits block))
 
--- its inverse: the round keys in the opposite order
+-- its inverse: the round keys in reverse order
 unfoldable pub des_decipher : List ℕ → List ℕ → List ℕ
 des_decipher key block = block_bytes (ciphered (reverse (round_keys (block_bits key))) (block_bits block))
 
@@ -79,7 +79,7 @@ unfoldable pub tdes_encipher : List ℕ → List ℕ → List ℕ
 tdes_encipher key block =
     des_encipher (take 8 key) (des_decipher (drop 8 key) (des_encipher (take 8 key) block))
 
--- its inverse
+-- the inverse of triple DES
 unfoldable pub tdes_decipher : List ℕ → List ℕ → List ℕ
 tdes_decipher key block =
     des_decipher (take 8 key) (des_encipher (drop 8 key) (des_decipher (take 8 key) block))

@@ -45,7 +45,7 @@ box_permutation =
     2 ∷ 8 ∷ 24 ∷ 14 ∷ 32 ∷ 27 ∷ 3 ∷ 9 ∷
     19 ∷ 13 ∷ 30 ∷ 6 ∷ 22 ∷ 11 ∷ 4 ∷ 25 ∷ []
 
--- PC-1, the left half: the key's bits that make C
+-- PC-1, the left half: the key's bits of C
 unfoldable pub key_choice_left : List ℕ
 key_choice_left =
     57 ∷ 49 ∷ 41 ∷ 33 ∷ 25 ∷ 17 ∷ 9 ∷
@@ -53,7 +53,7 @@ key_choice_left =
     10 ∷ 2 ∷ 59 ∷ 51 ∷ 43 ∷ 35 ∷ 27 ∷
     19 ∷ 11 ∷ 3 ∷ 60 ∷ 52 ∷ 44 ∷ 36 ∷ []
 
--- PC-1, the right half: the key's bits that make D
+-- PC-1, the right half: the key's bits of D
 unfoldable pub key_choice_right : List ℕ
 key_choice_right =
     63 ∷ 55 ∷ 47 ∷ 39 ∷ 31 ∷ 23 ∷ 15 ∷
@@ -73,7 +73,7 @@ round_key_choice =
     44 ∷ 49 ∷ 39 ∷ 56 ∷ 34 ∷ 53 ∷
     46 ∷ 42 ∷ 50 ∷ 36 ∷ 29 ∷ 32 ∷ []
 
--- by how many places C and D are turned left before each round key
+-- by how many bits C and D are rotated left before each round key
 unfoldable pub rotations : List ℕ
 rotations =
     1 ∷ 1 ∷ 2 ∷ 2 ∷ 2 ∷ 2 ∷ 2 ∷ 2 ∷ 1 ∷ 2 ∷ 2 ∷ 2 ∷ 2 ∷ 2 ∷ 2 ∷ 1 ∷ []

@@ -1,7 +1,7 @@
 //! The S boxes and P, merged into eight tables of words.
 
-/// For each S box and each byte: P of what the box gives for the low six bits, turned left by one place. The two bits above them
-/// do not count, so that no index has to be masked.
+/// For each S box and each byte: P of the box's output for the low six bits, rotated left by one bit. The two bits
+/// above them are ignored, so that no index has to be masked.
 pub(crate) static BOXES: [[u32; 256]; 8] = [
     [
         0x01010400, 0x00000000, 0x00010000, 0x01010404, 0x01010004, 0x00010404, 0x00000004,

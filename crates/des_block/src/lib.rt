@@ -38,14 +38,14 @@ impl Key16 {
     }
 }
 
-/// DES under a key of eight bytes, whose lowest bits do not count.
+/// DES under a key of eight bytes, whose parity bits are ignored.
 #[derive(Clone, Copy)]
 pub struct Des {
     keys: [RoundKey; 16],
 }
 
 impl Des {
-    /// Sets up the round keys of a key.
+    /// Computes the round keys of a key.
     pub fn new(key: [u8; 8]) -> Des
         ensures { HasKey result key }
     {
@@ -70,7 +70,7 @@ impl Des {
         self.decipher_word(u64::from_be_bytes(block)).to_be_bytes()
     }
 
-    /// Enciphers a block that is written as a number, its first byte the highest.
+    /// Enciphers a block given as a big-endian number.
     pub fn encipher_word(&self, block: u64) -> u64
         ensures enciphered { (key : List ℕ) → HasKey self.now key → word_bytes result ≡ des_encipher key (word_bytes block) }
         ensures undone { (key : List ℕ) → HasKey self.now key → des_decipher key (word_bytes result) ≡ word_bytes block }
@@ -78,7 +78,7 @@ impl Des {
         self.encipher_permuted(&PermutedBlock::new(block)).word()
     }
 
-    /// Deciphers a block that is written as a number, its first byte the highest.
+    /// Deciphers a block given as a big-endian number.
     pub fn decipher_word(&self, block: u64) -> u64
         ensures deciphered { (key : List ℕ) → HasKey self.now key → word_bytes result ≡ des_decipher key (word_bytes block) }
         ensures undone { (key : List ℕ) → HasKey self.now key → des_encipher key (word_bytes result) ≡ word_bytes block }
@@ -86,7 +86,7 @@ impl Des {
         self.decipher_permuted(&PermutedBlock::new(block)).word()
     }
 
-    /// Enciphers a block in permuted halves.
+    /// Enciphers a block given by its halves after IP.
     pub fn encipher_permuted(&self, block: &PermutedBlock) -> PermutedBlock
         ensures { (key : List ℕ) → HasKey self.now key → word_bytes result ≡ des_encipher key (word_bytes block.now) }
     {
@@ -94,7 +94,7 @@ impl Des {
         PermutedBlock::after_rounds(left, right)
     }
 
-    /// Deciphers a block in permuted halves.
+    /// Deciphers a block given by its halves after IP.
     pub fn decipher_permuted(&self, block: &PermutedBlock) -> PermutedBlock
         ensures { (key : List ℕ) → HasKey self.now key → word_bytes result ≡ des_decipher key (word_bytes block.now) }
     {
@@ -151,7 +151,7 @@ pub struct Tdes {
 }
 
 impl Tdes {
-    /// Sets up the round keys of both halves of a key.
+    /// Computes the round keys of both halves of a key.
     pub fn new(key: &Key16) -> Tdes
         ensures { HasKeyPair result key.now.0 }
     {
@@ -184,7 +184,7 @@ impl Tdes {
         self.decipher_word(u64::from_be_bytes(block)).to_be_bytes()
     }
 
-    /// Enciphers a block that is written as a number, its first byte the highest.
+    /// Enciphers a block given as a big-endian number.
     pub fn encipher_word(&self, block: u64) -> u64
         ensures enciphered { (key : List ℕ) → HasKeyPair self.now key → word_bytes result ≡ tdes_encipher key (word_bytes block) }
         ensures undone { (key : List ℕ) → HasKeyPair self.now key → tdes_decipher key (word_bytes result) ≡ word_bytes block }
@@ -192,7 +192,7 @@ impl Tdes {
         self.encipher_permuted(&PermutedBlock::new(block)).word()
     }
 
-    /// Deciphers a block that is written as a number, its first byte the highest.
+    /// Deciphers a block given as a big-endian number.
     pub fn decipher_word(&self, block: u64) -> u64
         ensures deciphered { (key : List ℕ) → HasKeyPair self.now key → word_bytes result ≡ tdes_decipher key (word_bytes block) }
         ensures undone { (key : List ℕ) → HasKeyPair self.now key → tdes_encipher key (word_bytes result) ≡ word_bytes block }
@@ -200,7 +200,7 @@ impl Tdes {
         self.decipher_permuted(&PermutedBlock::new(block)).word()
     }
 
-    /// Enciphers a block in permuted halves.
+    /// Enciphers a block given by its halves after IP.
     pub fn encipher_permuted(&self, block: &PermutedBlock) -> PermutedBlock
         ensures { (key : List ℕ) → HasKeyPair self.now key → word_bytes result ≡ tdes_encipher key (word_bytes block.now) }
     {
@@ -209,7 +209,7 @@ impl Tdes {
         self.left.encipher_permuted(&second)
     }
 
-    /// Deciphers a block in permuted halves.
+    /// Deciphers a block given by its halves after IP.
     pub fn decipher_permuted(&self, block: &PermutedBlock) -> PermutedBlock
         ensures { (key : List ℕ) → HasKeyPair self.now key → word_bytes result ≡ tdes_decipher key (word_bytes block.now) }
     {
@@ -218,7 +218,7 @@ impl Tdes {
         self.left.decipher_permuted(&second)
     }
 
-    /// Enciphers two blocks side by side, sooner than one after the other.
+    /// Enciphers two blocks side by side, faster than one after the other.
     pub fn encipher_both(&self, first: [u8; 8], second: [u8; 8]) -> ([u8; 8], [u8; 8])
         ensures first { (key : List ℕ) → HasKeyPair self.now key → result.0 ≡ tdes_encipher key first }
         ensures second { (key : List ℕ) → HasKeyPair self.now key → result.1 ≡ tdes_encipher key second }

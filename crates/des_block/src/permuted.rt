@@ -1,4 +1,4 @@
-//! A block in permuted halves, as the rounds take it.
+//! A block as its halves after IP, which are the input of the rounds.
 
 ghost use Rattle.std.specs.Prelude.{◌≡◌, bit_xor};
 ghost use Rattle.des_block.specs.Permuted.{permuted_word};
@@ -6,10 +6,10 @@ ghost use Rattle.des_block.specs.Permuted.{permuted_word};
 use crate::rounds::{joined, split};
 use std::marker::Model;
 
-/// A block as the rounds of DES take it, in its halves after IP. Ciphers one after another need not go back and forth between
-/// this form and the block's bytes.
+/// A block as its halves after IP, which are the input of the rounds. A chain of ciphers needs neither IP nor its
+/// inverse between two of them.
 ///
-/// A contract sees the block as a number, its first byte the highest.
+/// A contract sees the block as a big-endian number.
 #[derive(Drop)]
 pub struct PermutedBlock {
     pub(crate) left: u32,
@@ -26,7 +26,7 @@ impl Model for PermutedBlock {
 }
 
 impl PermutedBlock {
-    /// The block that is written as a number, its first byte the highest.
+    /// The block that is this big-endian number.
     pub fn new(word: u64) -> PermutedBlock
         ensures { result ≡ word }
     {
@@ -34,14 +34,14 @@ impl PermutedBlock {
         PermutedBlock { left, right }
     }
 
-    /// The block as a number, its first byte the highest.
+    /// The block as a big-endian number.
     pub fn word(&self) -> u64
         ensures { result ≡ self.now }
     {
         joined(self.left, self.right)
     }
 
-    /// The block joined by xor with another.
+    /// The xor of the block and another.
     pub fn xor(&self, other: &PermutedBlock) -> PermutedBlock
         ensures { result ≡ bit_xor self.now other.now }
     {
@@ -51,7 +51,7 @@ impl PermutedBlock {
         }
     }
 
-    /// The block that the last round leaves in these halves, which it does not exchange.
+    /// The block whose halves these are after the last round, which does not exchange them.
     #[inline]
     pub(crate) fn after_rounds(left: u32, right: u32) -> PermutedBlock
         ensures { result ≡ permuted_word right left }

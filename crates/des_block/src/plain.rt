@@ -1,4 +1,4 @@
-//! DES as FIPS 46-3 writes it, by its tables and bit by bit: slow, and there to be compared with.
+//! DES as in FIPS 46-3, by its tables and bit by bit: a slow reference for comparison.
 
 ghost use Rattle.std.specs.Prelude.{◌≡◌, ℕ, ◌+◌, ◌<◌, ◌≤◌, ◌&&◌, List, length, map, IsTrue, nat_lt, nat_le};
 ghost use Rattle.std.specs.List.{list_all};
@@ -50,7 +50,7 @@ const ROUND_KEY_CHOICE: [u8; 48] = [
     31, 37, 47, 55, 30, 40, 51, 45, 33, 48, 44, 49, 39, 56, 34, 53, 46, 42, 50, 36, 29, 32,
 ];
 
-/// By how many places both halves of the key are turned left before each round key.
+/// By how many bits both halves of the key are rotated left before each round key.
 const ROTATIONS: [u8; 16] = [1, 1, 2, 2, 2, 2, 2, 2, 1, 2, 2, 2, 2, 2, 2, 1];
 
 /// S1 to S8, each as its four rows of sixteen.
@@ -112,7 +112,7 @@ fn picked(word: u64, width: u32, table: &[u8]) -> u64
     out
 }
 
-/// The lowest 28 bits of `half`, turned left by `n` places.
+/// The lowest 28 bits of `half`, rotated left by `n` bits.
 fn turned(half: u64, n: u32) -> u64
     requires { n < 28 }
     ensures { result ≡ number (turned n (bits 28 half)) }
@@ -181,7 +181,7 @@ pub(crate) fn ciphered(keys: &[u64; 16], block: u64) -> u64
     picked((right << 32) | left, 64, &INVERSE_PERMUTATION)
 }
 
-/// Enciphers a block under a key; the lowest bit of each byte of the key does not count.
+/// Enciphers a block under a key, whose parity bits are ignored.
 pub fn encipher(key: [u8; 8], block: [u8; 8]) -> [u8; 8]
     ensures { result ≡ des_encipher key block }
 {

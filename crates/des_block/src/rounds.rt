@@ -1,4 +1,4 @@
-//! The sixteen rounds on words, four at a time, both halves kept turned left by one place.
+//! The sixteen rounds on words, four at a time, with both halves rotated left by one bit.
 
 ghost use Rattle.std.specs.Prelude.{◌≡◌, ℕ, ◌*◌, ◌/◌, ◌%◌, ◌^◌, ◌<◌, ◌++◌, bit_and, bit_xor, map, fold, reverse};
 ghost use Rattle.des_block.specs.Bits.{bits, number};
@@ -9,10 +9,10 @@ ghost use Rattle.des_block.specs.Permuted.{permuted_word};
 use crate::boxes::BOXES;
 use crate::schedule::RoundKey;
 
-/// P(S(E(R) xor K)), turned left by one place, of a half R that is turned left by one place.
+/// P(S(E(R) xor K)), rotated left by one bit, of a half R that is rotated left by one bit.
 ///
-/// So turned, the bits that the even boxes take stand in the low six bits of each byte; the odd boxes' stand there after
-/// four places more.
+/// So rotated, the inputs of the even boxes are the low six bits of each byte; those of the odd boxes are, after a
+/// rotation by four more bits.
 #[inline(always)]
 fn mixed(half: u32, key: &RoundKey) -> u32
     ensures { result ≡ number (turned 1 (cipher_function (turned 31 (bits 32 half)) (key_bits key.now))) }
@@ -29,7 +29,7 @@ fn mixed(half: u32, key: &RoundKey) -> u32
         ^ BOXES[7][(even & 255) as usize]
 }
 
-/// Exchanges the bits of `b` under `mask` with those of `a` that stand `shift` places higher.
+/// Exchanges the bits of `b` under `mask` with those of `a` that are `shift` bits higher.
 #[inline]
 fn exchange(a: u32, b: u32, shift: u32, mask: u32) -> (u32, u32)
     requires { shift < 32 }
@@ -81,7 +81,7 @@ fn two_rounds(first: &RoundKey, second: &RoundKey, halves: (u32, u32)) -> (u32, 
     (left, right)
 }
 
-/// The same two rounds of two blocks side by side, so that neither waits for its own look-ups alone.
+/// The same two rounds of two blocks side by side, so that their table lookups overlap.
 #[inline(always)]
 fn two_rounds_of_both(
     first: &RoundKey,
@@ -112,7 +112,7 @@ pub(crate) fn rounds(keys: &[RoundKey; 16], halves: (u32, u32)) -> (u32, u32)
     ready
 }
 
-/// The sixteen rounds with the keys in the opposite order.
+/// The sixteen rounds with the keys in reverse order.
 #[inline]
 pub(crate) fn rounds_back(keys: &[RoundKey; 16], halves: (u32, u32)) -> (u32, u32)
     ensures { turned_halves result.0 result.1 ≡ fold round (turned_halves halves.0 halves.1) (reverse (map key_bits keys.now)) }
@@ -143,7 +143,7 @@ pub(crate) fn rounds_of_both(
     ready
 }
 
-/// The same with the keys in the opposite order.
+/// The same with the keys in reverse order.
 #[inline]
 pub(crate) fn rounds_of_both_back(
     keys: &[RoundKey; 16],

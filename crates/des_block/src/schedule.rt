@@ -1,4 +1,4 @@
-//! The round keys on words: what each group of a key's bits gives to them, joined by xor.
+//! The round keys on words: the xor of one row for each group of a key's bits.
 
 ghost use Rattle.std.specs.Prelude.{◌≡◌, ℕ, ◌<◌, map};
 ghost use Rattle.des_block.specs.Bits.{bits, number, picked};
@@ -8,7 +8,7 @@ ghost use Rattle.des_block.specs.Schedule.{key_choice};
 
 use crate::key_rows::{HIGH_ROWS, LOW_ROWS};
 
-/// A round key, laid out as the rounds want it: six bits in each byte, for S1, S3, S5, S7 and for S2, S4, S6, S8.
+/// A round key, as the rounds use it: six bits in each byte, for S1, S3, S5, S7 and for S2, S4, S6, S8.
 #[derive(Clone, Copy)]
 pub(crate) struct RoundKey {
     pub(crate) odd: u32,

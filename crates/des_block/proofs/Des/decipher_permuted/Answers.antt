@@ -1,4 +1,4 @@
--- The rounds with the keys in the opposite order are the inverse of DES.
+-- The rounds with the keys in reverse order are the inverse of DES.
 use Rattle.std.proofs.Common.{map, ap, ◌∙◌}
 use Rattle.des_block.specs.Cipher.{word_bytes, des_decipher}
 use Rattle.des_block.specs.Keyed.{key_bits, HasKey}

@@ -1,4 +1,4 @@
--- The round keys that are kept are those of the key's bits.
+-- The stored round keys are those of the key's bits.
 use Rattle.std.proofs.Common.{ap, ◌∙◌}
 use Rattle.des_block.specs.Bits.{bits}
 use Rattle.des_block.specs.Cipher.{round_keys, block_bits}

@@ -1,4 +1,4 @@
--- Eight bytes are deciphered as the word that they make, and enciphering gives them again.
+-- Eight bytes are deciphered as their word, and enciphering returns them.
 use Rattle.std.proofs.Common.{rules, ap, ◌∙◌}
 use Rattle.des_block.specs.Cipher.{tdes_encipher, tdes_decipher}
 use Rattle.des_block.proofs.Laws.{on_bytes, tdes_encipher-tdes_decipher}

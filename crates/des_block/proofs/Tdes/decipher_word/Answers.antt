@@ -1,4 +1,4 @@
--- A number is permuted, deciphered and led back.
+-- A number is permuted by IP, deciphered and permuted back.
 use Rattle.std.proofs.Common.{ap, ◌∙◌}
 use Rattle.des_block.specs.Cipher.{word_bytes, tdes_encipher, tdes_decipher}
 use Rattle.des_block.proofs.Laws.{length-word_bytes, word_bytes_small, tdes_encipher-tdes_decipher}

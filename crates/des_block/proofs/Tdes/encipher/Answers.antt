@@ -1,4 +1,4 @@
--- Eight bytes are enciphered as the word that they make, and deciphering gives them again.
+-- Eight bytes are enciphered as their word, and deciphering returns them.
 use Rattle.std.proofs.Common.{rules, ap, ◌∙◌}
 use Rattle.des_block.specs.Cipher.{tdes_encipher, tdes_decipher}
 use Rattle.des_block.proofs.Laws.{on_bytes, tdes_decipher-tdes_encipher}

@@ -1,4 +1,4 @@
--- Expanding, mixing in the key, substituting and permuting make the standard's cipher function.
+-- Expansion, xor with the key, substitution and permutation are the standard's cipher function.
 use Rattle.des_block.specs.Tables.{box_permutation, expansion}
 use Rattle.des_block.proofs.PlainSteps.{cipher_function_is}
 use Rattle.des_block.proofs.plain.cipher_function.Goals as goal

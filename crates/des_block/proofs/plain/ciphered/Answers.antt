@@ -1,4 +1,4 @@
--- A round with the next key goes one round further, and IP before with its inverse behind makes the cipher.
+-- A round with the next key is one more round, and IP before them and its inverse after them are the cipher.
 use Rattle.std.proofs.Common.{refl, arith}
 use Rattle.des_block.specs.Tables.{initial_permutation, inverse_permutation}
 use Rattle.des_block.proofs.PlainSteps.{Ciphers_more, Ciphers_all}

@@ -1,4 +1,4 @@
--- The bytes are those of the word that is ciphered with the round keys in the opposite order.
+-- The bytes are those of the word that is ciphered with the round keys in reverse order.
 use Rattle.std.proofs.Common.{ap, ap₂, ◌∙◌, map, reverse, w64}
 use Rattle.std.specs.Int.{to_be_bytes}
 use Rattle.des_block.specs.Bits.{bits, number}

@@ -1,4 +1,4 @@
--- The bit that the next entry of the table names stands behind those picked before.
+-- The bit that the table's next entry selects is appended to those selected before.
 use Rattle.std.proofs.Common.{◌≡◌, ◌<◌, ◌≤◌, ◌&&◌, ℕ, true, nat_lt, nat_le, slice_index, arith}
 use Rattle.std.proofs.lemmas.Bool.{and_parts, ltb-true, leb-true}
 use Rattle.std.proofs.lemmas.List.Sums.{AllPass-from_list_all}

@@ -1,4 +1,4 @@
--- Turning both halves and choosing from them makes the next round key, until there are sixteen.
+-- Both halves rotated, and the bits selected from them, are the next round key, up to sixteen.
 use Rattle.std.proofs.Common.{◌≡◌, ℕ, refl, arith, subst}
 use Rattle.des_block.specs.Tables.{key_choice_left, key_choice_right, round_key_choice, rotations}
 use Rattle.des_block.proofs.PlainSteps.{MakesKeys, MakesKeys_none, MakesKeys_more, MakesKeys_all}

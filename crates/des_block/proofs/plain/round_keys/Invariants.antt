@@ -1,4 +1,4 @@
--- The keys so far are the key's, and the halves are turned as far as so many rounds turn them.
+-- The keys so far are the key's, and the halves are rotated as far as so many rounds rotate them.
 use Rattle.des_block.proofs.PlainSteps.{MakesKeys}
 use Rattle.des_block.proofs.plain.round_keys.Given as goal
 

@@ -1,4 +1,4 @@
--- The next box's output stands behind those of the boxes before, until all eight are through.
+-- The next box's output is appended to those of the boxes before, up to all eight.
 use Rattle.std.proofs.Common.{◌≡◌, ℕ, refl, arith}
 use Rattle.des_block.specs.Tables.{s1, s2, s3, s4, s5, s6, s7, s8, s_boxes}
 use Rattle.des_block.proofs.PlainSteps.{Substitutes, Substitutes_none, Substitutes_more, Substitutes_all}

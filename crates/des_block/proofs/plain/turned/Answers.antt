@@ -1,4 +1,4 @@
--- A half of 28 bits that is shifted left, with what fell out put behind, is the half turned.
+-- A half of 28 bits, shifted left with the lost bits appended, is the half rotated.
 use Rattle.std.proofs.Common.{arith}
 use Rattle.des_block.proofs.PlainSteps.{turned_is}
 use Rattle.des_block.proofs.plain.turned.Goals as goal

@@ -1,4 +1,4 @@
--- Eight look-ups are the cipher function.
+-- Eight table lookups are the cipher function.
 use Rattle.std.proofs.Common.{ℕ, ◌/◌, ◌^◌, bit_xor, ◌<◌, ap₂, ◌∙◌, arith}
 use Rattle.std.proofs.lemmas.Nat.{xor_of_32}
 use Rattle.des_block.specs.Tables.{s1, s2, s3, s4, s5, s6, s7, s8}

@@ -1,4 +1,4 @@
--- The rounds so far, four in a step, with the keys in the opposite order.
+-- The rounds so far, four in a step, with the keys in reverse order.
 use Rattle.std.proofs.Common.{◌≡◌, ◌+◌, ◌-◌, ◌*◌, ◌<◌, ℕ, length, map, reverse, get_or, [], sym, ap, ◌∙◌, arith}
 use Rattle.std.proofs.lemmas.List.{get_or-map, get_or-reverse, length-map, length-reverse}
 use Rattle.des_block.specs.Keyed.{key_bits}

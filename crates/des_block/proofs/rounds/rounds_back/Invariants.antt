@@ -1,4 +1,4 @@
--- The rounds so far, four in a step, with the keys in the opposite order.
+-- The rounds so far, four in a step, with the keys in reverse order.
 use Rattle.std.proofs.Common.{◌*◌, map, reverse}
 use Rattle.des_block.specs.Keyed.{key_bits}
 use Rattle.des_block.proofs.MixedSteps.{Runs}

@@ -1,4 +1,4 @@
--- Both blocks are as far as the rounds have come.
+-- Both blocks after the rounds so far.
 use Rattle.std.proofs.Common.{◌*◌, map, reverse}
 use Rattle.des_block.specs.Keyed.{key_bits}
 use Rattle.des_block.proofs.MixedSteps.{Runs}

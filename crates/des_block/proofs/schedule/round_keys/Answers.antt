@@ -1,4 +1,4 @@
--- Each round key is put behind those before it.
+-- Each round key is appended to those before it.
 use Rattle.std.proofs.Common.{refl, arith}
 use Rattle.des_block.specs.Keyed.{key_bits}
 use Rattle.des_block.proofs.ScheduleSteps.{Lays_more, Lays_all}

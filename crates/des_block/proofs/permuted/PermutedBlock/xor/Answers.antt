@@ -1,4 +1,4 @@
--- Xor goes through IP.
+-- Xor commutes with IP.
 use Rattle.std.proofs.Common.{bit_xor, ap₂, ◌∙◌}
 use Rattle.des_block.proofs.PermutedSteps.{permuted_word-xor}
 use Rattle.des_block.proofs.permuted.PermutedBlock.xor.Goals as goal
