@@ -1,4 +1,4 @@
--- Each table, entry by entry, is what its definition computes, and so a look-up is the definition.
+-- Each table, entry by entry, is what its definition computes, and so a table lookup is the definition.
 use Rattle.std.proofs.Common.{◌≡◌, ◌<◌, ℕ, true, nat_lt, [], ◌∷◌, map, get_or, slice_index, slice_index_or, bit_xor}
 use Rattle.std.proofs.Common.{refl, ap, ◌∙◌, arith}
 use Rattle.std.specs.List.{range_with_len, list_all}

@@ -1,4 +1,4 @@
--- A run that takes one piece more.
+-- A run with one more piece.
 use Rattle.std.proofs.Common.{◌≡◌, ℕ, ◌+◌, ◌-◌, ◌*◌, ◌/◌, ◌<◌, ◌≤◌, List, ◌++◌, length, drop, fold}
 use Rattle.std.proofs.Common.{sym, ap, ap₂, ◌∙◌, arith, length-append, length-drop, drop-drop, append_assoc}
 use Rattle.std.proofs.lemmas.List.{drop-append-le, drop_all}

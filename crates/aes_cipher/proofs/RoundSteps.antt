@@ -1,4 +1,4 @@
--- Look-ups are the substitution of bytes, also where the columns are mixed.
+-- Table lookups are the substitution of bytes, also if the columns are mixed.
 use Rattle.std.proofs.Common.{◌≡◌, ℕ, zero, suc, ◌+◌, ◌/◌, ◌%◌, ◌^◌, ◌<◌, ◌≤◌, List, [], ◌∷◌, ◌++◌, length, map, take}
 use Rattle.std.proofs.Common.{drop, get_or, slice_index, bit_xor}
 use Rattle.std.proofs.Common.{◌-◌, ◌==◌, if◌then◌else◌, fold, refl, sym, ap, ap₂, ◌∙◌, arith, drop-drop, take-add}

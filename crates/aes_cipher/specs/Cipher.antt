@@ -8,7 +8,7 @@ use Rattle.aes_cipher.specs.Field.{doubled, product, substituted}
 unfoldable pub entry : List ℕ → ℕ → ℕ → ℕ
 entry state r c = slice_index_or state (r + 4 * c) 0
 
--- the state with f r c in row r and column c
+-- the state whose byte in row r and column c is f r c
 unfoldable pub state_of : (ℕ → ℕ → ℕ) → List ℕ
 state_of f = map (λ i. f (i % 4) (i / 4)) (range_with_len 0 16)
 
@@ -26,7 +26,8 @@ sub_bytes state = map substituted state
 unfoldable pub shift_rows : List ℕ → List ℕ
 shift_rows state = state_of (λ r c. entry state r ((c + r) % 4))
 
--- the matrix of MixColumns: its first row is 2 3 1 1, and each later one is the row before, rotated right by one place
+-- the matrix of MixColumns: its first row is 2 3 1 1, and each later one is the row before, rotated right by one
+-- position
 unfoldable pub factor : ℕ → ℕ → ℕ
 factor r k = slice_index_or (2 ∷ 3 ∷ 1 ∷ 1 ∷ []) ((k + 4 - r) % 4) 0
 
@@ -59,15 +60,15 @@ unfoldable pub power_of_two : ℕ → ℕ
 power_of_two zero = 1
 power_of_two (suc n) = doubled (power_of_two n)
 
--- the word that is added to word i - 4 to give word i, from word i - 1: where 4 divides i its bytes are rotated left
--- by one place and substituted, and the first is added to a power of 02 (5.2)
+-- the word whose xor with word i - 4 is word i, computed from word i - 1: if 4 divides i its bytes are rotated left by
+-- one byte and substituted, and the first is added to a power of 02 (5.2)
 unfoldable pub key_step : ℕ → List ℕ → List ℕ
 key_step i before =
     if i % 4 == 0
     then xor_bytes (sub_bytes (drop 1 before ++ take 1 before)) (power_of_two (i / 4 - 1) ∷ 0 ∷ 0 ∷ 0 ∷ [])
     else before
 
--- n words of the key schedule from word i on, where a b c d are the four words before it (5.2)
+-- n words of the key schedule from word i on, if a b c d are the four words before it (5.2)
 unfoldable pub words_from : ℕ → ℕ → List ℕ → List ℕ → List ℕ → List ℕ → List (List ℕ)
 words_from zero i a b c d = []
 words_from (suc n) i a b c d =

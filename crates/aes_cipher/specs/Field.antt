@@ -6,7 +6,7 @@ use Rattle.std.specs.List.{range_with_len}
 unfoldable pub doubled : ℕ → ℕ
 doubled a = bit_xor (a * 2) (a / 128 * 0x11b)
 
--- a times the polynomial of the lowest n bits of b: the lowest bit counts a, each next one twice the one before
+-- a times the polynomial of the lowest n bits of b: the lowest bit adds a, each next one twice the one before
 unfoldable pub product_of_bits : ℕ → ℕ → ℕ → ℕ
 product_of_bits zero a b = 0
 product_of_bits (suc n) a b = bit_xor (b % 2 * a) (product_of_bits n (doubled a) (b / 2))
@@ -23,7 +23,7 @@ inverse a = unwrap_or (find (λ b. product a b == 1) (range_with_len 0 256)) 0
 unfoldable pub bit_of : ℕ → ℕ → ℕ
 bit_of b i = b / 2 ^ (i % 8) % 2
 
--- bit i of the affine map: bits i, i + 4, i + 5, i + 6 and i + 7 of the byte and bit i of 63, joined by xor (5.1.1)
+-- bit i of the affine map: bits i, i + 4, i + 5, i + 6 and i + 7 of the byte and bit i of 63, xored (5.1.1)
 unfoldable pub affine_bit : ℕ → ℕ → ℕ
 affine_bit b i =
     (bit_of b i + bit_of b (i + 4) + bit_of b (i + 5) + bit_of b (i + 6) + bit_of b (i + 7) + bit_of 0x63 i) % 2

@@ -6,11 +6,11 @@ use Rattle.aes_cipher.specs.Cipher.{xor_bytes, aes_encipher}
 use Rattle.aes_cipher.specs.Columns.{state_bytes, HasKey}
 use Rattle.aes_cipher.specs.declared.mac.CmacKey.{CmacKey}
 
--- the block that the chain starts with
+-- the IV of the chain
 unfoldable pub zero_block : List ℕ
 zero_block = replicate 16 0
 
--- a block shifted left by one bit and, where a bit left, joined by xor with 87 in the last byte (6.1)
+-- a block shifted left by one bit and, if the lost bit is 1, xored with 87 in the last byte (6.1)
 unfoldable pub twice : List ℕ → List ℕ
 twice block =
     let n = from_be_bytes w128 block in
@@ -28,22 +28,22 @@ unfoldable pub blocks : ℕ → List ℕ → List (List ℕ)
 blocks zero bytes = []
 blocks (suc n) bytes = take 16 bytes ∷ blocks n (drop 16 bytes)
 
--- how many blocks stand before the last one; the last one of the empty text is empty
+-- how many blocks precede the last one; the last one of the empty text is empty
 unfoldable pub blocks_before_last : List ℕ → ℕ
 blocks_before_last text = (length text - 1) / 16
 
--- the last block: joined with K1 if it is whole, otherwise filled by a byte 80 and bytes 00 and joined with K2 (6.2)
+-- the last block: xor K1 if it is whole, otherwise padded with a byte 80 and bytes 00, xor K2 (6.2)
 unfoldable pub masked_last : List ℕ → List ℕ → List ℕ
 masked_last key last =
     if length last == 16
     then xor_bytes last (subkey_1 key)
     else xor_bytes (last ++ 0x80 ∷ replicate (15 - length last) 0) (subkey_2 key)
 
--- a step of CBC: the block is joined by xor with what came before, and enciphered
+-- a step of CBC: the block xor the previous result, enciphered
 unfoldable pub chained : List ℕ → List ℕ → List ℕ → List ℕ
 chained key before block = aes_encipher key (xor_bytes before block)
 
--- CMAC: the last block of CBC with a zero start over the text's blocks, the last of which is masked (6.2)
+-- CMAC: the last block of CBC with a zero IV over the text's blocks, the last of which is masked (6.2)
 unfoldable pub cmac : List ℕ → List ℕ → List ℕ
 cmac key text =
     let n = blocks_before_last text in

@@ -24,7 +24,7 @@ pub struct Aes {
 }
 
 impl Aes {
-    /// Sets up the round keys of a key.
+    /// Computes the round keys of a key.
     pub fn new(key: [u8; 16]) -> Aes
         ensures { HasKey result key }
     {

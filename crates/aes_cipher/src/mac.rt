@@ -14,7 +14,7 @@ pub fn cmac(key: &[u8; 16], text: &[u8]) -> [u8; 16]
     CmacKey::new(key).cmac(text)
 }
 
-/// A key for CMAC: its round keys and both subkeys, set up once.
+/// A key for CMAC: its round keys and both subkeys, computed once.
 #[derive(Clone, Copy)]
 pub struct CmacKey {
     pub(crate) cipher: Aes,
@@ -25,7 +25,7 @@ pub struct CmacKey {
 }
 
 impl CmacKey {
-    /// Sets up the round keys and the subkeys of a key.
+    /// Computes the round keys and the subkeys of a key.
     pub fn new(key: &[u8; 16]) -> CmacKey
         ensures { HasCmacKey result key.now }
     {
@@ -66,7 +66,7 @@ impl CmacKey {
         self.cipher.chained(chain, &block, 1).bytes()
     }
 
-    /// The last block, filled if it is not whole, and joined with a subkey.
+    /// The last block, padded if it is not whole, xor a subkey.
     fn masked(&self, last: &[u8]) -> Columns
         requires { length last.now ≤ 16 }
         ensures { (key : List ℕ) → HasCmacKey self.now key → state_bytes result ≡ masked_last key last.now }
@@ -78,7 +78,7 @@ impl CmacKey {
     }
 }
 
-/// A block shifted left by one bit and, where a bit left, joined with 87.
+/// A block shifted left by one bit and, if the lost bit is 1, xor 87.
 fn twice(block: [u8; 16]) -> [u8; 16]
     ensures { result ≡ twice block }
 {
@@ -86,7 +86,7 @@ fn twice(block: [u8; 16]) -> [u8; 16]
     (number << 1 ^ (number >> 127) * 0x87).to_be_bytes()
 }
 
-/// A last block that is not whole, filled by a byte 80 and bytes 00.
+/// A last block that is not whole, padded with a byte 80 and bytes 00.
 fn filled(last: &[u8]) -> Columns
     requires { length last.now < 16 }
     ensures { state_bytes result ≡ last.now ++ 0x80 ∷ replicate (15 - length last.now) 0 }

@@ -1,4 +1,4 @@
-//! The state of AES in its columns, and the rounds on it.
+//! The state of AES as its columns, and the rounds on it.
 
 ghost use Rattle.std.specs.Prelude.{◌≡◌, ◌+◌, ◌≤◌, length, map, take, drop};
 ghost use Rattle.aes_cipher.specs.Cipher.{xor_bytes, sub_bytes, mix_column, round, last_round, ciphered};
@@ -6,7 +6,7 @@ ghost use Rattle.aes_cipher.specs.Columns.{word_bytes, diagonal, state_bytes};
 
 use crate::tables::{COLUMNS, UNMIXED};
 
-/// A state, or a round key, in its four columns. A column's byte in the first row is the highest byte of its word.
+/// A state, or a round key, as its four columns. A column's byte in the first row is the highest byte of its word.
 #[derive(Clone, Copy)]
 pub(crate) struct Columns {
     pub(crate) first: u32,
@@ -15,7 +15,7 @@ pub(crate) struct Columns {
     pub(crate) fourth: u32,
 }
 
-/// The four bytes at `at` as a word, the first the highest.
+/// The four bytes at offset `at` as a word, big-endian.
 #[inline(always)]
 fn word_at(text: &[u8], at: usize) -> u32
     requires { at + 4 ≤ length text.now }
@@ -25,7 +25,7 @@ fn word_at(text: &[u8], at: usize) -> u32
 }
 
 impl Columns {
-    /// The state of the block of sixteen bytes at `at`.
+    /// The state of the block of sixteen bytes at offset `at`.
     #[inline(always)]
     pub(crate) fn at(text: &[u8], at: usize) -> Columns
         requires { at + 16 ≤ length text.now }
@@ -59,7 +59,7 @@ impl Columns {
         [a, b, c, d, e, f, g, h, i, j, k, l, m, n, o, p]
     }
 
-    /// The state joined by xor with another.
+    /// The xor of the state and another.
     #[inline(always)]
     pub(crate) fn xor(&self, other: &Columns) -> Columns
         ensures { state_bytes result ≡ xor_bytes (state_bytes self.now) (state_bytes other.now) }

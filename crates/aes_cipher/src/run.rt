@@ -1,4 +1,4 @@
-//! CMAC of a text that comes in pieces.
+//! CMAC of a text, computed incrementally.
 
 ghost use Rattle.std.specs.Prelude.{◌≡◌, ℕ, ◌+◌, List, [], ◌++◌, length};
 ghost use Rattle.aes_cipher.specs.Mac.{cmac, HasCmacKey};
@@ -8,7 +8,7 @@ use crate::mac::CmacKey;
 use crate::rounds::Columns;
 use arrayvec::ArrayVec;
 
-/// A CMAC over a text that comes piece by piece, however the text is cut. Of the text only the last block is kept.
+/// A CMAC over a text that comes in pieces of any lengths. Of the text only the last block is buffered.
 #[derive(Drop)]
 pub struct CmacRun {
     key: CmacKey,
@@ -18,7 +18,7 @@ pub struct CmacRun {
 }
 
 impl CmacRun {
-    /// Nothing is taken yet.
+    /// A run over no bytes yet.
     pub fn new(key: &CmacKey) -> CmacRun
         ensures { (bytes : List ℕ) → HasCmacKey key.now bytes → IsRun result bytes [] }
     {
@@ -29,7 +29,7 @@ impl CmacRun {
         }
     }
 
-    /// Takes a piece behind what was taken.
+    /// Appends a piece to the text.
     pub fn update(&mut self, piece: &[u8])
         ensures { (key text : List ℕ) → IsRun self.old key text → IsRun self.new key (text ++ piece.now) }
     {
@@ -55,7 +55,7 @@ impl CmacRun {
         self.key.ended(&self.chain, self.last.as_slice())
     }
 
-    /// The CMAC of the text, behind which nothing is taken again and the key is kept.
+    /// The CMAC of the text. Afterwards the run is over no bytes, under the same key.
     pub fn take(&mut self) -> [u8; 16]
         ensures mac { (key text : List ℕ) → IsRun self.old key text → result ≡ cmac key text }
         ensures again { (key text : List ℕ) → IsRun self.old key text → IsRun self.new key [] }
@@ -67,7 +67,7 @@ impl CmacRun {
     }
 }
 
-/// The block that a part of one and what it still needs make.
+/// The block of a partial one and the bytes that complete it.
 fn joined(part: &[u8], front: &[u8]) -> [u8; 16]
     requires { length part.now + length front.now ≡ 16 }
     ensures { result ≡ part.now ++ front.now }

@@ -7,7 +7,7 @@ ghost use Rattle.aes_cipher.specs.Columns.{word_bytes, state_bytes};
 use crate::rounds::Columns;
 use crate::tables::{BOX, ROUND_CONSTANTS};
 
-/// A word whose bytes are rotated left by one place and substituted.
+/// A word whose bytes are rotated left by one byte and substituted.
 #[inline]
 fn rotated_and_substituted(word: u32) -> u32
     ensures { word_bytes result ≡ sub_bytes (drop 1 (word_bytes word) ++ take 1 (word_bytes word)) }

@@ -20,7 +20,7 @@ pub(crate) static BOX: [u8; 256] = [
     0x8C, 0xA1, 0x89, 0x0D, 0xBF, 0xE6, 0x42, 0x68, 0x41, 0x99, 0x2D, 0x0F, 0xB0, 0x54, 0xBB, 0x16,
 ];
 
-/// For each row of a state and each byte there: what its substitution gives to a column of the mixed state.
+/// For each row of a state and each byte there: the contribution of its substitution to a column of the mixed state.
 pub(crate) static COLUMNS: [[u32; 256]; 4] = [
     [
         0xC66363A5, 0xF87C7C84, 0xEE777799, 0xF67B7B8D, 0xFFF2F20D, 0xD66B6BBD, 0xDE6F6FB1,
@@ -340,7 +340,7 @@ pub(crate) static UNMIXED: [[u32; 256]; 4] = [
     ],
 ];
 
-/// The powers of 2 that the key's words take, each as the first byte of a word.
+/// The powers of 2 in the key schedule, each as the first byte of a word.
 pub(crate) const ROUND_CONSTANTS: [u32; 10] = [
     0x01000000, 0x02000000, 0x04000000, 0x08000000, 0x10000000, 0x20000000, 0x40000000, 0x80000000,
     0x1B000000, 0x36000000,

@@ -1,4 +1,4 @@
--- The round keys that are kept are those of the key.
+-- The stored round keys are those of the key.
 use Rattle.std.proofs.Common.{ap, ◌∙◌}
 use Rattle.aes_cipher.specs.Cipher.{round_keys}
 use Rattle.aes_cipher.specs.Columns.{HasKey}

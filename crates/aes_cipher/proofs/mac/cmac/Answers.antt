@@ -1,4 +1,4 @@
--- The key is set up, and the text is taken under it.
+-- The CMAC under a key that is computed first.
 use Rattle.aes_cipher.proofs.mac.cmac.Goals as goal
 
 pub returns : goal.returns

@@ -1,4 +1,4 @@
--- Four look-ups in the merged tables are a column of the mixed state.
+-- Four lookups in the merged tables are a column of the mixed state.
 use Rattle.std.proofs.Common.{◌/◌, ◌%◌, ◌^◌, bit_and, arith}
 use Rattle.std.proofs.lemmas.Nat.{and_mask}
 use Rattle.aes_cipher.specs.Columns.{word_bytes, diagonal}

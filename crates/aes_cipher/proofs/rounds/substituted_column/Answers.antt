@@ -1,4 +1,4 @@
--- Four look-ups are the substitution of the four bytes.
+-- Four table lookups are the substitution of the four bytes.
 use Rattle.std.proofs.Common.{◌/◌, ◌%◌, ◌^◌, bit_and, arith}
 use Rattle.std.proofs.lemmas.Nat.{and_mask}
 use Rattle.aes_cipher.specs.Columns.{word_bytes, diagonal}

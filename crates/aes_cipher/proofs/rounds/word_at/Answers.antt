@@ -1,4 +1,4 @@
--- Four bytes from a place, their first the highest.
+-- Four bytes from an offset, big-endian.
 use Rattle.std.proofs.Common.{arith}
 use Rattle.aes_cipher.proofs.RoundSteps.{word_at_is}
 use Rattle.aes_cipher.proofs.rounds.word_at.Goals as goal

@@ -1,4 +1,4 @@
--- Four look-ups, rotated by one place.
+-- Four table lookups, rotated by one byte.
 use Rattle.aes_cipher.specs.Columns.{word_bytes}
 use Rattle.aes_cipher.proofs.ScheduleSteps.{rotated_is}
 use Rattle.aes_cipher.proofs.schedule.rotated_and_substituted.Goals as goal

@@ -1,4 +1,4 @@
--- Each round key goes behind those before it.
+-- Each round key is appended to those before it.
 use Rattle.std.proofs.Common.{arith, refl}
 use Rattle.aes_cipher.proofs.ScheduleSteps.{Scheduled_none, Scheduled_more, Scheduled_all}
 use Rattle.aes_cipher.proofs.schedule.round_keys.Goals as goal

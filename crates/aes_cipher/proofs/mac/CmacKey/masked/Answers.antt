@@ -1,4 +1,4 @@
--- A whole block is joined with K1, and one that is filled with K2.
+-- A whole block is xored with K1, and a padded one with K2.
 use Rattle.std.proofs.Common.{◌∙◌, ap₂, arith}
 use Rattle.std.proofs.lemmas.List.{take_all}
 use Rattle.aes_cipher.specs.Cipher.{xor_bytes}

@@ -1,4 +1,4 @@
--- Both subkeys come from the encipherment of a block of zeros.
+-- Both subkeys are derived from the encipherment of a block of zeros.
 use Rattle.std.proofs.Common.{◌≡◌, ap, ◌∙◌}
 use Rattle.aes_cipher.specs.Mac.{zero_block, twice, subkey_1, subkey_2}
 use Rattle.aes_cipher.proofs.mac.CmacKey.new.Goals as goal

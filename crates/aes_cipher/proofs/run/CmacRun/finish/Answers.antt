@@ -1,4 +1,4 @@
--- The chain over the blocks before the last, ended with the last one, gives the CMAC of all that was taken.
+-- The chain over the blocks before the last, ended with the last one, is the CMAC of the whole text.
 use Rattle.std.proofs.Common.{refl, ◌∙◌}
 use Rattle.aes_cipher.specs.Mac.{blocks_before_last}
 use Rattle.aes_cipher.proofs.Blocks.{cmac_end}

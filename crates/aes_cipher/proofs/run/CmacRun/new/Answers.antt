@@ -1,4 +1,4 @@
--- A run that has taken nothing.
+-- A run over no bytes yet.
 use Rattle.aes_cipher.specs.Mac.{zero_block, blocks, blocks_before_last}
 use Rattle.aes_cipher.proofs.run.CmacRun.new.Goals as goal
 

@@ -1,4 +1,4 @@
--- The chain is ended, and a run begins anew.
+-- The chain is ended, and the run starts over.
 use Rattle.std.proofs.Common.{refl, ◌∙◌}
 use Rattle.aes_cipher.specs.Mac.{zero_block, blocks, blocks_before_last}
 use Rattle.aes_cipher.proofs.Blocks.{cmac_end}

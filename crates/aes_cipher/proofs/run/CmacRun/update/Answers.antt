@@ -1,4 +1,4 @@
--- The piece goes into the last block, or fills it up and goes on in blocks.
+-- The piece is appended to the last block, or completes it and continues in blocks.
 use Rattle.std.proofs.Common.{◌≡◌, ◌-◌, ◌/◌, ◌*◌, ◌++◌, List, ℕ, length, take, drop, ap, ap₂, ◌∙◌, sym, arith, refl}
 use Rattle.std.proofs.lemmas.List.{take-append-drop, take_rest}
 use Rattle.aes_cipher.proofs.Pieces.{IsRun-kept, IsRun-more}
