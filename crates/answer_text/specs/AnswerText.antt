@@ -15,7 +15,7 @@ use Rattle.issuer_base.specs.declared.answer.Reply.{Reply}
 abbrev pub newline : ℕ
 newline = 10
 
--- the line of these words: they are parted by one space, 32, and a newline ends it
+-- the line of these words: they are separated by one space, 32, and a newline ends it
 abbrev pub line_of : List (List ℕ) → List ℕ
 line_of words = join_with_byte 32 words ++ newline ∷ []
 
@@ -31,7 +31,7 @@ yes_or_no approve = if approve then codes "yes" else codes "no"
 abbrev pub reply_words : Reply → List (List ℕ)
 reply_words reply = yes_or_no reply.approve ∷ encode_lower reply.arc ∷ encode_lower reply.bytes.items ∷ []
 
--- a refusal: its number, and what it tells more
+-- a refusal: its number, and its details
 unfoldable pub refusal_words : Refusal → List (List ℕ)
 refusal_words (BadLine column) = codes "1" ∷ decimal column ∷ []
 refusal_words (BadTlv offset) = codes "2" ∷ decimal offset ∷ []
@@ -49,7 +49,7 @@ refusal_words QueueFull = codes "13" ∷ []
 refusal_words BadCommand = codes "14" ∷ []
 refusal_words StoreFault = codes "15" ∷ []
 
--- an answer: what was done, where its record stands, and the reply, or that and why it was refused
+-- an answer: what was done, the shard and index of its record, and the reply; or that and why it was refused
 unfoldable pub answer_words : Answer → List (List ℕ)
 answer_words (Fresh shard place reply) = codes "fresh" ∷ decimal shard ∷ decimal place ∷ reply_words reply
 answer_words (Kept shard place reply) = codes "kept" ∷ decimal shard ∷ decimal place ∷ reply_words reply

@@ -1,11 +1,11 @@
--- What the host prints last where a run stops early: one line of words.
+-- The last line that the host prints if a run stops with an error: one line of words.
 use Rattle.std.specs.Prelude.{ℕ, List, [], ◌∷◌, codes}
 use Rattle.std.specs.Fmt.{decimal}
 use Rattle.answer_text.specs.AnswerText.{line_of}
 use Rattle.answer_text.specs.declared.stop_line.Stop.{Stop}
 use Rattle.answer_text.specs.declared.stop_line.Stop.TheVariants.{Usage, Config, ReadFault, StoreFault, BadJournal, NoMemory, TooLong}
 
--- the status of a run that stops so
+-- the exit status of a run that stops with this error
 abbrev pub status_of_stop : Stop → ℕ
 status_of_stop Usage = 1
 status_of_stop (Config part index) = 2
@@ -15,7 +15,8 @@ status_of_stop (BadJournal shard line) = 6
 status_of_stop NoMemory = 7
 status_of_stop (TooLong line) = 8
 
--- what a stop tells more: the place in the configuration, the shard, the line in its journal, or the line of the input
+-- the details of a stop: the part and index in the configuration, the shard, the line in its journal, or the line of
+-- the input
 abbrev pub place_words : Stop → List (List ℕ)
 place_words Usage = []
 place_words (Config part index) = decimal part ∷ decimal index ∷ []
@@ -25,7 +26,7 @@ place_words (BadJournal shard line) = decimal shard ∷ decimal line ∷ []
 place_words NoMemory = []
 place_words (TooLong line) = decimal line ∷ []
 
--- a stop: the status of the run, and what it tells more
+-- a stop: the status of the run, and its details
 unfoldable pub stop_words : Stop → List (List ℕ)
 stop_words stop = decimal (status_of_stop stop) ∷ place_words stop
 

@@ -11,7 +11,7 @@ use crate::words::{LINE_ROOM, put, put_hex, put_number, put_place, put_tag};
 use arrayvec::ArrayVec;
 use issuer_base::{Answer, Refusal, Reply};
 
-/// Writes the line of an answer, in place of what `out` held.
+/// Writes the line of an answer to `out`, and replaces its contents.
 #[tactic(auto, unfolding(crate::specs::AnswerText::printed, crate::specs::AnswerText::answer_words))]
 pub fn write_answer(answer: &Answer, out: &mut ArrayVec<u8, LINE_ROOM>)
     ensures text { out.new.items ≡ printed answer.now }

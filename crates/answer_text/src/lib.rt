@@ -1,4 +1,4 @@
-//! The text that the host prints: a line for each answer, and the last line of a run that stops early.
+//! The text that the host prints: a line for each answer, and the last line of a run that stops with an error.
 #![tactic(auto)]
 
 mod answer_line;

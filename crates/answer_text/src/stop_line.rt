@@ -1,4 +1,4 @@
-//! The last line of a run that stops early.
+//! The last line of a run that stops with an error.
 ghost use Rattle.std.specs.Prelude.{◌≡◌};
 ghost use Rattle.answer_text.specs.AnswerText.{IsLine};
 ghost use Rattle.answer_text.specs.StopText.{stop_text, status_of_stop};
@@ -6,26 +6,25 @@ ghost use Rattle.answer_text.specs.StopText.{stop_text, status_of_stop};
 use crate::words::{LINE_ROOM, put, put_number};
 use arrayvec::ArrayVec;
 
-/// Why a run ends before its input does, or never began.
+/// The error with which a run stops, before its input ends or before it began.
 #[derive(Clone, Copy, PartialEq, Eq, Debug)]
 pub enum Stop {
-    /// The words aren't the command's: status 1.
+    /// The command-line arguments are wrong: status 1.
     Usage,
 
-    /// The configuration isn't one, at this index of this part: status 2.
+    /// The configuration is broken at this index of this part: status 2.
     Config { part: u8, index: u32 },
 
-    /// The input failed while it was read: status 3.
+    /// The configuration or the request file couldn't be opened or read: status 3.
     ReadFault,
 
     /// The journal of this shard couldn't be opened, or its store failed while it was loaded: status 5.
     StoreFault { shard: u8 },
 
-    /// In the journal of this shard this line, counted from 1, is no record, or none that may come next:
-    /// status 6.
+    /// This line of this shard's journal, counted from 1, is no record, or not a valid successor: status 6.
     BadJournal { shard: u8, line: u64 },
 
-    /// No memory was left: status 7.
+    /// Out of memory: status 7.
     NoMemory,
 
     /// The input is longer than the host reads, and this line, counted from 1, has the first byte past
@@ -34,7 +33,7 @@ pub enum Stop {
 }
 
 impl Stop {
-    /// The status of a run that stops so.
+    /// The exit status of a run that stops with this error.
     pub fn status(&self) -> u8
         ensures { result ≡ status_of_stop self.now }
     {
@@ -50,7 +49,7 @@ impl Stop {
     }
 }
 
-/// Writes the last line of a run that stops, in place of what `out` held.
+/// Writes the last line of a run that stops with an error to `out`, and replaces its contents.
 #[tactic(auto, unfolding(crate::specs::StopText::stop_text, crate::specs::StopText::stop_words))]
 pub fn write_stop(stop: &Stop, out: &mut ArrayVec<u8, LINE_ROOM>)
     ensures text { out.new.items ≡ stop_text stop.now }

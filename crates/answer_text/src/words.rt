@@ -1,4 +1,4 @@
-//! The words of a line, each put after what is written already.
+//! The words of a line, each appended to what is written already.
 ghost use Rattle.std.specs.Prelude.{◌≡◌, ◌+◌, ◌*◌, ◌≤◌, [], ◌∷◌, ◌++◌, length};
 ghost use Rattle.std.specs.Fmt.{decimal};
 ghost use Rattle.hex.specs.Hex.{encode_lower};
@@ -9,12 +9,12 @@ use arrayvec::ArrayVec;
 use itoa::Buffer;
 use tlv_objects::tag_bytes;
 
-/// The most bytes that a line has room for; the longest has 360.
+/// The capacity in bytes of the buffer of a line; the longest line has 360.
 pub const LINE_ROOM: usize = 512;
 
 const HEX_DIGITS: &[u8; 16] = b"0123456789abcdef";
 
-/// The text as it stands. The line needs room for it.
+/// Appends the text. The line needs room for it.
 pub fn put(out: &mut ArrayVec<u8, LINE_ROOM>, text: &[u8])
     requires { array_vec_len out.old + length text.now ≤ LINE_ROOM }
     ensures text { out.new.items ≡ out.old.items ++ text.now }
@@ -23,7 +23,7 @@ pub fn put(out: &mut ArrayVec<u8, LINE_ROOM>, text: &[u8])
     out.try_extend_from_slice(text).unwrap();
 }
 
-/// A space, and the number in decimal digits. The line needs room for them.
+/// Appends a space, and the number in decimal digits. The line needs room for them.
 pub fn put_number(out: &mut ArrayVec<u8, LINE_ROOM>, number: u64)
     requires { array_vec_len out.old + 21 ≤ LINE_ROOM }
     ensures text { out.new.items ≡ out.old.items ++ 32 ∷ decimal number }
@@ -34,7 +34,7 @@ pub fn put_number(out: &mut ArrayVec<u8, LINE_ROOM>, number: u64)
     put(out, buffer.format(number).as_bytes());
 }
 
-/// A space, and the bytes in hexadecimal digits.
+/// Appends a space, and the bytes in hexadecimal digits.
 pub(crate) fn put_hex(out: &mut ArrayVec<u8, LINE_ROOM>, bytes: &[u8])
     requires { array_vec_len out.old + (2 * length bytes.now + 1) ≤ LINE_ROOM }
     ensures text { out.new.items ≡ out.old.items ++ 32 ∷ encode_lower bytes.now }
@@ -56,7 +56,7 @@ fn put_byte(out: &mut ArrayVec<u8, LINE_ROOM>, byte: u8)
     out.push(HEX_DIGITS[usize::from(byte % 16)]);
 }
 
-/// A space, and the tag's bytes in hexadecimal digits, without zero bytes in front.
+/// Appends a space, and the tag's bytes in hexadecimal digits, without leading zero bytes.
 pub(crate) fn put_tag(out: &mut ArrayVec<u8, LINE_ROOM>, tag: u32)
     requires { array_vec_len out.old + 9 ≤ LINE_ROOM }
     ensures text { out.new.items ≡ out.old.items ++ 32 ∷ encode_lower (tag_bytes tag) }
@@ -65,7 +65,7 @@ pub(crate) fn put_tag(out: &mut ArrayVec<u8, LINE_ROOM>, tag: u32)
     put_hex(out, tag_bytes(tag).as_slice());
 }
 
-/// The word, then a space and the shard, then a space and the place.
+/// Appends the word, then a space and the shard, then a space and the record's index.
 pub(crate) fn put_place(out: &mut ArrayVec<u8, LINE_ROOM>, word: &[u8], shard: u8, place: u64)
     requires { array_vec_len out.old + length word.now + 42 ≤ LINE_ROOM }
     ensures text { out.new.items ≡ out.old.items ++ word.now ++ 32 ∷ decimal shard ++ 32 ∷ decimal place }

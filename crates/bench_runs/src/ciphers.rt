@@ -3,7 +3,7 @@
 use aes_cipher::{CmacKey, CmacRun};
 use des_block::{Des, Key16, Tdes};
 
-/// Enciphers a block again and again by DES, and gives the last one.
+/// Enciphers a block repeatedly by DES, and returns the last block.
 pub(crate) fn chained_des(count: u64) -> u64 {
     let des = Des::new([0x13, 0x34, 0x57, 0x79, 0x9B, 0xBC, 0xDF, 0xF1]);
     let mut block = 0;
@@ -26,7 +26,8 @@ pub(crate) fn chained_tdes(count: u64) -> u64 {
     block
 }
 
-/// Takes blocks through the chain of CMAC, 512 in a text that begins with the CMAC of the text before. Gives the halves of the last CMAC.
+/// Computes CMACs over texts of 512 blocks, each beginning with the CMAC of the text before. Returns the halves of the
+/// last CMAC.
 pub(crate) fn chained_aes(count: u64) -> (u64, u64) {
     let key = CmacKey::new(&[
         0x2B, 0x7E, 0x15, 0x16, 0x28, 0xAE, 0xD2, 0xA6, 0xAB, 0xF7, 0x15, 0x88, 0x09, 0xCF, 0x4F,

@@ -1,4 +1,4 @@
-//! Callers in threads of their own, who claim the same counters.
+//! Callers in threads of their own that claim the same counters.
 ghost use Rattle.std.specs.Prelude.{◌≡◌, ℕ, ◌<◌, ◌≤◌, ◌++◌, [], All, length, vec_len, vec_capacity, slice_index_or};
 ghost use Rattle.std.specs.List.{flat_map};
 ghost use Rattle.seat_names.specs.SeatNames.{IsWhole};
@@ -11,7 +11,8 @@ use std::alloc::Global;
 use std::thread;
 use std::thread::Threads;
 
-/// How many cards, how many callers, how often each claims each counter, and whether it marks what it wins as kept.
+/// The number of cards and of callers, how often each claims each counter, and whether it marks the claims that it wins
+/// as kept.
 #[derive(Clone, Copy)]
 struct Run {
     cards: u32,
@@ -20,8 +21,8 @@ struct Run {
     keep: bool,
 }
 
-/// How many claims the callers of a run win together, whose numbers are those of cards, of callers and of rounds; `None` where they
-/// are out of range, or no memory was left.
+/// How many claims the callers of a run win together. `numbers` are those of cards, of callers and of rounds. `None` if
+/// they are out of range, or memory runs out.
 pub(crate) fn measure<R: Threads + Sync>(
     rt: &R,
     alloc: Global,
@@ -97,7 +98,7 @@ fn seat_all(words: &ClaimWords, seat: &mut ClaimSeat, count: usize, callers: &mu
     }
 }
 
-/// Lets all callers claim at once, each in a thread of its own.
+/// Has all callers claim concurrently, each in a thread of its own.
 fn claim_at_once<R: Threads + Sync>(rt: &R, words: &ClaimWords, callers: &mut [Caller], run: &Run)
     requires cards { (run.now.cards ≤ cards_of words.now) × (0 < length callers.old) }
     requires seats { All (λ caller. IsOf caller.seat words.now) callers.old }
@@ -114,7 +115,7 @@ fn claim_at_once<R: Threads + Sync>(rt: &R, words: &ClaimWords, callers: &mut [C
     );
 }
 
-/// Joins the seats of all callers, and adds up what they won.
+/// Joins the seats of all callers, and returns the sum of their wins.
 fn join_all(words: &ClaimWords, seat: &mut ClaimSeat, mut callers: Vec<Caller>) -> u64
     requires seat { IsOf seat.old words.now }
     requires callers { All (λ caller. IsOf caller.seat words.now) callers.items }

@@ -4,7 +4,7 @@ ghost use Rattle.arrayvec.specs.ArrayVec.{array_vec_len};
 
 use arrayvec::ArrayVec;
 
-/// The numbers that a measurement is answered with.
+/// The numbers of a measurement's result.
 pub(crate) type Counts = ArrayVec<u64, 11>;
 
 /// An answer of one number.
@@ -23,7 +23,7 @@ pub(crate) fn two(first: u64, second: u64) -> Counts {
     counts
 }
 
-/// The numbers of a line, up to three. One that is left out, or can't be read, is 0.
+/// The numbers of a line, up to three. One that is absent or malformed is 0.
 pub(crate) fn read_numbers(text: &str) -> [u64; 3] {
     let mut numbers = [0; 3];
     let mut rest = text;

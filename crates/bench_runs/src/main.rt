@@ -1,5 +1,6 @@
-//! Measures a part of the host at a time, for the scripts in `bench/`: a line of the input is a measurement and its numbers, as
-//! `claim 256 1 4`, and is answered by its counts, one a line, or by `refused`. A line `record` is one of the records of `records`.
+//! Measures a part of the host at a time, for the scripts in `bench/`. A line of the input is a measurement and its
+//! numbers, as `claim 256 1 4`. It is answered by its counts, one a line, or by `refused`. A line `record` is one of
+//! the records of `records`.
 #![tactic(auto)]
 
 mod ciphers;
@@ -20,7 +21,7 @@ use std::io;
 use std::sync::Wait;
 use std::thread::Threads;
 
-/// What a measurement counts; `None` where there is none of that name, or where something was refused.
+/// The counts of a measurement; `None` if there is none of that name, or if something was refused.
 fn measure<R: Threads + Wait + Sync>(
     rt: &R,
     alloc: Global,

@@ -1,8 +1,8 @@
-//! The records of a journal, read and written again and again.
+//! The records of a journal, parsed and written repeatedly.
 
 use journal_rec::{read_entry, write_entry};
 
-/// Reads all lines so many times. How many of them are those of records.
+/// Parses all lines `times` times, and returns how many of them are those of records.
 pub(crate) fn read_all(lines: &[Vec<u8>], times: u64) -> u64 {
     let mut count = 0;
     for _ in 0..times {
@@ -11,7 +11,8 @@ pub(crate) fn read_all(lines: &[Vec<u8>], times: u64) -> u64 {
     count
 }
 
-/// Reads all lines so many times, and writes what was read. How many of them are those of records, and are written as they stand.
+/// Parses all lines `times` times, and writes the records. Returns how many lines are those of records, and are written
+/// unchanged.
 pub(crate) fn write_all(lines: &[Vec<u8>], times: u64) -> u64 {
     let mut count = 0;
     for _ in 0..times {

@@ -1,4 +1,4 @@
-//! Requests of cards, each checked, planned or answered, and loads of the journal that is left.
+//! Requests of cards, each checked, planned or answered, and loads of the resulting journal.
 ghost use Rattle.std.specs.Prelude.{◌≡◌, ◌<◌, ◌%◌, length, MatchOption, ⊤, IsTrue};
 ghost use Rattle.shard_book.specs.Shards.{number_in, IsUnder};
 
@@ -11,10 +11,10 @@ use shard_book::{LoadBack, Shard};
 use std::alloc::Global;
 use store_edge::RoomStore;
 
-/// How many bytes the store has room for.
+/// The capacity of the store in bytes.
 const ROOM: usize = 64 * 1_024 * 1_024;
 
-/// How far each request is taken.
+/// How far each request is processed.
 #[derive(Clone, Copy, PartialEq, Eq, Debug)]
 pub(crate) enum Deed {
     /// It is made by its card, and checked.
@@ -27,8 +27,8 @@ pub(crate) enum Deed {
     Answer,
 }
 
-/// How many records are left by so many requests of each of so many cards, and how many the last of so many loads of the journal finds;
-/// `None` where something was refused.
+/// How many records the requests leave, and how many the last load of the journal finds. `numbers` are those of cards,
+/// of requests of each, and of loads. `None` if something was refused.
 pub(crate) fn measure(alloc: Global, numbers: [u64; 3], deed: Deed) -> Option<Counts> {
     let [count, rounds, loads] = numbers;
     let count = u32::try_from(count).ok()?;
@@ -70,7 +70,7 @@ fn ask_all(shard: &mut Shard<RoomStore>, issuer: &Issuer, cards: &mut Vec<Card>,
     }
 }
 
-/// A request of a card, taken so far. Whether it was asked.
+/// Processes a request of a card as far as `deed` says, and returns whether the shard was asked.
 fn ask(shard: &mut Shard<RoomStore>, issuer: &Issuer, card: &mut Card, deed: Deed) -> bool
     requires under { IsUnder issuer.now shard.old }
     requires number { number_in shard.old ≡ 0 }
@@ -109,7 +109,7 @@ fn load(alloc: Global, store: RoomStore, issuer: &Issuer) -> Option<Shard<RoomSt
     }
 }
 
-/// Loads the journal of a store so many times, and gives how many records the last load found.
+/// Loads the journal of a store `loads` times, and returns how many records the last load found.
 fn load_again(alloc: Global, store: RoomStore, issuer: &Issuer, loads: u64) -> Option<u64>
     requires { issuer.now.shards ≡ 1 }
 {

@@ -10,7 +10,7 @@ use issuer_setup::{CardInfo, Issuer};
 use key_derive::{KeySet, MasterCiphers};
 use std::alloc::Global;
 
-/// What the terminal of each request gives.
+/// The terminal data of each request.
 pub(crate) const TERMINAL: Terminal = Terminal {
     tvr: [0x00, 0x00, 0x00, 0x80, 0x00],
     date: [0x26, 0x01, 0x15],
@@ -45,7 +45,7 @@ fn info(number: u32) -> Option<CardInfo> {
     })
 }
 
-/// An issuer of one shard and so many cards, whose table approves every request.
+/// An issuer of one shard and `count` cards, whose table approves every request.
 pub(crate) fn issuer(alloc: Global, count: u32) -> Option<Issuer>
     ensures { MatchOption result ⊤ (λ issuer. issuer.shards ≡ 1) }
 {
@@ -69,7 +69,7 @@ pub(crate) fn issuer(alloc: Global, count: u32) -> Option<Issuer>
     Some(issuer)
 }
 
-/// So many of its cards.
+/// The first `count` of its cards.
 pub(crate) fn cards(alloc: Global, count: u32) -> Option<Vec<Card>> {
     let ciphers = MasterCiphers::new(&KEYS);
     let mut cards = Vec::new(alloc);

@@ -1,4 +1,4 @@
-//! Callers in threads of their own, who take turns at shards whose values count the items.
+//! Callers in threads of their own that take turns at shards whose values count the items.
 ghost use Rattle.std.specs.Prelude.{◌≡◌, ℕ, ◌<◌, ◌≤◌, [], ◌++◌, All, length, IfOk, vec_len, vec_capacity, slice_index_or};
 ghost use Rattle.std.specs.List.{flat_map};
 ghost use Rattle.issuer_base.specs.declared.limits.TheConstants.{MAX_SHARDS};
@@ -17,7 +17,7 @@ use std::thread;
 use std::thread::Threads;
 use turn_book::{Item, Logged, MAX_ITEMS, TurnSeat, Turns};
 
-/// How many shards and callers, how many turns each caller takes, and whether it adds an item in each.
+/// The number of shards and of callers, how many turns each caller takes, and whether it appends an item in each.
 #[derive(Clone, Copy)]
 struct Run {
     shards: u8,
@@ -26,8 +26,8 @@ struct Run {
     add: bool,
 }
 
-/// How many items the callers of a run add together, whose numbers are those of shards, of callers and of turns; `None` where they
-/// are out of range, or no memory was left.
+/// How many items the callers of a run append together. `numbers` are those of shards, of callers and of turns. `None`
+/// if they are out of range, or memory runs out.
 pub(crate) fn measure<R: Threads + Wait + Sync>(
     rt: &R,
     alloc: Global,
@@ -47,7 +47,7 @@ pub(crate) fn measure<R: Threads + Wait + Sync>(
     Some(one(counted_by(rt, alloc, &run).ok()?))
 }
 
-/// How many items a shard's log has.
+/// The length of a shard's log.
 struct Tally {
     count: u64,
 }
@@ -71,7 +71,7 @@ struct Caller {
     shard: u8,
 }
 
-/// Adds an item to the log of the shard that the seat is in, where it is to and the log isn't full.
+/// Appends an item to the log of the shard that the seat is in, if `add` says so and the log isn't full.
 fn count_item(tallies: &Tallies, caller: &mut Caller, mut tally: Tally, add: bool) -> Tally
     requires seat { IsOf caller.old.seat tallies.now × ((view_of caller.old.seat).turn ≡ Inside caller.old.shard) }
     requires tally { StandsAt ⟦<Tally as Logged<u64, u8>>⟧.stands tally (view_of caller.old.seat).seen caller.old.shard }
@@ -132,7 +132,7 @@ fn seat_all(tallies: &Tallies, seat: &mut TurnSeat<u64, u8>, run: &Run, callers:
     }
 }
 
-/// Lets all callers take turns at once, each in a thread of its own.
+/// Has all callers take turns concurrently, each in a thread of its own.
 fn take_turns_at_once<R: Threads + Wait + Sync>(
     rt: &R,
     tallies: &Tallies,
@@ -172,7 +172,7 @@ fn join_all(tallies: &Tallies, seat: &mut TurnSeat<u64, u8>, mut callers: Vec<Ca
     callers.destroy_empty();
 }
 
-/// The tallies of so many shards with empty logs.
+/// The tallies of `shards` shards with empty logs.
 fn fresh_tallies(alloc: Global, shards: u8) -> Result<Vec<Tally>, NoMemory>
     ensures { IfOk result (λ tallies. (vec_len tallies ≡ shards) × All (λ tally. tally.count ≡ 0) tallies.items) }
 {
@@ -194,7 +194,7 @@ fn sum_counts(mut tallies: Vec<Tally>) -> u64 {
     sum
 }
 
-/// Turns at so many shards with empty logs.
+/// Turns at `shards` shards with empty logs.
 fn open(alloc: Global, shards: u8) -> Result<(Tallies, TurnSeat<u64, u8>), NoMemory>
     requires { (0 < shards) × (shards ≤ MAX_SHARDS) }
     ensures turns { IfOk result (λ made. shards_of made.0 ≡ shards) }
@@ -210,7 +210,7 @@ fn open(alloc: Global, shards: u8) -> Result<(Tallies, TurnSeat<u64, u8>), NoMem
     }
 }
 
-/// Lets the callers take their turns, and says how many items they have added.
+/// Has the callers take their turns, and returns how many items they have appended.
 fn counted_by<R: Threads + Wait + Sync>(rt: &R, alloc: Global, run: &Run) -> Result<u64, NoMemory>
     requires shards { (0 < run.now.shards) × (run.now.shards ≤ MAX_SHARDS) }
     requires threads { 0 < run.now.threads }

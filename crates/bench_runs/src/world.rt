@@ -5,10 +5,11 @@ use issuer_base::MAX_CARDS;
 use std::alloc::Global;
 use world_play::{MAX_STEPS, Summary, play};
 
-/// How many requests a card makes at most.
+/// The most requests of a card.
 const MOST_REQUESTS: u64 = 65_535;
 
-/// What a run with so many cards and steps and this seed comes to; `None` where it is out of range, or no memory was left.
+/// The counts of a run. `numbers` are those of cards and of steps, and the seed. `None` if they are out of range, or
+/// memory runs out.
 pub(crate) fn measure(alloc: Global, numbers: [u64; 3]) -> Option<Counts> {
     let [cards, steps, seed] = numbers;
     if cards < 1 || cards > MAX_CARDS as u64 || steps > u64::from(MAX_STEPS) {

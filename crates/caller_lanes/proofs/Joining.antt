@@ -1,4 +1,4 @@
--- Passes that are joined, one after another, and what closing the host says of all callers together.
+-- Passes that are joined, one after another, and what the close of the host says of all callers together.
 use Rattle.std.proofs.Common.{◌≡◌, ℕ, zero, suc, ◌<◌, List, [], ◌∷◌, length, Some, refl, sym, ap, subst, ◌∙◌, arith, Option}
 use Rattle.std.proofs.lemmas.Option.{slice_get_within}
 use Rattle.std.specs.List.{slice_get}

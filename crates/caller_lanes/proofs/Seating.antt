@@ -1,4 +1,4 @@
--- The passes of lanes as they are split off, and what the lanes begin with.
+-- The passes of lanes as they are split off, and the initial state of the lanes.
 use Rattle.std.proofs.Common.{◌≡◌, ℕ, ◌*◌, ◌/◌, ◌<◌, ◌≤◌, List, [], ◌∷◌, ◌++◌, length, All, refl, sym, ap, subst, ◌∙◌, append-nil, arith}
 use Rattle.std.proofs.lemmas.List.Elements.{All-push}
 use Rattle.std.proofs.Math.Nat.{zero-mod, mul-div-le, le-div_iff_mul-le, one-le-mul}

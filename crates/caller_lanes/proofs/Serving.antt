@@ -1,4 +1,4 @@
--- What the lanes' callers were asked and answered, after each step, and that their passes stay seated.
+-- The lines and answers of the lanes' callers after each step, and that their passes stay seated.
 use Rattle.std.proofs.Common.{◌≡◌, ℕ, ◌+◌, ◌*◌, ◌<◌, List, [], ◌∷◌, ◌++◌, length, take, drop, map, Some}
 use Rattle.std.proofs.Common.{All, get_or, refl, sym, ap, subst, ◌∙◌, arith}
 use Rattle.std.proofs.lemmas.List.{length-map, take_more}

@@ -1,4 +1,4 @@
--- What a pass knows that took in those of some lanes.
+-- What a pass knows into which those of some lanes were joined.
 use Rattle.std.specs.Prelude.{◌≡◌, ℕ, ◌+◌, List, slice_get, Some}
 use Rattle.seat_names.specs.Totals.{total}
 use Rattle.claim_words.specs.declared.view.Claimed.{Claimed}
@@ -7,7 +7,8 @@ use Rattle.host_calls.specs.Passes.{claims_of, logs_of}
 use Rattle.host_calls.specs.declared.pass.Pass.{Pass}
 use Rattle.caller_lanes.specs.declared.lane.Lane.{Lane}
 
--- the pass has what this first one and those of the lanes had, each once, and of each log the longest that one of them has seen
+-- the pass has what the first one and those of the lanes had, each once; what any of them has seen of a log is a prefix
+-- of its own
 pub record HasJoined (first : Pass) (lanes : List Lane) (pass : Pass) : Type 0 where
   pub claims : (f : Claimed → ℕ)
       → total f (claims_of pass).claims ≡ total f (claims_of first).claims + total (λ lane. total f (claims_of lane.pass).claims) lanes

@@ -1,4 +1,4 @@
--- What callers of one host were asked and answered, and what waits.
+-- The lines and answers of one host's callers, and the lines that wait.
 use Rattle.std.specs.Prelude.{◌≡◌, ℕ, ◌==◌, Bool, List, ◌++◌, length, slice_get, Option, Some}
 use Rattle.issuer_base.specs.Stores.{Disk}
 use Rattle.issuer_base.specs.declared.answer.Answer.{Answer}
@@ -33,11 +33,11 @@ module _ {S : Type 0} {G : Ghosts S} where
   abbrev pub waiting_in : Lanes S G → ℕ
   waiting_in lanes = lanes.dealer.progress.waiting
 
-  -- how many answers are still to be taken
+  -- how many answers weren't taken yet
   abbrev pub due_in : Lanes S G → ℕ
   due_in lanes = lanes.dealer.progress.due
 
-  -- whether no line more fits
+  -- whether no more line fits
   abbrev pub is_full_in : Lanes S G → Bool
   is_full_in lanes = waiting_in lanes == lanes.dealer.room
 
@@ -47,8 +47,8 @@ module _ {S : Type 0} {G : Ghosts S} where
     pub same_opening : opening_logs new ≡ opening_logs old
     pub same_callers : callers_in new ≡ callers_in old
 
-  -- since the host was loaded these lines were answered so by its callers; these answers, the last of them, are still to be taken; and these lines
-  -- wait
+  -- since the host was loaded, its callers gave these answers to these lines; the answers `due`, which are the last,
+  -- weren't taken yet; these lines wait
   pub record HasServed (lanes : Lanes S G) (lines : List (List ℕ)) (answers due : List Answer) (waiting : List (List ℕ)) : Type 0 where
     pub taken : List Answer
     pub answers_are : answers ≡ taken ++ due
@@ -56,10 +56,10 @@ module _ {S : Type 0} {G : Ghosts S} where
     pub served : (number : ℕ) (lane : Lane) → slice_get lanes.dealer.lanes.items number ≡ Some lane
         → IsServed (issuer_in lanes) (opening_logs lanes) lane.pass (every (callers_in lanes) number lines) (every (callers_in lanes) number answers)
 
--- by what stores tell of their bytes and disks, and by their counts of faults
+-- by the stores' observable bytes and disks, and their fault counters
 module _ {S : Type 0} (bytes : S → Option (List ℕ)) (disk : S → Option Disk) (faults : S → ℕ) where
-  -- a host that began with these opening logs was closed: its callers, so many, were dealt these lines in turns and answered them so; they shared the
-  -- host, whose logs at close these are, and its stores hold the logs' journals
+  -- a host with these opening logs was closed: its `count` callers were dealt these lines in turns, gave these answers
+  -- and shared the host, whose stores hold the journals of the logs at close
   pub record HasClosed (issuer : Setup) (opening : List (Log LogItem LogHead)) (count : ℕ) (lines : List (List ℕ)) (answers : List Answer)
       (stores : List S) : Type 0 where
     pub logs : List (Log LogItem LogHead)

@@ -1,4 +1,4 @@
--- What a lane has, and what its pass knows.
+-- The lines and answers of a lane, and what its pass knows.
 use Rattle.std.specs.Prelude.{◌≡◌, ℕ, List, [], length, slice_get, Some}
 use Rattle.issuer_base.specs.declared.answer.Answer.{Answer}
 use Rattle.issuer_base.specs.declared.outside.store.Store.{Ghosts}
@@ -20,7 +20,7 @@ waiting_lines lane = lane.lines.lines
 abbrev pub due_answers : Lane → List Answer
 due_answers lane = lane.answers.items
 
--- since the opening logs the caller with this pass was answered so
+-- since the opening logs, the caller with this pass had these lines and these answers
 pub record IsServed (issuer : Setup) (opening : List (Log LogItem LogHead)) (pass : Pass) (lines : List (List ℕ)) (answers : List Answer) : Type 0 where
   pub caller : Caller
   pub caller_is : IsCaller issuer opening caller
@@ -29,14 +29,15 @@ pub record IsServed (issuer : Setup) (opening : List (Log LogItem LogHead)) (pas
   pub claims_are : caller.claims_now ≡ claims_of pass
   pub logs_are : caller.logs_now ≡ logs_of pass
 
--- the lane's caller was asked nothing
+-- the lane's caller has had no line
 pub record IsNew (issuer : Setup) (opening : List (Log LogItem LogHead)) (lane : Lane) : Type 0 where
   pub none_wait : waiting_lines lane ≡ []
   pub none_due : due_answers lane ≡ []
   pub served : IsServed issuer opening lane.pass [] []
 
 module _ {S : Type 0} {G : Ghosts S} where
-  -- the lane's caller answered the lines that waited, in their order: its pass is free again, and its answers are due
+  -- the lane's caller answered the lines that waited, in their order; its pass is free again, and its answers can be
+  -- taken
   pub record HasAnswered (host : Host S G) (old new : Lane) : Type 0 where
     pub calls : Calls host.issuer (waiting_lines old) (due_answers new) (claims_of old.pass) (logs_of old.pass) (claims_of new.pass) (logs_of new.pass)
     pub none_wait : waiting_lines new ≡ []
@@ -44,7 +45,7 @@ module _ {S : Type 0} {G : Ghosts S} where
     pub names : (claims_of new.pass).names ≡ (claims_of old.pass).names
     pub room : new.room ≡ old.room
 
-  -- so has each of the lanes
+  -- each of the lanes has answered so
   pub record HaveAnswered (host : Host S G) (old new : List Lane) : Type 0 where
     pub count_is : length new ≡ length old
     pub each : (number : ℕ) (before after : Lane) → slice_get old number ≡ Some before → slice_get new number ≡ Some after → HasAnswered host before after

@@ -1,4 +1,4 @@
--- The passes of a host's callers, and the first one, which makes no calls.
+-- The passes of a host's callers, and the first pass, which makes no calls.
 use Rattle.std.specs.Prelude.{◌≡◌, ℕ, List, [], ◌++◌, All}
 use Rattle.std.specs.List.{flat_map}
 use Rattle.issuer_base.specs.declared.outside.store.Store.{Ghosts}
@@ -19,7 +19,8 @@ pub record IsUntouched (pass : Pass) : Type 0 where
   pub no_places : (logs_of pass).mine ≡ []
 
 module _ {S : Type 0} {G : Ghosts S} where
-  -- the first pass has made no calls and has seen the opening logs; it and the lanes' passes are free, and all passes of the host
+  -- the first pass has made no calls and has seen the opening logs; it and the lanes' passes are free, and they are all
+  -- passes of the host
   pub record AreSeated (host : Host S G) (first : Pass) (lanes : List Lane) : Type 0 where
     pub first_free : IsFree host first
     pub untouched : IsUntouched first

@@ -1,4 +1,4 @@
--- Which lines and answers the lanes have, where all are dealt in turns.
+-- Which lines and answers the lanes have, if all are dealt in turns.
 use Rattle.std.specs.Prelude.{◌≡◌, ℕ, ◌+◌, ◌%◌, ◌<◌, List, ◌++◌, length}
 use Rattle.issuer_base.specs.declared.answer.Answer.{Answer}
 use Rattle.caller_lanes.specs.Dealing.{HaveTurns}
@@ -6,11 +6,12 @@ use Rattle.caller_lanes.specs.OneLane.{waiting_lines, due_answers}
 use Rattle.caller_lanes.specs.declared.lane.Lane.{Lane}
 use Rattle.caller_lanes.specs.declared.dealer.Progress.{Progress}
 
--- the turn that comes behind this one, of so many
+-- the turn after this one, of `count` turns
 abbrev pub IsBehind : ℕ → ℕ → ℕ → Type 0
 IsBehind count turn next = (turn + 1 < count → next ≡ turn + 1) × (turn + 1 ≡ count → next ≡ 0)
 
--- these lines were answered, and their answers are taken or due; these lines wait: each lane has its turns of what waits and of what is due
+-- these lines were answered, their answers were `taken` or are `due`, and other lines wait; each lane has its turns of
+-- the waiting lines and of the due answers
 pub record AreInTurns (lanes : List Lane) (progress : Progress) (lines : List (List ℕ)) (taken due : List Answer) (waiting : List (List ℕ)) : Type 0 where
   pub answered : length (taken ++ due) ≡ length lines
   pub waiting_is : progress.waiting ≡ length waiting
@@ -20,7 +21,7 @@ pub record AreInTurns (lanes : List Lane) (progress : Progress) (lines : List (L
   pub waits : HaveTurns waiting_lines lanes lines waiting
   pub dues : HaveTurns due_answers lanes taken due
 
--- so it is for some lines and answers
+-- the lanes are in turns for some lines and answers
 pub record IsInTurn (lanes : List Lane) (progress : Progress) : Type 0 where
   pub lines : List (List ℕ)
   pub taken : List Answer

@@ -1,4 +1,4 @@
-//! The end of a host of several callers, to whom lines were dealt.
+//! The close of a host of several callers to which lines were dealt.
 ghost use Rattle.std.specs.Prelude.{◌≡◌, ℕ, List, []};
 ghost use Rattle.issuer_base.specs.declared.answer.Answer.{Answer};
 ghost use Rattle.seat_names.specs.SeatNames.{IsWhole};
@@ -15,7 +15,8 @@ use issuer_base::Store;
 impl<S: Store> Lanes<S> {
     ghost use Rattle.caller_lanes.specs.Lanes.{issuer_in, opening_logs, callers_in, waiting_in, HasServed, HasClosed};
 
-    /// Joins all passes, ends the host, and gives the stores in the order of their shards' numbers. It takes no memory.
+    /// Joins all passes, closes the host, and returns the stores in the order of their shards' numbers. It doesn't
+    /// allocate.
     pub fn close(self) -> Vec<S>
         requires { waiting_in self ≡ 0 }
         ensures { (lines : List (List ℕ)) (answers due : List Answer) → HasServed self lines answers due []

@@ -1,4 +1,4 @@
-//! The lanes, and whose turn it is.
+//! The dealer: all lanes, and whose turn it is.
 ghost use Rattle.std.specs.Prelude.{◌≡◌, ℕ, ◌<◌, ◌≤◌, ◌+◌, ◌*◌, List, [], ◌∷◌, ◌++◌, length, vec_len, All, map};
 ghost use Rattle.std.specs.Thread.{IsSync, IsSend};
 ghost use Rattle.issuer_base.specs.declared.answer.Answer.{Answer};
@@ -14,23 +14,23 @@ use std::sync::Wait;
 use std::thread;
 use std::thread::Threads;
 
-/// How far dealing lines and taking answers got.
+/// The progress of dealing lines and of taking answers.
 #[derive(Drop)]
 pub(crate) struct Progress {
-    /// The lane that is dealt the next line.
+    /// The lane that gets the next line.
     pub(crate) next: usize,
 
-    /// The lane that has the next answer.
+    /// The lane from which the next answer comes.
     pub(crate) from: usize,
 
     /// How many lines wait.
     pub(crate) waiting: usize,
 
-    /// How many answers are still to be taken.
+    /// How many answers weren't taken yet.
     pub(crate) due: usize,
 }
 
-/// The lanes, and how many lines may wait for them together.
+/// The lanes, and how many lines may wait in all of them together.
 pub(crate) struct Dealer {
     pub(crate) lanes: Vec<Lane>,
     pub(crate) progress: Progress,
@@ -79,7 +79,7 @@ impl Dealer {
         answer
     }
 
-    /// Lets all callers answer the lines that wait, each in a thread of its own.
+    /// Has all callers answer the lines that wait, each in a thread of its own.
     pub(crate) fn answer<S: Store + Send, R: Threads + Wait + Sync, G: Gate + Sync>(
         &mut self,
         rt: &R,
@@ -101,7 +101,8 @@ impl Dealer {
     }
 }
 
-/// Lets all callers answer the lines that wait, each in a thread of its own: this thread makes one for each of the others, and answers for the last.
+/// Has all callers answer the lines that wait, each in a thread of its own. This thread spawns one for each of the
+/// others, and answers for the last caller.
 #[cycle(lanes)]
 fn answer_at_once<S: Store + Send, R: Threads + Wait + Sync, G: Gate + Sync>(
     rt: &R,
@@ -122,7 +123,7 @@ fn answer_at_once<S: Store + Send, R: Threads + Wait + Sync, G: Gate + Sync>(
     answer_beside(rt, host, gate, first, others);
 }
 
-/// Lets a thread of its own answer for the first caller, while this one lets the others answer.
+/// Has a thread of its own answer for the first caller, while this thread has the others answer.
 #[cycle(lanes)]
 fn answer_beside<S: Store + Send, R: Threads + Wait + Sync, G: Gate + Sync>(
     rt: &R,
@@ -151,7 +152,7 @@ fn answer_beside<S: Store + Send, R: Threads + Wait + Sync, G: Gate + Sync>(
     thread::join_mut(rt, &mut front, &mut back);
 }
 
-/// The lane whose turn comes behind that of this one, of so many.
+/// The lane whose turn follows that of `lane`, of `count` lanes.
 fn behind(lane: usize, count: usize) -> usize
     requires { lane < count }
     ensures { IsBehind count lane result }

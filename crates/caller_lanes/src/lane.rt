@@ -13,7 +13,7 @@ use std::alloc::Global;
 use std::collections::VecDeque;
 use std::sync::Wait;
 
-/// The memory of a lane: room for so many lines and their answers.
+/// The memory of a lane: room for `count` lines and their answers.
 #[derive(Drop)]
 pub(crate) struct LaneRoom {
     lines: LineSlots,
@@ -24,7 +24,7 @@ pub(crate) struct LaneRoom {
 }
 
 impl LaneRoom {
-    /// Takes the memory.
+    /// Allocates the memory.
     pub(crate) fn new(alloc: Global, count: usize) -> Result<LaneRoom, NoMemory>
         ensures { IfOk result (λ room. room.count ≡ count) }
     {
@@ -45,7 +45,7 @@ pub(crate) struct Lane {
     /// How many lines may wait, and how many answers.
     pub(crate) room: usize,
 
-    /// The number in the run of the line that is answered next, and how many lines of the run that goes on with each.
+    /// The number of the next line, counted from 1 in the run, and the stride between this caller's lines.
     number: u64,
     step: u64,
     ghost room_is: { (lines.room ≡ room) × (room ≤ deque_capacity answers) },
@@ -54,7 +54,7 @@ pub(crate) struct Lane {
 impl Lane {
     ghost use Rattle.caller_lanes.specs.OneLane.{waiting_lines, due_answers, HasAnswered};
 
-    /// A caller with this pass, whose first line has this number in the run.
+    /// A caller with this pass. `number` is that of its first line in the run, and `step` the stride between its lines.
     pub(crate) fn new(pass: Pass, room: LaneRoom, number: u64, step: u64) -> Lane
         ensures pass { result.pass ≡ pass }
         ensures none { (result.lines.lines ≡ []) × (result.answers.items ≡ []) }
@@ -75,7 +75,7 @@ impl Lane {
         }
     }
 
-    /// One more line waits.
+    /// Appends a line to those that wait.
     pub(crate) fn add(&mut self, line: &[u8])
         requires room { length (waiting_lines self.old) < self.old.room }
         requires kept { length line.now ≤ KEPT_BYTES }
@@ -85,7 +85,7 @@ impl Lane {
         self.lines.add(line);
     }
 
-    /// Takes the first answer that is due.
+    /// Takes the first answer that wasn't taken yet.
     pub(crate) fn take(&mut self) -> Answer
         requires { 0 < length (due_answers self.old) }
         ensures answers { due_answers self.old ≡ result ∷ due_answers self.new }
@@ -94,7 +94,7 @@ impl Lane {
         self.answers.pop_front().unwrap()
     }
 
-    /// The pass, once no more lines are answered.
+    /// Ends the lane, and returns its pass.
     pub(crate) fn into_pass(self) -> Pass
         ensures { result ≡ self.pass }
     {
@@ -125,7 +125,7 @@ impl Lane {
     }
 }
 
-/// The answer to the line with this number, of which the gate is told before its turn and behind it.
+/// Answers the line with this number. The gate is called before the line's turn and after it.
 fn answer_line<S: Store, R: Wait, G: Gate>(
     rt: &R,
     host: &Host<S>,

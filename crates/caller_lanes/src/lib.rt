@@ -1,4 +1,5 @@
-//! Lines dealt in turns to several callers of one host, who answer them at once, and the answers, in the order of the lines.
+//! Lines dealt in turns to several callers of one host, which answer them concurrently, and the answers in the order of
+//! the lines.
 #![tactic(auto)]
 
 mod close;

@@ -24,8 +24,8 @@ struct AllRoom {
 impl<S: Store> Lanes<S> {
     ghost use Rattle.caller_lanes.specs.Lanes.{issuer_in, opening_logs, callers_in, waiting_in, due_in, HasServed};
 
-    /// Loads the host as `Host::load` does, for so many callers, from 1 to [`MAX_CALLERS`](issuer_base::MAX_CALLERS). It takes all memory that it
-    /// ever takes; where that is wanting for the lanes the stores come back as they were, and the shard that is named is the first one.
+    /// Loads the host as `Host::load` does, for 1 to [`MAX_CALLERS`](issuer_base::MAX_CALLERS) callers. No later call
+    /// allocates. If an allocation for the lanes fails, the stores come back as they were, and the error names shard 0.
     pub fn load(
         alloc: Global,
         stores: Vec<S>,
@@ -77,7 +77,7 @@ impl<S: Store> Lanes<S> {
     }
 }
 
-/// Takes the memory of so many lanes.
+/// Allocates the memory of all lanes, one for each caller.
 fn take_room(alloc: Global, callers: u8) -> Result<AllRoom, NoMemory>
     requires { 0 < callers }
     ensures lanes { IfOk result (λ room. (room.lanes.items ≡ []) × (callers ≤ vec_capacity room.lanes)) }

@@ -1,4 +1,4 @@
-//! The lines that wait for a caller, each in a place that is filled anew block after block.
+//! The lines that wait for a caller, each in a slot that is reused in each block.
 ghost use Rattle.std.specs.Prelude.{◌≡◌, ◌<◌, ◌≤◌, [], ◌∷◌, ◌++◌, length, slice_get, Some, vec_len, vec_capacity, IfOk};
 ghost use Rattle.issuer_base.specs.declared.limits.TheConstants.{KEPT_BYTES};
 
@@ -7,12 +7,12 @@ use issuer_base::{KEPT_BYTES, NoMemory};
 use std::alloc::Global;
 use std::marker::Model;
 
-/// The bytes of a line, as far as they are kept.
+/// A truncated line.
 type KeptLine = ArrayVec<u8, KEPT_BYTES>;
 
-/// The lines that wait, in their order, and room for others.
+/// The lines that wait, in their order, and room for more.
 ///
-/// A contract sees the lines, and how many there may be.
+/// A contract sees the lines, and how many may wait.
 #[derive(Drop)]
 pub(crate) struct LineSlots {
     slots: Vec<KeptLine>,
@@ -34,7 +34,7 @@ impl Model for LineSlots {
 }
 
 impl LineSlots {
-    /// No lines, and room for so many. No other call takes memory.
+    /// No lines, and room for `room` lines. Only this call allocates.
     pub(crate) fn new(alloc: Global, room: usize) -> Result<LineSlots, NoMemory>
         ensures { IfOk result (λ slots. slots ≡ record { lines = []; room = room }) }
     {
@@ -53,7 +53,7 @@ impl LineSlots {
         self.waiting
     }
 
-    /// One more line waits.
+    /// Appends a line to those that wait.
     pub(crate) fn add(&mut self, line: &[u8])
         requires room { length self.old.lines < self.old.room }
         requires kept { length line.now ≤ KEPT_BYTES }
@@ -65,7 +65,7 @@ impl LineSlots {
         self.waiting += 1;
     }
 
-    /// The line at this place among those that wait.
+    /// The line at this index among those that wait.
     pub(crate) fn line(&self, place: usize) -> &[u8]
         requires { place < length self.now.lines }
         ensures { slice_get self.now.lines place ≡ Some result.now }
@@ -73,7 +73,7 @@ impl LineSlots {
         self.slots[place].as_slice()
     }
 
-    /// No line waits any more.
+    /// Removes all lines.
     pub(crate) fn clear(&mut self)
         ensures { self.new ≡ record { lines = []; room = self.old.room } }
     {

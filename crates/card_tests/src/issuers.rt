@@ -1,4 +1,4 @@
-//! The parts that make an issuer, and those that make none.
+//! Parts that make an issuer, and parts that make none.
 
 use arrayvec::ArrayVec;
 use issuer_base::{MAX_KEY_SETS, Method};

@@ -1,11 +1,11 @@
-//! A full queue, and templates whose bytes were added up by hand.
+//! A full queue, and templates whose bytes were counted by hand.
 
 use arrayvec::ArrayVec;
 use issuer_base::{Command, MAX_UNDONE, QueueFull};
 use script_queue::Queue;
 use std::test::Fail;
 
-/// An update of a record: its parameter tells commands apart, and its data have so many bytes.
+/// An update of a record: `p1` distinguishes the commands, and the data have `bytes` bytes.
 fn command(p1: u8, bytes: usize) -> Result<Command, Fail> {
     let data = [0xA5; 64];
     let data = data.get(..bytes).ok_or("too long")?;

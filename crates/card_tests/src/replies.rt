@@ -1,4 +1,4 @@
-//! What is found after some decisions were kept.
+//! Lookups after some decisions were stored.
 
 use arrayvec::ArrayVec;
 use issuer_base::Reply;

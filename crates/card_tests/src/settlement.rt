@@ -1,4 +1,4 @@
-//! Each outcome, at its borders.
+//! Each outcome, at its limits.
 
 use cvr_settle::{Flight, Settled, settle};
 use std::test::Fail;

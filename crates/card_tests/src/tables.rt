@@ -1,4 +1,4 @@
-//! The rows that decide requests, and rows that make no table.
+//! The rows that decide requests, and rows that form no table.
 
 use arrayvec::ArrayVec;
 use decision_table::{MAX_AMOUNT, Table, TableRow, decide, first_bad_row, tells_approval};
@@ -6,7 +6,7 @@ use issuer_base::Request;
 use sample_issuer::{deciding_table, purchase_parts};
 use std::test::Fail;
 
-/// The row that declines all that no other row decides.
+/// The row that declines every request that no other row decides.
 const OTHERWISE: TableRow = TableRow {
     tvr_mask: [0; 5],
     tvr_value: [0; 5],
@@ -20,7 +20,7 @@ const OTHERWISE: TableRow = TableRow {
     csu: [0; 4],
 };
 
-/// A row by bits of the terminal verification results.
+/// A row that tests bits of the terminal verification results.
 const BY_TERMINAL: TableRow = TableRow {
     tvr_mask: [0x80, 0, 0, 0, 0x01],
     tvr_value: [0x80, 0, 0, 0, 0x00],
@@ -28,7 +28,7 @@ const BY_TERMINAL: TableRow = TableRow {
     ..OTHERWISE
 };
 
-/// A row by bits of the card verification results.
+/// A row that tests bits of the card verification results.
 const BY_CARD: TableRow = TableRow {
     cvr_mask: [0x0F, 0, 0, 0, 0],
     cvr_value: [0x04, 0, 0, 0, 0],
@@ -42,14 +42,14 @@ const APPROVAL: TableRow = TableRow {
     ..OTHERWISE
 };
 
-/// Its card status update doesn't say that it approves.
+/// Its card status update doesn't state the approval.
 const UNSAID_APPROVAL: TableRow = TableRow {
     csu: [0x80, 0x7F, 0x80, 0x80],
     approve: true,
     ..OTHERWISE
 };
 
-/// A last row that isn't for the greatest amount.
+/// A last row that doesn't match the greatest amount.
 const SHORT_LAST: TableRow = TableRow {
     most: MAX_AMOUNT - 1,
     ..OTHERWISE

@@ -1,4 +1,4 @@
--- A value of decimal digits alone is an account number where they are one.
+-- A value of decimal digits alone is an account number if the digits are one.
 use Rattle.std.proofs.Common.{◌≡◌, ℕ, ◌≤◌, Bool, true, false, List, [], ◌∷◌, length, drop, take_while, nat_le, cond, Some, None, if◌then◌else◌}
 use Rattle.std.proofs.Common.{refl, sym, ap, ◌∙◌}
 use Rattle.std.specs.List.{list_all, flat_map}

@@ -1,4 +1,4 @@
--- What is found of each field when all objects are seen.
+-- What is found of each field after all objects.
 use Rattle.std.proofs.Common.{ℕ, List, [], ◌∷◌, map, Option, Some, None}
 use Rattle.tlv_objects.specs.Tlv.{TlvObject}
 use Rattle.chip_request.specs.Fields.{Field, fields}

@@ -1,4 +1,4 @@
--- Objects with which nothing is wrong make a request.
+-- Objects without a fault make a request.
 use Rattle.std.proofs.Common.{◌≡◌, ℕ, ◌==◌, Bool, true, false, not, cond, List, [], ◌∷◌, length, replicate, Option, Some, None, option_and_then, is_some, refl}
 use Rattle.std.proofs.Common.{Ok, if◌then◌else◌, sym, ap, ◌∙◌, slice_index}
 use Rattle.std.proofs.lemmas.Bool.{and_parts}

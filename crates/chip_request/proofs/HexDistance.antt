@@ -1,4 +1,4 @@
--- A byte is a digit of either case where it is at no distance from the digits, and so for all bytes of a text.
+-- A byte is a digit of either case where its distance from the digits is 0, and so for all bytes of a text.
 use Rattle.std.proofs.Common.{◌≡◌, ℕ, zero, suc, ◌+◌, ◌-◌, ◌%◌, ◌<◌, ◌≤◌, ◌==◌, ◌&&◌, Bool, true, false, List, length, take, is_some, map, min, max}
 use Rattle.std.proofs.Common.{get_or, bit_or, sym, refl, ap, ◌∙◌, arith}
 use Rattle.std.specs.List.{list_all, range_with_len}

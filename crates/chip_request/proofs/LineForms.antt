@@ -1,4 +1,4 @@
--- A line is read as what it says.
+-- A line is parsed as what it says.
 use Rattle.std.proofs.Common.{◌≡◌, ℕ, ◌+◌, ◌-◌, ◌/◌, ◌%◌, ◌≤◌, Bool, true, false, cond, ◌==◌, List, [], ◌∷◌, ◌++◌, Err, refl, sym, ap, subst, ◌∙◌}
 use Rattle.std.proofs.Common.{eqb-true, eq-eqb, arith}
 use Rattle.issuer_base.specs.declared.limits.TheConstants.{MAX_CHIP_BYTES}

@@ -1,4 +1,4 @@
--- What reading a text from its front gives, where `F text kind` says what a text means.
+-- What parsing a text from its start gives, where `F text kind` says what a text means.
 use Rattle.std.proofs.Common.{◌≡◌, ℕ, List, [], ◌∷◌, ◌++◌, Option, Some, None, Ok, Err, refl, ap, subst, ◌∙◌}
 use Rattle.chip_request.specs.LineParts.{Part, ◌>>=◌, value_in_front, value_at}
 

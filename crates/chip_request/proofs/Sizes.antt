@@ -1,4 +1,4 @@
--- Where no field is repeated and each value has its size, nothing is wrong with any field if what was found makes a request.
+-- If no field is repeated, each value has its length and the values make a request, no field has a fault.
 use Rattle.std.proofs.Common.{◌≡◌, ℕ, zero, suc, ◌==◌, Bool, true, false, not, List, [], ◌∷◌, length, replicate, get_or, Option, Some, None, option_and_then}
 use Rattle.std.proofs.Common.{IsTrue, if◌then◌else◌, slice_index, map, Bor, refl, sym, ap, ◌∙◌, eqb-true, arith}
 use Rattle.std.proofs.Math.Bool.{beq, and-false}

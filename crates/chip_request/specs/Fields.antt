@@ -1,28 +1,28 @@
--- The fields of a request for a cryptogram's check, and what the value of each has to be: EMV 4.3 Book 3, Annex A.
+-- The fields of a request for a cryptogram's check, and the form of each one's value: EMV 4.3 Book 3, Annex A.
 use Rattle.std.specs.Prelude.{ℕ, Bool, true, false, ◌&&◌, List, [], ◌∷◌, length, drop, take_while, nat_le, ◌==◌}
 use Rattle.std.specs.List.{list_all, flat_map}
 use Rattle.issuer_base.specs.CardNumber.{is_pan}
 use Rattle.issuer_base.specs.ChipData.{is_bcd, has_profile, digits_of}
 
--- a field: its tag, whether it has to be there, and whether a value has its form
+-- a field: its tag, whether it is required, and whether a value has its form
 pub record Field : Type 0 where
   pub tag : ℕ
   pub is_required : Bool
   pub has_form : List ℕ → Bool
 
--- so many bytes
+-- the value has this many bytes
 abbrev pub has_bytes : ℕ → List ℕ → Bool
 has_bytes count value = length value == count
 
--- so many bytes of two decimal digits each
+-- the value has this many bytes, each of two decimal digits
 abbrev pub has_decimal_bytes : ℕ → List ℕ → Bool
 has_decimal_bytes count value = length value == count && list_all is_bcd value
 
--- the digits in front of the first nibble that is none
+-- the decimal digits before the first nibble that is none
 unfoldable pub leading_digits : List ℕ → List ℕ
 leading_digits value = take_while (λ nibble. nat_le nibble 9) (flat_map digits_of value)
 
--- an account number in 4 to 10 bytes, two digits a byte, and nibbles F behind it
+-- an account number in 4 to 10 bytes, two digits a byte, padded at its end with nibbles F
 unfoldable pub has_account_number : List ℕ → Bool
 has_account_number value =
     nat_le 4 (length value) && nat_le (length value) 10 && is_pan (leading_digits value)
@@ -32,15 +32,15 @@ has_account_number value =
 abbrev pub has_application_data : List ℕ → Bool
 has_application_data value = length value == 32 && has_profile value
 
--- a field that has to be there
+-- a required field
 abbrev pub required : ℕ → (List ℕ → Bool) → Field
 required tag has_form = record { tag = tag; is_required = true; has_form = has_form }
 
--- a field that may be absent
+-- an optional field
 abbrev pub optional : ℕ → (List ℕ → Bool) → Field
 optional tag has_form = record { tag = tag; is_required = false; has_form = has_form }
 
--- the fields in the order in which what is wrong with them is looked for
+-- the fields in the order in which they are checked
 abbrev pub fields : List Field
 fields =
     required 0x5A has_account_number  -- primary account number

@@ -11,6 +11,6 @@ fits (Decimal count) = has_decimal_bytes count
 fits AccountNumber = has_account_number
 fits ApplicationData = has_application_data
 
--- the account number in a value of that form
+-- the account number in a value, if it has that form
 abbrev pub account_number_in : List ℕ → Option (List ℕ)
 account_number_in value = if has_account_number value then Some (leading_digits value) else None

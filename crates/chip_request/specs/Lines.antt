@@ -1,4 +1,4 @@
--- The three forms of a line, without its newline, and the column at which another line stops being one.
+-- The three forms of a line, without its newline, and the column of the first error in any other line.
 use Rattle.std.specs.Prelude.{◌≡◌, ℕ, ◌+◌, ◌*◌, ◌≤◌, List, [], ◌∷◌, ◌++◌, length, map, take, codes, Some, Result, Ok, Err, IsTrue}
 use Rattle.std.specs.List.{join_with_byte}
 use Rattle.hex.specs.Hex.{hex_digit_value}
@@ -9,7 +9,7 @@ use Rattle.chip_request.specs.declared.line.TheConstants.{MAX_QUEUE_BYTES}
 use Rattle.chip_request.specs.declared.line.LineKind.{LineKind}
 use Rattle.chip_request.specs.declared.line.LineKind.TheVariants.{Ask, Queue, Set}
 
--- two hexadecimal digits, each of either case, spell a byte, the high one first
+-- two hexadecimal digits of either case spell a byte, the high one first
 pub record SpellsByte (high low byte : ℕ) : Type 0 where
   pub high_value : ℕ
   pub low_value : ℕ
@@ -31,7 +31,7 @@ pub record SpellsData (limit : ℕ) (text bytes : List ℕ) : Type 0 where
   pub some : 1 ≤ length bytes
   pub within : length bytes ≤ limit
 
--- words parted by one space
+-- words separated by one space
 abbrev pub spaced : List (List ℕ) → List ℕ
 spaced words = join_with_byte 32 words
 
@@ -55,26 +55,26 @@ Says line (Set pan psn status) =
     (line ≡ spaced (codes "S" ∷ digits_text pan ∷ digits_text (digits_of psn) ∷ digits_text (status ∷ []) ∷ [])) × IsCard pan psn
     × (status ≤ 9)
 
--- some line of these forms begins so
+-- the text is a prefix of some line of these forms
 pub record BeginsSomeLine (front : List ℕ) : Type 0 where
   pub rest : List ℕ
   pub kind : LineKind
   pub says : Says (front ++ rest) kind
 
--- the longest front of the line that begins some line has this length
+-- the longest prefix of the line that begins some line of these forms has this length
 pub record IsLongestStart (line : List ℕ) (size : ℕ) : Type 0 where
   pub within : size ≤ length line
   pub begins : BeginsSomeLine (take size line)
   pub longest : (n : ℕ) → n ≤ length line → BeginsSomeLine (take n line) → n ≤ size
 
--- a line that says nothing has the column behind its longest front that begins some line, counted from 1
+-- a line of no form has the column after its longest prefix that begins some line of these forms, counted from 1
 pub record StopsAt (line : List ℕ) (column : ℕ) : Type 0 where
   pub size : ℕ
   pub longest : IsLongestStart line size
   pub behind : column ≡ size + 1
   pub says_nothing : (kind : LineKind) → ¬ Says line kind
 
--- a line is read as what it says, or as nothing, with a column
+-- a line is parsed as what it says, or refused with a column
 abbrev pub ReadsAs : List ℕ → Result LineKind ℕ → Type 0
 ReadsAs line (Ok kind) = Says line kind
 ReadsAs line (Err column) = StopsAt line column

@@ -1,4 +1,4 @@
--- The request that chip data say, or the first thing that is wrong with them.
+-- The request in chip data, or their first fault.
 use Rattle.std.specs.Prelude.{ℕ, ◌+◌, ◌*◌, Bool, true, false, not, List, [], ◌∷◌, replicate, slice_index, Option, Some, None, Result, Ok, Err, ◌==◌}
 use Rattle.std.specs.Prelude.{if◌then◌else◌}
 use Rattle.tlv_objects.specs.Tlv.{TlvObject, objects_of}
@@ -13,12 +13,12 @@ values_of tag [] = []
 values_of tag (object ∷ objects) =
     if tag == object.tag then object.value ∷ values_of tag objects else values_of tag objects
 
--- a field is missing where it has to be there and no object has its tag
+-- a field is missing where it is required and no object has its tag
 abbrev pub is_missing : Field → List (List ℕ) → Bool
 is_missing field [] = field.is_required
 is_missing field (value ∷ values) = false
 
--- it is misformed where the first value isn't of its form
+-- it is malformed where the first value isn't of its form
 abbrev pub is_misformed : Field → List (List ℕ) → Bool
 is_misformed field [] = false
 is_misformed field (value ∷ values) = not (field.has_form value)
@@ -35,12 +35,12 @@ first_wrong is_wrong objects [] = None
 first_wrong is_wrong objects (field ∷ others) =
     if is_wrong field (values_of field.tag objects) then Some field.tag else first_wrong is_wrong objects others
 
--- the first value of a field, or another where it is absent
+-- the first value of a field, or a default where it is absent
 abbrev pub first_or : List ℕ → List (List ℕ) → List ℕ
 first_or other [] = other
 first_or other (value ∷ values) = value
 
--- what the objects say: an absent sequence number is 0, and an absent other amount is six bytes 00
+-- the fields of the objects: an absent sequence number is 0, and an absent other amount is six bytes 00
 unfoldable pub parts_of : List TlvObject → Parts
 parts_of objects = record {
   pan = leading_digits (value 0x5A);
@@ -63,12 +63,12 @@ parts_of objects = record {
     value : ℕ → List ℕ
     value tag = first_or [] (values_of tag objects)
 
--- the refusal where there is something to name, and else what comes next
+-- the fault of this tag or offset, if there is one, and else the next result
 abbrev pub refused : {A : Type 0} → Option ℕ → (ℕ → RequestFault) → Result A RequestFault → Result A RequestFault
 refused (Some named) fault next = Err (fault named)
 refused None fault next = next
 
--- a torn text is refused first, then a missing field, a misformed one, and a repeated one, each time the first in the table
+-- a torn text is refused first, then a missing, a malformed and a repeated field, each time the first in the table
 unfoldable pub request_of : List ℕ → Result Parts RequestFault
 request_of bytes =
     let text = objects_of bytes in

@@ -10,6 +10,6 @@ use Rattle.chip_request.specs.Slots.{Found, founds_of}
 abbrev pub field_in : declared_field.Field → Field
 field_in field = record { tag = field.tag; is_required = field.is_required; has_form = fits field.form }
 
--- what was found of each field
+-- what the slots hold of each field
 abbrev pub founds_in : declared_slots.Slots → List Found
 founds_in slots = founds_of fields (map (option_map (λ value. value.now)) slots.firsts) slots.are_repeated

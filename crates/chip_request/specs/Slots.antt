@@ -1,4 +1,4 @@
--- What a walk over the objects keeps of each field.
+-- What a pass over the objects finds of each field.
 use Rattle.std.specs.Prelude.{ℕ, ◌+◌, ◌*◌, Bool, true, false, not, ◌&&◌, List, [], ◌∷◌, map, length, replicate, slice_index, Option, Some, None}
 use Rattle.std.specs.Prelude.{option_and_then, option_map, is_some, is_none, ◌==◌, if◌then◌else◌}
 use Rattle.tlv_objects.specs.Tlv.{TlvObject}
@@ -34,35 +34,35 @@ with_objects founds (object ∷ objects) = with_objects (map (with_object object
 abbrev pub unfound : Field → Found
 unfound field = record { field = field; first = None; is_repeated = false }
 
--- whether this is wrong with a field
+-- whether a field has this fault
 abbrev pub is_wrong : Wrong → Found → Bool
 is_wrong Missing found = found.field.is_required && is_none found.first
 is_wrong Misformed found = elim (found.first) [ None ↦ false | Some value ↦ not (found.field.has_form value) ]
 is_wrong Repeated found = found.is_repeated
 
--- nothing is wrong with a field
+-- a field has no fault
 abbrev pub is_right : Found → Bool
 is_right found = not (is_wrong Repeated found) && not (is_wrong Missing found) && not (is_wrong Misformed found)
 
--- the tag of the first field with which this is wrong
+-- the tag of the first field with this fault
 unfoldable pub first_wrong_found : Wrong → List Found → Option ℕ
 first_wrong_found wrong [] = None
 first_wrong_found wrong (found ∷ others) =
     if is_wrong wrong found then Some found.field.tag else first_wrong_found wrong others
 
--- the fault that names what was found, and else the next one
+-- the fault of this tag, if there is one, and else the next fault
 abbrev pub named : Option ℕ → (ℕ → RequestFault) → Option RequestFault → Option RequestFault
 named (Some tag) fault next = Some (fault tag)
 named None fault next = next
 
--- what is wrong with what was found: a missing field first, then a misformed one, and then a repeated one
+-- the first fault: a missing field first, then a malformed one, and then a repeated one
 unfoldable pub fault_among : List Found → Option RequestFault
 fault_among founds =
     named (first_wrong_found Missing founds) faults.Missing (
     named (first_wrong_found Misformed founds) faults.BadField (
     named (first_wrong_found Repeated founds) faults.Repeated None))
 
--- the place in a table of the first field with a tag
+-- the index in a table of the first field with a tag
 unfoldable pub place_of : ℕ → List Field → Option ℕ
 place_of tag [] = None
 place_of tag (field ∷ others) = if field.tag == tag then Some 0 else option_map (λ place. place + 1) (place_of tag others)
@@ -77,22 +77,22 @@ unfoldable pub first_with_tag : ℕ → List Found → Option (List ℕ)
 first_with_tag tag [] = None
 first_with_tag tag (found ∷ others) = if found.field.tag == tag then found.first else first_with_tag tag others
 
--- a value of so many bytes, and 00 bytes in place of another
+-- a value of this many bytes, or this many 00 bytes in place of another
 abbrev pub sized : ℕ → Option (List ℕ) → List ℕ
 sized count None = replicate count 0
 sized count (Some value) = if length value == count then value else replicate count 0
 
--- a value is there, in so many bytes
+-- a value is present, with this many bytes
 abbrev pub is_sized : ℕ → Option (List ℕ) → Bool
 is_sized count None = false
 is_sized count (Some value) = length value == count
 
--- a value is absent, or there in so many bytes
+-- a value is absent, or has this many bytes
 abbrev pub is_absent_or_sized : ℕ → Option (List ℕ) → Bool
 is_absent_or_sized count None = true
 is_absent_or_sized count (Some value) = length value == count
 
--- each field that has a number of bytes has it
+-- each field of fixed length has that length
 unfoldable pub have_sizes : List Found → Bool
 have_sizes founds =
     is_absent_or_sized 1 (first_with_tag 0x5F34 founds)
@@ -110,7 +110,7 @@ have_sizes founds =
     && is_sized 2 (first_with_tag 0x9F36 founds)
     && is_sized 4 (first_with_tag 0x9F37 founds)
 
--- the request that was found, if what was found makes one
+-- the request in the values that were found, if they make one
 unfoldable pub request_in : List Found → Option Parts
 request_in founds = option_and_then (λ pan. request_from (record {
   pan = pan;

@@ -13,7 +13,7 @@ pub(crate) enum Form {
     Bytes(usize),
     /// So many bytes of two decimal digits each.
     Decimal(usize),
-    /// An account number of 8 to 19 digits in 4 to 10 bytes, and nibbles F behind it.
+    /// An account number of 8 to 19 digits in 4 to 10 bytes, padded at its end with nibbles F.
     AccountNumber,
     /// Issuer application data of the profile's form, in 32 bytes.
     ApplicationData,
@@ -33,7 +33,8 @@ impl Form {
     }
 }
 
-/// The account number in a value of that form. Most values are digits alone, which are tried first.
+/// The account number in a value, or `None` if it isn't of that form. A value of digits alone, as most are, is tried
+/// first.
 #[tactic(auto, unfolding(crate::specs::Fields::has_account_number, crate::specs::Fields::leading_digits, issuer_base::specs::CardNumber::pan_from))]
 pub(crate) fn account_number(value: &[u8]) -> Option<Pan>
     ensures { result ≡ account_number_in value.now }
@@ -54,7 +55,7 @@ pub(crate) fn account_number(value: &[u8]) -> Option<Pan>
     Pan::new(digits)
 }
 
-/// The nibbles of a value, in front of an array.
+/// The nibbles of a value, as a prefix of the array.
 fn nibbles_of(value: &[u8]) -> [u8; 20]
     requires { length value.now ≤ 10 }
     ensures { take (2 * length value.now) result ≡ flat_map digits_of value.now }

@@ -54,9 +54,9 @@ pub(crate) fn is_hex_digit(byte: u8) -> bool
     LOW_DIGITS[usize::from(byte)] < 256
 }
 
-/// The byte that two digits of either case spell, the high one first, and some byte where one is none.
+/// The byte that two digits of either case spell, the high one first; unspecified if either is no digit.
 ///
-/// Both values are found at once in one word, so that a loop takes many pairs in one step.
+/// Both values are computed together in one word, so that the compiler can vectorise a loop over pairs.
 pub(crate) fn spelled_byte(high: u8, low: u8) -> u8
     ensures { (byte : ℕ) → pair_of (hex_digit_value high) (hex_digit_value low) ≡ Some byte → result ≡ byte }
 {
@@ -65,7 +65,7 @@ pub(crate) fn spelled_byte(high: u8, low: u8) -> u8
     (values % 16 * 16 + values / 256 % 16) as u8
 }
 
-/// Whether all bytes are digits of either case. No byte is tested by itself, so that the loop takes many in one step.
+/// Whether all bytes are digits of either case. The loop has no branch per byte, so that the compiler can vectorise it.
 pub(crate) fn are_hex_digits(text: &[u8]) -> bool
     ensures { result ≡ list_all (λ byte. is_some (hex_digit_value byte)) text.now }
 {

@@ -1,5 +1,5 @@
-//! Reading the lines of the host's input, and the chip data of a request for a cryptogram's check (EMV 4.3 Book 3,
-//! Annexes A and B).
+//! Parsers for the lines of the host's input, and for the chip data of a request for a cryptogram's check (EMV 4.3
+//! Book 3, Annexes A and B).
 #![tactic(auto)]
 
 mod form;

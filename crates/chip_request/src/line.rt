@@ -1,4 +1,4 @@
-//! The lines of the host's input, and the column at which another line stops being one.
+//! The three forms of an input line, and the column of the first error in any other line.
 ghost use Rattle.std.specs.Prelude.{◌≡◌, ◌≤◌, Result, ℕ, IfOk, true, length};
 ghost use Rattle.std.specs.Result.{result_map_both};
 ghost use Rattle.chip_request.specs.Lines.{ReadsAs};
@@ -9,7 +9,7 @@ use crate::line_parts::{read_byte, read_card, read_data, read_last_digit};
 use arrayvec::ArrayVec;
 use issuer_base::{MAX_CHIP_BYTES, Pan};
 
-/// The most bytes that a line gives of a command for a card's queue.
+/// The most bytes of a command in a `Q` line.
 pub const MAX_QUEUE_BYTES: usize = 128;
 
 /// What a line asks for.
@@ -17,15 +17,15 @@ pub const MAX_QUEUE_BYTES: usize = 128;
 pub enum LineKind {
     /// The check of a request, with its chip data: `A`, one space, and 1 to 1,024 pairs of hexadecimal digits.
     Ask(ArrayVec<u8, MAX_CHIP_BYTES>),
-    /// A command for the queue of a card: `Q`, the account number and the sequence number, and 1 to 128 pairs of
-    /// hexadecimal digits, each part behind one space.
+    /// A command for the queue of a card: `Q`, the account number, the sequence number, and 1 to 128 pairs of
+    /// hexadecimal digits, each part after one space.
     Queue {
         pan: Pan,
         /// Two decimal digits, one in each half of the byte.
         psn: u8,
         bytes: ArrayVec<u8, MAX_QUEUE_BYTES>,
     },
-    /// A status, 0 to 9, for a card: `S`, the account number, the sequence number and one digit, each part behind one
+    /// A status, 0 to 9, for a card: `S`, the account number, the sequence number and one digit, each part after one
     /// space.
     Set {
         pan: Pan,
@@ -35,7 +35,7 @@ pub enum LineKind {
     },
 }
 
-/// What a line asks for, whose data lie in a buffer of the caller's: `count` bytes of it.
+/// What a line asks for, with its data as the first `count` bytes of the caller's buffer.
 #[derive(Clone, Debug, PartialEq, Eq, Drop)]
 pub enum LineForm {
     /// As [`LineKind::Ask`].
@@ -58,14 +58,15 @@ pub enum LineForm {
     },
 }
 
-/// What a line, without its newline, asks for. Hexadecimal digits are of either case, an account number has 8 to 19
-/// digits, and a sequence number two.
+/// Parses a line without its newline. Hexadecimal digits are of either case, an account number has 8 to 19 digits,
+/// and a sequence number two.
 ///
-/// A line of another form is refused with a column from 1: one more than the length of the longest front of the line
-/// that begins some line of these forms. So a line that ends too early has the column behind its last byte.
+/// A line of another form is refused with a column, counted from 1. It is one more than the length of the line's
+/// longest prefix that some line of these forms begins with. So if a line ends too early, its column is just after its
+/// last byte.
 pub fn read_line(line: &[u8]) -> Result<LineKind, u32>
     ensures reads { ReadsAs line.now result }
-    // Nothing else is right of the line.
+    // No other result meets `ReadsAs`.
     ensures only { (other : Result LineKind ℕ) → ReadsAs line.now other → other ≡ result }
     ensures same { result ≡ line_of line.now }
 {
@@ -74,7 +75,8 @@ pub fn read_line(line: &[u8]) -> Result<LineKind, u32>
     Ok(kind_of(form, &data))
 }
 
-/// As [`read_line`], with the line's data written in front of a buffer of the caller's, of which nothing else counts.
+/// As [`read_line`], with the line's data written to the start of the caller's buffer. The other bytes of the buffer
+/// don't matter.
 #[inline(always)]
 pub fn read_line_into(line: &[u8], bytes: &mut [u8; MAX_CHIP_BYTES]) -> Result<LineForm, u32>
     ensures same { result_map_both (kind_in bytes.new) (λ column. column) result ≡ line_of line.now }
@@ -86,7 +88,7 @@ pub fn read_line_into(line: &[u8], bytes: &mut [u8; MAX_CHIP_BYTES]) -> Result<L
     }
 }
 
-// The form with its data out of the buffer.
+// The line's kind, with its data copied out of the buffer.
 fn kind_of(form: LineForm, bytes: &[u8; MAX_CHIP_BYTES]) -> LineKind
     requires { is_within form ≡ true }
     ensures { result ≡ kind_in bytes.now form }
@@ -109,7 +111,7 @@ fn vector_of<const N: usize>(bytes: &[u8]) -> ArrayVec<u8, N>
     ArrayVec::try_from(bytes).unwrap()
 }
 
-// What a line asks for, or what is left of it from the first byte on that no line has there.
+// What a line asks for, or the remainder from the first byte that no line has at its offset.
 #[tactic(auto, unfolding(crate::specs::LineParts::kind_at))]
 #[inline(always)]
 fn form_of<'a>(line: &'a [u8], bytes: &mut [u8; MAX_CHIP_BYTES]) -> Result<LineForm, &'a [u8]>

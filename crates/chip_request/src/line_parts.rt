@@ -1,5 +1,5 @@
-//! The parts of a line, each read from the front of a text: its value and the text behind it, or the text from the
-//! first byte on that can't stand there.
+//! Parsers for the parts of a line. Each reads a part from the start of a text, and returns its value and the
+//! remainder. Where the part isn't there, it returns the text from the first byte that is wrong.
 ghost use Rattle.std.specs.Prelude.{◌≡◌, ◌<◌, ◌≤◌, IfOk, IfSome, Ok, Err, true, take, is_err};
 ghost use Rattle.std.specs.Result.{result_map_both};
 ghost use Rattle.issuer_base.specs.declared.limits.TheConstants.{MAX_CHIP_BYTES};
@@ -9,7 +9,7 @@ use crate::hex_digits::{are_hex_digits, is_hex_digit, pair_value, spelled_byte};
 use arrayvec::ArrayVec;
 use issuer_base::{MAX_CHIP_BYTES, MAX_PAN_DIGITS, Pan};
 
-/// This byte.
+/// Reads this byte.
 #[tactic(auto, unfolding(crate::specs::LineParts::byte_at))]
 pub(crate) fn read_byte(text: &[u8], byte: u8) -> Result<&[u8], &[u8]>
     ensures { result_map_both (λ rest. rest.now) (λ rest. rest.now) result ≡ byte_at byte text.now }
@@ -20,7 +20,7 @@ pub(crate) fn read_byte(text: &[u8], byte: u8) -> Result<&[u8], &[u8]>
     }
 }
 
-/// A card's account number and sequence number, each between spaces.
+/// Reads a card's account number and sequence number, each between spaces.
 #[tactic(auto, unfolding(crate::specs::LineParts::card_at))]
 pub(crate) fn read_card(text: &[u8]) -> Result<(Pan, u8, &[u8]), &[u8]>
     ensures { result_map_both (λ found. record { pan = found.0; psn = found.1; rest = found.2.now }) (λ rest. rest.now) result
@@ -35,7 +35,7 @@ pub(crate) fn read_card(text: &[u8]) -> Result<(Pan, u8, &[u8]), &[u8]>
     Ok((pan, 16 * high + low, rest))
 }
 
-/// The digits of an account number, as many as may stand there.
+/// Reads an account number: all the digits at the start, up to the greatest length of one.
 #[tactic(auto, unfolding(crate::specs::LineParts::account_number_at))]
 fn read_account_number(text: &[u8]) -> Result<(Pan, &[u8]), &[u8]>
     ensures { result_map_both (λ found. (found.0, found.1.now)) (λ rest. rest.now) result ≡ account_number_at text.now }
@@ -62,7 +62,7 @@ fn leading_digits(text: &[u8]) -> (ArrayVec<u8, MAX_PAN_DIGITS>, &[u8])
     (digits, rest)
 }
 
-/// One decimal digit, and then the end of the text.
+/// Reads one decimal digit, and then the end of the text.
 #[tactic(auto, unfolding(crate::specs::LineParts::last_digit_at))]
 pub(crate) fn read_last_digit(text: &[u8]) -> Result<u8, &[u8]>
     ensures found { result_map_both (λ digit. digit) (λ rest. rest.now) result ≡ last_digit_at text.now }
@@ -86,7 +86,8 @@ fn read_digit(text: &[u8]) -> Result<(u8, &[u8]), &[u8]>
     }
 }
 
-/// The bytes of 1 to `limit` pairs of hexadecimal digits, up to the end of the text: they are written in front of `bytes`, and counted.
+/// Reads 1 to `limit` pairs of hexadecimal digits, up to the end of the text. The bytes that they spell are written to
+/// the start of `bytes`, and their count is returned.
 pub(crate) fn read_data<'a>(
     text: &'a [u8],
     limit: usize,
@@ -102,7 +103,7 @@ pub(crate) fn read_data<'a>(
     }
 }
 
-/// The bytes of a text that is all such pairs, where it is so.
+/// As [`read_data`], for a text that consists of such pairs alone; `None` for any other text.
 fn spelled_data(text: &[u8], limit: usize, bytes: &mut [u8; MAX_CHIP_BYTES]) -> Option<usize>
     requires { limit ≤ MAX_CHIP_BYTES }
     ensures bytes { IfSome result (λ count. Ok (take count bytes.new) ≡ data_at limit text.now) }
@@ -118,7 +119,7 @@ fn spelled_data(text: &[u8], limit: usize, bytes: &mut [u8; MAX_CHIP_BYTES]) -> 
     Some(pairs)
 }
 
-/// The same, pair by pair, up to the first one that is wrong.
+/// As [`read_data`], pair by pair, up to the first pair that is wrong.
 fn read_pairs<'a>(
     text: &'a [u8],
     limit: usize,
@@ -149,7 +150,7 @@ fn read_pairs<'a>(
     Err(wrong_digit(rest))
 }
 
-/// The text from its first byte on that is no digit of the pair in front, of which there is one.
+/// The text from the first byte that is wrong, where no pair of hexadecimal digits is at its start.
 #[tactic(auto, unfolding(crate::specs::LineParts::pair_at, crate::specs::LineParts::hex_digit_at))]
 fn wrong_digit(text: &[u8]) -> &[u8]
     requires { is_err (pair_at text.now) ≡ true }

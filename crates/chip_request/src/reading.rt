@@ -1,4 +1,4 @@
-//! Reading a request's chip data.
+//! The parser of a request's chip data.
 ghost use Rattle.std.specs.Prelude.{◌≡◌, ◌≤◌, ◌<◌, ◌+◌, ◌^◌, ℕ, None, if◌then◌else◌, length, map, OnOk, IfErr};
 ghost use Rattle.std.specs.List.{list_all};
 ghost use Rattle.tlv_objects.specs.Tlv.{objects_of, objects_ahead};
@@ -12,12 +12,12 @@ use crate::slots::{Slots, Wrong};
 use issuer_base::{MAX_CHIP_BYTES, Parts, Request};
 use tlv_objects::{Objects, TlvFault};
 
-/// Why chip data are no request: the first of these that is so.
+/// Why chip data are no request: the first of these that applies.
 #[derive(Clone, Copy, Debug, PartialEq, Eq)]
 pub enum RequestFault {
-    /// What begins at this place is no BER-TLV object.
+    /// No BER-TLV object begins at this offset.
     BadTlv(u32),
-    /// No object has this tag, and a request has to have one.
+    /// No object has this tag, which is required.
     Missing(u32),
     /// The value of the first object with this tag isn't of the field's form.
     BadField(u32),
@@ -25,9 +25,9 @@ pub enum RequestFault {
     Repeated(u32),
 }
 
-/// The request that chip data say, which are BER-TLV objects in any order. Objects of other tags are passed over.
-/// A torn text is refused first, then a missing field, a misformed one and a repeated one, each time the first in the
-/// order of the table.
+/// Parses chip data as a request. The data are BER-TLV objects in any order; objects of other tags are skipped.
+/// A torn text is refused first, then a missing field, a malformed one and a repeated one. Each time it is the first in
+/// the order of the table.
 #[inline(always)]
 pub fn read_request(bytes: &[u8]) -> Result<Request, RequestFault>
     requires { length bytes.now ≤ MAX_CHIP_BYTES }
@@ -41,7 +41,7 @@ pub fn read_request(bytes: &[u8]) -> Result<Request, RequestFault>
     }
 }
 
-/// The request that was found, where nothing is wrong with any field. The forms of the values are seen by making it.
+/// The request in the slots, if every field is right. Building it checks the forms of the values.
 #[inline(always)]
 fn right_request(slots: &Slots<'_>) -> Option<Request>
     ensures { result ≡ if list_all is_right (founds_in slots.now) then request_in (founds_in slots.now) else None }
@@ -55,7 +55,7 @@ fn right_request(slots: &Slots<'_>) -> Option<Request>
     request_in(slots)
 }
 
-/// The first thing that is wrong with what was found.
+/// The first fault of the fields in the slots.
 #[tactic(auto, unfolding(crate::specs::Slots::fault_among))]
 fn first_fault(slots: &Slots<'_>) -> Option<RequestFault>
     ensures { result ≡ fault_among (founds_in slots.now) }
@@ -72,7 +72,7 @@ fn first_fault(slots: &Slots<'_>) -> Option<RequestFault>
     None
 }
 
-// Notes the objects ahead of a cursor, up to the end of its text.
+// Notes the unread objects of a cursor, up to the end of its text.
 fn note_all<'a>(slots: &mut Slots<'a>, objects: Objects<'a>) -> Result<(), RequestFault>
     requires { objects.at + length objects.bytes < 2 ^ 32 }
     ensures ok { OnOk result (((objects_ahead objects.entry).torn ≡ None)
@@ -89,7 +89,7 @@ fn note_all<'a>(slots: &mut Slots<'a>, objects: Objects<'a>) -> Result<(), Reque
     Ok(())
 }
 
-// The request that was found, where each field that is there has its form.
+// The request in the slots, if their values make one.
 #[tactic(auto, unfolding(crate::specs::Slots::request_in))]
 #[inline(always)]
 fn request_in(slots: &Slots<'_>) -> Option<Request>

@@ -1,4 +1,4 @@
-//! The fields of a request, and what a walk over the objects keeps of each.
+//! The fields of a request, and a slot for each that holds what a pass over the objects found.
 ghost use Rattle.std.specs.Prelude.{◌≡◌, ◌<◌, Option, Some, map, option_map, IfSome, true};
 ghost use Rattle.issuer_base.specs.declared.request.Parts.{Parts};
 ghost use Rattle.std.specs.List.{list_all};
@@ -28,7 +28,7 @@ macro_rules! field {
     };
 }
 
-/// The fields in the order in which what is wrong with them is looked for.
+/// The fields in the order in which they are checked.
 const FIELDS: [Field; 15] = [
     field!(0x5A, true, Form::AccountNumber),
     field!(0x5F34, false, Form::Decimal(1)),
@@ -69,7 +69,7 @@ fn table() -> &'static [Field; 15]
     &FIELDS
 }
 
-/// The place in the table of the one field whose tag ends in a byte, and 0 where none does.
+/// Index into `FIELDS` by a tag's last byte, which no two fields share; 0 for every other byte.
 const PLACES: [u8; 256] = [
     0, 0, 6, 7, 0, 0, 0, 0, 0, 0, 0, 0, 0, 0, 0, 0, 8, 0, 0, 0, 0, 0, 0, 0, 0, 0, 9, 0, 0, 0, 0, 0,
     0, 0, 0, 0, 0, 0, 11, 12, 0, 0, 10, 0, 0, 0, 0, 0, 0, 0, 0, 0, 1, 0, 13, 14, 0, 0, 0, 0, 0, 0,
@@ -82,7 +82,7 @@ const PLACES: [u8; 256] = [
     0, 0,
 ];
 
-/// The place in the table of the field with a tag.
+/// The index in `FIELDS` of the field with a tag.
 #[inline(always)]
 fn place_of(tag: u32) -> Option<usize>
     ensures place { result ≡ place_of tag fields }
@@ -96,7 +96,7 @@ fn place_of(tag: u32) -> Option<usize>
 }
 
 impl<'a> Slots<'a> {
-    /// The slots before any object is found.
+    /// The slots before any object.
     #[tactic(auto, unfolding(crate::specs::Slots::founds_of))]
     pub(crate) fn unfound() -> Slots<'a>
         ensures { founds_in result ≡ map unfound fields }
@@ -107,7 +107,7 @@ impl<'a> Slots<'a> {
         }
     }
 
-    /// Takes one more object, if it is one of a field.
+    /// Notes one more object, if its tag is a field's.
     pub(crate) fn note(&mut self, object: Object<'a>)
         ensures { founds_in self.new ≡ map (with_object (object_seen object.entry)) (founds_in self.old) }
     {
@@ -119,7 +119,7 @@ impl<'a> Slots<'a> {
         }
     }
 
-    /// Whether a field is there, and its value has so many bytes.
+    /// Whether a field is present, and its value has `count` bytes.
     #[inline(always)]
     fn has_bytes(&self, tag: u32, count: usize) -> bool
         ensures { result ≡ is_sized count (first_with_tag tag (founds_in self.now)) }
@@ -130,7 +130,7 @@ impl<'a> Slots<'a> {
         value.len() == count
     }
 
-    /// Whether a field is absent, or its value has so many bytes.
+    /// Whether a field is absent, or its value has `count` bytes.
     #[inline(always)]
     fn is_absent_or_has_bytes(&self, tag: u32, count: usize) -> bool
         ensures { result ≡ is_absent_or_sized count (first_with_tag tag (founds_in self.now)) }
@@ -141,7 +141,7 @@ impl<'a> Slots<'a> {
         value.len() == count
     }
 
-    /// Whether each field that has a number of bytes has it. The account number has none.
+    /// Whether each field of fixed length has that length. Only the account number's length varies.
     #[tactic(auto, unfolding(crate::specs::Slots::have_sizes))]
     #[inline(always)]
     pub(crate) fn have_sizes(&self) -> bool
@@ -163,7 +163,8 @@ impl<'a> Slots<'a> {
             && self.has_bytes(0x9F37, 4)
     }
 
-    /// Whether no field is there twice. Then nothing is wrong with any field where each has its size, and what was found makes a request.
+    /// Whether no field is repeated. If also each field has its length and the values make a request, every field is
+    /// right.
     #[inline(always)]
     pub(crate) fn are_single(&self) -> bool
         ensures right { list_all is_right (founds_in self.now) ≡ true → result ≡ true }
@@ -174,7 +175,7 @@ impl<'a> Slots<'a> {
         are_single(&self.firsts, &self.are_repeated)
     }
 
-    /// The tag of the first field with which this is wrong.
+    /// The tag of the first field with this fault.
     pub(crate) fn first_wrong(&self, wrong: Wrong) -> Option<u32>
         ensures { result ≡ first_wrong_found wrong (founds_in self.now) }
     {
@@ -188,7 +189,7 @@ impl<'a> Slots<'a> {
         first_with_tag(&self.firsts, &self.are_repeated, tag)
     }
 
-    /// That value in an array, and 00 bytes where the field is absent.
+    /// That value as an array, or 00 bytes if the field is absent or of another length.
     pub(crate) fn bytes<const N: usize>(&self, tag: u32) -> [u8; N]
         ensures { result ≡ sized N (first_with_tag tag (founds_in self.now)) }
     {
@@ -218,7 +219,7 @@ impl Field {
     }
 }
 
-// The arrays are passed alone, since a proof knows the length of an array that is a parameter.
+// The arrays are parameters, since a proof knows the length of an array parameter.
 fn first_wrong_among(
     firsts: &[Option<&[u8]>; 15],
     are_repeated: &[bool; 15],
@@ -234,7 +235,7 @@ fn first_wrong_among(
     None
 }
 
-// The values are named by the contract alone.
+// Only the contract uses the values.
 #[inline(always)]
 fn are_single(_firsts: &[Option<&[u8]>; 15], are_repeated: &[bool; 15]) -> bool
     ensures right { list_all is_right (founds_of fields (map (option_map (λ value. value.now)) _firsts.now) are_repeated.now) ≡ true
@@ -248,7 +249,7 @@ fn are_single(_firsts: &[Option<&[u8]>; 15], are_repeated: &[bool; 15]) -> bool
     *are_repeated == [false; 15]
 }
 
-// The repetitions are named by the contract alone.
+// Only the contract uses the repetitions.
 fn first_with_tag<'a>(
     firsts: &[Option<&'a [u8]>; 15],
     _are_repeated: &[bool; 15],

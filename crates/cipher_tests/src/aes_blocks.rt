@@ -1,4 +1,5 @@
-//! AES and CMAC: published values, values of another implementation, and 1,000 random keys and texts beside OpenSSL.
+//! AES and CMAC: published values, values of another implementation, and 1,000 random keys and texts compared with
+//! OpenSSL.
 
 use aes_cipher::{Aes, CmacKey, CmacRun, cmac};
 
@@ -89,7 +90,7 @@ const MACS: [(&[u8], u128); 4] = [
     ),
 ];
 
-/// What `tests/cmac_chain` computes by OpenSSL over the same 1,000 keys and texts.
+/// The result of `tests/cmac_chain`, which uses OpenSSL, over the same 1,000 keys and texts.
 const RANDOM: u128 = 0x61241D760B7F63BC_8152DA3F31205894;
 
 #[test]
@@ -120,14 +121,14 @@ fn cmac_gives_the_published_values_whole_and_in_pieces(rt: HostRuntime) {
     }
 }
 
-/// The next state of a linear congruential generator, whose highest byte counts.
+/// The next state of a linear congruential generator, whose output is the highest byte.
 fn next_state(state: u64) -> u64 {
     state
         .wrapping_mul(6364136223846793005)
         .wrapping_add(1442695040888963407)
 }
 
-/// Fills bytes from the generator, and gives its state after them.
+/// Fills bytes from the generator, and returns its state after them.
 fn fill(start: u64, bytes: &mut [u8]) -> u64 {
     let mut state = start;
     for byte in bytes.iter_mut() {

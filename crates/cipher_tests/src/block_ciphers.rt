@@ -148,7 +148,7 @@ fn des_gives_published_and_other_values(rt: HostRuntime) {
         assert_eq!(rt; plain::decipher(key, enciphered), block);
     }
 
-    // A weak key gives a block back the second time.
+    // Under a weak key, enciphering twice restores the block.
     let des = Des::new([1; 8]);
     assert_eq!(rt;
         des.encipher_word(des.encipher_word(0x0123456789ABCDEF)),

@@ -1,5 +1,5 @@
-//! The data of a request, and the cryptogram over them: a request that was laid out by hand, with a cryptogram by OpenSSL, and
-//! two requests of another program, which was compared with OpenSSL.
+//! The data of a request, and the cryptogram over them: a request that was encoded by hand, with a cryptogram by
+//! OpenSSL, and two requests of another program, which was compared with OpenSSL.
 
 use chip_request::{LineKind, read_line, read_request};
 use cryptogram_in::{expected, expected_under, holds, holds_under, input};

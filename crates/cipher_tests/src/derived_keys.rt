@@ -9,7 +9,7 @@ use key_derive::{
 };
 use std::test::Fail;
 
-/// Option, issuer's key, account number, sequence number, card's key. The first row is worked by hand: a weak key.
+/// Option, issuer's key, account number, sequence number, card's key. The first row was computed by hand: a weak key.
 const MASTER_KEYS: [(MasterOption, u128, &[u8], u8, u128); 10] = [
     (
         MasterOption::A,
@@ -83,7 +83,7 @@ const MASTER_KEYS: [(MasterOption, u128, &[u8], u8, u128); 10] = [
     ),
 ];
 
-/// Option, issuer's keys for cryptograms and for messages, account number, sequence number, card's two keys.
+/// Option, issuer's keys for cryptograms and for secure messaging, account number, sequence number, card's two keys.
 const CARDS: [(MasterOption, u128, u128, &[u8], u8, u128, u128); 4] = [
     (
         MasterOption::A,
@@ -123,8 +123,8 @@ const CARDS: [(MasterOption, u128, u128, &[u8], u8, u128, u128); 4] = [
     ),
 ];
 
-/// Digest, its sixteen decimal digits. The first is that of "abc", worked by hand as the second is; the others have five, six, eleven and
-/// sixteen or more decimal nibbles.
+/// Digest, its sixteen decimal digits. The first is the digest of "abc". The first two rows were computed by hand; the
+/// others have five, six, eleven and sixteen or more decimal nibbles.
 const DIGESTS: [([u8; 20], u64); 6] = [
     (
         [
@@ -189,7 +189,7 @@ const FOR_CRYPTOGRAMS: [(u128, u16, u128); 3] = [
     ),
 ];
 
-/// Card's key, application cryptogram, session key for messages.
+/// Card's key, application cryptogram, session key for secure messaging.
 const FOR_MESSAGES: [(u128, u64, u128); 3] = [
     (
         0xAF147C25_665AC967_943B01F7_62EEAAD7,

@@ -1,4 +1,4 @@
-//! Tests of the ciphers, the keys and the secured messages against published values and those of other programs.
+//! Tests of the ciphers, the keys and secure messaging against published values and those of other programs.
 #![tactic(auto)]
 
 #[cfg(test)]

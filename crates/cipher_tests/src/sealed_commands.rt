@@ -1,11 +1,11 @@
 //! Commands and templates sealed by another program, which was compared with OpenSSL, and a command that is opened again. Keys
-//! and chains are numbers, the first byte the highest.
+//! and chaining values are numbers, the first byte the highest.
 
 use des_block::Key16;
 use secure_msg::{is_batch, read_command, seal, template, template_of, unseal};
 use std::test::Fail;
 
-/// The key, the chain, the command, and what it is sealed to.
+/// The key, the chaining value, the command, and the sealed command.
 const SEALED: [(u128, u64, &[u8], &[u8]); 3] = [
     (
         0xD5425974_581B7413_F9A4D059_6E4D1CA1,

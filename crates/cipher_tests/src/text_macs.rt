@@ -152,7 +152,7 @@ const ENCIPHERED: [(u128, &[u8], &[u8]); 10] = [
     ),
 ];
 
-// Each text whole, in two pieces, and whole again in the same run.
+// Each text as a whole, in two pieces, and as a whole again in the same run.
 #[test]
 fn macs_are_those_of_another_implementation(rt: HostRuntime) {
     for (key, text, expected) in MACS {

@@ -1,4 +1,4 @@
--- Each step keeps the rule.
+-- Each step preserves the invariant.
 use Rattle.std.proofs.Common.{◌≡◌, ◌≢◌, ℕ, ◌+◌, ◌%◌, ◌<◌, ◌≤◌, ◌⊎◌, List, [], ◌∷◌, ◌++◌, map, length, set, get_or, max, bit_and, bit_or, cond, ◌&&◌}
 use Rattle.std.proofs.Common.{Bool, true, false, Option, None, Some, MatchOption, ◌-◌, length-append, inl, inr, refl, sym, ap, ◌∙◌, subst, arith}
 use Rattle.std.proofs.Common.{length-set}

@@ -1,4 +1,4 @@
--- What contracts see of the words and of a seat.
+-- The words and a seat as contracts see them.
 use Rattle.std.specs.Prelude.{◌≡◌, ℕ, ◌<◌, ◌≤◌, Option, MatchOption}
 use Rattle.claim_words.specs.declared.layout.TheConstants.{COUNTERS}
 use Rattle.claim_words.specs.declared.view.ClaimView.{ClaimView}
@@ -19,11 +19,12 @@ recorded_in words card counter = bit_of words.table.shared.key.words.value.items
 abbrev pub view_of : ClaimSeat → ClaimView
 view_of seat = seat.seat.me.0
 
--- the seat is one of these words'
+-- the seat belongs to these words
 abbrev pub IsOf : ClaimSeat → ClaimWords → Type 0
 IsOf seat words = seat.seat.table_id ≡ words.table.shared.table_id
 
--- each counter of the card that the view has kept or was told is at most the one answered, and None says that there is none
+-- each counter of the card that the view has kept or has read from a top is at most the result; `None` means that there
+-- is none
 abbrev pub IsTopFor : ClaimView → ℕ → Option ℕ → Type 0
 IsTopFor view card answer = (counter : ℕ) → counter < COUNTERS
     → MatchOption answer (known_on card counter view ≡ 0) (λ top. 0 < known_on card counter view → counter ≤ top)

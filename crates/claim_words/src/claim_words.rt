@@ -1,4 +1,4 @@
-//! The words that callers share, and the seats that they claim with.
+//! The words that callers share, and the seats through which they claim.
 ghost use Rattle.std.specs.Prelude.{◌≡◌, ℕ, ◌+◌, ◌*◌, ◌<◌, ◌≤◌, All, IfOk, length};
 ghost use Rattle.claim_words.specs.ClaimViews.{times, claims_on, is_live, is_kept, is_any, HasOpen, IsNew};
 ghost use Rattle.claim_words.specs.ClaimViews.{newcomer, after_claim, after_top, settled, parent_view, child_view, joined};
@@ -14,17 +14,17 @@ use issuer_base::{MAX_CARDS, NoMemory};
 use std::alloc::Global;
 use std::snapshot::Snapshot;
 
-/// What became of a claim.
+/// The outcome of a claim.
 #[derive(Clone, Copy, PartialEq, Eq, Debug)]
 pub enum Claim {
     /// The claim was free, and is now the seat's.
     Won,
 
-    /// The counter is recorded, or a claim on it stands.
+    /// The counter is recorded, or another claim on it is open or kept.
     Lost,
 }
 
-/// The claims on all counters of some cards, which callers share.
+/// The claims on all counters of some cards, shared by callers.
 pub struct ClaimWords {
     table: Table<(), ClaimView, Opening, ClaimRule, Global>,
     ghost some_card: { 0 < table.shared.key.cards },
@@ -33,7 +33,7 @@ pub struct ClaimWords {
     ghost slotless: { table.shared.table_id.slots ≡ 0 },
 }
 
-/// What one caller claims with, and what it knows. It has no bytes, and ends by `join` or `close`.
+/// One caller's handle for claims, and what it knows. It has no bytes, and ends by `join` or `close`.
 pub struct ClaimSeat {
     seat: Seat<(), ClaimView>,
     ghost slotless: { length seat.me.1 ≡ 0 },
@@ -43,8 +43,8 @@ pub struct ClaimSeat {
 impl ClaimWords {
     ghost use Rattle.claim_words.specs.Seats.{cards_of, recorded_in, view_of, IsOf, IsTopFor};
 
-    /// The claims on the counters of so many cards, of which these cards and counters are recorded. `NoMemory` comes only
-    /// where memory is wanting. It takes 8,200 bytes a card, and as much again until it returns.
+    /// The claims on the counters of `cards` cards, of which these cards and counters are recorded. `NoMemory` is
+    /// returned only if an allocation fails. It allocates 8,200 bytes a card, and as much again until it returns.
     pub fn load(
         alloc: Global,
         cards: u32,
@@ -53,7 +53,7 @@ impl ClaimWords {
         requires cards { (0 < cards) × (cards ≤ MAX_CARDS) }
         requires known { All (λ pair. pair.0 < cards) recorded.now }
 
-        // No pair is there twice.
+        // No pair occurs twice.
         requires once { (card counter : ℕ) → times card counter recorded.now ≤ 1 }
         ensures cards { IfOk result (λ made. cards_of made.0 ≡ cards) }
         ensures recorded { IfOk result (λ made. (card counter : ℕ) → counter < COUNTERS → recorded_in made.0 card counter ≡ times card counter recorded.now) }
@@ -68,7 +68,7 @@ impl ClaimWords {
         Ok((ClaimWords { table }, ClaimSeat { seat }))
     }
 
-    /// Claims a counter of a card, in one atomic step: `Won` exactly where that step found the claim's bit clear.
+    /// Claims a counter of a card, in one atomic step: `Won` exactly if that step found the claim's bit clear.
     pub fn claim(&self, seat: &mut ClaimSeat, card: u32, counter: u16) -> Claim
         requires seat { IsOf seat.old self.now }
         requires card { card < cards_of self.now }
@@ -90,7 +90,7 @@ impl ClaimWords {
         }
     }
 
-    /// Gives back a claim that the seat holds and that isn't kept, in one atomic step.
+    /// Releases an open claim of the seat, in one atomic step.
     pub fn release(&self, seat: &mut ClaimSeat, card: u32, counter: u16)
         requires seat { IsOf seat.old self.now }
         requires card { card < cards_of self.now }
@@ -104,7 +104,8 @@ impl ClaimWords {
             .fetch_and::<Releases>(&mut seat.seat, word, other_claims(counter));
     }
 
-    /// Marks a claim that the seat holds as kept, since its counter is recorded, and raises the card's top, in one atomic step.
+    /// Marks an open claim of the seat as kept, since its counter is recorded, and raises the card's top, in one atomic
+    /// step.
     pub fn mark_kept(&self, seat: &mut ClaimSeat, card: u32, counter: u16)
         requires seat { IsOf seat.old self.now }
         requires card { card < cards_of self.now }
@@ -117,7 +118,7 @@ impl ClaimWords {
             .fetch_max::<Marks>(&mut seat.seat, top_word(card), counter as u64 + 1);
     }
 
-    /// The greatest counter of a card that is recorded or kept, by one load of its top.
+    /// The greatest recorded or kept counter of a card, by one load of its top word.
     pub fn top(&self, seat: &mut ClaimSeat, card: u32) -> Option<u16>
         requires seat { IsOf seat.old self.now }
         requires card { card < cards_of self.now }
@@ -132,7 +133,7 @@ impl ClaimWords {
         told(found)
     }
 
-    /// A second seat, which has no claims and was told nothing.
+    /// Splits off a second seat, which has no claims and has learnt nothing.
     pub fn split(&self, seat: &mut ClaimSeat) -> ClaimSeat
         requires { IsOf seat.old self.now }
         ensures seat { IsOf seat.new self.now × (view_of seat.new ≡ parent_view (view_of seat.old)) }
@@ -143,7 +144,7 @@ impl ClaimWords {
         }
     }
 
-    /// Ends the other seat, and leaves this one with the claims of both and with what both were told.
+    /// Merges `other` into `seat`, which then has the claims of both and what both have learnt.
     pub fn join(&self, seat: &mut ClaimSeat, other: ClaimSeat)
         requires { IsOf seat.old self.now × IsOf other self.now }
         ensures { IsOf seat.new self.now × (view_of seat.new ≡ joined (view_of seat.old) (view_of other)) }
@@ -152,20 +153,20 @@ impl ClaimWords {
         self.table.shared.join_seat::<Parts>(&mut seat.seat, other);
     }
 
-    /// Ends the claims, with a seat into which all others were joined.
+    /// Closes the table of claims, with a seat into which all others were joined.
     pub fn close(self, seat: ClaimSeat)
         requires seat { IsOf seat self }
         requires whole { IsWhole (view_of seat).names }
 
-        // What was lost is recorded, or stands in the claims.
+        // Each pair that was lost is recorded, or among the claims.
         ensures found { (card counter : ℕ) → 0 < times card counter (view_of seat).found
             → 0 < recorded_in self card counter + claims_on is_any card counter (view_of seat).claims }
 
-        // What a top told is recorded, or stands in the claims as kept.
+        // Each pair read from a top word is recorded, or among the kept claims.
         ensures tops { (card counter : ℕ) → 0 < times card counter (view_of seat).tops
             → 0 < recorded_in self card counter + claims_on is_kept card counter (view_of seat).claims }
 
-        // Each counter of a card stands at most once: as recorded, or as a claim that isn't given back.
+        // Each counter of a card occurs at most once: as recorded, or as a claim that isn't given back.
         ensures once { (card counter : ℕ) → counter < COUNTERS
             → recorded_in self card counter + claims_on is_live card counter (view_of seat).claims ≤ 1 }
     {

@@ -1,4 +1,4 @@
-//! Where a card's claims and its top stand among the words.
+//! The layout of the words: the index of each claim's word and of each card's top word.
 ghost use Rattle.std.specs.Prelude.{◌≡◌, ◌<◌, ◌≤◌};
 ghost use Rattle.claim_words.specs.Layout.{word_of, top_word_of, mask_of, others_of, told_by};
 
@@ -8,20 +8,20 @@ pub const COUNTERS: u64 = 65_536;
 /// How many claims a word holds, one bit each.
 pub(crate) const WORD_CLAIMS: u64 = 64;
 
-/// How many words the claims of a card take.
+/// How many words hold the claims of a card.
 pub(crate) const CLAIM_WORDS: u64 = 1_024;
 
-/// How many words a card takes: its claims and its top.
+/// How many words a card has: its claims and its top.
 pub(crate) const CARD_WORDS: u64 = 1_025;
 
-/// The word with the claim on this counter of this card.
+/// The index of the word with the claim on this counter of this card.
 pub(crate) fn claim_word(card: u32, counter: u16) -> usize
     ensures { result ≡ word_of card counter }
 {
     (CARD_WORDS * card as u64 + counter as u64 / WORD_CLAIMS) as usize
 }
 
-/// The word with the greatest recorded or kept counter of this card, plus 1, or with 0 where there is none.
+/// The index of this card's top word, which holds its greatest recorded or kept counter plus 1, or 0 if there is none.
 pub(crate) fn top_word(card: u32) -> usize
     ensures { result ≡ top_word_of card }
 {
@@ -35,14 +35,14 @@ pub(crate) fn claim_mask(counter: u16) -> u64
     1 << counter as u64 % WORD_CLAIMS
 }
 
-/// All bits of a word but that of the claim on this counter.
+/// All bits of a word except that of the claim on this counter.
 pub(crate) fn other_claims(counter: u16) -> u64
     ensures { result ≡ others_of counter }
 {
     !claim_mask(counter)
 }
 
-/// The counter that a top word tells.
+/// The counter that a top word encodes.
 pub(crate) fn told(top: u64) -> Option<u16>
     requires { top ≤ COUNTERS }
     ensures { result ≡ told_by top }

@@ -1,7 +1,7 @@
-//! The claims of callers on the transaction counters of cards: a claim is won by just one of them.
+//! The claims of callers on the transaction counters of cards: exactly one caller wins a claim.
 //!
 //! Each card has a bit for each of its counters, and a word with its greatest recorded or kept counter. A claim sets the
-//! bit in one atomic step, and whoever finds it clear has won. None of the calls waits, and only `load` takes memory.
+//! bit in one atomic step, and the caller that finds it clear has won. No call waits, and only `load` allocates.
 #![tactic(auto)]
 
 mod claim_words;

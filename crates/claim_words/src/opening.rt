@@ -1,4 +1,4 @@
-//! The words that the table begins with.
+//! The initial words of the table.
 ghost use Rattle.std.specs.Prelude.{◌≡◌, ℕ, ◌+◌, ◌*◌, ◌<◌, ◌≤◌, All, IfOk, length};
 ghost use Rattle.claim_words.specs.ClaimViews.{times};
 ghost use Rattle.claim_words.specs.Opening.{AreOpening};
@@ -7,7 +7,7 @@ use crate::layout::{CARD_WORDS, COUNTERS, claim_mask, claim_word, top_word};
 use issuer_base::{MAX_CARDS, NoMemory};
 use std::alloc::Global;
 
-/// The words that have the recorded counters of so many cards.
+/// The initial words of `cards` cards, with their recorded counters.
 pub(crate) fn opening_words(
     alloc: Global,
     cards: u32,

@@ -1,4 +1,4 @@
-//! The rule of the words, and the names of its steps.
+//! The invariant of the words, and the names of its steps.
 ghost use Rattle.seat_names.specs.SeatNames.{first_names};
 ghost use Rattle.claim_words.specs.ClaimRule.{AreClaims};
 ghost use Rattle.claim_words.specs.ClaimSteps.{claimed, released, marked, topped};
@@ -9,13 +9,13 @@ use crate::view::ClaimView;
 use atomic_table::{Join, Play, Split, TableRule};
 use std::snapshot::Snapshot;
 
-/// What the table is told when it is made.
+/// The key of the table: what it was created with.
 #[derive(Drop)]
 pub(crate) struct Opening {
     /// The number of cards.
     pub cards: u32,
 
-    /// The words that it begins with, which have the opening records.
+    /// Its initial words, which have the opening records.
     pub words: Snapshot<Vec<u64>>,
 }
 

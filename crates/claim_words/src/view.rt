@@ -1,10 +1,10 @@
-//! What a seat knows. It exists in proofs alone: no value of these types is made.
+//! What a seat knows. It exists in proofs alone: the program has no value of these types.
 use seat_names::SeatName;
 use std::collections::LinkedList;
 
-/// What has become of a claim that was won.
+/// The state of a claim that was won.
 pub enum Standing {
-    /// It is held, and neither kept nor given back.
+    /// It is held, and neither kept nor released.
     Open,
 
     /// Its counter was recorded. It stays so.
@@ -22,7 +22,7 @@ pub struct Claimed {
     /// The transaction counter.
     pub counter: u16,
 
-    /// What has become of it.
+    /// Its state.
     pub standing: Standing,
 }
 
@@ -34,7 +34,7 @@ pub struct ClaimView {
     /// The cards and counters that it lost.
     pub found: LinkedList<(u32, u16)>,
 
-    /// The cards and counters that top words told it.
+    /// The cards and counters that it read from top words.
     pub tops: LinkedList<(u32, u16)>,
 
     /// Its names among the seats of the table.

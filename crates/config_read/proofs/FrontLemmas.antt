@@ -1,4 +1,4 @@
--- The elements of a part one at a time, up to the first that says nothing.
+-- The elements of a part one at a time, up to the first that is malformed.
 use Rattle.std.proofs.Common.{◌≡◌, ℕ, ◌+◌, ◌<◌, ◌≤◌, nat_lt, if◌then◌else◌, List, [], ◌∷◌, ◌++◌, length, get_or, drop, map, cond, Option, Some, None}
 use Rattle.std.proofs.Common.{is_none, refl, sym, ap, ◌∙◌, append-nil, append_assoc, length-append, arith}
 use Rattle.std.proofs.lemmas.List.{at_drop_more, at_drop_all}

@@ -1,4 +1,4 @@
--- What a part says, by its elements in front and the places at which it is broken.
+-- What a part is parsed as, by its elements before the first malformed one and the indices of its faults.
 use Rattle.std.proofs.Common.{◌≡◌, ℕ, ◌+◌, ◌<◌, ◌≤◌, nat_lt, if◌then◌else◌, List, [], ◌∷◌, length, map, Option, Some, None, Ok, Err, codes, refl, ap}
 use Rattle.std.proofs.Common.{sym, ◌∙◌, arith}
 use Rattle.std.proofs.lemmas.Bool.{cond-true, cond-false, lt-ltb}

@@ -1,4 +1,4 @@
--- A row of the decision table from its parts, and what each row tells.
+-- A row of the decision table from its parts, and the approval that each row's card status update states.
 use Rattle.std.proofs.Common.{◌≡◌, ℕ, Bool, List, Option, Some, None, codes, true, inl, inr, refl, arith}
 use Rattle.std.proofs.lemmas.Bool.{cond-true, cond-false, cases_Bool}
 use Rattle.std.specs.Option.{option_and_then, option_zip, IfSome}

@@ -1,4 +1,5 @@
--- The rows of the decision table: each says what it decides, so only the last one can make them no table.
+-- The rows of the decision table: each one's card status update states its decision, so only the last row can be at
+-- fault.
 use Rattle.std.proofs.Common.{◌≡◌, ◌+◌, ◌<◌, ◌≤◌, if◌then◌else◌, true, false, List, [], ◌∷◌, length, map, Option, Some, None, Ok, Err, codes, refl}
 use Rattle.std.proofs.Common.{ap, ◌∙◌, arith}
 use Rattle.std.proofs.lemmas.List.{length-map}

@@ -1,4 +1,4 @@
--- What one element of each list of a configuration says: a key set, a card, a row of the decision table.
+-- What one element of each list of a configuration is parsed as: a key set, a card, a row of the decision table.
 use Rattle.std.specs.Prelude.{ℕ, List, codes, Option, Some, None, if◌then◌else◌}
 use Rattle.std.specs.Option.{option_and_then, option_map}
 use Rattle.serde_json.specs.Data.{Data, null, boolean, number, string, array, object}
@@ -11,17 +11,17 @@ use Rattle.issuer_setup.specs.declared.card.CardInfo.{CardInfo}
 use Rattle.config_read.specs.Json.{text_member, number_member}
 use Rattle.config_read.specs.Words.{bytes_of, pan_of, psn_of, option_of, method_of, at_most}
 
--- the second step, where the first gave a value
+-- the second step, if the first gave a value
 infixl 10 ◌>>=◌
 abbrev pub ◌>>=◌ : {A B : Type 0} → Option A → (A → Option B) → Option B
 None >>= next = None
 Some value >>= next = next value
 
--- the bytes that the text of this member writes
+-- the bytes that the text of this member spells in hexadecimal
 abbrev pub bytes_member : List ℕ → ℕ → Data → Option (List ℕ)
 bytes_member name count element = option_and_then (bytes_of count) (text_member name element)
 
--- the number of this member, where it isn't above the greatest
+-- the number of this member, if it is at most the greatest
 abbrev pub number_up_to : List ℕ → ℕ → Data → Option ℕ
 number_up_to name most element = option_and_then (at_most most) (number_member name element)
 
@@ -51,7 +51,7 @@ status_from (string _) = None
 status_from (array _) = None
 status_from (object _) = None
 
--- the row, where its status update says what it decides
+-- the row, if its card status update states the same decision
 abbrev pub where_told : TableRow → Option TableRow
 where_told row = if tells_approval row then Some row else None
 

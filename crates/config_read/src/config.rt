@@ -1,4 +1,4 @@
-//! What a configuration says: an issuer, or its first broken place.
+//! The parser of a configuration: an issuer, or its first fault.
 ghost use Rattle.std.specs.Prelude.{◌≡◌, ◌≢◌, Ok, Err, IfOk, IfErr};
 ghost use Rattle.serde_json.specs.View.{view};
 ghost use Rattle.config_read.specs.Configuration.{configured, setup_in};
@@ -10,11 +10,12 @@ use issuer_setup::Issuer;
 use serde_json::Value;
 use std::alloc::Global;
 
-/// How many bytes a configuration has at most.
+/// The most bytes of a configuration.
 pub const MAX_CONFIG_BYTES: usize = 4_194_304;
 
-/// The issuer that a configuration of these bytes says, or why it says none: its first broken place, where it is a
-/// JSON value of at most 4,194,304 bytes.
+/// Parses these bytes as a configuration. The error is `NotJson` for a text that isn't one JSON value, and `NoMemory`
+/// if memory runs out. Else it is the first fault of the configuration. A text of more than 4,194,304 bytes is a fault
+/// of the whole.
 #[tactic(auto, unfolding(crate::specs::Configuration::configured))]
 pub fn read_config(alloc: Global, bytes: &[u8]) -> Result<Issuer, ConfigFault>
     ensures issuer { IfOk result (λ issuer. configured bytes.now ≡ Ok issuer) }
@@ -27,7 +28,7 @@ pub fn read_config(alloc: Global, bytes: &[u8]) -> Result<Issuer, ConfigFault>
     read_issuer(alloc, &value)
 }
 
-/// The issuer that a JSON value says.
+/// Parses a JSON value as an issuer.
 fn read_issuer(alloc: Global, value: &Value) -> Result<Issuer, ConfigFault>
     ensures issuer { IfOk result (λ issuer. setup_in (view value.now) ≡ Ok issuer) }
     ensures refused { IfErr result (λ fault. fault ≢ ConfigFault.NoMemory → setup_in (view value.now) ≡ Err fault) }

@@ -1,4 +1,4 @@
-//! What one element of each list of a configuration says: a key set, a card, a row of the decision table.
+//! Parsers for one element of each list of a configuration: a key set, a card, a row of the decision table.
 ghost use Rattle.std.specs.Prelude.{◌≡◌, codes};
 ghost use Rattle.std.specs.Option.{option_and_then, option_zip};
 ghost use Rattle.serde_json.specs.Find.{get};
@@ -14,7 +14,7 @@ use issuer_setup::CardInfo;
 use key_derive::KeySet;
 use serde_json::Value;
 
-/// The key set that an element says.
+/// Parses an element as a key set.
 #[tactic(auto, unfolding(crate::specs::Elements::key_set_in))]
 pub(crate) fn read_key_set(element: &Value) -> Option<KeySet>
     ensures { result ≡ key_set_in (view element.now) }
@@ -27,7 +27,7 @@ pub(crate) fn read_key_set(element: &Value) -> Option<KeySet>
     })
 }
 
-/// The card that an element says.
+/// Parses an element as a card.
 #[tactic(auto, unfolding(crate::specs::Elements::card_in))]
 pub(crate) fn read_card(element: &Value) -> Option<CardInfo>
     ensures { result ≡ card_in (view element.now) }
@@ -39,7 +39,7 @@ pub(crate) fn read_card(element: &Value) -> Option<CardInfo>
     })
 }
 
-/// The row of the decision table that an element says.
+/// Parses an element as a row of the decision table.
 #[tactic(auto, unfolding(crate::specs::Elements::row_in))]
 pub(crate) fn read_row(element: &Value) -> Option<TableRow>
     ensures { result ≡ row_in (view element.now) }
@@ -90,7 +90,7 @@ fn read_amount(element: &Value, name: &str) -> Option<u64>
     up_to(MAX_AMOUNT, number_member(element, name)?)
 }
 
-/// The status of a row, 0 to 9, or `None` within, for any.
+/// Parses the status of a row: 0 to 9, or any status, which is the inner `None`.
 fn read_status(element: &Value) -> Option<Option<u8>>
     ensures { result ≡ option_and_then status_from (get (codes "status") (view element.now)) }
 {
@@ -101,7 +101,7 @@ fn read_status(element: &Value) -> Option<Option<u8>>
     Some(Some(up_to(9, status.as_u64()?)? as u8))
 }
 
-/// What a row decides.
+/// What a row decides: the response code, whether it approves, the card status update.
 fn read_decision(element: &Value) -> Option<([u8; 2], bool, [u8; 4])>
     ensures { result ≡ decision_in (view element.now) }
 {
@@ -112,7 +112,7 @@ fn read_decision(element: &Value) -> Option<([u8; 2], bool, [u8; 4])>
     ))
 }
 
-/// The row, where its status update says what it decides.
+/// The row, if its card status update states the same decision.
 fn told(row: TableRow) -> Option<TableRow>
     ensures { result ≡ where_told row }
 {
@@ -123,14 +123,14 @@ fn told(row: TableRow) -> Option<TableRow>
     }
 }
 
-/// The number of this member, where it is a byte.
+/// The number of this member, if it is at most 255.
 fn small_number(element: &Value, name: &str) -> Option<u8>
     ensures { result ≡ number_up_to name.now 255 (view element.now) }
 {
     Some(up_to(255, number_member(element, name)?)? as u8)
 }
 
-/// The bytes that the text of this member writes.
+/// The bytes that the text of this member spells in hexadecimal.
 fn bytes_member<const N: usize>(element: &Value, name: &str) -> Option<[u8; N]>
     ensures { result ≡ bytes_member name.now N (view element.now) }
 {

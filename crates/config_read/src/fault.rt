@@ -18,17 +18,17 @@ pub(crate) const CARDS: u8 = 4;
 /// That of the member `table`.
 pub(crate) const TABLE: u8 = 5;
 
-/// Why a configuration gives no issuer.
+/// Why a configuration is refused.
 #[derive(Clone, Copy, PartialEq, Eq, Debug)]
 pub enum ConfigFault {
-    /// The bytes aren't one JSON value: whoever wrote them is to blame.
+    /// The bytes aren't one JSON value. Whoever wrote them is to blame.
     NotJson,
 
     /// The configuration is broken at this place. Part 1 is the whole, 2 `shards`, 3 `keys`, 4 `cards`, 5 `table`;
     /// the index is 0 for the part itself, and i + 1 for its element i.
     At { part: u8, index: u32 },
 
-    /// No memory was left.
+    /// Out of memory.
     NoMemory,
 }
 
@@ -40,7 +40,7 @@ impl ConfigFault {
         ConfigFault::At { part, index: 0 }
     }
 
-    /// The fault of the element of a part with this place, from 0.
+    /// The fault of the element of a part at this index, from 0.
     pub(crate) fn of_element(part: u8, place: u32) -> ConfigFault
         requires { place < MAX_CARDS }
         ensures { result ≡ ConfigFault.At part (place + 1) }

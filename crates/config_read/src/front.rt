@@ -1,4 +1,4 @@
-//! What the elements of a part say, up to the first that says nothing.
+//! The elements of a part parsed in order, up to the first that is malformed.
 ghost use Rattle.std.specs.Prelude.{◌≡◌, ◌≤◌, length, map, IfOk};
 ghost use Rattle.serde_json.specs.View.{view};
 ghost use Rattle.config_read.specs.Elements.{card_in, key_set_in, row_in};
@@ -13,7 +13,7 @@ use key_derive::KeySet;
 use serde_json::Value;
 use std::alloc::Global;
 
-/// The key sets that the elements say, up to the first that says none.
+/// Parses the elements as key sets, up to the first that is malformed.
 pub(crate) fn front_keys(elements: &[Value]) -> ArrayVec<KeySet, MAX_KEY_SETS>
     requires { length elements.now ≤ MAX_KEY_SETS }
     ensures { result.items ≡ front key_set_in (map view elements.now) }
@@ -28,7 +28,7 @@ pub(crate) fn front_keys(elements: &[Value]) -> ArrayVec<KeySet, MAX_KEY_SETS>
     keys
 }
 
-/// The cards that the elements say, up to the first that says none.
+/// Parses the elements as cards, up to the first that is malformed.
 pub(crate) fn front_cards(alloc: Global, elements: &[Value]) -> Result<Vec<CardInfo>, NoMemory>
     ensures cards { IfOk result (λ cards. cards.items ≡ front card_in (map view elements.now)) }
     ensures few { IfOk result (λ cards. length cards.items ≤ length elements.now) }
@@ -43,7 +43,7 @@ pub(crate) fn front_cards(alloc: Global, elements: &[Value]) -> Result<Vec<CardI
     Ok(cards)
 }
 
-/// The rows that the elements say, up to the first that says none.
+/// Parses the elements as rows, up to the first that is malformed.
 pub(crate) fn front_rows(elements: &[Value]) -> ArrayVec<TableRow, MAX_TABLE_ROWS>
     requires { length elements.now ≤ MAX_TABLE_ROWS }
     ensures { result.items ≡ front row_in (map view elements.now) }

@@ -1,4 +1,4 @@
-//! The parts of a configuration, in order, each with its first broken place.
+//! The parts of a configuration, in order, each with its first fault.
 ghost use Rattle.std.specs.Prelude.{◌≡◌, ◌≢◌, ◌+◌, ◌<◌, ◌≤◌, length, map, MatchResult, IfOk, Ok, Err, codes};
 ghost use Rattle.std.specs.Option.{option_and_then};
 ghost use Rattle.serde_json.specs.View.{view};
@@ -15,7 +15,7 @@ use issuer_setup::{Cards, CardsFault, KeySets, ShardCount};
 use serde_json::Value;
 use std::alloc::Global;
 
-/// The number of shards, 1 to 16.
+/// Parses the number of shards, 1 to 16.
 pub(crate) fn read_shards(value: &Value) -> Result<ShardCount, ConfigFault>
     ensures { result ≡ shards_in (view value.now) }
 {
@@ -31,7 +31,7 @@ fn shard_count(value: &Value) -> Option<ShardCount>
     }
 }
 
-/// The 1 to 16 key sets, no two of one index.
+/// Parses the 1 to 16 key sets, no two with the same index.
 pub(crate) fn read_keys(value: &Value) -> Result<KeySets, ConfigFault>
     ensures { result ≡ keys_in (view value.now) }
 {
@@ -44,7 +44,7 @@ pub(crate) fn read_keys(value: &Value) -> Result<KeySets, ConfigFault>
     Ok(keys)
 }
 
-/// The 1 to 4,096 cards, no two of one account and sequence number.
+/// Parses the 1 to 4,096 cards, no two with the same account and sequence number.
 pub(crate) fn read_cards(alloc: Global, value: &Value) -> Result<Cards, ConfigFault>
     ensures { MatchResult result
         (λ cards. cards_in (view value.now) ≡ Ok cards)
@@ -60,7 +60,7 @@ pub(crate) fn read_cards(alloc: Global, value: &Value) -> Result<Cards, ConfigFa
     Ok(cards)
 }
 
-/// The 1 to 64 rows, of which the last takes all.
+/// Parses the 1 to 64 rows, of which the last matches every request.
 pub(crate) fn read_table(value: &Value) -> Result<Table, ConfigFault>
     ensures { result ≡ table_in (view value.now) }
 {
@@ -76,7 +76,7 @@ pub(crate) fn read_table(value: &Value) -> Result<Table, ConfigFault>
     }
 }
 
-/// The elements of a part, where it is a list of 1 to so many.
+/// The elements of a part, if it is a list of 1 to `most`.
 fn part_elements<'a>(
     part: u8,
     name: &str,
@@ -95,7 +95,7 @@ fn part_elements<'a>(
     }
 }
 
-/// The fault of the first element that says nothing, where only so many in front say something.
+/// The fault of the first malformed element, if only the first `said` elements were parsed.
 fn all_said(part: u8, said: usize, elements: &[Value]) -> Result<(), ConfigFault>
     requires { length elements.now ≤ MAX_CARDS }
     ensures { MatchResult result

@@ -1,4 +1,4 @@
-//! What the texts and numbers of a configuration write.
+//! Parsers for the texts and numbers of a configuration.
 ghost use Rattle.std.specs.Prelude.{◌≡◌, map, if◌then◌else◌, Some, None};
 ghost use Rattle.std.specs.Char.{digit_value, is_ascii_digit};
 ghost use Rattle.config_read.specs.Words.{at_most, bytes_of, method_of, option_of, pan_of, past_zero, psn_of};
@@ -6,7 +6,7 @@ ghost use Rattle.config_read.specs.Words.{at_most, bytes_of, method_of, option_o
 use hex::FromHex;
 use issuer_base::{MAX_PAN_DIGITS, MasterOption, Method, Pan};
 
-/// The account number of 8 to 19 digits.
+/// Parses an account number of 8 to 19 digits.
 pub(crate) fn read_pan(text: &str) -> Option<Pan>
     ensures { result ≡ pan_of text.now }
 {
@@ -19,8 +19,8 @@ pub(crate) fn read_pan(text: &str) -> Option<Pan>
     Pan::new(&past_zero(characters)[..text.len()])
 }
 
-/// How far each character stands behind the digit 0: at most 9 for a digit alone. No character is tested by itself, so that the
-/// loop takes many in one step.
+/// Each character minus the digit 0, modulo 256: at most 9 for a digit alone. The loop has no branch per character, so
+/// that the compiler can vectorise it.
 fn past_zero(mut characters: [u8; MAX_PAN_DIGITS]) -> [u8; MAX_PAN_DIGITS]
     ensures { result ≡ map past_zero characters }
 {
@@ -30,7 +30,7 @@ fn past_zero(mut characters: [u8; MAX_PAN_DIGITS]) -> [u8; MAX_PAN_DIGITS]
     characters
 }
 
-/// The sequence number of two digits, a nibble each.
+/// Parses a sequence number of two digits, a nibble each.
 #[tactic(auto, unfolding(crate::specs::Words::psn_of))]
 pub(crate) fn read_psn(text: &str) -> Option<u8>
     ensures { result ≡ psn_of text.now }
@@ -50,7 +50,7 @@ fn read_digit(character: u8) -> Option<u8>
     }
 }
 
-/// The option `A` or `B`.
+/// Parses the derivation option `A` or `B`.
 #[tactic(auto, unfolding(crate::specs::Words::option_of))]
 pub(crate) fn read_option(text: &str) -> Option<MasterOption>
     ensures { result ≡ option_of text.now }
@@ -62,7 +62,7 @@ pub(crate) fn read_option(text: &str) -> Option<MasterOption>
     }
 }
 
-/// The method 1 or 2.
+/// Parses the ARPC method 1 or 2.
 #[tactic(auto, unfolding(crate::specs::Words::method_of))]
 pub(crate) fn read_method(number: u64) -> Option<Method>
     ensures { result ≡ method_of number }
@@ -74,14 +74,14 @@ pub(crate) fn read_method(number: u64) -> Option<Method>
     }
 }
 
-/// The bytes that hexadecimal digits of either case write, two digits each.
+/// Parses hexadecimal digits of either case as bytes, two digits each.
 pub(crate) fn read_bytes<const N: usize>(text: &str) -> Option<[u8; N]>
     ensures { result ≡ bytes_of N text.now }
 {
     <[u8; N] as FromHex>::from_hex(text).ok()
 }
 
-/// The number, where it isn't above the greatest.
+/// The number, if it is at most `most`.
 pub(crate) fn up_to(most: u64, number: u64) -> Option<u64>
     ensures { result ≡ at_most most number }
 {

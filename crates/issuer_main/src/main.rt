@@ -12,10 +12,10 @@ use store_edge::{FileDesk, FileSink};
 /// The status of a run that has no output.
 const NO_OUTPUT: u8 = 4;
 
-/// The status of a run that has no memory for its words.
+/// The status of a run without memory for its arguments.
 const NO_MEMORY: u8 = 7;
 
-/// The device that gives no byte.
+/// A device without bytes.
 const EMPTY_DEVICE: &str = "/dev/null";
 
 fn main(rt: HostRuntime) -> ExitCode {
@@ -38,11 +38,11 @@ fn main(rt: HostRuntime) -> ExitCode {
     ExitCode::from(status)
 }
 
-/// Handles of the empty device, which take the place of the standard descriptors that are closed.
+/// Handles of the empty device, which replace the standard descriptors that are closed.
 ///
-/// A file that is opened gets the lowest free descriptor. With these held no configuration, request file or
-/// journal becomes the standard input, the output or the error output. The handles are for reading alone, so a
-/// write to an output that was closed is a fault.
+/// A file that is opened gets the lowest free descriptor. While these are held, no configuration, request file or
+/// journal becomes the standard input, output or error output. The handles are read-only, so a write to an output
+/// that was closed is a fault.
 fn hold_standard_descriptors(rt: &HostRuntime) -> io::Result<[File; 3]> {
     Ok([
         File::open(rt, EMPTY_DEVICE)?,
@@ -51,7 +51,7 @@ fn hold_standard_descriptors(rt: &HostRuntime) -> io::Result<[File; 3]> {
     ])
 }
 
-/// The words after the program's name, and none where one of them isn't text.
+/// The command-line arguments, or none if one of them isn't text.
 fn read_words(rt: &HostRuntime) -> Result<Words, NoMemory> {
     let mut words = Words::new(rt.alloc());
     match env::args(rt) {

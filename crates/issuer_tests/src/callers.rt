@@ -1,4 +1,4 @@
-//! Lines that several callers answer at once.
+//! Lines that several callers answer concurrently.
 
 use crate::running::{NONE_FAILS, Run, SHOW, run_at};
 use crate::samples::{CONFIG, FRESH_EACH, REQUEST_7, SEVENTH_EACH, TWENTY_EACH, TWO_SHARDS};
@@ -7,7 +7,7 @@ use std::sync::Wait;
 use std::sync::atomic::{AtomicBool, Ordering};
 use std::test::Fail;
 
-/// A gate that keeps one line until another was answered, or until it has looked for that so often.
+/// A gate that holds back one line until another was answered, or until it has polled for that `MOST_LOOKS` times.
 #[derive(Drop)]
 struct Holding {
     held: u64,
@@ -16,7 +16,7 @@ struct Holding {
     seen: AtomicBool,
 }
 
-/// How often the gate looks.
+/// How often the gate polls.
 const MOST_LOOKS: u32 = 10_000_000;
 
 impl Gate for Holding {
@@ -33,7 +33,7 @@ impl Gate for Holding {
     }
 }
 
-/// Whether the flag is raised at one of so many looks.
+/// Polls a flag up to `most` times, and returns whether it was set.
 pub(crate) fn looks_for(flag: &AtomicBool, most: u32) -> bool {
     for _ in 0..most {
         if flag.load(Ordering::SeqCst) {
@@ -43,7 +43,7 @@ pub(crate) fn looks_for(flag: &AtomicBool, most: u32) -> bool {
     false
 }
 
-/// A run of so many callers over an empty journal.
+/// A run of this many callers over an empty journal.
 macro_rules! run {
     ($callers:literal, $config:expr, $requests:expr) => {
         Run {
@@ -81,7 +81,7 @@ static SHOWN: Run = Run {
     after: None,
 };
 
-/// Each of the two lines is kept in turn until the other one was answered, which only callers at once can do.
+/// Each of the two lines is held back in turn until the other was answered, which only concurrent callers can do.
 #[test]
 fn answers_one_line_while_another_is_kept(rt: HostRuntime) -> Result<(), Fail> {
     for (held, other) in [(1, 2), (2, 1)] {
@@ -100,7 +100,7 @@ fn answers_one_line_while_another_is_kept(rt: HostRuntime) -> Result<(), Fail> {
     Ok(())
 }
 
-/// How the answers begin that have these positions in the journals of the two shards.
+/// The prefixes of the answers with these positions in the journals of the two shards.
 macro_rules! fresh_at {
     ($($position:literal),+ $(,)?) => {
         [$(concat!("fresh 0 ", $position, " "), concat!("fresh 1 ", $position, " ")),+]
@@ -112,7 +112,7 @@ const FRESH_AT: [&str; 40] = fresh_at!(
     "17", "18", "19",
 );
 
-/// What is shown of cards with twenty decisions each.
+/// The output of `show` for cards with twenty decisions each.
 const TWENTY_SHOWN: &str =
     "4000000000000002 00 hi 20 status 0 queued 0 done 0 flight 20 0 ok\n4000000000000010 00 hi 20 status 0 queued 0 done 0 flight 20 0 ok\n";
 

@@ -1,4 +1,4 @@
-//! Runs in which one call of one device fails, whichever it is.
+//! Runs in which one call of one device fails, for every call of every device.
 
 use crate::running::{NONE_FAILS, Run, SERVE, SHOW, one_journal, run_at};
 use crate::samples::{CONFIG, REQUEST_7};
@@ -47,10 +47,11 @@ static SHOWN: Run = Run {
     after: None,
 };
 
-/// More calls than any device of these runs is asked for.
+/// More calls than any device of these runs receives.
 const MOST_CALLS: u64 = 40;
 
-/// The calls of each device fail in turn, until a run asks for fewer of them. Each run ends by 0, 3, 4 or 5, and its journal loads.
+/// The calls of each device fail in turn, until a run makes fewer of them. Each run ends with status 0, 3, 4 or 5, and
+/// its journal loads.
 #[test]
 fn ends_in_order_whichever_call_fails(rt: HostRuntime) -> Result<(), Fail> {
     for run in &SERVES {

@@ -1,11 +1,11 @@
-//! Runs in which two journals can't be loaded: the first of them is told.
+//! Runs in which two journals can't be loaded: the first of them is reported.
 
 use crate::running::{Fails, NONE_FAILS, Run, SERVE, run_at};
 use crate::samples::TWO_SHARDS;
 use issuer_base::OpenGate;
 use std::test::Fail;
 
-/// Journals of two shards, the call at which each of their stores fails, and what the run tells of them.
+/// Journals of two shards, the call at which each of their stores fails, and what the run reports of them.
 struct Row {
     name: &'static str,
     journals: [&'static str; 2],
@@ -72,7 +72,7 @@ static RUNS: [Run; 2] = [
     },
 ];
 
-/// Each run tells of the first shard in order that can't be loaded, and leaves both journals.
+/// Each run reports the first shard in order that can't be loaded, and leaves both journals unchanged.
 #[test]
 fn tells_of_the_first_shard_that_is_not_loaded(rt: HostRuntime) -> Result<(), Fail> {
     for run in &RUNS {

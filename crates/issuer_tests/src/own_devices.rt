@@ -14,7 +14,7 @@ use std::sync::atomic::{AtomicBool, Ordering};
 use std::test::Fail;
 use store_edge::RoomStore;
 
-/// A sink that takes one byte a call, and fails after so many, 16 at most.
+/// A sink that takes one byte a call, and fails after `room` bytes, at most 16.
 #[derive(Drop)]
 struct Bytes {
     text: [u8; 16],
@@ -52,17 +52,19 @@ impl Sink for Bytes {
     }
 }
 
-/// Of each shard, whether its store was asked to take a decision, and whether it saw that the other one was.
+/// For each shard, whether an append of a decision to its store has begun, and whether its store saw that the other
+/// one's had too.
 #[derive(Drop)]
 struct Meeting {
     asked: [AtomicBool; 2],
     seen: [AtomicBool; 2],
 }
 
-/// How often a store looks for the other one.
+/// How often a store polls for the other one.
 const MOST_LOOKS: u32 = 100_000_000;
 
-/// A store that tells none of its bytes, and takes a decision only once it has looked for the other store's.
+/// A store that reports none of its bytes to contracts, and appends a decision only after it has polled for the other
+/// store's.
 #[derive(Drop)]
 struct MeetingStore {
     second: bool,
@@ -107,7 +109,7 @@ impl Store for MeetingStore {
     }
 }
 
-/// A desk that tells nothing of what its names hold, over a configuration, requests and stores that meet.
+/// A desk that reports nothing of its files to contracts, over a configuration, requests and stores that meet.
 #[derive(Drop)]
 struct OwnDesk {
     alloc: Global,
@@ -166,7 +168,7 @@ impl Desk for OwnDesk {
     }
 }
 
-/// Of each read of one byte that fails, how many lines were read whole before it. The ninth isn't asked for.
+/// For each read of one byte that fails: every line that was read whole before it is answered. There is no ninth read.
 #[test]
 fn answers_the_lines_read_whole_before_a_fault(rt: HostRuntime) -> Result<(), Fail> {
     let alloc = rt.alloc();
@@ -191,7 +193,7 @@ fn answers_the_lines_read_whole_before_a_fault(rt: HostRuntime) -> Result<(), Fa
     Ok(())
 }
 
-/// What a sink takes of an answer that has room for so many bytes.
+/// A sink with room for less than the answer takes what fits, and the run ends with status 4.
 #[test]
 fn stops_where_the_sink_fails(rt: HostRuntime) -> Result<(), Fail> {
     let alloc = rt.alloc();
@@ -225,7 +227,7 @@ fn stops_at_a_line_too_many(rt: HostRuntime) -> Result<(), Fail> {
     Ok(())
 }
 
-/// The source gives a line a read, and the sink fails at the first answer.
+/// The source returns one line a read, and the sink fails at the first answer.
 #[test]
 fn answers_before_it_waits_for_more(rt: HostRuntime) -> Result<(), Fail> {
     let alloc = rt.alloc();
@@ -238,7 +240,7 @@ fn answers_before_it_waits_for_more(rt: HostRuntime) -> Result<(), Fail> {
     Ok(())
 }
 
-/// Each store takes its decision while the other one is asked for one, which only callers at once can do.
+/// Each store appends its decision while the other's append has begun, which only concurrent callers can do.
 #[test]
 fn appends_to_two_journals_at_once(rt: HostRuntime) -> Result<(), Fail> {
     let alloc = rt.alloc();

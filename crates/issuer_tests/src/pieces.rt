@@ -1,9 +1,10 @@
-//! An input that comes in small pieces.
+//! An input that comes in small chunks.
 ghost use Rattle.std.specs.Prelude.{◌≡◌};
 
 use issuer_base::{ReadFault, Source};
 
-/// A text, so many times, in pieces of so many bytes at most, whose reads fail after so many.
+/// A text, repeated `times` times, in chunks of at most `piece` bytes, whose reads fail after
+/// `reads`.
 #[derive(Clone, Copy, Drop)]
 pub(crate) struct Pieces {
     pub(crate) text: &'static str,

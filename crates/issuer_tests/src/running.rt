@@ -12,27 +12,27 @@ pub(crate) const SERVE: &str = "serve --config config --requests requests --jour
 
 pub(crate) const SHOW: &str = "show --config config --journal journal";
 
-/// Of each device the call that fails, counted from 0: configuration, requests, desk, sink, store.
+/// For each device the call that fails, counted from 0: configuration, requests, desk, sink, store.
 pub(crate) type Fails = [Option<u64>; 5];
 
 pub(crate) const NONE_FAILS: Fails = [None; 5];
 
-/// What a run is given, and what comes of it. Texts are in parts.
+/// The inputs of a run, and its expected outcome. Texts are in parts.
 pub(crate) struct Run {
     pub(crate) name: &'static str,
 
-    /// The command-line arguments, parted by spaces.
+    /// The command-line arguments, separated by spaces.
     pub(crate) words: &'static str,
     pub(crate) config: &'static str,
     pub(crate) requests: &'static [&'static str],
 
-    /// The journal of shard 0; none: the journals that the last run left.
+    /// The journal of shard 0; `None`: the journals that the last run left.
     pub(crate) before: Option<&'static [&'static str]>,
     pub(crate) fails: Fails,
     pub(crate) answers: &'static [&'static str],
     pub(crate) status: u8,
 
-    /// The journal of shard 0, where it is compared.
+    /// The expected journal of shard 0; `None`: it isn't compared.
     pub(crate) after: Option<&'static [&'static str]>,
 }
 
@@ -54,7 +54,7 @@ where
     issue(rt, words, desk, out, gate)
 }
 
-/// The status of a run, the request file as far as it was read, and the stores.
+/// The status of a run, the unread remainder of its request file, and its stores.
 pub(crate) fn left_by<D>(ended: Ended<D>) -> (u8, Option<D::Input>, Vec<D::Journal>)
 where
     D: Desk + Drop,
@@ -70,7 +70,8 @@ where
     (status, requests, stores)
 }
 
-/// The status of a run over a desk in memory, and what it writes. The journals are those that it finds, and then those that it leaves.
+/// The status of a run over a desk in memory, and what it writes. `journals` has the journals before the run, and then
+/// those after it.
 pub(crate) fn run_at<R, G>(
     rt: &R,
     run: &Run,
@@ -120,7 +121,7 @@ fn memory_desk(
     Ok(memory)
 }
 
-/// The words of a command line.
+/// The arguments of a command line.
 pub(crate) fn words_of(alloc: Global, line: &str) -> Result<Words, Fail> {
     let mut words = Words::new(alloc);
     for word in line.split(' ') {

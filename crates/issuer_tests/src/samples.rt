@@ -34,7 +34,7 @@ pub(crate) const LARGE_KEY_INDEX: &str = configuration!(
 /// A card that occurs twice.
 pub(crate) const CARD_TWICE: &str = configuration!("1", "1", "4000000000000002", "999999999999");
 
-/// A table whose last row leaves amounts out.
+/// A table whose last row doesn't match every amount.
 pub(crate) const PARTIAL_TABLE: &str = configuration!("1", "1", "4000000000000010", "1");
 
 /// Request lines: account number, ATC, cryptogram, script count, register, unpredictable number, amount, and the lines that follow.
@@ -141,7 +141,7 @@ pub(crate) const REQUEST_65: &str = request!("0041" "93EED1B2ED608C61");
 
 pub(crate) const REQUEST_65535: &str = request!("FFFF" "1E18E39C18AB6CAF");
 
-/// The last bit of the cryptogram is another.
+/// The last bit of the cryptogram is changed.
 pub(crate) const REQUEST_7_FORGED: &str = request!("0007" "6317DE17856BF19B");
 
 /// Another unpredictable number.
@@ -168,8 +168,8 @@ pub(crate) const REQUEST_9_OLDER: &str = reporting!("0009" "7AEEB7E00D9CE6BF" "2
 /// The card names a transaction that had no reply.
 pub(crate) const REQUEST_9_UNKNOWN: &str = reporting!("0009" "974A9CC02B8ECBA3" "0" "0008");
 
-/// An amount with a digit that isn't decimal, the ATC twice, a cryptogram of another type, a key index and a card that the issuer
-/// doesn't have.
+/// An amount with a digit that isn't decimal, the ATC twice, a cryptogram of another type, and a key index and a card
+/// that the issuer doesn't have.
 pub(crate) const BROKEN_FIELDS: &str = concat!(
     "A 5A0840000000000000029F260800000000000000009F2701809F10200FA501A00000000000000000000000000F0000000000000000000000000000009F37041A2B3C4D9F36020007950500000080009A032601159C01009F02060000000A23455F2A020978820239009F1A0202769F3303E0F8C89F34031E03009F3501229F1E0831323334353637388407A00000000410109F090200029F41040000012300\n",
     "A 5A0840000000000000029F26086317DE17856BF19A9F2701809F10200FA501A00000000000000000000000000F0000000000000000000000000000009F37041A2B3C4D9F36020007950500000080009A032601159C01009F02060000000123455F2A020978820239009F1A0202769F3303E0F8C89F34031E03009F3501229F1E0831323334353637388407A00000000410109F090200029F4104000001239F3602000700\n",
@@ -181,7 +181,8 @@ pub(crate) const BROKEN_FIELDS: &str = concat!(
 /// Each card's request on ATC 7.
 pub(crate) const SEVENTH_EACH: &str = in_turns!("0007" "6317DE17856BF19A" "1DE2D48E1E32FA1B");
 
-/// Each card's requests on ATCs 1 to 4, and among them a line that is none, a command of the first card and a status of the second.
+/// Each card's requests on ATCs 1 to 4, and among them a line of no form, a command for the first card and a status of
+/// the second.
 pub(crate) const ELEVEN_LINES: &str = requests!(
     "4000000000000002" "0001" "7C5104B1CE25F56E" "0" "0000" "1A2B3C4D" "000000012345" "",
     "4000000000000010" "0001" "45D69C7336B6E5C0" "0" "0000" "1A2B3C4D" "000000012345" "X\n",
@@ -282,7 +283,7 @@ pub(crate) const DECISION_65: &str = approval!("0041" "93eed1b2ed608c61");
 
 pub(crate) const DECISION_65535: &str = approval!("ffff" "1e18e39c18ab6caf");
 
-/// A digit of the cryptogram is another.
+/// A digit of the cryptogram is changed.
 pub(crate) const DECISION_2_CHANGED: &str = approval!("0002" "cbfa5f912723fc40");
 
 pub(crate) const DECISION_7_GREATEST: &str =
@@ -313,7 +314,7 @@ pub(crate) const FIVE_RECORDED: &str =
 pub(crate) const LONG_RECORDED: &str =
     "q 4000000000000002ffff 00 84da000000000000000000000000000000000000000000000000000000000000000000000000000000000000000000000000000000000000000000000000000000000000\n";
 
-/// What is shown of the first and of the second card where nothing was recorded.
+/// The output of `show` for the first and the second card if nothing was recorded.
 pub(crate) const FIRST_UNTOUCHED: &str =
     "4000000000000002 00 hi - status 0 queued 0 done 0 flight - ok\n";
 

@@ -15,7 +15,7 @@ use std::test::Fail;
 use std::thread::Threads;
 use store_edge::RoomStore;
 
-/// How many lines the runs have.
+/// The number of lines of each run.
 const LINES: usize = 11;
 
 /// A gate that counts its calls by the line's number, and those with any other number as line 0.
@@ -35,7 +35,7 @@ impl Counting {
         }
     }
 
-    /// Whether it was told of each line once, before the answer and after it, and of nothing else.
+    /// Whether it was called exactly once before each line's answer and once after it, and for no other line.
     fn was_told_of_each_line(&self) -> bool {
         for (number, (at, done)) in self.at.iter().zip(self.done.iter()).enumerate() {
             let expected = if number == 0 { 0 } else { 1 };
@@ -95,7 +95,8 @@ impl Durable {
     }
 }
 
-/// A store that tells none of its bytes, counts its records as durable at each sync that succeeds, and fails at one sync.
+/// A store that reports none of its bytes to contracts, counts its records as durable at each sync that succeeds, and
+/// fails at one sync.
 #[derive(Drop)]
 struct WatchedStore {
     is_second: bool,
@@ -135,7 +136,7 @@ impl Store for WatchedStore {
         Ok(())
     }
 
-    /// Only what isn't durable is ever cut.
+    /// Only bytes that aren't durable are ever truncated.
     fn cut(&mut self, len: u64) -> Result<(), StoreFail> {
         self.records = self.durable.journal(self.is_second).load(Ordering::SeqCst);
         self.store.cut(len)
@@ -154,7 +155,7 @@ impl Store for WatchedStore {
     }
 }
 
-/// A sink that takes one byte a call, and keeps what was durable as it took the first one of each line.
+/// A sink that takes one byte a call, and notes how many records were durable at the first byte of each line.
 #[derive(Drop)]
 struct WatchingSink {
     durable: Arc<Durable>,
@@ -174,7 +175,8 @@ impl Sink for WatchingSink {
     }
 }
 
-/// A desk that tells nothing of what its names hold, over a text in pieces of so many bytes and stores that fail at this sync.
+/// A desk that reports nothing of its files to contracts, over a text in chunks of `piece` bytes and stores that fail
+/// at one sync.
 #[derive(Drop)]
 struct WatchedDesk {
     alloc: Global,
@@ -219,7 +221,7 @@ impl Desk for WatchedDesk {
     }
 }
 
-/// What comes of a run: its status, its text, and what was durable as each line of it began.
+/// The outcome of a run: its status, its text, and how many records were durable as each line of it began.
 #[derive(Drop)]
 struct WatchedRun {
     status: u8,
@@ -227,7 +229,7 @@ struct WatchedRun {
     durable_at: Vec<[usize; 2]>,
 }
 
-/// Runs the top call with these words, over a text in pieces of so many bytes and stores that fail at this sync.
+/// Runs the top call with these arguments, over a text in chunks of `piece` bytes and stores that fail at one sync.
 fn run_watched<R: AllocGlobal + Threads + Wait + Sync, G: Gate + Sync>(
     rt: &R,
     words: &str,
@@ -257,7 +259,7 @@ fn run_watched<R: AllocGlobal + Threads + Wait + Sync, G: Gate + Sync>(
     })
 }
 
-/// The words for so many callers.
+/// The arguments for this many callers.
 macro_rules! by_callers {
     ($callers:literal) => {
         concat!(
@@ -267,7 +269,7 @@ macro_rules! by_callers {
     };
 }
 
-/// The lines come in blocks of four at most, and then in one block.
+/// The lines come in blocks of at most four, and then in one block.
 #[test]
 fn tells_the_gate_of_each_line_once(rt: HostRuntime) -> Result<(), Fail> {
     for words in [by_callers!("1"), by_callers!("3"), by_callers!("4")] {
@@ -282,7 +284,7 @@ fn tells_the_gate_of_each_line_once(rt: HostRuntime) -> Result<(), Fail> {
     Ok(())
 }
 
-/// The shard and the position of the record that an answer newly made.
+/// The shard and the position of the record that an answer added.
 fn new_record(answer: &str) -> Option<(usize, usize)> {
     let mut words = answer.split(' ');
     if !matches!(words.next()?, "fresh" | "queued" | "set") {
@@ -293,7 +295,7 @@ fn new_record(answer: &str) -> Option<(usize, usize)> {
     Some((shard, position))
 }
 
-/// How many answers of a run made a record, if each of these was durable before its answer began.
+/// How many answers of a run added a record, if each of these records was durable before its answer began.
 fn answered_once_durable(run: &WatchedRun) -> Option<usize> {
     let mut recorded = 0usize;
     for (answer, durable) in run.text.as_str().lines().zip(run.durable_at.iter()) {

@@ -1,4 +1,5 @@
-//! Worked rows: runs with their words, configuration, request lines, journal and failing calls, and what comes of each.
+//! Worked rows: runs with their arguments, configuration, request lines, journal and failing calls, and the expected
+//! outcome of each.
 //!
 //! The rows are in groups, since the checker writes out a whole table wherever it is named.
 
@@ -548,7 +549,7 @@ fn journals_found() -> &'static [Run] {
     &JOURNALS
 }
 
-/// Words that are no command, and configurations with a broken place.
+/// Arguments that are no command, and configurations with a fault.
 static SETTINGS: [Run; 10] = [
     Run {
         name: "words that are no command",
@@ -651,7 +652,8 @@ fn worlds() -> &'static [Run] {
     &WORLDS
 }
 
-/// Whether a run comes to what is expected of it. The journals are those that the run before left, unless it begins with its own.
+/// Whether a run has the expected outcome. The journals are those that the run before left, unless it begins with its
+/// own.
 fn comes_to_the_expected<R: AllocGlobal + Threads + Wait + Sync>(
     rt: &R,
     run: &Run,

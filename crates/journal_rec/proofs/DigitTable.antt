@@ -1,4 +1,4 @@
--- The table of the digits' values is the tabulation of what a digit's value is.
+-- The table of the digits' values tabulates `digit_value`.
 use Rattle.std.proofs.Common.{◌≡◌, ℕ, ◌<◌, ◌≤◌, get_or, map, Option, Some, None, refl, ap, ◌∙◌, unwrap_or, ◌==◌, lit≤, arith}
 use Rattle.std.proofs.lemmas.List.FromFn.{get_or-map-range_with_len}
 use Rattle.std.proofs.lemmas.List.Quantifiers.{position-Some}

@@ -1,4 +1,4 @@
--- Readers that read just what was written, and join.
+-- Readers that read exactly what was written, and how they combine.
 use Rattle.std.proofs.Common.{◌≡◌, ℕ, List, [], ◌∷◌, ◌++◌, Option, Some, None, option_map, option_and_then, refl, sym, ap, subst, ◌∙◌, append_assoc}
 use Rattle.std.proofs.lemmas.Option.{same_Some}
 use Rattle.journal_rec.specs.Reading.{Reader, given, ◌>>=◌, ◌>>◌}

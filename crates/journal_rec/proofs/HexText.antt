@@ -1,4 +1,4 @@
--- Digits spell just the bytes whose hexadecimal text they are.
+-- Digits spell exactly the bytes whose hexadecimal text they are.
 use Rattle.std.proofs.Common.{◌≡◌, ℕ, zero, suc, ◌+◌, ◌*◌, ◌/◌, ◌%◌, ◌<◌, ◌==◌, List, [], ◌∷◌, ◌++◌, get_or, slice_index, map, Option, Some}
 use Rattle.std.proofs.Common.{None, option_map, refl, sym, ap, ap₂, subst, ◌∙◌, lit<, arith}
 use Rattle.std.proofs.lemmas.Bool.{eqb-true}

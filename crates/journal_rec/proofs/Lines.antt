@@ -1,4 +1,4 @@
--- What reading a line as a record comes to.
+-- What parsing a line as a record returns.
 use Rattle.std.proofs.Common.{◌≡◌, List, ℕ, [], ◌∷◌, ◌++◌, Option, Some, None, Result, Ok, option_map, refl, sym, ap, ◌∙◌}
 use Rattle.std.proofs.lemmas.List.{append-nil, same_from_push}
 use Rattle.std.specs.Option.{ok_or}

@@ -1,4 +1,4 @@
--- The bytes of an account number, from its digits and what fills it up.
+-- The bytes of an account number, from its digits and its padding.
 use Rattle.std.proofs.Common.{◌≡◌, ℕ, ◌+◌, ◌*◌, ◌<◌, ◌≤◌, List, [], ◌∷◌, ◌++◌, length, get_or, drop, replicate, All, IsTrue, sym, ap, ◌∙◌}
 use Rattle.std.proofs.Common.{append_assoc, arith, lit<}
 use Rattle.std.proofs.lemmas.List.{append-nil, drop_all, get_or_default}

@@ -1,4 +1,4 @@
--- The text of an account number: a digit for each of its digits, and `f` behind them.
+-- The text of an account number: a digit for each of its digits, and `f` after them.
 use Rattle.std.proofs.Common.{◌≡◌, ℕ, zero, suc, ◌+◌, ◌-◌, ◌*◌, ◌/◌, ◌%◌, ◌<◌, ◌≤◌, ◌==◌, Bool, true, false, cond, leb, le-leb, List, []}
 use Rattle.std.proofs.Common.{◌∷◌, ◌++◌, length, get_or, drop, map, replicate, Some, None, IsTrue, refl, sym, ap, ap₂, subst, ◌∙◌, inl, inr}
 use Rattle.std.proofs.Common.{lit<, arith, length-append}

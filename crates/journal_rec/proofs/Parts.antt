@@ -1,4 +1,4 @@
--- The fields of a request are read just where their text stands.
+-- The fields of a request are read exactly where the text is theirs.
 use Rattle.std.proofs.Common.{◌≡◌, ℕ, zero, suc, ◌/◌, ◌%◌, ◌<◌, ◌^◌, List, [], ◌∷◌, ◌++◌, length, map, Some, IsTrue, refl, sym, ap, ap₂}
 use Rattle.std.proofs.Common.{subst, arith, lit<}
 use Rattle.std.proofs.lemmas.List.{append-nil}

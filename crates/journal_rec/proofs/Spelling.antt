@@ -1,4 +1,4 @@
--- Spelling bytes one pair of digits after another.
+-- Decoding bytes one pair of digits after another.
 use Rattle.std.proofs.Common.{◌≡◌, ℕ, ◌+◌, ◌*◌, ◌<◌, ◌≤◌, List, [], ◌∷◌, ◌++◌, length, get_or, set, take, drop, Option, Some, None}
 use Rattle.std.proofs.Common.{option_map, option_and_then, refl, sym, ap, ◌∙◌, append_assoc, suc, ◌/◌, ◌%◌, leb, le-leb, true, false}
 use Rattle.std.proofs.Common.{if◌then◌else◌, arith}

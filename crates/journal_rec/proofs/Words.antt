@@ -1,4 +1,4 @@
--- Each part of a line is read just where its text stands.
+-- Each part of a line is read exactly where the text is its own.
 use Rattle.std.proofs.Common.{◌≡◌, ℕ, suc, ◌*◌, ◌/◌, ◌%◌, ◌^◌, ◌<◌, ◌≤◌, ◌==◌, true, leb, le-leb, List, [], ◌∷◌, ◌++◌, length, slice_index}
 use Rattle.std.proofs.Common.{take, drop, Some, None, IsTrue, if◌then◌else◌, eq-eqb, zero, refl, sym, ap, ap₂, subst, ◌∙◌, lit<, arith}
 use Rattle.std.proofs.Common.{length-append}

@@ -1,4 +1,4 @@
--- How a line is read, one part after another.
+-- How a line is parsed, one part after another.
 use Rattle.std.specs.Prelude.{ℕ, ◌+◌, ◌-◌, ◌*◌, Bool, true, false, ◌==◌, nat_le, if◌then◌else◌, List, [], ◌∷◌, length, take, drop}
 use Rattle.std.specs.Prelude.{map, position, take_while, slice_index, Option, Some, None, option_and_then, option_map}
 use Rattle.std.specs.Char.{is_ascii_digit}
@@ -16,7 +16,7 @@ use Rattle.secure_msg.specs.Commands.{command_of}
 use Rattle.journal_rec.specs.declared.limits.TheConstants.{COMMAND_BYTES, PAN_DIGITS}
 use Rattle.journal_rec.specs.RecordText.{space}
 
--- what is read from the front of a line, and what is left of it
+-- what is read from the start of a text, and the remainder
 abbrev pub Reader : Type 0 → Type 0
 Reader X = List ℕ → Option (X × List ℕ)
 
@@ -30,7 +30,7 @@ infixl 10 ◌>>◌
 abbrev pub ◌>>◌ : {A B : Type 0} → Reader A → Reader B → Reader B
 read >> next = read >>= λ _. next
 
--- what is known already, if anything is
+-- reads nothing, and returns this value, if there is one
 abbrev pub given : {X : Type 0} → Option X → Reader X
 given found left = option_map (λ x. (x, left)) found
 
@@ -48,15 +48,15 @@ spelled [] = Some []
 spelled (digit ∷ []) = None
 spelled (high ∷ low ∷ digits) = option_and_then (λ byte. option_map (λ bytes. byte ∷ bytes) (spelled digits)) (byte_of high low)
 
--- the same where there are at most so many bytes
+-- the bytes that pairs of digits spell, if they are at most this many
 abbrev pub spelled_within : ℕ → List ℕ → Option (List ℕ)
 spelled_within most digits = option_and_then (λ bytes. if nat_le (length bytes) most then Some bytes else None) (spelled digits)
 
--- so many bytes of the line as they stand
+-- this many bytes of the line, undecoded
 unfoldable pub piece_at : ℕ → Reader (List ℕ)
 piece_at count left = if nat_le count (length left) then Some (take count left, drop count left) else None
 
--- one byte as it stands
+-- one byte, undecoded
 unfoldable pub next_at : Reader ℕ
 next_at [] = None
 next_at (byte ∷ left) = Some (byte, left)
@@ -72,7 +72,7 @@ unfoldable pub end_at : Reader (Unit {0})
 end_at [] = Some (tt, [])
 end_at (byte ∷ left) = None
 
--- so many bytes in hexadecimal
+-- this many bytes in hexadecimal
 unfoldable pub bytes_at : ℕ → Reader (List ℕ)
 bytes_at count = do
   digits ← piece_at (2 * count)
@@ -90,17 +90,17 @@ counter_at = do
   bytes ← bytes_at 2
   given (Some (from_be_bytes w16 bytes))
 
--- all that is left, at most so many bytes in hexadecimal
+-- the whole remainder, at most this many bytes in hexadecimal
 unfoldable pub rest_at : ℕ → Reader (List ℕ)
 rest_at most left = option_map (λ bytes. (bytes, [])) (spelled_within most left)
 
--- the account number of decimal digits, where nothing but `f`, 102, stands behind them
+-- the account number of the leading decimal digits, if only `f`, 102, follows them
 unfoldable pub pan_of : List ℕ → Option (List ℕ)
 pan_of text =
     let digits = take_while is_ascii_digit text in
     if list_all (λ byte. byte == 102) (drop (length digits) text) then pan_from (map (λ digit. digit - 48) digits) else None
 
--- an account number, as it stands in a line
+-- an account number in a line
 unfoldable pub pan_at : Reader (List ℕ)
 pan_at = do
   text ← piece_at PAN_DIGITS
@@ -168,7 +168,7 @@ reply_at = do
   bytes ← rest_at MAX_REPLY_BYTES
   given (if nat_le 1 (length bytes) then Some (record { arc = arc; approve = approve; bytes = record { items = bytes } }) else None)
 
--- a decided request, behind its letter
+-- a decided request, after its letter
 unfoldable pub decided_at : Reader Entry
 decided_at = do
   mark_at space
@@ -183,7 +183,7 @@ psn_at = do
   psn ← byte_at
   given (if is_bcd psn then Some psn else None)
 
--- an account and sequence number, each behind a space, and a space
+-- an account and sequence number, each after a space, and a space
 unfoldable pub card_at : Reader (List ℕ × ℕ)
 card_at = do
   mark_at space
@@ -193,21 +193,21 @@ card_at = do
   mark_at space
   given (Some (pan, psn))
 
--- a queued command, behind its letter
+-- a queued command, after its letter
 unfoldable pub queued_at : Reader Entry
 queued_at = do
   card ← card_at
   bytes ← rest_at COMMAND_BYTES
   given (option_map (λ command. Queued card.0 card.1 command) (command_of bytes))
 
--- a status, behind its letter
+-- a status, after its letter
 unfoldable pub status_at : Reader Entry
 status_at = do
   card ← card_at
   digit ← next_at
   given (if is_ascii_digit digit then Some (Status card.0 card.1 (digit - 48)) else None)
 
--- a record behind its letter: 100 is `d`, 113 is `q` and 115 is `s`
+-- a record after its letter: 100 is `d`, 113 is `q` and 115 is `s`
 abbrev pub behind_letter : ℕ → Reader Entry
 behind_letter letter =
     if letter == 100 then decided_at
@@ -215,7 +215,7 @@ behind_letter letter =
     else if letter == 115 then status_at
     else given None
 
--- a record, and nothing behind it
+-- a record, and nothing after it
 unfoldable pub entry_at : Reader Entry
 entry_at = do
   letter ← next_at

@@ -24,7 +24,7 @@ packed [] = []
 packed (nibble ∷ []) = []
 packed (high ∷ low ∷ nibbles) = (16 * high + low) ∷ packed nibbles
 
--- an account number in ten bytes: its digits, and nibbles F behind them: EMV 4.3 Book 3, Annex A, tag 5A
+-- an account number in ten bytes: its digits, padded at the end with nibbles F: EMV 4.3 Book 3, Annex A, tag 5A
 unfoldable pub pan_bytes : List ℕ → List ℕ
 pan_bytes pan = packed (pan ++ replicate (PAN_DIGITS - length pan) 0x0F)
 
@@ -62,7 +62,7 @@ words_of (Queued pan psn command) =
 words_of (Status pan psn status) =
     codes "s" ∷ encode_lower (pan_bytes pan) ∷ encode_lower (psn ∷ []) ∷ decimal status ∷ []
 
--- the text of a record: its words, parted by one space, and a newline
+-- the text of a record: its words, separated by one space, and a newline
 unfoldable pub text_of : Entry → List ℕ
 text_of entry = join_with_byte space (words_of entry) ++ newline ∷ []
 
@@ -74,6 +74,6 @@ texts_of entries = flat_map text_of entries
 abbrev pub IsUnbroken : List ℕ → Type 0
 IsUnbroken text = All (λ byte. byte ≢ newline) text
 
--- one line: a newline at its end and none before
+-- one line: a newline at its end, and none before
 abbrev pub IsLine : List ℕ → Type 0
 IsLine text = (front : List ℕ) × IsUnbroken front × (text ≡ front ++ newline ∷ [])

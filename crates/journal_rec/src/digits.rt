@@ -5,7 +5,7 @@ ghost use Rattle.journal_rec.specs.Reading.{byte_of, digit_value, spelled, spell
 
 use arrayvec::ArrayVec;
 
-/// What the table has for a byte that is no digit: more than a byte that two digits spell.
+/// The table's value for a byte that is no digit: greater than any byte that two digits spell.
 const NONE: u16 = 256;
 
 /// The value of each byte as a digit.
@@ -45,7 +45,8 @@ fn byte(high: u8, low: u8) -> Option<u8>
     Some(byte as u8)
 }
 
-/// Fills `out` with the bytes that the digits spell. Where they spell none, what is in `out` is not specified.
+/// Decodes the digits into `out`. If they aren't all digits, returns `false`, and the contents of `out` are
+/// unspecified.
 pub(crate) fn decode_into(digits: &[u8], out: &mut [u8]) -> bool
     requires { length digits.now ≡ 2 * length out.old }
     ensures { (if result then Some out.new else None) ≡ spelled digits.now }
@@ -59,7 +60,7 @@ pub(crate) fn decode_into(digits: &[u8], out: &mut [u8]) -> bool
     true
 }
 
-/// The bytes that the digits spell, where there is room for them.
+/// The bytes that the digits spell, or `None` if they spell none or more than `CAP`.
 pub(crate) fn decode<const CAP: usize>(digits: &[u8]) -> Option<ArrayVec<u8, CAP>>
     ensures { option_map (λ bytes. bytes.items) result ≡ spelled_within CAP digits.now }
 {
@@ -78,7 +79,8 @@ pub(crate) fn decode<const CAP: usize>(digits: &[u8]) -> Option<ArrayVec<u8, CAP
     Some(bytes)
 }
 
-/// Writes the digits of the bytes. The digits come from sums, not from a table, so that several bytes are done at once.
+/// Encodes the bytes as digits. Digits are computed by sums, not read from a table, so that the compiler can vectorise
+/// the loop.
 pub(crate) fn encode_into(bytes: &[u8], out: &mut [u8])
     requires { length out.old ≡ 2 * length bytes.now }
     ensures digits { out.new ≡ encode_lower bytes.now }

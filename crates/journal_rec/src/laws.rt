@@ -1,4 +1,4 @@
-//! What holds of the texts of records, for whoever keeps them one behind another.
+//! Laws of the texts of records, for code that stores them one after another.
 ghost use Rattle.std.specs.Prelude.{◌≡◌, ◌≤◌, ℕ, List, [], ◌++◌, All, length};
 ghost use Rattle.issuer_base.specs.declared.entry.Entry.{Entry};
 ghost use Rattle.journal_rec.specs.RecordText.{IsLine, IsUnbroken, text_of, texts_of};
@@ -13,13 +13,13 @@ pub fn a_text_is_one_line()
     ensures most { (entry : Entry) → IsRecord entry → length (text_of entry) ≤ MOST_RECORD_BYTES }
 {}
 
-/// No record's text begins another's: where it does, the records are the same and nothing follows.
+/// No record's text is a proper prefix of another's: if it is a prefix, the records are the same and nothing follows.
 pub fn no_text_begins_another()
     ensures { (entry other : Entry) (rest : List ℕ) → IsRecord entry → IsRecord other
         → text_of entry ++ rest ≡ text_of other → (entry ≡ other) × (rest ≡ []) }
 {}
 
-/// A text of records, and behind them the torn front of a line, has one reading.
+/// A text of records, and then a torn last line or none, has only one reading.
 pub fn a_text_has_one_reading()
     ensures { (entries others : List Entry) (rest other_rest : List ℕ) → All IsRecord entries → All IsRecord others
         → IsUnbroken rest → IsUnbroken other_rest

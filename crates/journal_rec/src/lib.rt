@@ -1,5 +1,5 @@
-//! The records of a journal as lines of text: each is written by one text, and a line is read as the record whose text it is
-//! or as none. No call takes memory.
+//! The records of a journal as lines of text. Each record has one text, and a line is parsed as the record whose text
+//! it is, or refused. No call allocates.
 #![tactic(auto)]
 
 mod digits;

@@ -1,4 +1,4 @@
-//! A cursor over the bytes of a line.
+//! A cursor over the bytes of a line: each method parses one part, and moves past it.
 ghost use Rattle.std.specs.Prelude.{◌≡◌, ◌*◌, ◌^◌, ◌<◌, length, option_map, IfSome};
 ghost use Rattle.journal_rec.specs.Reading.{byte_at, bytes_at, counter_at, end_at, mark_at, next_at, pan_at, piece_at, rest_at};
 
@@ -9,7 +9,7 @@ use arrayvec::ArrayVec;
 use issuer_base::Pan;
 use std::marker::Model;
 
-/// What is left of a line that is being read.
+/// The unread remainder of a line.
 #[derive(Drop)]
 pub(crate) struct Line<'a> {
     left: &'a [u8],
@@ -30,7 +30,7 @@ impl<'a> Line<'a> {
         Line { left }
     }
 
-    /// The next `count` bytes as they stand.
+    /// The next `count` bytes, undecoded.
     #[tactic(auto, unfolding(crate::specs::Reading::piece_at))]
     pub(crate) fn piece(&mut self, count: usize) -> Option<&'a [u8]>
         ensures value { option_map (λ piece. (piece.now, self.new)) result ≡ piece_at count self.old }
@@ -71,7 +71,7 @@ impl<'a> Line<'a> {
         Some(u16::from_be_bytes(self.bytes()?))
     }
 
-    /// An account number: its digits, and `f` behind them.
+    /// An account number: its digits, padded at the end with `f`.
     #[tactic(auto, unfolding(crate::specs::Reading::pan_at))]
     pub(crate) fn pan(&mut self) -> Option<Pan>
         ensures { option_map (λ pan. (pan, self.new)) result ≡ pan_at self.old }
@@ -80,7 +80,7 @@ impl<'a> Line<'a> {
         Some(read_pan(text)?)
     }
 
-    /// The next byte as it stands.
+    /// The next byte, undecoded.
     #[tactic(auto, unfolding(crate::specs::Reading::next_at))]
     pub(crate) fn next(&mut self) -> Option<u8>
         ensures { option_map (λ byte. (byte, self.new)) result ≡ next_at self.old }
@@ -104,7 +104,7 @@ impl<'a> Line<'a> {
         Some(())
     }
 
-    /// All that is left, in hexadecimal, where there is room for it.
+    /// The whole remainder, in hexadecimal, if it has at most `CAP` bytes.
     #[tactic(auto, unfolding(crate::specs::Reading::rest_at))]
     pub(crate) fn rest<const CAP: usize>(&mut self) -> Option<ArrayVec<u8, CAP>>
         ensures { option_map (λ bytes. (bytes.items, self.new)) result ≡ rest_at CAP self.old }

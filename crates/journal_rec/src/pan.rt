@@ -10,7 +10,7 @@ use crate::limits::{PAN_BYTES, PAN_DIGITS};
 use arrayvec::ArrayVec;
 use issuer_base::Pan;
 
-/// The account number that these digits are, where nothing but `f` stands behind them.
+/// The account number of these digits, if only `f` follows its decimal digits.
 #[tactic(auto, unfolding(crate::specs::Reading::pan_of))]
 pub(crate) fn read_pan(text: &[u8]) -> Option<Pan>
     requires { length text.now ≡ PAN_DIGITS }

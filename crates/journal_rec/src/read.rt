@@ -1,4 +1,4 @@
-//! Reading a record from its line.
+//! The parser of a record's line.
 ghost use Rattle.std.specs.Prelude.{◌≡◌, ◌↔◌, option_map};
 ghost use Rattle.issuer_base.specs.declared.entry.Entry.{Entry};
 ghost use Rattle.journal_rec.specs.Record.{IsLineOf};
@@ -9,7 +9,7 @@ use crate::line::Line;
 use issuer_base::{Entry, NotEntry, Pan, Parts, Reply, Request, is_decimal};
 use secure_msg::read_command;
 
-/// The record of a line, which is given without its newline. `NotEntry` where the line is that of no record.
+/// Parses a line, without its newline, as a record. The error `NotEntry` means that the line is that of no record.
 pub fn read_entry(line: &[u8]) -> Result<Entry, NotEntry>
     ensures { (entry : Entry) → (result ≡ Ok entry) ↔ IsLineOf entry line.now }
 {
@@ -26,7 +26,7 @@ fn entry(line: &mut Line) -> Option<Entry>
     Some(entry)
 }
 
-// Each kind of line is read by a call of its own: inlined, each line would pay for the values of all three.
+// Each kind of line has a call of its own, since inlined, each line would pay for the values of all three.
 fn behind_letter(line: &mut Line, letter: u8) -> Option<Entry>
     ensures { option_map (λ entry. (entry, line.new)) result ≡ behind_letter letter line.old }
 {

@@ -15,11 +15,11 @@ use issuer_base::{Command, Entry, MAX_BODY_BYTES, MAX_REPLY_BYTES, Pan, Parts, R
 
 const NEWLINE: u8 = b'\n';
 
-/// How many digits a word of a line has at most: those of the longest reply.
+/// The most digits of a word of a line: those of the longest reply.
 const WORD_DIGITS: usize = 2 * MAX_REPLY_BYTES;
 
-/// The text of a record: its line, and the newline that ends it. The reply of a decided request has to have a byte, a
-/// sequence number has to be two decimal digits, a queued command one that the host sends, and a status 0 to 9.
+/// The text of a record: its line, and the newline that ends it. The reply of a decided request must not be empty. A
+/// sequence number must be two decimal digits, a queued command one that the host sends, and a status 0 to 9.
 pub fn write_entry(entry: &Entry) -> ArrayVec<u8, RECORD_ROOM>
     requires { IsTrue (is_record entry.now) }
     ensures text { result.items ≡ text_of entry.now }
@@ -32,8 +32,8 @@ pub fn write_entry(entry: &Entry) -> ArrayVec<u8, RECORD_ROOM>
     }
 }
 
-/// Writes the text of a decided request into an empty line: what [`write_entry`] gives for the entry with this request and reply.
-/// The reply has to have a byte.
+/// Writes the text of a decided request into an empty line: the text that [`write_entry`] returns for the entry with
+/// this request and reply. The reply must not be empty.
 #[tactic(auto, unfolding(crate::specs::RecordText::text_of))]
 pub fn write_decided(line: &mut ArrayVec<u8, RECORD_ROOM>, request: &Request, reply: &Reply)
     requires empty { line.old.items ≡ [] }
@@ -85,7 +85,7 @@ fn status_line(pan: &Pan, psn: u8, status: u8) -> ArrayVec<u8, RECORD_ROOM>
     line
 }
 
-/// The front of a line: a letter, and the card.
+/// The first words of a line: a letter, and the card.
 fn card_line(letter: u8, pan: &Pan, psn: u8) -> ArrayVec<u8, RECORD_ROOM>
     ensures text { result.items ≡ letter ∷ (32 ∷ encode_lower (pan_bytes pan.now) ++ 32 ∷ encode_lower (psn ∷ [])) }
     ensures room { array_vec_len result ≡ 25 }
@@ -111,7 +111,7 @@ fn command_bytes(command: &Command) -> ArrayVec<u8, COMMAND_BYTES>
     bytes
 }
 
-/// A space, and the bytes in hexadecimal.
+/// Appends a space, and the bytes in hexadecimal.
 fn put_word(line: &mut ArrayVec<u8, RECORD_ROOM>, bytes: &[u8])
     requires short { length bytes.now ≤ MAX_REPLY_BYTES }
     requires room { array_vec_len line.old + (2 * length bytes.now + 1) ≤ RECORD_ROOM }
@@ -126,7 +126,7 @@ fn put_word(line: &mut ArrayVec<u8, RECORD_ROOM>, bytes: &[u8])
     put(line, digits);
 }
 
-/// These bytes behind those that stand there.
+/// Appends these bytes.
 fn put<const CAP: usize>(out: &mut ArrayVec<u8, CAP>, bytes: &[u8])
     requires { array_vec_len out.old + length bytes.now ≤ CAP }
     ensures text { out.new.items ≡ out.old.items ++ bytes.now }
@@ -135,7 +135,7 @@ fn put<const CAP: usize>(out: &mut ArrayVec<u8, CAP>, bytes: &[u8])
     out.try_extend_from_slice(bytes).unwrap();
 }
 
-/// The fields of a request one behind another.
+/// The fields of a request, one after another.
 fn request_bytes(parts: &Parts) -> ArrayVec<u8, REQUEST_BYTES>
     ensures bytes { result.items ≡ request_bytes parts.now }
     ensures sizes { map length (request_fields parts.now) ≡ request_sizes }

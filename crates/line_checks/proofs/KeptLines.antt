@@ -1,4 +1,4 @@
--- A line reads as its kept bytes do, since no line of any form is as long.
+-- A truncated line reads as the whole line, since no line of any form is as long.
 use Rattle.std.proofs.Common.{◌≡◌, ℕ, ◌<◌, List, take, ap, arith}
 use Rattle.issuer_base.specs.declared.limits.TheConstants.{KEPT_BYTES}
 use Rattle.chip_request.proofs.LineLaws.{longest_line, line_of-kept}

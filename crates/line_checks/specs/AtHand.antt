@@ -1,4 +1,4 @@
--- What was found and derived when a line was checked.
+-- The card's number and the keys that the check of a line found and derived.
 use Rattle.std.specs.Prelude.{◌≡◌, ◌≤◌, ℕ, Some, true, IsTrue}
 use Rattle.issuer_base.specs.declared.limits.TheConstants.{MAX_STATUS}
 use Rattle.issuer_base.specs.declared.request.Request.{Request}
@@ -23,35 +23,35 @@ asked_of (Decide found) = AsksDecision found.request
 asked_of (Queue found) = AsksQueue found.pan found.psn found.command
 asked_of (Status found) = AsksStatus found.pan found.psn found.status
 
--- the number is that of the issuer's card of this name
+-- the number is that of the issuer's card with this name
 pub record IsCardAtHand (issuer : Setup) (name : CardName) (number : ℕ) : Type 0 where
   pub valid : AreCards issuer.cards
   pub number_is : number_of name issuer.cards ≡ Some number
 
--- the request asks to go online, and these are its card and the card's master keys from the key set that it names
+-- the request asks to go online; these are its card, and the card's master keys from the key set that the request names
 pub record HasKeysAtHand (issuer : Setup) (request : Request) (known : KnownCard) : Type 0 where
   pub card_is : IsCardAtHand issuer (card_of request) known.card
   pub online_is : is_arqc request ≡ true
   pub keys_are : keys_of issuer known.card request ≡ Some known.keys
 
--- the card is the issuer's that the request names, the keys are its master keys from the key set that the request names, and the session
--- key is that of these keys and the request's counter: EMV 4.3 Book 2, Annex A1.3.1
+-- these are the request's card, the card's master keys from the request's key set, and their session key of the ATC:
+-- EMV 4.3 Book 2, Annex A1.3.1
 pub record IsRequestAtHand (issuer : Setup) (found : CheckedRequest) : Type 0 where
   pub card_is : IsCardAtHand issuer (card_of found.request) found.card
   pub keys_are : keys_of issuer found.card found.request ≡ Some found.keys
   pub session_is : found.session ≡ session_ac found.keys.ac.0 found.request.atc
 
--- the command is one that the host sends
+-- the card is known, and the command is one that the host sends
 pub record IsCommandAtHand (issuer : Setup) (found : CheckedCommand) : Type 0 where
   pub card_is : IsCardAtHand issuer (named found.pan found.psn) found.card
   pub form_is : IsTrue (is_command found.command)
 
--- the status is one that a card can have
+-- the card is known, and the status is one that a card can have
 pub record IsStatusAtHand (issuer : Setup) (found : CheckedStatus) : Type 0 where
   pub card_is : IsCardAtHand issuer (named found.pan found.psn) found.card
   pub within : found.status ≤ MAX_STATUS
 
--- what a line asks is at hand with the number of its card, and a request with its keys
+-- what a line asks comes with its card's number, and a request also with its keys
 abbrev pub IsAtHand : Setup → Checked → Type 0
 IsAtHand issuer (Decide found) = IsRequestAtHand issuer found
 IsAtHand issuer (Queue found) = IsCommandAtHand issuer found

@@ -1,4 +1,4 @@
--- What a line says to an issuer: what it asks, or the first thing that is wrong.
+-- What a line asks of an issuer, or its first fault.
 use Rattle.std.specs.Prelude.{ℕ, Bool, List, Option, None, Some, Result, Ok, Err, if◌then◌else◌}
 use Rattle.std.specs.Str.{bytes_eq}
 use Rattle.issuer_base.specs.declared.command.Command.{Command}
@@ -23,7 +23,7 @@ use Rattle.secure_msg.specs.Commands.{command_of}
 use Rattle.issuer_setup.specs.CardList.{number_of}
 use Rattle.issuer_setup.specs.IssuerSetup.{Setup, keys_of}
 
--- what is wrong with chip data, as the refusal of their line
+-- the refusal of a line for a fault in its chip data
 abbrev pub refusal_of : RequestFault → Refusal
 refusal_of (IsTorn place) = BadTlv place
 refusal_of (Lacks tag) = Missing tag
@@ -39,22 +39,22 @@ abbrev pub under_keys : Option CardKeys → Request → Result Asked Refusal
 under_keys None request = Err (UnknownKey (dki request))
 under_keys (Some keys) request = if is_right keys request then Ok (Decide request) else Err BadCryptogram
 
--- a request is looked at further where its card is known and asks to go online
+-- a request is checked under its keys where its card is known and asks to go online
 abbrev pub of_card : Setup → Option ℕ → Request → Result Asked Refusal
 of_card issuer None request = Err UnknownCard
 of_card issuer (Some card) request =
     if is_arqc request then under_keys (keys_of issuer card request) request else Err NotArqc
 
--- a request to this issuer: of a card that it has, for an ARQC, with a key set that it has and the right cryptogram, looked at in this order
+-- a request's checks in their order: a known card, an ARQC, a known key set, the right cryptogram
 abbrev pub checked : Setup → Request → Result Asked Refusal
 checked issuer request = of_card issuer (number_of (card_of request) issuer.cards) request
 
--- what chip data say is checked, and what is wrong with them refuses their line
+-- the request in chip data is checked, and a fault in the data refuses their line
 abbrev pub checked_data : Setup → Result Request RequestFault → Result Asked Refusal
 checked_data issuer (Err fault) = Err (refusal_of fault)
 checked_data issuer (Ok request) = checked issuer request
 
--- a command is to wait for its card where the issuer has the card and the bytes are a command that the host sends
+-- a command is to be queued where the issuer has the card and the bytes are a command that the host sends
 abbrev pub command_for : CardName → Option ℕ → Option Command → Result Asked Refusal
 command_for name None command = Err UnknownCard
 command_for name (Some card) None = Err BadCommand
@@ -65,7 +65,7 @@ abbrev pub status_for : CardName → Option ℕ → ℕ → Result Asked Refusal
 status_for name None status = Err UnknownCard
 status_for name (Some card) status = Ok (Status name.pan name.psn status)
 
--- by the form of a line; a line of none is a bad one from this column on
+-- what a line asks, by its form; a line of no form is refused with the column from which it is wrong
 abbrev pub said_by : Setup → Result LineKind ℕ → Result Asked Refusal
 said_by issuer (Err column) = Err (BadLine column)
 said_by issuer (Ok (Ask bytes)) = checked_data issuer (request_of bytes.items)
@@ -74,6 +74,6 @@ said_by issuer (Ok (IsQueue pan psn bytes)) =
 said_by issuer (Ok (IsSet pan psn status)) =
     status_for (named pan psn) (number_of (named pan psn) issuer.cards) status
 
--- what a line says to this issuer
+-- what a line asks of this issuer
 abbrev pub reading : Setup → List ℕ → Result Asked Refusal
 reading issuer line = said_by issuer (line_of line)

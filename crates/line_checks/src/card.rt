@@ -12,7 +12,7 @@ use issuer_base::{MAX_STATUS, Pan, Refusal};
 use issuer_setup::Issuer;
 use secure_msg::read_command;
 
-/// The command that these bytes are, for the card with this account and sequence number.
+/// Parses the bytes as an issuer script command for the card with this account and sequence number.
 pub(crate) fn check_command(
     issuer: &Issuer,
     pan: Pan,
@@ -35,7 +35,7 @@ pub(crate) fn check_command(
     }))
 }
 
-/// This status, for the card with this account and sequence number.
+/// Checks a status for the card with this account and sequence number.
 pub(crate) fn check_status(
     issuer: &Issuer,
     pan: Pan,

@@ -1,4 +1,4 @@
-//! What passed every check of a line, with what was found and derived on the way.
+//! What a line that passed every check asks, with the card's number and the keys that the checks derived.
 
 use issuer_base::{Command, Pan, Request};
 use key_derive::{LazyKeys, SessionKey};
@@ -9,7 +9,7 @@ pub enum Checked {
     /// A request is to be decided.
     Decide(CheckedRequest),
 
-    /// A command is to wait for its card.
+    /// A command is to be queued for its card.
     Queue(CheckedCommand),
 
     /// A card is to have a status.
@@ -24,10 +24,12 @@ pub struct CheckedRequest {
     /// The number of its card.
     pub card: u32,
 
-    /// The card's master keys from the key set that the request names. The one for secure messages is derived when it is asked for.
+    /// The card's master keys from the key set that the request names. The one for secure messaging is derived on
+    /// demand.
     pub keys: LazyKeys,
 
-    /// The session key of the request's counter for cryptograms, set up once for the check and for the reply.
+    /// The application-cryptogram session key of the request's ATC. Its key schedule is computed once, for the check
+    /// and for the reply.
     pub session: SessionKey,
 }
 

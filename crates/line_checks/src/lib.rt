@@ -1,4 +1,5 @@
-//! What a line says to an issuer: what it asks, with what was found and derived for it, or the first thing that is wrong.
+//! The checks of a line by an issuer's cards and keys. The result is what the line asks, with its card's number and
+//! keys, or the first fault.
 #![tactic(auto)]
 
 mod card;

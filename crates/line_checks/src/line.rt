@@ -11,7 +11,7 @@ use chip_request::{LineForm, read_line_into};
 use issuer_base::{MAX_CHIP_BYTES, Refusal};
 use issuer_setup::Issuer;
 
-/// What a line, without its newline, asks of this issuer, or the first thing that is wrong with it. It takes no memory.
+/// What a line, without its newline, asks of this issuer, or its first fault. It doesn't allocate.
 pub fn check_line(issuer: &Issuer, line: &[u8]) -> Result<Checked, Refusal>
     ensures asked { result_map_both asked_of (λ refusal. refusal) result ≡ reading issuer.now line.now }
     ensures at_hand { IfOk result (IsAtHand issuer.now) }
@@ -24,9 +24,9 @@ pub fn check_line(issuer: &Issuer, line: &[u8]) -> Result<Checked, Refusal>
     }
 }
 
-/// As [`check_line`], with room of the caller's for the line's data, of which nothing counts before or after. The issuer keeps the key for
-/// cryptograms of the card that a request names, once the card, the kind of request and the key set are right: so the card's next
-/// request finds it set up. A contract sees no change of the issuer.
+/// As [`check_line`], using the caller's scratch buffer `data`; its contents before and after don't matter. If a
+/// request's card, kind and key set are right, the issuer caches the card's application-cryptogram key with its key
+/// schedule. The card's next request then reuses it. A contract sees no change of the issuer.
 #[inline(always)]
 pub fn check_line_in(
     issuer: &mut Issuer,

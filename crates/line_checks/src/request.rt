@@ -1,4 +1,4 @@
-//! The check of the request that chip data say.
+//! The check of the request in chip data.
 ghost use Rattle.std.specs.Prelude.{◌≡◌, ◌≤◌, length, Err, IfOk, IfErr};
 ghost use Rattle.std.specs.Result.{result_map_both};
 ghost use Rattle.card_history.specs.declared.decision.Asked.TheVariants.{Decide};
@@ -13,7 +13,7 @@ use issuer_base::{MAX_CHIP_BYTES, Refusal, Request};
 use issuer_setup::Issuer;
 use key_derive::LazyKeys;
 
-/// The request that these chip data say, checked by the issuer's cards and keys.
+/// Parses chip data as a request, and checks it by the issuer's cards and keys.
 #[inline(always)]
 pub(crate) fn check_data(issuer: &Issuer, bytes: &[u8]) -> Result<Checked, Refusal>
     requires { length bytes.now ≤ MAX_CHIP_BYTES }
@@ -25,7 +25,7 @@ pub(crate) fn check_data(issuer: &Issuer, bytes: &[u8]) -> Result<Checked, Refus
     Ok(Checked::Decide(found))
 }
 
-/// As [`check_data`], and the card's key for cryptograms is kept.
+/// As [`check_data`], and the issuer caches the card's application-cryptogram key.
 #[inline(always)]
 pub(crate) fn check_data_in(issuer: &mut Issuer, bytes: &[u8]) -> Result<Checked, Refusal>
     requires { length bytes.now ≤ MAX_CHIP_BYTES }
@@ -49,8 +49,8 @@ fn refusal_of(fault: RequestFault) -> Refusal
     }
 }
 
-/// The request, checked by the issuer's cards and keys: the card is known, it asks to go online, its key set is known, and its
-/// cryptogram is right. Its session key is set up once.
+/// Checks a request by the issuer's cards and keys. In this order: its card is known, it asks to go online, its key set
+/// is known, and its cryptogram is right. The key schedule of its session key is computed once.
 #[inline(always)]
 pub fn check_request(issuer: &Issuer, request: Request) -> Result<CheckedRequest, Refusal>
     ensures request { result_map_both (λ found. Decide found.request) (λ refusal. refusal) result ≡ checked issuer.now request }
@@ -60,7 +60,8 @@ pub fn check_request(issuer: &Issuer, request: Request) -> Result<CheckedRequest
     check_cryptogram(issuer, request, known)
 }
 
-/// As [`check_request`], and the card's key for cryptograms is kept before it is used, whether the cryptogram is right or not.
+/// As [`check_request`], and the issuer caches the card's application-cryptogram key before its use, whether the
+/// cryptogram is right or not.
 #[inline(always)]
 fn check_request_in(issuer: &mut Issuer, request: Request) -> Result<CheckedRequest, Refusal>
     ensures request { result_map_both (λ found. Decide found.request) (λ refusal. refusal) result ≡ checked issuer.old request }
@@ -80,7 +81,7 @@ pub(crate) struct KnownCard {
     pub(crate) keys: LazyKeys,
 }
 
-/// The card of a request that asks to go online, with a key set that is known.
+/// Looks up the card and the key set of a request, which must ask to go online.
 #[inline(always)]
 fn known_card(issuer: &Issuer, request: &Request) -> Result<KnownCard, Refusal>
     ensures known { IfOk result (λ known. HasKeysAtHand issuer.now request.now known) }
@@ -99,7 +100,7 @@ fn known_card(issuer: &Issuer, request: &Request) -> Result<KnownCard, Refusal>
     Ok(KnownCard { card, keys })
 }
 
-/// The request of a known card, where its cryptogram is right.
+/// Checks the cryptogram of a known card's request.
 #[tactic(auto, unfolding(cryptogram_in::specs::Cryptogram::application_cryptogram))]
 #[inline(always)]
 fn check_cryptogram(

@@ -1,4 +1,4 @@
--- In mid-line: what a call for the next line keeps while it reads on, and what each outcome makes of it.
+-- In mid-line: the invariant of a call for the next line, and how each outcome follows from it.
 use Rattle.std.proofs.Common.{◌≡◌, ℕ, ◌+◌, ◌-◌, ◌<◌, ◌≤◌, inl, inr, ⊎_elim, List, [], ◌∷◌, ◌++◌, length, take, false, cond, eqb, Option, refl, sym, ap, subst}
 use Rattle.std.proofs.Common.{◌∙◌, arith, append_assoc, append-nil}
 use Rattle.std.specs.Io.KnownBytes.{Consumes, Keeps, IsAtEnd}

@@ -1,4 +1,4 @@
--- Laws of the lines of a text: they are its whole lines and a last line, and they go on as the text does.
+-- Laws of the lines of a text: they are its whole lines and a last line, and a longer text extends them.
 use Rattle.std.proofs.Common.{◌≡◌, ◌≢◌, ℕ, ◌+◌, ◌<◌, ◌≤◌, List, [], ◌∷◌, ◌++◌, length, true, false, cond, eqb, refl, sym, ap, subst, ◌∙◌, arith, append_assoc}
 use Rattle.std.proofs.Common.{append-nil}
 use Rattle.std.specs.List.{AllByRecursion, flat_map}

@@ -1,4 +1,4 @@
--- Parts of a buffer: where the first newline stands, and how the line in hand grows.
+-- Parts of a buffer: the offset of the first newline, and how the current line grows.
 use Rattle.std.proofs.Common.{◌≡◌, ◌≢◌, ℕ, zero, suc, ◌+◌, ◌-◌, ◌<◌, ◌≤◌, min, Bool, true, false, nat_lt, List, [], ◌∷◌, ◌++◌, length, get_or, take, drop}
 use Rattle.std.proofs.Common.{Option, None, Some, MatchBool, MatchOption}
 use Rattle.std.proofs.Common.{sym, ap, subst, ◌∙◌, ⊎_elim, arith, eq-eqb, eqb, refl, append-nil}

@@ -1,4 +1,5 @@
--- A run of calls for the next line: which lines of the text were given, and what each outcome says of the text read so far.
+-- A run of calls for the next line: which lines of the text were returned, and what each outcome says of the text read
+-- so far.
 use Rattle.std.proofs.Common.{◌≡◌, ℕ, ◌<◌, ◌⊎◌, inl, inr, ⊎_elim, List, [], ◌∷◌, ◌++◌, length, Option, refl, ap, subst, ◌∙◌, arith, append-nil}
 use Rattle.std.specs.List.{flat_map}
 use Rattle.std.proofs.lemmas.List.{length-append}

@@ -1,9 +1,9 @@
--- The lines of a text: the pieces that newlines end, and what stands after the last newline, where that isn't empty.
+-- The lines of a text: each ends at a newline, and what follows the last newline is a line too, if it isn't empty.
 use Rattle.std.specs.Prelude.{◌≡◌, ◌≢◌, ℕ, ◌<◌, ◌==◌, List, [], ◌∷◌, ◌++◌, length, take, slice_index, if◌then◌else◌}
 use Rattle.std.specs.List.{AllByRecursion, flat_map}
 use Rattle.line_reader.specs.declared.limits.TheConstants.{NEWLINE}
 
--- a byte goes onto the front of the first line, and is a line where there is none
+-- a byte is prepended to the first line, or is a line of its own if there is none
 abbrev pub onto_first : ℕ → List (List ℕ) → List (List ℕ)
 onto_first byte [] = (byte ∷ []) ∷ []
 onto_first byte (line ∷ more) = (byte ∷ line) ∷ more
@@ -13,16 +13,16 @@ unfoldable pub lines : List ℕ → List (List ℕ)
 lines [] = []
 lines (byte ∷ bytes) = if byte == NEWLINE then [] ∷ lines bytes else onto_first byte (lines bytes)
 
--- what stands after the last newline is a line, if it isn't empty
+-- what follows the last newline is a line, if it isn't empty
 abbrev pub last_line : List ℕ → List (List ℕ)
 last_line [] = []
 last_line (byte ∷ bytes) = (byte ∷ bytes) ∷ []
 
--- no newline stands in these bytes
+-- these bytes have no newline
 abbrev pub IsUnbroken : List ℕ → Type 0
 IsUnbroken bytes = AllByRecursion (λ byte. byte ≢ NEWLINE) bytes
 
--- the first newline of these bytes stands at this place
+-- the first newline of these bytes is at this offset
 pub record IsFirstNewline (bytes : List ℕ) (place : ℕ) : Type 0 where
   pub within : place < length bytes
   pub unbroken : IsUnbroken (take place bytes)
@@ -32,12 +32,12 @@ pub record IsFirstNewline (bytes : List ℕ) (place : ℕ) : Type 0 where
 abbrev pub ended : List ℕ → List ℕ
 ended line = line ++ NEWLINE ∷ []
 
--- a text begins with these whole lines, each with its newline, and goes on with what is ahead
+-- a text is these whole lines, each with its newline, and then the unread bytes
 pub record BeginsWithLines (text : List ℕ) (whole : List (List ℕ)) (ahead : List ℕ) : Type 0 where
   pub joined : text ≡ flat_map ended whole ++ ahead
   pub each : AllByRecursion IsUnbroken whole
 
--- a text is these whole lines, each with its newline, and this rest, in which no newline stands
+-- a text is these whole lines, each with its newline, and then this remainder without a newline
 pub record IsLinesAndRest (text : List ℕ) (whole : List (List ℕ)) (rest : List ℕ) : Type 0 where
   pub begins : BeginsWithLines text whole rest
   pub unbroken : IsUnbroken rest

@@ -1,5 +1,5 @@
--- What a call for the next line does: a record for each outcome, of what the source had left before and after the call,
--- where it tells, and of the reader before and after it.
+-- The outcomes of a call for the next line: relations of what the source had left and of the reader, before and after.
+-- `was` and `now` are `None` for a source that doesn't report what it has left.
 use Rattle.std.specs.Prelude.{◌≡◌, ◌≢◌, ℕ, ◌+◌, Bool, true, false, List, [], ◌∷◌, ◌++◌, length, Option}
 use Rattle.std.specs.Io.KnownBytes.{Consumes, IsAtEnd}
 use Rattle.line_reader.specs.declared.limits.TheConstants.{NEWLINE}
@@ -8,7 +8,7 @@ use Rattle.line_reader.specs.declared.reader.NextLine.TheVariants.{Line, Rest, E
 use Rattle.line_reader.specs.Lines.{IsUnbroken}
 use Rattle.line_reader.specs.Reading.{Reading, kept, IsWithinLimits, StaysWithinLimits, PassesLimit}
 
--- a line is in hand as far as it is kept, and it and the bytes that it took are counted, within the limits
+-- the current line is this line, truncated; the line and its bytes are counted, within the limits
 pub record HasGiven (old new : Reading) (line : List ℕ) (taken : ℕ) : Type 0 where
   pub in_hand : new.line ≡ kept line
   pub one_more : new.lines ≡ old.lines + 1
@@ -20,7 +20,7 @@ pub record GivesNone (old new : Reading) : Type 0 where
   pub same_lines : new.lines ≡ old.lines
   pub same_bytes : new.bytes ≡ old.bytes
 
--- what was ahead and what the source gave is a line, its newline, and what is ahead now
+-- the unread bytes and those that the source gave are a line, its newline, and the bytes unread now
 pub record GivesLine (was now : Option (List ℕ)) (old new : Reading) : Type 0 where
   pub given : List ℕ
   pub line : List ℕ
@@ -29,7 +29,7 @@ pub record GivesLine (was now : Option (List ℕ)) (old new : Reading) : Type 0 
   pub unbroken : IsUnbroken line
   pub counted : HasGiven old new line (length line + 1)
 
--- what was ahead and what the source gave is a last line that isn't empty, and the source is at its end
+-- the unread bytes and those that the source gave are a last line that isn't empty, and the source is at its end
 pub record GivesRest (was now : Option (List ℕ)) (old new : Reading) : Type 0 where
   pub given : List ℕ
   pub line : List ℕ
@@ -41,7 +41,7 @@ pub record GivesRest (was now : Option (List ℕ)) (old new : Reading) : Type 0 
   pub none_ahead : new.ahead ≡ []
   pub counted : HasGiven old new line (length line)
 
--- nothing was ahead, and the source gave nothing and is at its end
+-- no byte was unread, and the source gave none and is at its end
 pub record ReachesEnd (was now : Option (List ℕ)) (old new : Reading) : Type 0 where
   pub given : List ℕ
   pub consumed : Consumes was now given
@@ -50,7 +50,7 @@ pub record ReachesEnd (was now : Option (List ℕ)) (old new : Reading) : Type 0
   pub none_ahead : new.ahead ≡ []
   pub none_given : GivesNone old new
 
--- the source failed, and what was ahead and what it gave before has no newline and goes past no limit
+-- the source failed; the unread bytes and those that it gave before have no newline and exceed no limit
 pub record StopsAtFault (was now : Option (List ℕ)) (old new : Reading) : Type 0 where
   pub given : List ℕ
   pub consumed : Consumes was now given
@@ -58,7 +58,7 @@ pub record StopsAtFault (was now : Option (List ℕ)) (old new : Reading) : Type
   pub within : StaysWithinLimits old.lines old.bytes (old.ahead ++ given)
   pub none_given : GivesNone old new
 
--- what was ahead and what the source gave goes past a limit, in the line after those that were given
+-- the unread bytes and those that the source gave exceed a limit, in the line after those that were returned
 pub record StopsAtLimit (was now : Option (List ℕ)) (old new : Reading) : Type 0 where
   pub given : List ℕ
   pub consumed : Consumes was now given

@@ -1,4 +1,4 @@
--- What a reader of lines has given and has in memory, and the limits of an input of lines.
+-- What a reader of lines has returned and has in memory, and the limits of an input of lines.
 use Rattle.std.specs.Prelude.{◌≡◌, ◌≢◌, ℕ, ◌+◌, ◌-◌, ◌<◌, ◌≤◌, ◌⊎◌, List, [], length, take}
 use Rattle.std.specs.List.{flat_map}
 use Rattle.issuer_base.specs.declared.limits.TheConstants.{KEPT_BYTES}
@@ -7,39 +7,40 @@ use Rattle.line_reader.specs.Lines.{IsUnbroken, BeginsWithLines, ended}
 
 -- a reader of lines, as its callers see it
 pub record Reading : Type 0 where
-  -- the bytes that were read and stand in no line that was given
+  -- the bytes that the source gave and that are in no line that was returned
   pub ahead : List ℕ
-  -- how many lines were given, and how many bytes these took with their newlines
+  -- how many lines were returned, and how many bytes these had with their newlines
   pub lines : ℕ
   pub bytes : ℕ
-  -- the line in hand, as far as it is kept
+  -- the current line, truncated
   pub line : List ℕ
 
 -- a reader that has read nothing
 abbrev pub unread : Reading
 unread = record { ahead = []; lines = 0; bytes = 0; line = [] }
 
--- a line as far as it is kept
+-- a truncated line
 abbrev pub kept : List ℕ → List ℕ
 kept line = take KEPT_BYTES line
 
--- so many lines, of so many bytes, are within the limits
+-- this many lines, of this many bytes, are within the limits
 pub record IsWithinLimits (lines bytes : ℕ) : Type 0 where
   pub lines_within : lines ≤ MAX_LINES
   pub bytes_within : bytes ≤ MAX_BYTES
 
--- so many lines of so many bytes are within the limits, and so are they with these bytes, in which no newline stands
+-- this many lines of this many bytes are within the limits, and stay so with these bytes of one more line
 pub record StaysWithinLimits (lines bytes : ℕ) (more : List ℕ) : Type 0 where
   pub lines_fit : lines ≤ MAX_LINES
   pub line_fits : more ≢ [] → lines < MAX_LINES
   pub bytes_fit : bytes + length more ≤ MAX_BYTES
 
--- after so many lines of so many bytes a line too many begins, or the next line has a byte too many before a newline
+-- after this many lines of this many bytes, a line too many begins, or the next line has a byte too many before a
+-- newline
 abbrev pub PassesLimit : ℕ → ℕ → List ℕ → Type 0
 PassesLimit lines bytes more =
     ((lines ≡ MAX_LINES) × (more ≢ [])) ⊎ (IsUnbroken (take (MAX_BYTES - bytes) more) × (MAX_BYTES - bytes < length more))
 
--- the reader has given these whole lines of the text that was read so far, the rest of which is ahead
+-- the reader has returned these whole lines of the text read so far; the remainder is unread
 pub record HasGivenLines (reading : Reading) (text : List ℕ) (whole : List (List ℕ)) : Type 0 where
   pub begins : BeginsWithLines text whole reading.ahead
   pub lines_counted : reading.lines ≡ length whole

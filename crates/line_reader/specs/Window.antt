@@ -1,4 +1,4 @@
--- The part of an input that is in memory: the line in hand, as far as it is kept, and the bytes ahead of it.
+-- The part of an input that is in memory: the current line, truncated, and the unread bytes after it.
 use Rattle.std.specs.Prelude.{◌≡◌, ℕ, ◌<◌, ◌≤◌, List, [], ◌∷◌, ◌++◌, length, take, slice_range, Option}
 use Rattle.std.specs.Io.KnownBytes.{Consumes, IsAtEnd}
 use Rattle.issuer_base.specs.declared.limits.TheConstants.{KEPT_BYTES}
@@ -9,20 +9,20 @@ use Rattle.line_reader.specs.declared.window.Passed.TheVariants.{ToNewline, All,
 use Rattle.line_reader.specs.Lines.{IsUnbroken}
 use Rattle.line_reader.specs.Reading.{kept}
 
--- the bytes ahead
+-- the unread bytes
 abbrev pub ahead_of : Window → List ℕ
 ahead_of w = slice_range w.bytes.items w.start w.end
 
--- the line in hand, as far as it is kept
+-- the current line, truncated
 abbrev pub line_of : Window → List ℕ
 line_of w = slice_range w.bytes.items w.line_start w.line_end
 
--- these bytes of the line in hand were passed, and what is ahead goes on with it
+-- these bytes of the current line were scanned, and the unread bytes extend it
 pub record HasPassed (w : Window) (passed : List ℕ) : Type 0 where
   pub in_hand : line_of w ≡ kept passed
   pub joined : length passed < KEPT_BYTES → w.line_end ≡ w.start
 
--- so many bytes, fewer than there is room for, and then a newline were passed
+-- this many bytes, fewer than there is room for, and then a newline were scanned
 pub record PassesNewline (old new : Window) (room count : ℕ) : Type 0 where
   pub more : List ℕ
   pub whole : ahead_of old ≡ more ++ NEWLINE ∷ ahead_of new
@@ -31,7 +31,7 @@ pub record PassesNewline (old new : Window) (room count : ℕ) : Type 0 where
   pub fits : count < room
   pub in_hand : (passed : List ℕ) → HasPassed old passed → line_of new ≡ kept (passed ++ more)
 
--- all that was ahead was passed, and there was room for it
+-- all unread bytes were scanned, and there was room for them
 pub record PassesAll (old new : Window) (room count : ℕ) : Type 0 where
   pub unbroken : IsUnbroken (ahead_of old)
   pub counted : length (ahead_of old) ≡ count
@@ -39,18 +39,18 @@ pub record PassesAll (old new : Window) (room count : ℕ) : Type 0 where
   pub none_ahead : ahead_of new ≡ []
   pub passed_on : (passed : List ℕ) → HasPassed old passed → HasPassed new (passed ++ ahead_of old)
 
--- as many bytes as there is room for have no newline, and more are ahead
+-- as many bytes as there is room for have no newline, and more are unread
 pub record LacksRoom (old : Window) (room : ℕ) : Type 0 where
   pub unbroken : IsUnbroken (take room (ahead_of old))
   pub more : room < length (ahead_of old)
 
--- what passing over the bytes ahead did
+-- what scanning the unread bytes did
 abbrev pub Passes : Window → Window → ℕ → Passed → Type 0
 Passes old new room (ToNewline count) = PassesNewline old new room count
 Passes old new room (All count) = PassesAll old new room count
 Passes old new room NoRoom = LacksRoom old room
 
--- a source gave what is ahead now, as many bytes as it says, and none only at its end
+-- a source gave the bytes unread now, as many as it says, and none only at its end
 pub record Gives (was now : Option (List ℕ)) (ahead : List ℕ) (count : ℕ) : Type 0 where
   pub consumed : Consumes was now ahead
   pub counted : length ahead ≡ count

@@ -1,4 +1,4 @@
-//! The lines of an input, read in pieces of any size into one buffer of a fixed size.
+//! The lines of an input, read in chunks of any size into one buffer of fixed size.
 #![tactic(auto)]
 
 mod laws;

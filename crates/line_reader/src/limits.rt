@@ -3,11 +3,11 @@
 /// The byte that ends a line.
 pub const NEWLINE: u8 = b'\n';
 
-/// How many lines an input may have.
+/// The most lines of an input.
 pub const MAX_LINES: u32 = 1_048_576;
 
-/// How many bytes an input may have.
+/// The most bytes of an input.
 pub const MAX_BYTES: u64 = 2_147_483_648;
 
-/// How many bytes of the input are in memory at most.
+/// The size in bytes of the buffer: no more of the input is in memory.
 pub const BUFFER_BYTES: usize = 524_288;

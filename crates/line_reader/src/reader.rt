@@ -1,4 +1,4 @@
-//! The lines of an input, one at a time, up to the limits of an input.
+//! A reader of an input's lines, one at a time, within the limits of an input.
 ghost use Rattle.std.specs.Prelude.{◌≡◌, ℕ, ◌-◌, ◌<◌, ◌≤◌, IfOk, MatchBool, if◌then◌else◌, ◌==◌};
 ghost use Rattle.issuer_base.specs.OutsideFaults.{CountsFaults};
 ghost use Rattle.line_reader.specs.declared.limits.TheConstants.{MAX_BYTES, MAX_LINES};
@@ -12,24 +12,25 @@ use issuer_base::{NoMemory, ReadFault, Source};
 use std::alloc::Global;
 use std::marker::Model;
 
-/// What comes next in an input of lines.
+/// What a call for the next line found.
 #[derive(Clone, Copy, PartialEq, Eq, Debug)]
 pub enum NextLine {
     /// A line that a newline ends.
     Line,
-    /// The last line, which isn't empty and which no newline ends.
+    /// The last line, which isn't empty and has no newline.
     Rest,
-    /// The input is at its end, and every byte of it stands in a line that was given.
+    /// The input is at its end, and every byte of it is in a line that was returned.
     End,
-    /// The source failed. Every line that stands whole in the bytes read was given.
+    /// The source failed. Every whole line of the bytes read was returned.
     Fault,
-    /// A byte stands past a limit, in the line after those given.
+    /// A byte is past a limit, in the line after those returned.
     TooLong,
 }
 
 /// Reads an input line by line, through one buffer of [`BUFFER_BYTES`](crate::BUFFER_BYTES).
 ///
-/// After [`NextLine::End`], [`NextLine::Fault`] or [`NextLine::TooLong`] nobody asks again.
+/// The reader is exhausted after [`NextLine::End`], [`NextLine::Fault`] or [`NextLine::TooLong`]; a later call is
+/// unspecified.
 #[derive(Drop)]
 pub struct LineReader {
     window: Window,
@@ -54,7 +55,7 @@ impl Model for LineReader {
 }
 
 impl LineReader {
-    /// A reader that gave no line yet, with all the memory that it ever takes.
+    /// A reader that has returned no line yet. Only this call allocates.
     pub fn new(alloc: Global) -> Result<Self, NoMemory>
         ensures { IfOk result (λ reader. reader ≡ unread) }
     {
@@ -65,14 +66,14 @@ impl LineReader {
         })
     }
 
-    /// The bytes of the line in hand without its newline, of which [`KEPT_BYTES`](issuer_base::KEPT_BYTES) at most are kept.
+    /// The current line without its newline, truncated to [`KEPT_BYTES`](issuer_base::KEPT_BYTES).
     pub fn line(&self) -> &[u8]
         ensures { result.now ≡ self.now.line }
     {
         self.window.line()
     }
 
-    /// How many lines were given: the number of the line in hand, counted from 1.
+    /// How many lines were returned: the number of the current line, counted from 1.
     pub fn number(&self) -> u32
         ensures lines { result ≡ self.now.lines }
         ensures within { result ≤ MAX_LINES }
@@ -80,14 +81,14 @@ impl LineReader {
         self.lines
     }
 
-    /// Whether a newline stands in what was read and isn't given yet, so that the next line is in hand without another read.
+    /// Whether the unread bytes in the buffer have a newline, so that the next line needs no read of the source.
     pub fn has_line(&self) -> bool
         ensures { MatchBool result ((place : ℕ) × IsFirstNewline self.now.ahead place) (IsUnbroken self.now.ahead) }
     {
         self.window.has_newline()
     }
 
-    /// Reads on to the end of the next line.
+    /// Reads the next line.
     pub fn next_line<S: Source>(&mut self, source: &mut S) -> NextLine
         ensures line { result ≡ NextLine.Line
             → GivesLine (S.left source.old) (S.left source.new) self.old self.new }
@@ -100,7 +101,7 @@ impl LineReader {
         ensures too_long { result ≡ NextLine.TooLong
             → StopsAtLimit (S.left source.old) (S.left source.new) self.old self.new }
 
-        // A fault is answered only where the source counted one.
+        // The outcome is `Fault` only if the source's fault counter increased.
         ensures count { CountsFaults (S.faults source.old) (S.faults source.new) (is_fault result) }
     {
         let room = room_after(self.lines, self.bytes);
@@ -131,7 +132,7 @@ impl LineReader {
     }
 }
 
-/// How many bytes the next line may have, its newline counted: none once all lines were given.
+/// How many bytes the next line may have, with its newline: 0 once the greatest number of lines was returned.
 fn room_after(lines: u32, bytes: u64) -> u64
     requires { bytes ≤ MAX_BYTES }
     ensures { result ≡ (if lines == MAX_LINES then 0 else MAX_BYTES - bytes) }

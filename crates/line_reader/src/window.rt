@@ -1,4 +1,4 @@
-//! The part of an input that is in memory: the line in hand, and the bytes ahead of it.
+//! The part of an input that is in memory: the current line, and the unread bytes after it.
 ghost use Rattle.std.specs.Prelude.{◌≡◌, ◌≢◌, ℕ, ◌+◌, ◌-◌, ◌<◌, ◌≤◌, List, [], ◌∷◌, ◌++◌, length, take, drop, vec_len, slice_index};
 ghost use Rattle.std.specs.Prelude.{is_err, IfOk, MatchBool, MatchOption, MatchResult};
 ghost use Rattle.std.specs.Io.KnownBytes.{Keeps};
@@ -12,13 +12,13 @@ use issuer_base::{KEPT_BYTES, ReadFault, Source};
 use memchr::{memchr, memrchr};
 use std::alloc::{AllocError, Global};
 
-/// What the bytes ahead say of the line in hand.
+/// What scanning the unread bytes found of the current line.
 pub(crate) enum Passed {
-    /// The line ends here: this many more bytes of it, and then its newline.
+    /// The line ends: this many more bytes of it, and then its newline.
     ToNewline(usize),
-    /// All that is ahead, this many bytes, is more of the line.
+    /// All unread bytes, this many, belong to the line.
     All(usize),
-    /// More of the line is ahead than there is room for.
+    /// The line needs more bytes than `room`.
     NoRoom,
 }
 
@@ -26,13 +26,13 @@ pub(crate) enum Passed {
 #[derive(Drop)]
 pub(crate) struct Window {
     bytes: Vec<u8>,
-    // The line in hand, as far as it is kept.
+    // The current line, truncated.
     line_start: usize,
     line_end: usize,
-    // The bytes ahead.
+    // The unread bytes.
     start: usize,
     end: usize,
-    // Where the last newline of what was read ends, or before what is ahead where that has none.
+    // The offset after the last newline of the bytes read; at most `start` if the unread bytes have none.
     last_end: usize,
     ghost sized: { vec_len bytes ≡ BUFFER_BYTES },
     ghost line_in_order: { line_start ≤ line_end },
@@ -68,7 +68,7 @@ impl Window {
         &self.bytes[self.line_start..self.line_end]
     }
 
-    /// An empty line in hand, which what is ahead goes on with.
+    /// Begins an empty current line, to which the unread bytes belong.
     pub(crate) fn begin_line(&mut self)
         ensures ahead { ahead_of self.new ≡ ahead_of self.old }
         ensures passed { HasPassed self.new [] }
@@ -77,7 +77,7 @@ impl Window {
         self.line_end = self.start;
     }
 
-    /// Passes over what is ahead, up to the end of the line in hand, where that needs at most `room` bytes.
+    /// Scans the unread bytes up to the end of the current line, if that needs at most `room` bytes.
     pub(crate) fn pass(&mut self, room: u64) -> Passed
         ensures { Passes self.old self.new room result }
     {
@@ -97,7 +97,7 @@ impl Window {
         }
     }
 
-    /// Takes the next `count` bytes ahead into the line in hand, as far as it is kept.
+    /// Moves the next `count` unread bytes into the current line, which stays truncated.
     fn take(&mut self, count: usize)
         requires { count ≤ length (ahead_of self.old) }
         ensures ahead { ahead_of self.new ≡ drop count (ahead_of self.old) }
@@ -109,14 +109,15 @@ impl Window {
         self.start += count;
     }
 
-    /// Whether a newline stands in what is ahead.
+    /// Whether the unread bytes have a newline.
     pub(crate) fn has_newline(&self) -> bool
         ensures { MatchBool result ((place : ℕ) × IsFirstNewline (ahead_of self.now) place) (IsUnbroken (ahead_of self.now)) }
     {
         self.start < self.last_end
     }
 
-    /// Reads on where nothing is ahead: the line in hand goes to the front, and what is read stands after it.
+    /// Reads from the source once no byte is unread. The current line moves to the start of the buffer, and the bytes
+    /// read follow it.
     pub(crate) fn fill<S: Source>(&mut self, source: &mut S) -> Result<usize, ReadFault>
         ensures passed { (passed : List ℕ) → HasPassed self.old passed → HasPassed self.new passed }
         ensures bytes { MatchResult result
@@ -131,7 +132,7 @@ impl Window {
         Ok(count)
     }
 
-    /// Moves the line in hand to the front of the buffer.
+    /// Moves the current line to the start of the buffer.
     fn move_to_front(&mut self)
         ensures line { line_of self.new ≡ line_of self.old }
         ensures front { self.new.line_start ≡ 0 }
@@ -150,7 +151,7 @@ impl Window {
     }
 }
 
-/// Where the last newline of these bytes ends, or 0.
+/// The offset after the last newline of these bytes, or 0.
 fn last_end(bytes: &[u8]) -> usize
     ensures within { result ≤ length bytes.now }
     ensures newline { 0 < result → slice_index bytes.now (result - 1) ≡ NEWLINE }
@@ -162,7 +163,7 @@ fn last_end(bytes: &[u8]) -> usize
     }
 }
 
-/// The place of the first newline among the first `room` bytes.
+/// The offset of the first newline in the first `room` bytes.
 fn first_newline(bytes: &[u8], room: u64) -> Option<usize>
     ensures { MatchOption result (IsUnbroken (take room bytes.now))
         (λ place. IsFirstNewline (take room bytes.now) place) }

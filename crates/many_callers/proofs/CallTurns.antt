@@ -1,4 +1,4 @@
--- What one call does to what its caller has seen of the logs, and what calls one after another do.
+-- How one call changes what its caller has seen of the logs, and how calls one after another do.
 use Rattle.std.proofs.Common.{◌≡◌, ◌⊎◌, ℕ, ◌<◌, List, [], ◌∷◌, length, Bool, eqb, Option, None, Some}
 use Rattle.std.proofs.Common.{Result, Ok, Err, refl, sym, ap, ◌∙◌, subst, inl, inr, arith}
 use Rattle.std.proofs.lemmas.Bool.{cases_eq}

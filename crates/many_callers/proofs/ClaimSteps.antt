@@ -1,5 +1,5 @@
--- What one call does to its caller's claims, and what calls one after another do: nothing is forgotten, and a claim is made for a line alone
--- that isn't told that its counter is pending.
+-- How one call changes its caller's claims, and how calls one after another do: no claim is lost, and a claim is made
+-- only for a line that isn't answered `Pending`.
 use Rattle.std.proofs.Common.{◌≡◌, ◌≢◌, ◌⊎◌, ℕ, suc, ◌≤◌, List, [], ◌∷◌, true, false, ◌&&◌, Option, None, Some}
 use Rattle.std.proofs.Common.{Result, Ok, Err, refl, sym, ap, ◌∙◌, subst, inl, inr, arith}
 use Rattle.issuer_base.specs.declared.answer.Answer.{Answer}

@@ -1,4 +1,4 @@
--- The transaction counter of a request that was read is of two bytes.
+-- The transaction counter of a parsed request has two bytes.
 use Rattle.std.proofs.Common.{◌≡◌, ℕ, ◌+◌, ◌*◌, ◌<◌, List, [], ◌∷◌, ◌++◌, replicate, Bool, cond, Option, None, Some, Result, Ok, Err}
 use Rattle.std.proofs.Common.{slice_index, length, refl, sym, ap, subst, arith, eqb, inl, inr}
 use Rattle.std.proofs.lemmas.Bool.{cases_Bool}

@@ -1,4 +1,4 @@
--- Where no log tells a fault, each counter that lines ask for is settled.
+-- If no log has a fault, each counter that lines ask for is settled.
 use Rattle.std.proofs.Common.{◌≡◌, ◌≢◌, ◌⊎◌, ℕ, zero, suc, ◌%◌, ◌<◌, ◌≤◌, List, [], ◌∷◌, length, true, ◌&&◌, eqb, Some}
 use Rattle.std.proofs.Common.{Result, Ok, Err, refl, sym, ap, ◌∙◌, subst, inl, inr, arith}
 use Rattle.std.proofs.lemmas.Bool.{cases_Bool, cases_lt, and_from, and_parts, eqb-true, eq-eqb, true≢false, le-leb, lt-ltb}

@@ -1,4 +1,4 @@
--- Decisions on a card's counter among the records of its shard, by what claims and tops tell of them.
+-- Decisions on a card's counter among the records of its shard, by what claims and tops show of them.
 use Rattle.std.proofs.Common.{◌≡◌, ◌⊎◌, ◌<◌, ℕ, zero, suc, max, List, [], ◌∷◌, Bool, true, false, ◌&&◌, eqb, ◌||◌}
 use Rattle.std.proofs.Common.{Contains, Option, None, Some, refl, sym, ap, ◌∙◌, inl, inr, arith}
 use Rattle.std.proofs.lemmas.Bool.{cases_lt, cases_Bool, and_parts, and_from, eqb-true, eq-eqb}

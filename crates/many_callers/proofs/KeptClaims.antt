@@ -1,4 +1,4 @@
--- The kept claims of a caller are decided records, and what tops told it stays.
+-- The kept claims of a caller are decided records, and what it read from tops stays.
 use Rattle.std.proofs.Common.{◌≡◌, ◌⊎◌, ◌≤◌, ◌<◌, ℕ, ◌%◌, List, [], ◌∷◌, length, Bool, true}
 use Rattle.std.proofs.Common.{Option, None, Some, Result, Ok, Err, refl, sym, ap, subst, ◌∙◌, inl, inr, arith}
 use Rattle.std.specs.List.{slice_get}

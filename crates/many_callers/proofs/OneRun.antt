@@ -1,4 +1,4 @@
--- The run of several callers: what is sure of all their answers.
+-- The run of several callers: what holds of all their answers.
 use Rattle.std.proofs.Common.{◌≡◌, ◌<◌, ℕ, zero, suc, ◌%◌, List, [], ◌∷◌, length, map, take, drop, Some, Ok, refl, sym, ap, subst, ◌∙◌, inl, inr, arith}
 use Rattle.std.proofs.lemmas.Bool.{cases_lt}
 use Rattle.std.proofs.lemmas.Option.{same_Some, slice_get_within}

@@ -1,4 +1,4 @@
--- The answers of a caller that tell of a record are as many as its own places with that record.
+-- The answers of a caller that name a record are as many as its own indices with that record.
 use Rattle.std.proofs.Common.{◌≡◌, ◌⊎◌, ℕ, ◌+◌, ◌<◌, List, [], ◌∷◌, ◌++◌, length, Bool, true, false, ◌&&◌, eqb, Option, None, Some}
 use Rattle.std.proofs.Common.{Result, refl, sym, ap, ◌∙◌, subst, inl, inr, arith, append_assoc}
 use Rattle.std.proofs.lemmas.Bool.{cases_eq, ne_eqb, and_left}

@@ -1,4 +1,4 @@
--- A line that is told that its counter is pending: what its caller had seen, and whose claim it was.
+-- A line that is answered `Pending`: what its caller had seen, and whose claim it was.
 use Rattle.std.proofs.Common.{◌≡◌, ◌≢◌, ℕ, ◌<◌, List, length, Bool, true, false, Some, Contains}
 use Rattle.std.proofs.Common.{Result, Ok, Err, refl, sym, ap, ◌∙◌, subst, arith}
 use Rattle.std.proofs.lemmas.List.Elements.{All-contains}

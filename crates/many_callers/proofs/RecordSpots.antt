@@ -1,4 +1,4 @@
--- At which place of a log's items each of its records stands.
+-- The index among a log's items of each of its records.
 use Rattle.std.proofs.Common.{◌≡◌, ℕ, zero, suc, ◌<◌, List, [], ◌∷◌, ◌++◌, length, true, false, ◌&&◌, eqb, leb, ltb, refl, sym, ◌∙◌, subst, arith}
 use Rattle.std.proofs.Math.Dec.{eqb-zero-suc, eqb-suc-zero, eqb-suc-suc, leb-suc-suc, leb-suc-zero}
 use Rattle.std.proofs.lemmas.Bool.{le-leb}

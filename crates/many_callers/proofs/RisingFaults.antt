@@ -1,4 +1,4 @@
--- Faults that are told are at most as many as the count of their store rose.
+-- The faults that are reported are at most the increase of their store's counter.
 use Rattle.std.proofs.Common.{ℕ, ◌+◌, ◌-◌, ◌^◌, ◌<◌, ◌≤◌, List, [], ◌∷◌, length, Bool, true, false, ◌&&◌, inl, inr, arith}
 use Rattle.issuer_base.specs.declared.answer.Answer.{Answer}
 use Rattle.issuer_setup.specs.IssuerSetup.{Setup}

@@ -1,5 +1,5 @@
--- The answers of a caller that tell that a shard's store failed are no fewer than its own places with a fault, and as many while the log has
--- fewer faults than it may have.
+-- The answers of a caller that report that a shard's store failed are no fewer than its own indices with a fault, and
+-- as many while the log has fewer faults than its limit.
 use Rattle.std.proofs.Common.{◌≡◌, ◌⊎◌, ℕ, ◌+◌, ◌<◌, ◌≤◌, List, [], ◌∷◌, length, Bool, true, false, ◌&&◌, eqb, Option, None, Some}
 use Rattle.std.proofs.Common.{Result, refl, sym, ap, ◌∙◌, subst, inl, inr, arith}
 use Rattle.std.proofs.lemmas.Bool.{cases_eq, ne_eqb, and_left}

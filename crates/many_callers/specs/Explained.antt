@@ -1,4 +1,5 @@
--- What is sure of the answers to several callers: by the histories at opening and at close, and by those that each caller has seen.
+-- What holds of the answers to several callers: by the histories at opening and at close, and by those that each caller
+-- has seen.
 use Rattle.std.specs.Prelude.{◌≡◌, ◌≢◌, ◌⊎◌, ℕ, suc, ◌+◌, ◌<◌, ◌≤◌, List, length, map, slice_get, Bool, Some, Result, Ok, Err}
 use Rattle.issuer_base.specs.declared.answer.Answer.{Answer}
 use Rattle.issuer_base.specs.declared.answer.Answer.TheVariants.{Fresh, Kept, Queued, Set, Refused}
@@ -48,7 +49,7 @@ pub record IsDecidedOn (card : CardName) (counter : ℕ) (history : List Entry) 
   pub card_is : card_of request ≡ card
   pub counter_is : request.atc ≡ counter
 
--- the record at the place is a decision on the request's card and counter, of another request
+-- the record at this index is a decision on the request's card and counter, of another request
 pub record IsTakenAt (request : Request) (history : List Entry) (place : ℕ) : Type 0 where
   pub other : Request
   pub reply : Reply
@@ -57,7 +58,7 @@ pub record IsTakenAt (request : Request) (history : List Entry) (place : ℕ) : 
   pub counter_is : other.atc ≡ request.atc
   pub apart : other ≢ request
 
--- at some time between these histories the card's queue took no command
+-- in some history between these, the card's queue takes no further command
 pub record WasFull (card : CardName) (first last : List Entry) : Type 0 where
   pub between : List Entry
   pub from_first : GoesOn first between
@@ -66,14 +67,14 @@ pub record WasFull (card : CardName) (first last : List Entry) : Type 0 where
 
 -- the answer to a request, by the first and the last history of its card's shard
 abbrev pub ExplainsRequest : ℕ → List Entry → List Entry → Request → Answer → Type 0
--- what was decided is a record of this run, and what is kept may be older
+-- `Fresh` names a record of this run, and `Kept` may name an older one
 ExplainsRequest shard first last request (Fresh at place reply) =
     (at ≡ shard) × (length first ≤ place) × (slice_get last place ≡ Some (Decided request reply))
 ExplainsRequest shard first last request (Kept at place reply) = (at ≡ shard) × (slice_get last place ≡ Some (Decided request reply))
--- the counter that was told is recorded, and shows that the request's is below the window
+-- the counter in the answer is recorded, and shows that the request's is below the window
 ExplainsRequest shard first last request (Refused (Below top)) = (request.atc + WINDOW ≤ top) × IsDecidedOn (card_of request) top last
 ExplainsRequest shard first last request (Refused (Taken at place)) = (at ≡ shard) × IsTakenAt request last place
--- another caller has claimed the counter, or the store failed: the histories needn't tell
+-- another caller has claimed the counter, or the store failed: the histories needn't show it
 ExplainsRequest shard first last request (Refused Pending) = Unit {0}
 ExplainsRequest shard first last request (Refused StoreFault) = Unit {0}
 -- no other answer is possible
@@ -94,8 +95,8 @@ ExplainsStatus shard first last card status (Set at place) =
 ExplainsStatus shard first last card status (Refused StoreFault) = Unit {0}
 ExplainsStatus shard first last card status _ = ⊥
 
--- the answer to a line that says this, by the first and the last history of each shard: a line that is refused as it is read has just
--- that refusal, and what another asks is explained in the shard of its card
+-- the answer to a line, by the first and the last history of each shard. A line that the checks refuse has exactly that
+-- refusal; any other line is explained in the shard of its card
 abbrev pub Explains : Setup → (ℕ → List Entry) → (ℕ → List Entry) → Result Asked Refusal → Answer → Type 0
 Explains issuer first last (Err refusal) answer = answer ≡ Refused refusal
 Explains issuer first last (Ok (Decide request)) answer =
@@ -109,23 +110,23 @@ Explains issuer first last (Ok (Status pan psn status)) answer =
 
 -- ---- the answers to one caller, by what it has seen
 
--- a turn in a shard: its history then begins with what the caller had seen of it, and the caller has seen what became of it; of the other
--- shards it has seen no more
+-- a turn in a shard, whose history extends what the caller had seen; the caller sees its change, and nothing new of
+-- other shards
 pub record SeesTurn (shard : ℕ) (Changes : List Entry → List Entry → Type 0) (before after : ℕ → List Entry) : Type 0 where
   pub between : List Entry
   pub goes_on : GoesOn (before shard) between
   pub changes : Changes between (after shard)
   pub others : (other : ℕ) → other ≢ shard → after other ≡ before other
 
--- a request was refused without a turn, as its card's top told
+-- a request was refused without a turn, by its card's top
 pub record IsToldBelow (request : Request) (answer : Answer) (before after : ℕ → List Entry) : Type 0 where
   pub top : ℕ
   pub answer_is : answer ≡ Refused (Below top)
   pub below : request.atc + WINDOW ≤ top
   pub same : (shard : ℕ) → after shard ≡ before shard
 
--- a line that says this is answered so, where its caller had seen the histories `before` and has then seen those `after`: at a turn the
--- answer is one that the history of the card's shard allows
+-- the answer to a line whose caller had seen the histories `before` and has then seen `after`; at a turn, the history
+-- of the card's shard allows it
 abbrev pub Sees : Setup → Result Asked Refusal → (ℕ → List Entry) → Answer → (ℕ → List Entry) → Type 0
 Sees issuer (Err refusal) before answer after = (answer ≡ Refused refusal) × ((shard : ℕ) → after shard ≡ before shard)
 Sees issuer (Ok (Decide request)) before answer after =
@@ -139,10 +140,10 @@ Sees issuer (Ok (Status pan psn status)) before answer after =
     SeesTurn (shard_of issuer (named pan psn))
     (λ old new. AnswersSetting (shard_of issuer (named pan psn)) old (named pan psn) status answer new) before after
 
--- one caller's answers are in order: there are histories that it has seen of each shard after each of its lines, from the first ones on; they only
--- go on, and the last ones go on from them; and each answer is one that they allow
+-- one caller's answers are in order: there are histories that it has seen after each line; each extends the one before,
+-- the last history extends them all, and they allow each answer
 pub record AreAnsweredInOrder (issuer : Setup) (first last : ℕ → List Entry) (lines : List (List ℕ)) (answers : List Answer) : Type 0 where
-  -- what it has seen of a shard after so many lines
+  -- what it has seen of a shard after this many lines
   pub seen : ℕ → ℕ → List Entry
   pub begins : seen 0 ≡ first
   pub goes_on : (count shard : ℕ) → count < length lines → GoesOn (seen count shard) (seen (suc count) shard)
@@ -152,7 +153,7 @@ pub record AreAnsweredInOrder (issuer : Setup) (first last : ℕ → List Entry)
 
 -- ---- all answers
 
--- what is sure of several callers' answers
+-- what holds of several callers' answers
 pub record AreExplained (issuer : Setup) (opening logs : List (Log LogItem LogHead)) (callers : List Caller) : Type 0 where
   -- each line was answered
   pub answered : (index : ℕ) (caller : Caller) → slice_get callers index ≡ Some caller → length caller.answers ≡ length caller.lines
@@ -170,10 +171,10 @@ pub record AreExplained (issuer : Setup) (opening logs : List (Log LogItem LogHe
       → IsAnswered issuer caller.lines caller.answers later other (Fresh shard at reply) → card_of other ≡ card_of request → other.atc ≢ top
   -- no counter of a card was decided twice, whether in this run or before
   pub once : IsOncePerCounter (histories_in logs)
-  -- each reply that was given is that of its record
+  -- each reply is that of its record
   pub recorded : (index place : ℕ) (caller : Caller) (request : Request) (answer : Answer) → slice_get callers index ≡ Some caller
       → IsAnswered issuer caller.lines caller.answers place request answer → IsOfItsRecord (histories_in logs) request answer
-  -- two replies to the same request are the same reply, whoever asked
+  -- two replies to the same request are the same reply, for any callers
   pub one_reply : (index other_index place other_place : ℕ) (caller other_caller : Caller) (request : Request) (answer other : Answer)
       (reply other_reply : Reply) → slice_get callers index ≡ Some caller → slice_get callers other_index ≡ Some other_caller
       → IsAnswered issuer caller.lines caller.answers place request answer

@@ -1,4 +1,4 @@
--- How many answers tell that a store failed, by how far its count of faults rose.
+-- How many answers report that a store failed, by the increase of its fault counter.
 use Rattle.std.specs.Prelude.{ℕ, ◌+◌, ◌-◌, ◌^◌, ◌<◌, ◌≤◌, List, length}
 use Rattle.issuer_base.specs.declared.limits.TheConstants.{MAX_FAULTS_TOLD}
 use Rattle.issuer_setup.specs.IssuerSetup.{Setup}
@@ -11,12 +11,12 @@ use Rattle.shard_turns.specs.ShardLogs.{faults_of, RiseTo}
 use Rattle.many_callers.specs.Callers.{Caller}
 use Rattle.many_callers.specs.OwnPlaces.{all_faults_told}
 
--- how many answers all callers were given
+-- how many answers all callers had
 abbrev pub all_answers : List Caller → ℕ
 all_answers callers = total (λ caller. length caller.answers) callers
 
--- where the faults of a shard's log rise from one count of its store to another, which isn't the last value, at most as many answers tell that
--- the store failed as the count rose, if the callers had fewer answers than a log may have faults
+-- if a log's faults rise between two values of its store's counter, the answers that report a fault are at most the
+-- increase; the counter isn't saturated, and the callers had fewer answers than a log may have faults
 abbrev pub AreFaultsCounted : Setup → List (Log LogItem LogHead) → List Caller → Type 0
 AreFaultsCounted issuer logs callers =
     (shard was is : ℕ) → shard < issuer.shards → RiseTo was (faults_of (items_at logs shard)) is → is < 2 ^ 64 - 1

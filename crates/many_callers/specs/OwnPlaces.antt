@@ -1,4 +1,4 @@
--- Which answers of all callers stand for which items of the logs: each record is one answer's, and so is each fault.
+-- Which answers of all callers belong to which items of the logs: each record is one answer's, and so is each fault.
 use Rattle.std.specs.Prelude.{◌≡◌, ◌≢◌, ℕ, ◌+◌, ◌<◌, ◌≤◌, List, ◌∷◌, length, slice_get, Bool, true, false, ◌==◌, ◌&&◌, Some, Result, Ok, Err}
 use Rattle.issuer_base.specs.declared.request.Request.{Request}
 use Rattle.issuer_base.specs.declared.answer.Answer.{Answer}
@@ -23,31 +23,31 @@ use Rattle.host_calls.specs.OneHistory.{IsAnswered}
 use Rattle.many_callers.specs.Callers.{Caller, IsAnsweredOn}
 use Rattle.many_callers.specs.Explained.{IsDecidedOn, history_at}
 
--- whether the answer tells of a new record at this place of this shard
+-- whether the answer names a new record at this index of this shard
 abbrev pub is_record_at : ℕ → ℕ → Answer → Bool
 is_record_at shard place (Fresh at here reply) = (at == shard) && (here == place)
 is_record_at shard place (Queued at here) = (at == shard) && (here == place)
 is_record_at shard place (Set at here) = (at == shard) && (here == place)
 is_record_at shard place _ = false
 
--- how many of the callers' answers do
+-- how many of the callers' answers name a new record at this index of this shard
 abbrev pub answers_at : ℕ → ℕ → List Caller → ℕ
 answers_at shard place callers = total (λ caller. how_many (is_record_at shard place) caller.answers) callers
 
--- whether what a line says is for a card of this shard
+-- whether what a line asks is for a card of this shard
 abbrev pub is_for : Setup → ℕ → Result Asked Refusal → Bool
 is_for issuer shard (Ok (Decide request)) = shard_of issuer (card_of request) == shard
 is_for issuer shard (Ok (Queue pan psn command)) = shard_of issuer (named pan psn) == shard
 is_for issuer shard (Ok (Status pan psn status)) = shard_of issuer (named pan psn) == shard
 is_for issuer shard (Err refusal) = false
 
--- how many of these answers to these lines tell that the store of this shard failed
+-- how many of these answers to these lines report that the store of this shard failed
 abbrev pub faults_told : Setup → ℕ → List (List ℕ) → List Answer → ℕ
 faults_told issuer shard (line ∷ lines) (answer ∷ answers) =
     one_if (is_for issuer shard (reading issuer line) && is_store_fault answer) + faults_told issuer shard lines answers
 faults_told issuer shard _ _ = 0
 
--- how many of all callers' answers do
+-- how many of all callers' answers report that the store of this shard failed
 abbrev pub all_faults_told : Setup → ℕ → List Caller → ℕ
 all_faults_told issuer shard callers = total (λ caller. faults_told issuer shard caller.lines caller.answers) callers
 
@@ -58,8 +58,8 @@ shows_record (Kept shard place reply) = true
 shows_record (Refused (Taken shard place)) = true
 shows_record _ = false
 
--- the line with this number of a caller is a request that passes, and is rightly told that its counter is pending: some line on the same card
--- and counter has another answer, the opening log has no decision on them, and no earlier line of the caller's showed one
+-- `Pending` is right for the line at this index of a caller, a request that passes the checks: some line on its counter
+-- has another answer, the opening log has no decision on it, and no earlier line of the caller showed one
 pub record IsPending (issuer : Setup) (opening : List (Log LogItem LogHead)) (callers : List Caller) (caller : Caller) (index : ℕ) : Type 0 where
   pub request : Request
   pub answered : IsAnswered issuer caller.lines caller.answers index request (Refused Pending)
@@ -69,26 +69,26 @@ pub record IsPending (issuer : Setup) (opening : List (Log LogItem LogHead)) (ca
       → IsAnswered issuer caller.lines caller.answers earlier other answer → card_of other ≡ card_of request → other.atc ≡ request.atc
       → shows_record answer ≡ false
 
--- the line with this number of a caller passes
+-- the line at this index of a caller passes the checks
 pub record Passes (issuer : Setup) (caller : Caller) (index : ℕ) : Type 0 where
   pub line : List ℕ
   pub line_is : slice_get caller.lines index ≡ Some line
   pub asked : Asked
   pub asked_is : reading issuer line ≡ Ok asked
 
--- what is sure of the callers' answers and the items of the logs
+-- what holds of the callers' answers and the items of the logs
 pub record AreOwnPlaces (issuer : Setup) (opening logs : List (Log LogItem LogHead)) (callers : List Caller) : Type 0 where
-  -- each place of a record past the opening log is told by just one answer, and no other place of the shard by any
+  -- exactly one answer names each record after the opening log, and none names another index of the shard
   pub places : (shard place : ℕ) → shard < issuer.shards
       → answers_at shard place callers
       ≡ between (length (history_at opening shard)) (length (history_at logs shard)) place
-  -- each answer that a counter is pending is right
+  -- each answer `Pending` is right
   pub pending : (number index : ℕ) (caller : Caller) → slice_get callers number ≡ Some caller → slice_get caller.answers index ≡ Some (Refused Pending)
       → IsPending issuer opening callers caller index
-  -- that a store failed is told of lines alone that pass
+  -- only lines that pass the checks are answered `StoreFault`
   pub passes : (number index : ℕ) (caller : Caller) → slice_get callers number ≡ Some caller → slice_get caller.answers index ≡ Some (Refused StoreFault)
       → Passes issuer caller index
-  -- each fault in a shard's log is told, and by just one answer while the log has fewer of them than it may have
+  -- each fault in a shard's log is reported, by exactly one answer while the log has fewer faults than its limit
   pub told : (shard : ℕ) → shard < issuer.shards → length (faults_of (items_at logs shard)) ≤ all_faults_told issuer shard callers
   pub told_once : (shard : ℕ) → shard < issuer.shards → length (faults_of (items_at logs shard)) < MAX_FAULTS_TOLD
       → all_faults_told issuer shard callers ≡ length (faults_of (items_at logs shard))

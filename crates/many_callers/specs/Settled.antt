@@ -1,4 +1,4 @@
--- What becomes of each counter that lines ask for, where no log tells a fault.
+-- The outcome of each counter that lines ask for, if no log has a fault.
 use Rattle.std.specs.Prelude.{◌≡◌, ◌≢◌, ◌⊎◌, ℕ, ◌<◌, List, [], slice_get, Bool, true, false, Some}
 use Rattle.issuer_base.specs.declared.answer.Answer.{Answer}
 use Rattle.issuer_base.specs.declared.answer.Answer.TheVariants.{Fresh, Refused}
@@ -16,7 +16,7 @@ use Rattle.host_calls.specs.OneHistory.{IsAnswered}
 use Rattle.many_callers.specs.Callers.{Caller, IsAnsweredOn}
 use Rattle.many_callers.specs.Explained.{IsDecidedOn, history_at}
 
--- no shard's log tells a fault
+-- no shard's log has a fault
 abbrev pub TellNoFault : Setup → List (Log LogItem LogHead) → Type 0
 TellNoFault issuer logs = (shard : ℕ) → shard < issuer.shards → faults_of (items_at logs shard) ≡ []
 
@@ -33,15 +33,15 @@ pub record IsDecidedNow (issuer : Setup) (callers : List Caller) (card : CardNam
   pub reply : Reply
   pub fresh : IsAnsweredOn issuer callers card counter (Fresh shard place reply)
 
--- each line on this counter of the card was told that it is too old or pending, and one of them that it is too old
+-- each line on this counter of the card was answered that it is too old or pending, and one of them that it is too old
 pub record IsLeft (issuer : Setup) (callers : List Caller) (card : CardName) (counter : ℕ) : Type 0 where
   pub each : (answer : Answer) → IsAnsweredOn issuer callers card counter answer → is_below_or_pending answer ≡ true
   pub top : ℕ
   pub below : IsAnsweredOn issuer callers card counter (Refused (Below top))
 
--- what is sure of several callers' answers where no log tells a fault
+-- what holds of several callers' answers if no log has a fault
 pub record AreSettled (issuer : Setup) (opening : List (Log LogItem LogHead)) (callers : List Caller) : Type 0 where
-  -- no answer is that a store failed
+  -- no answer reports that a store failed
   pub no_fault : (number index : ℕ) (caller : Caller) → slice_get callers number ≡ Some caller
       → slice_get caller.answers index ≢ Some (Refused StoreFault)
   -- each counter that a line asks for was decided before the run or in it, or left as too old

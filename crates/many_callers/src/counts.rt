@@ -1,4 +1,4 @@
-//! The law of the faults that several callers are told.
+//! The law of the faults that are reported to several callers.
 ghost use Rattle.std.specs.Prelude.{List};
 ghost use Rattle.issuer_setup.specs.IssuerSetup.{Setup};
 ghost use Rattle.turn_book.specs.declared.logs.Log.{Log};
@@ -7,8 +7,8 @@ ghost use Rattle.shard_turns.specs.declared.logs.LogHead.{LogHead};
 ghost use Rattle.many_callers.specs.Callers.{AreCallers, Caller};
 ghost use Rattle.many_callers.specs.FaultCounts.{AreFaultsCounted};
 
-/// At most as many answers tell that a shard's store failed as the store's count of faults rose, where that count doesn't stand at its last
-/// value and the callers had fewer than 2^62 answers.
+/// The answers that report a fault of a shard's store are at most the increase of the store's fault counter. This holds
+/// if the counter isn't saturated and the callers had fewer than 2^62 answers.
 ///
 /// The contract is a theorem on every run; the function does nothing.
 pub fn faults_are_counted()

@@ -7,8 +7,9 @@ ghost use Rattle.shard_turns.specs.declared.logs.LogHead.{LogHead};
 ghost use Rattle.many_callers.specs.Callers.{Caller, AreCallers};
 ghost use Rattle.many_callers.specs.Explained.{AreExplained};
 
-/// Whatever several callers ask of one host, and in whatever order their turns come: each answer is explained by the histories of the shards as they
-/// stand at opening and at close; each caller was answered by histories that only go on, one for each of its lines; and each request has one reply.
+/// Whatever several callers ask of one host, and in whatever order their turns come: the histories of the shards at
+/// opening and at close explain each answer. The answers to each caller come from histories of which each extends the
+/// one before, one for each of its lines. Each request has one reply.
 ///
 /// The contract is a theorem on every run; the function does nothing.
 pub fn every_answer_is_explained()

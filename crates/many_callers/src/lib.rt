@@ -1,10 +1,12 @@
-//! What the calls of several callers at one host come to: the laws of a whole run, from the opening of its logs to the closing of the host.
+//! The laws of a whole run of several callers at one host, from the opening of its logs to the close of the host.
 //!
-//! This crate is definitions and their proofs alone. `specs/Callers.antt` says what a run of several callers is, and `specs/Explained.antt` what is
-//! sure of its answers: it is the contract of [`every_answer_is_explained`]. `specs/OwnPlaces.antt` says which answers tell of which records
-//! and faults of the logs: it is the contract of [`every_record_is_one_answers`]. `specs/Settled.antt` says what becomes of each counter where no
-//! log tells a fault: it is the contract of [`every_counter_is_settled`]. `specs/FaultCounts.antt` says how many answers tell that a store failed:
-//! it is the contract of [`faults_are_counted`].
+//! This crate is definitions and their proofs alone. `specs/Callers.antt` defines a run of several callers. Each other
+//! file has the conclusion of one law:
+//!
+//! - `specs/Explained.antt`: what holds of its answers, [`every_answer_is_explained`].
+//! - `specs/OwnPlaces.antt`: which answers name which records or report faults, [`every_record_is_one_answers`].
+//! - `specs/Settled.antt`: the outcome of each counter if no log has a fault, [`every_counter_is_settled`].
+//! - `specs/FaultCounts.antt`: how many answers report that a store failed, [`faults_are_counted`].
 #![tactic(auto)]
 
 mod counts;

@@ -7,8 +7,9 @@ ghost use Rattle.shard_turns.specs.declared.logs.LogHead.{LogHead};
 ghost use Rattle.many_callers.specs.Callers.{AreCallers, Caller};
 ghost use Rattle.many_callers.specs.Settled.{AreSettled, TellNoFault};
 
-/// Whatever lines several callers bring to a host whose logs tell no fault: no answer is that a store failed, and each counter that a line asks
-/// for was decided before the run or in it, or each line on it is told that it is too old or pending, and one that it is too old.
+/// Whatever lines several callers bring to a host whose logs have no fault: no answer reports that a store failed. Each
+/// counter that a line asks for was decided before the run or in it, or each line on it is answered `Below` or
+/// `Pending`, and one of them `Below`.
 ///
 /// The contract is a theorem on every run without a fault; the function does nothing.
 pub fn every_counter_is_settled()

@@ -1,4 +1,5 @@
-//! Account numbers, a request and words, on values that were read off the formats by hand.
+//! Account numbers, a request and command-line arguments, against values worked out from the
+//! formats by hand.
 
 use issuer_base::{Pan, Parts, Request, Words};
 use std::test::Fail;

@@ -1,4 +1,4 @@
-//! Texts with their objects, and objects with their texts.
+//! Texts parsed as objects, and objects written as texts.
 use arrayvec::ArrayVec;
 use std::test::Fail;
 use tlv_objects::{Full, Object, Objects, ROOM, TlvFault, put, tag_bytes};

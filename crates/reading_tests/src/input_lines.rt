@@ -1,10 +1,10 @@
-//! The lines of inputs that are read in pieces of several sizes, and of one that fails.
+//! The lines of inputs that are read in chunks of several sizes, and of one that fails.
 
 use issuer_base::{KEPT_BYTES, MemorySource};
 use line_reader::{LineReader, NextLine};
 use std::test::Fail;
 
-/// A text of lines: a byte, and how often it stands in its line.
+/// A text of lines: a byte, and how often it occurs in its line.
 const LINES: [(u8, usize); 7] = [
     (b'a', 2),
     (b'b', 0),

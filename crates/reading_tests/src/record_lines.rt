@@ -1,4 +1,4 @@
-//! Records as a journal has them, and lines that are none.
+//! Lines of records in a journal, and lines of no record.
 
 use arrayvec::ArrayVec;
 use issuer_base::{Command, Entry, Pan};
@@ -45,7 +45,7 @@ const OTHER_LINES: [(&str, &[u8]); 23] = [
     ("upper case", b"q 4000000000000002ffff 00 84DA0000"),
 ];
 
-/// Where the record of the approved request is changed, and the byte that stands there then.
+/// The offset at which the record of the approved request is changed, and the new byte.
 const CHANGES: [(&str, usize, u8); 9] = [
     ("another letter", 0, b's'),
     ("a number of 0a", 23, b'a'),
@@ -108,7 +108,7 @@ fn lines_of_no_record_are_refused(rt: HostRuntime) {
         line[index.min(211)] = byte;
         assert!(rt; read_entry(&line).is_err(), "{name}");
     }
-    // The reply has no bytes, no space stands before it, or it ends with half a byte.
+    // The reply is empty, there is no space before it, or it ends with half a byte.
     for length in [180, 179, 211] {
         let (front, _) = APPROVED.split_at(length);
         assert!(rt; read_entry(front).is_err());

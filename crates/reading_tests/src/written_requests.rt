@@ -1,4 +1,4 @@
-//! The lines of two requests, laid out by hand, that are read and written again.
+//! The lines of two requests, encoded by hand, that are parsed and written again.
 
 use chip_request::{LineKind, read_line, read_request};
 use request_text::request_line;

@@ -81,7 +81,7 @@ pub fn declining_table() -> Option<Table> {
     Table::new(rows)
 }
 
-/// The issuer of the sample key set with so many shards, these cards and this table; `None` where they make none.
+/// The issuer of the sample key set with `shards` shards, these cards and this table; `None` if they make no issuer.
 pub fn issuer(alloc: Global, shards: u8, cards: &[SampleCard], table: Table) -> Option<Issuer>
     ensures shards { IfSome result (λ issuer. issuer.shards ≡ shards) }
     ensures cards { IfSome result (λ issuer. length issuer.cards ≡ length cards.now) }

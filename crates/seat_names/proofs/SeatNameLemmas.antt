@@ -1,4 +1,4 @@
--- Names stay as they ought to through a split and a join, and a whole seat is the only one that holds a name.
+-- A split and a join preserve `AreNamed`, and a whole seat is the only one that holds a name.
 use Rattle.std.proofs.Common.{◌≡◌, ◌≢◌, ℕ, ◌+◌, ◌<◌, ◌≤◌, List, [], ◌∷◌, ◌++◌, length, set, Bool, true, false, ◌&&◌, eqb, leb, inl, inr, refl, sym}
 use Rattle.std.proofs.Common.{ap, ◌∙◌, subst, arith}
 use Rattle.std.proofs.lemmas.Bool.{cases_lt, and_parts, and_from, eqb-true, eqb-false, eq-eqb, true≢false, le-leb, leb-true, lt-leb}

@@ -5,7 +5,7 @@ ghost use lib.ListN.{get_elem?};
 ghost use Rattle.seat_names.specs.declared.seat_name.SeatName.{SeatName};
 ghost use Rattle.seat_names.specs.SeatNames.{AreNamed, IsWhole};
 
-/// Where one of a table's seats is whole, no other seat of the table holds a name.
+/// If one of a table's seats is whole, no other seat of the table holds a name.
 ///
 /// The contract is a theorem on the names of all seats of a table; the function does nothing.
 pub fn a_whole_seat_is_alone()

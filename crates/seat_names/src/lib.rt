@@ -1,4 +1,4 @@
-//! The names by which the seats of a shared table prove that they were all joined again.
+//! The names by which a seat of a shared table proves that all other seats were joined into it.
 //!
 //! This crate is almost all definitions: `specs/SeatNames.antt` says which names the seats of a table hold, and when a
 //! seat is whole. Its theorem is the contract of [`a_whole_seat_is_alone`].

@@ -1,4 +1,4 @@
-//! Journals that end in a torn record, and what a crash leaves.
+//! Journals that end in a torn last line, and the images that a crash leaves.
 ghost use Rattle.std.specs.Prelude.{◌≡◌, ◌<◌, ◌%◌, length, IfOk, IsTrue};
 ghost use Rattle.shard_book.specs.Shards.{number_in, IsUnder};
 
@@ -27,7 +27,7 @@ pub(crate) fn one_card(alloc: Global) -> Result<Issuer, Fail>
     }
 }
 
-/// A store with this text and room for more, that fails at the listed calls.
+/// A store with this text and spare capacity, which fails at the listed calls.
 pub(crate) fn store(alloc: Global, text: Vec<u8>, fails: &[u64]) -> Result<MemoryStore, Fail> {
     let fails = fails.to_vec(alloc)?;
     Ok(MemoryStore::new(alloc, text, 4_096, fails).map_err(|_| "a store")?)
@@ -46,7 +46,8 @@ pub(crate) fn load<S: Store>(
     Shard::load(alloc, store, 0, issuer)
 }
 
-/// How many records a store with this text is loaded with and how many bytes it has then, or why it isn't loaded.
+/// How many records a load of a store with this text finds and how many bytes the store then has, or why the load
+/// fails.
 fn loaded(
     alloc: Global,
     issuer: &Issuer,
@@ -71,7 +72,7 @@ fn is_home(issuer: &Issuer, card: u32) -> bool
     card < issuer.cards() && issuer.shard_of(card) == 0
 }
 
-/// What a shard answers to a status of the card.
+/// A shard's answer to a status of the card.
 pub(crate) fn set_status<S: Store>(shard: &mut Shard<S>, issuer: &Issuer) -> Option<Answer>
     requires under { IsUnder issuer.now shard.old }
     requires number { number_in shard.old ≡ 0 }
@@ -87,13 +88,13 @@ pub(crate) fn set_status<S: Store>(shard: &mut Shard<S>, issuer: &Issuer) -> Opt
     Some(shard.set_status(issuer, found))
 }
 
-/// So many statuses, from an empty store whose call of this number fails.
+/// Statuses set over a store that was empty, of which one call fails.
 #[derive(Drop)]
 struct Run {
     store: MemoryStore,
     acknowledged: u64,
 
-    /// Whether the last status was answered with a fault of the store.
+    /// Whether the answer to the last status was a fault of the store.
     in_doubt: bool,
 }
 
@@ -167,7 +168,7 @@ fn truncates_a_torn_record(rt: HostRuntime) -> Result<(), Fail> {
 fn a_crash_leaves_what_was_acknowledged(rt: HostRuntime) -> Result<(), Fail> {
     let alloc = rt.alloc();
     let issuer = one_card(alloc)?;
-    // a load and three lines make seven calls where none fails
+    // a load and three lines make seven calls if none fails
     for fails in 0..8 {
         for lines in 1..4 {
             let run = run_statuses(alloc, &issuer, lines, fails)?;

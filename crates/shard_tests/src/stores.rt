@@ -1,9 +1,9 @@
-//! The stores in memory through their trait, with the faults that they were told to have.
+//! The stores in memory through their trait, with the faults that they were set to have.
 use issuer_base::{Store, StoreFail};
 use std::test::Fail;
 use store_edge::{MemoryStore, RoomStore};
 
-// The bytes from a place on, at most four, as numbers and how many there are.
+// At most four bytes from an offset on, and how many there are.
 pub(crate) fn read<S: Store + Send>(store: &mut S, at: u64) -> Result<(usize, [u8; 4]), StoreFail> {
     let mut into = [0; 4];
     let count = store.read_at(at, &mut into)?;

@@ -11,7 +11,8 @@ use std::alloc::Global;
 use std::test::Fail;
 use store_edge::MemoryStore;
 
-/// A store in memory, of which one truncation may take effect and fail all the same, as where a file is truncated and its sync fails.
+/// A store in memory, of which one truncation may take effect and fail all the same, as if a file is truncated and its
+/// sync fails.
 #[derive(Drop)]
 struct Truncating {
     store: MemoryStore,
@@ -24,7 +25,7 @@ struct Truncating {
 }
 
 impl Truncating {
-    /// Counts a fault, where the call failed.
+    /// Counts a fault, if the call failed.
     fn count(&mut self, failed: bool)
         ensures count { CountsFaults self.old.faults self.new.faults failed }
         ensures store { self.new.store ≡ self.old.store }
@@ -44,7 +45,7 @@ impl Truncating {
         Err(StoreFail)
     }
 
-    /// Fails after a truncation that took effect, where it is to fail.
+    /// Fails after a truncation that took effect, if it is set to.
     fn end_cut(&mut self) -> Result<(), StoreFail>
         ensures count { CountsFaults self.old.faults self.new.faults (is_err result) }
         ensures store { self.new.store ≡ self.old.store }
@@ -109,7 +110,7 @@ fn over_text(alloc: Global, text: &str, calls: &[u64], fails: bool) -> Result<Tr
     })
 }
 
-/// How many records the first shard has, loaded from this store, and how many bytes the store has then.
+/// How many records the first shard has, loaded from this store, and how many bytes the store then has.
 fn reloaded(alloc: Global, issuer: &Issuer, store: Truncating) -> Result<(u64, u64), Fail>
     requires { issuer.now.shards ≡ 1 }
 {
@@ -122,7 +123,7 @@ fn reloaded(alloc: Global, issuer: &Issuer, store: Truncating) -> Result<(u64, u
     }
 }
 
-/// What three statuses are answered, of which the first one's record is torn, and the store then.
+/// The answers to three statuses, of which the first one's record is torn, and the store after them.
 #[derive(Drop)]
 struct Answered {
     first: Option<Answer>,

@@ -1,4 +1,4 @@
-//! Callers in threads of their own claim all counters of a card at once.
+//! Callers in threads of their own claim all counters of a card concurrently.
 ghost use Rattle.std.specs.Prelude.{◌≡◌, ℕ, ◌+◌, ◌<◌, ◌≤◌, [], ◌∷◌, ◌++◌, All, length, map, IfOk, vec_len, vec_capacity, slice_index_or};
 ghost use Rattle.std.specs.List.{flat_map};
 ghost use Rattle.seat_names.specs.Totals.{total};
@@ -52,7 +52,7 @@ fn claim_all(words: &ClaimWords, caller: &mut Caller)
     }
 }
 
-/// So many empty lists, each with room for all counters of a card.
+/// `count` empty lists, each with room for all counters of a card.
 fn empty_lists(alloc: Global, count: usize) -> Result<Vec<Vec<u16>>, NoMemory>
     ensures { IfOk result (λ lists. (vec_len lists ≡ count) × All (λ list. (list.items ≡ []) × (COUNTERS ≤ vec_capacity list)) lists.items) }
 {
@@ -88,7 +88,7 @@ fn seat_all(
     }
 }
 
-/// Lets all callers claim at once, each in a thread of its own.
+/// Has all callers claim concurrently, each in a thread of its own.
 fn claim_at_once<R: Threads + Sync>(rt: &R, words: &ClaimWords, callers: &mut [Caller])
     requires card { (cards_of words.now ≡ 1) × (0 < length callers.old) }
     requires ready { All (λ caller. IsOf caller.seat words.now × HasTried 0 caller.won.items (view_of caller.seat)
@@ -101,7 +101,7 @@ fn claim_at_once<R: Threads + Sync>(rt: &R, words: &ClaimWords, callers: &mut [C
     thread::for_each_mut(rt, callers, count, &|_, caller| claim_all(words, caller));
 }
 
-/// Joins the seats of all callers, and gives their lists.
+/// Joins the seats of all callers, and returns their lists.
 fn join_all(
     words: &ClaimWords,
     seat: &mut ClaimSeat,
@@ -129,7 +129,7 @@ fn join_all(
     callers.destroy_empty();
 }
 
-/// Each counter of the card is won by just one caller, and by it just once.
+/// Exactly one caller wins each counter of the card, and exactly once.
 fn contest<R: Threads + Sync>(
     rt: &R,
     alloc: Global,

@@ -12,7 +12,7 @@ use store_edge::MemoryStore;
 /// The first record of a journal: a status of the first card.
 const FIRST: &str = "s 4000000000000002ffff 00 3\n";
 
-/// An issuer of so many shards and four cards, whose table declines every request.
+/// An issuer of `shards` shards and four cards, whose table declines every request.
 pub(crate) fn sample(alloc: Global, shards: u8) -> Result<Issuer, Fail>
     ensures { IfOk result (λ issuer. issuer.shards ≡ shards) }
 {
@@ -20,7 +20,7 @@ pub(crate) fn sample(alloc: Global, shards: u8) -> Result<Issuer, Fail>
     Ok(issuer(alloc, shards, &CARDS, table).ok_or("an issuer")?)
 }
 
-/// A store with this text and room for more, that fails at the listed calls.
+/// A store with this text and spare capacity, which fails at the listed calls.
 pub(crate) fn store(alloc: Global, text: &str, fails: &[u64]) -> Result<MemoryStore, Fail> {
     let text = text.as_bytes().to_vec(alloc)?;
     let fails = fails.to_vec(alloc)?;
@@ -52,12 +52,12 @@ fn open(alloc: Global, fails: &[u64]) -> Result<Solo<MemoryStore>, Fail> {
     load(alloc, stores)
 }
 
-/// Whether the answer is a new decision whose record has this place of the first shard.
+/// Whether the answer is a new decision whose record has this index of the first shard.
 pub(crate) fn is_fresh(answer: &Answer, at: u64) -> bool {
     matches!(answer, Answer::Fresh { shard: 0, place, .. } if *place == at)
 }
 
-/// Whether it is the kept reply of that record.
+/// Whether the answer is the stored reply of the record at this index.
 pub(crate) fn is_kept(answer: &Answer, at: u64) -> bool {
     matches!(answer, Answer::Kept { shard: 0, place, .. } if *place == at)
 }
@@ -80,7 +80,7 @@ fn keeps_a_reply_across_a_restart(rt: HostRuntime) -> Result<(), Fail> {
     Ok(())
 }
 
-/// A write that fails, and a sync.
+/// An append that fails, and a sync that fails.
 #[test]
 fn decides_anew_after_a_fault_of_the_store(rt: HostRuntime) -> Result<(), Fail> {
     for call in [2, 3] {

@@ -22,7 +22,7 @@ const STATUS: [&str; 4] = [
     "S 4000000000000036 00 3",
 ];
 
-/// A line for a card that the issuer doesn't have, and one that has no form of a line.
+/// A line for a card that the issuer doesn't have, and a line of no form.
 const UNKNOWN: &str = "S 4000000000000044 00 3";
 
 const BAD: &str = "X";
@@ -30,7 +30,7 @@ const BAD: &str = "X";
 /// A card block for the second card.
 const COMMAND: &str = "Q 4000000000000010 00 84160000";
 
-/// So many callers of a host over empty stores, one for each shard.
+/// `callers` callers of a host over empty stores, one for each shard.
 fn open(alloc: Global, callers: u8, shards: u8) -> Result<Lanes<MemoryStore>, Fail>
     requires { (0 < callers) × (callers ≤ MAX_CALLERS) }
     ensures { IfOk result (λ lanes. (waiting_in lanes ≡ 0) × (due_in lanes ≡ 0)) }
@@ -55,8 +55,8 @@ fn open(alloc: Global, callers: u8, shards: u8) -> Result<Lanes<MemoryStore>, Fa
     }
 }
 
-/// Deals these lines again and again, so many in all, as long as the lanes take one. Lets all callers answer them at once, and adds their
-/// answers as far as the list has room.
+/// Deals `count` lines in all, these again and again, while the lanes have room. Then all callers answer them
+/// concurrently, and their answers are appended while the list has room.
 fn answer<R: Threads + Wait + Sync>(
     rt: &R,
     lanes: &mut Lanes<MemoryStore>,
@@ -153,7 +153,7 @@ fn callers_at_one_shard_decide_each_request_once(rt: HostRuntime) -> Result<(), 
     Ok(())
 }
 
-/// Each of four callers sets the status of the card of a shard of its own.
+/// Each of four callers sets the status of a card of its own shard.
 #[test]
 fn callers_at_a_shard_each_fill_its_places(rt: HostRuntime) -> Result<(), Fail> {
     let mut answers = Vec::with_capacity(rt.alloc(), BLOCK_LINES)?;

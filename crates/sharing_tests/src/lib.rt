@@ -1,4 +1,4 @@
-//! Tests of callers at once: who wins a claim, whose turn it is, and what each caller of a host is answered.
+//! Tests of concurrent callers: which of them wins a claim, whose turn it is, and the answers to each caller of a host.
 #![tactic(auto)]
 
 #[cfg(test)]

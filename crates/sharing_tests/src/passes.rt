@@ -1,4 +1,4 @@
-//! Two passes of one host over a store in memory: which one wins a request's claim, and what each is answered.
+//! Two passes of one host over a store in memory: which one wins a request's claim, and the answers to each.
 ghost use Rattle.std.specs.Prelude.{◌≡◌, IfOk, MatchResult};
 ghost use Rattle.seat_names.specs.SeatNames.{first_names, after_split, split_off};
 ghost use Rattle.host_calls.specs.Passes.{claims_of, IsFree, Holds};
@@ -14,7 +14,7 @@ use std::sync::Wait;
 use std::test::Fail;
 use store_edge::MemoryStore;
 
-/// The same card's request on its counter 9, and that on its counter 6.
+/// The same card's requests on its counters 9 and 6.
 pub(crate) const NINTH: &str =
     "A 5A0840000000000000029F260807332ABBD4FE880C9F2701809F10200FA501A00000000000000000000000000F0000000000000000000000000000009F37041A2B3C4D9F36020009950500000080009A032601159C01009F02060000000123455F2A020978820239009F1A020276";
 
@@ -52,7 +52,7 @@ fn open(alloc: Global, fails: &[u64]) -> Result<Two, Fail>
     }
 }
 
-/// The answer to what was checked, or the refusal.
+/// The answer to a line that passed the checks, or the refusal.
 fn end<R: Wait>(
     rt: &R,
     host: &Host<MemoryStore>,
@@ -69,7 +69,7 @@ fn end<R: Wait>(
     }
 }
 
-/// What is shown of the first card.
+/// The view of the first card.
 fn show<R: Wait>(rt: &R, host: &Host<MemoryStore>, pass: &mut Pass) -> Option<CardView>
     requires free { IsFree host.now pass.old }
     ensures free { IsFree host.now pass.new }
@@ -81,7 +81,7 @@ fn show<R: Wait>(rt: &R, host: &Host<MemoryStore>, pass: &mut Pass) -> Option<Ca
     Some(host.show(rt, pass, 0))
 }
 
-/// Joins the passes, and ends the host.
+/// Joins the passes, and closes the host.
 fn close(host: Host<MemoryStore>, mut first: Pass, other: Pass)
     requires free { IsFree host first × IsFree host other }
     requires first { (claims_of first).names ≡ after_split first_names }

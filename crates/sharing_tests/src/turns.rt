@@ -19,13 +19,13 @@ use std::thread;
 use std::thread::Threads;
 use turn_book::{Item, Logged, MAX_ITEMS, TurnSeat, Turns};
 
-/// How many shards there are.
+/// The number of shards.
 const SHARDS: u8 = 4;
 
-/// How many items each caller adds at most.
+/// The most items that each caller appends.
 const ITEMS: u64 = 400;
 
-/// A shard's number, and how many items its log has. It can't be dropped.
+/// A shard's number, and the length of its log. It can't be dropped.
 struct Tally {
     shard: u8,
     count: u64,
@@ -44,13 +44,13 @@ impl Item<u64> for Mark {
 
 type Tallies = Turns<Tally, u64, u8>;
 
-/// A caller with its seat, and the shards and places of the items that it has added.
+/// A caller with its seat, and the shards and indices of the items that it has appended.
 struct Caller {
     seat: TurnSeat<u64, u8>,
     places: Vec<(u8, u64)>,
 }
 
-/// Adds an item to the log of the shard that the caller is in, and notes its place, unless the log is full.
+/// Appends an item to the log of the shard that the caller is in, and notes its index, unless the log is full.
 fn count_item(tallies: &Tallies, caller: &mut Caller, shard: u8, mut tally: Tally) -> Tally
     requires seat { IsOf caller.old.seat tallies.now × ((view_of caller.old.seat).turn ≡ Inside shard) }
     requires tally { StandsAt ⟦<Tally as Logged<u64, u8>>⟧.stands tally (view_of caller.old.seat).seen shard }
@@ -71,7 +71,7 @@ fn count_item(tallies: &Tallies, caller: &mut Caller, shard: u8, mut tally: Tall
     tally
 }
 
-/// Takes a turn at the shard, and adds an item.
+/// Takes a turn at the shard, and appends an item.
 fn take_turn<R: Wait>(rt: &R, tallies: &Tallies, caller: &mut Caller, shard: u8)
     requires caller { IsReady tallies.now caller.old.seat caller.old.places.items }
     requires shard { shard < shards_of tallies.now }
@@ -98,7 +98,7 @@ fn take_turns<R: Wait>(rt: &R, tallies: &Tallies, caller: &mut Caller)
     }
 }
 
-/// So many empty lists, each with room for the items of a caller.
+/// `count` empty lists, each with room for the items of a caller.
 fn empty_lists(alloc: Global, count: usize) -> Result<Vec<Vec<(u8, u64)>>, NoMemory>
     ensures { IfOk result (λ lists. (vec_len lists ≡ count) × All (λ list. (list.items ≡ []) × (ITEMS ≤ vec_capacity list)) lists.items) }
 {
@@ -133,7 +133,7 @@ fn seat_all(
     }
 }
 
-/// Lets all callers take turns at once, each in a thread of its own.
+/// Has all callers take turns concurrently, each in a thread of its own.
 fn take_turns_at_once<R: Threads + Wait + Sync>(rt: &R, tallies: &Tallies, callers: &mut [Caller])
     requires shards { (shards_of tallies.now ≡ SHARDS) × (0 < length callers.old) }
     requires ready { All (λ caller. IsReady tallies.now caller.seat caller.places.items × (caller.places.items ≡ []) × (ITEMS ≤ vec_capacity caller.places)) callers.old }
@@ -150,7 +150,7 @@ fn take_turns_at_once<R: Threads + Wait + Sync>(rt: &R, tallies: &Tallies, calle
     );
 }
 
-/// Joins the seats of all callers, and gives their lists.
+/// Joins the seats of all callers, and returns their lists.
 fn join_all(
     tallies: &Tallies,
     seat: &mut TurnSeat<u64, u8>,
@@ -212,7 +212,8 @@ fn open(alloc: Global) -> Result<(Tallies, TurnSeat<u64, u8>), NoMemory>
     }
 }
 
-/// The places that callers in threads of their own draw at a shard are 0 up to its count, each drawn once and by one of them.
+/// The indices that callers in threads of their own draw at a shard are those from 0 to below its count, each drawn
+/// once, by one caller.
 fn draw_places<R: Threads + Wait + Sync>(
     rt: &R,
     alloc: Global,

@@ -1,4 +1,4 @@
--- The rule holds at first, and what it says at the end.
+-- The invariant holds at first, and what it says at the end.
 use Rattle.std.proofs.Common.{◌≡◌, ℕ, zero, suc, ◌*◌, ◌<◌, List, [], ◌∷◌, map, length, get_or, Bool, true, false, ◌&&◌, eqb, leb, ltb}
 use Rattle.std.proofs.Common.{Option, Some, IsSome, inl, inr, refl, sym, ap, ◌∙◌, subst, arith}
 use Rattle.std.proofs.lemmas.Bool.{cases_eq, cases_lt, ne_eqb, eqb-true}

@@ -1,4 +1,4 @@
--- What a seat knows once the table's seat was put back into it.
+-- What a seat knows after the table's seat was put back into it.
 use Rattle.std.proofs.Common.{◌≡◌, ℕ, ◌<◌, List, [], ◌∷◌, length, sym, ap, ◌∙◌, subst, arith}
 use Rattle.atomic_table.specs.Table.{Me, rest}
 use Rattle.turn_book.specs.declared.view.Turn.TheVariants.{Inside}

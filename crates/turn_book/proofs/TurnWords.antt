@@ -1,4 +1,4 @@
--- The words of the shards, when one of them changes, and the turns and places of one view.
+-- The words of the shards, when one of them changes, and the turns and indices of one view.
 use Rattle.std.proofs.Common.{◌≡◌, ◌≢◌, ℕ, ◌+◌, ◌<◌, ◌≤◌, List, length, set, Bool, true, false, eqb, leb, ltb, inl, inr, refl, sym}
 use Rattle.std.proofs.Common.{arith, get_or-set_same, get_or-set_other}
 use Rattle.std.proofs.lemmas.Bool.{cases_eq, cases_lt, eq-eqb, ne_eqb, le-leb}

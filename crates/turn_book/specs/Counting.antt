@@ -1,4 +1,4 @@
--- What callers know who take turns at shards whose values count the items.
+-- What callers know that take turns at shards whose values count the items.
 use Rattle.std.specs.Prelude.{◌≡◌, ℕ, zero, suc, List, [], ◌∷◌, length}
 use Rattle.seat_names.specs.Totals.{total}
 use Rattle.turn_book.specs.declared.view.Turn.TheVariants.{Free}
@@ -8,7 +8,7 @@ use Rattle.turn_book.specs.declared.turns.Turns.{Turns}
 use Rattle.turn_book.specs.TurnViews.{times}
 use Rattle.turn_book.specs.Seats.{view_of, IsOf}
 
--- the tally of this shard, with this count, stands for the log
+-- a tally of this shard with this count stands for the log
 abbrev pub CountsItems : ℕ → ℕ → ℕ → List ℕ → Type 0
 CountsItems shard count head items = (shard ≡ head) × (count ≡ length items)
 
@@ -18,21 +18,21 @@ count_at [] shard = 0
 count_at (count ∷ counts) zero = count
 count_at (count ∷ counts) (suc shard) = count_at counts shard
 
--- the places of the list are the view's own
+-- the view's own indices are those of the list
 abbrev pub HasAdded : List (ℕ × ℕ) → TurnView ℕ ℕ → Type 0
 HasAdded places view = (shard place : ℕ) → times shard place view.mine ≡ times shard place places
 
--- the places of the lists are the view's own
+-- the view's own indices are those of the lists
 abbrev pub HaveAdded : List (List (ℕ × ℕ)) → TurnView ℕ ℕ → Type 0
 HaveAdded lists view = (shard place : ℕ) → times shard place view.mine ≡ total (times shard place) lists
 
--- the seat is one of these turns', has none, and has added the items at these places
+-- the seat belongs to these turns, has no turn, and has appended the items at these indices
 pub record IsReady {V : Type 0} (turns : Turns V ℕ ℕ) (seat : TurnSeat ℕ ℕ) (places : List (ℕ × ℕ)) : Type 0 where
   pub of : IsOf seat turns
   pub free : (view_of seat).turn ≡ Free
   pub added : HasAdded places (view_of seat)
 
--- the same of several lists and the seat into which theirs were joined
+-- the same for several lists, and the seat into which theirs were joined
 pub record IsDone {V : Type 0} (turns : Turns V ℕ ℕ) (seat : TurnSeat ℕ ℕ) (lists : List (List (ℕ × ℕ))) : Type 0 where
   pub of : IsOf seat turns
   pub free : (view_of seat).turn ≡ Free

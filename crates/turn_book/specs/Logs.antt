@@ -12,13 +12,13 @@ items_at [] shard = []
 items_at (log ∷ logs) zero = log.items
 items_at (log ∷ logs) (suc shard) = items_at logs shard
 
--- the logs, of which the shard's now has these items
+-- the logs, with these items in the shard's
 abbrev pub with_items : {I B : Type 0} → List (Log I B) → ℕ → List I → List (Log I B)
 with_items [] shard items = []
 with_items (log ∷ logs) zero items = record log { items = items } ∷ logs
 with_items (log ∷ logs) (suc shard) items = log ∷ with_items logs shard items
 
--- the items begin with these
+-- the first list is a prefix of the second
 abbrev pub IsFront : {I : Type 0} → List I → List I → Type 0
 IsFront front items = take (length front) items ≡ front
 

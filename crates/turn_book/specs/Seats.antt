@@ -1,4 +1,4 @@
--- What contracts see of the turns and of a seat.
+-- The turns and a seat as contracts see them.
 use Rattle.std.specs.Prelude.{◌≡◌, ℕ, ◌<◌, List, [], ◌∷◌, length}
 use Rattle.turn_book.specs.declared.logs.Log.{Log}
 use Rattle.turn_book.specs.declared.view.Turn.TheVariants.{Inside}
@@ -12,7 +12,7 @@ use Rattle.turn_book.specs.TurnViews.{spent}
 abbrev pub opening_of : {V I B : Type 0} → Turns V I B → List (Log I B)
 opening_of turns = turns.table.shared.key.view
 
--- how many shards there are
+-- the number of shards
 abbrev pub shards_of : {V I B : Type 0} → Turns V I B → ℕ
 shards_of turns = length (opening_of turns)
 
@@ -25,7 +25,7 @@ the_view (view ∷ views) = view
 abbrev pub view_of : {I B : Type 0} → TurnSeat I B → TurnView I B
 view_of seat = the_view seat.badge.views
 
--- the seat is one of these turns'
+-- the seat belongs to these turns
 pub record IsOf {V I B : Type 0} (seat : TurnSeat I B) (turns : Turns V I B) : Type 0 where
   pub table : seat.badge.table_id ≡ turns.table.shared.table_id
   pub seated : seat.badge.views ≡ view_of seat ∷ []

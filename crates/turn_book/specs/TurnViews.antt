@@ -15,13 +15,13 @@ has_turn shard Free = false
 has_turn shard (Moving other) = other == shard
 has_turn shard (Inside other) = other == shard
 
--- whether the turn is the shard's, and its value is out with the caller
+-- whether the turn is the shard's, and the caller holds its value
 abbrev pub is_inside : ℕ → Turn → Bool
 is_inside shard Free = false
 is_inside shard (Moving other) = false
 is_inside shard (Inside other) = other == shard
 
--- how often the place in the shard's log stands in the list
+-- how often the index in the shard's log occurs in the list
 abbrev pub times : ℕ → ℕ → List (ℕ × ℕ) → ℕ
 times shard place places = how_many (λ pair. (pair.0 == shard) && (pair.1 == place)) places
 
@@ -33,7 +33,7 @@ newcomer logs names = record { seen = logs; mine = []; turn = Free; heard = []; 
 abbrev pub first_view : {I B : Type 0} → List (Log I B) → TurnView I B
 first_view opening = newcomer opening first_names
 
--- the view that a seat leaves behind where it was joined to another
+-- the view of a seat that was joined into another
 abbrev pub spent : {I B : Type 0} → TurnView I B
 spent = newcomer [] []
 
@@ -41,18 +41,18 @@ spent = newcomer [] []
 abbrev pub moving : {I B : Type 0} → ℕ → List I → TurnView I B → TurnView I B
 moving shard items view = record view { seen = with_items view.seen shard items; turn = Moving shard }
 
--- the same, and the value is out with the caller
+-- the same, and the caller holds the value
 abbrev pub entered : {I B : Type 0} → ℕ → List I → TurnView I B → TurnView I B
 entered shard items view = record view { seen = with_items view.seen shard items; turn = Inside shard }
 
--- the view with one more item in the shard's log, at a place of its own
+-- the view with one more item in the shard's log, at an index of its own
 abbrev pub counted : {I B : Type 0} → ℕ → I → TurnView I B → TurnView I B
 counted shard item view = record view {
   seen = with_items view.seen shard (items_at view.seen shard ++ item ∷ []);
   mine = (shard, length (items_at view.seen shard)) ∷ view.mine;
 }
 
--- the view with no turn
+-- the view without a turn
 abbrev pub free : {I B : Type 0} → TurnView I B → TurnView I B
 free view = record view { turn = Free }
 
@@ -63,7 +63,7 @@ parent_view view = record view { names = after_split view.names }
 abbrev pub child_view : {I B : Type 0} → TurnView I B → TurnView I B
 child_view view = newcomer view.seen (split_off view.names)
 
--- of two logs, the one that has more items
+-- the longer of two logs
 abbrev pub longer : {I B : Type 0} → Log I B → Log I B → Log I B
 longer log other = if nat_lt (length log.items) (length other.items) then other else log
 
@@ -73,7 +73,7 @@ longer_logs [] others = others
 longer_logs (log ∷ logs) [] = log ∷ logs
 longer_logs (log ∷ logs) (other ∷ others) = longer log other ∷ longer_logs logs others
 
--- the view of a seat that took in another's
+-- the view of a seat into which another was joined
 abbrev pub joined : {I B : Type 0} → TurnView I B → TurnView I B → TurnView I B
 joined view other = record {
   seen = longer_logs view.seen other.seen;

@@ -1,14 +1,14 @@
-//! Logs, and the values and items that mean them.
+//! Logs, the values that stand for them, and the values that represent items.
 ghost use Rattle.std.specs.Prelude.{List};
 
 use std::collections::LinkedList;
 
-/// The log of a shard. It exists in proofs alone: no value of it is made.
+/// The log of a shard. It exists in proofs alone: the program has no value of it.
 pub struct Log<I, B> {
-    /// What stands at its head, which no step changes.
+    /// Its head, which no step changes.
     pub head: B,
 
-    /// Its items, the oldest in front.
+    /// Its items, the oldest first.
     pub items: LinkedList<I>,
 }
 
@@ -18,8 +18,8 @@ pub trait Logged<I, B> {
     ghost stands: { Self → B → List I → Type 0 };
 }
 
-/// A value that means an item of a log.
+/// A value that represents an item of a log.
 pub trait Item<I> {
-    // The item that it means.
+    // The item that it represents.
     ghost item: { Self → I };
 }

@@ -1,4 +1,4 @@
-//! The opening logs as a table's key. They exist in proofs alone, so a mark of no bytes carries them.
+//! The opening logs as a table's key. They exist in proofs alone, so a `Mark` of no bytes carries them.
 ghost use Rattle.std.specs.Prelude.{◌≡◌, ℕ, List, [], IfOk};
 ghost use Rattle.turn_book.specs.declared.logs.Log.{Log};
 
@@ -11,7 +11,7 @@ use std::marker::{Brand, PhantomData};
 /// The opening log of each shard.
 pub(crate) type Opening<I, B> = Mark<LinkedList<Log<I, B>>>;
 
-/// The opening logs of a table. The caller of `load` passes `Brand`, and its proof picks them.
+/// The opening logs of a table. The caller of `load` passes `Brand`, and its proof chooses them.
 pub trait OpeningLogs<I, B> {
     // The opening log of each shard.
     ghost opening: { List (Log I B) };
@@ -21,7 +21,7 @@ impl<I, B> OpeningLogs<I, B> for Brand {
     ghost opening = { [] };
 }
 
-/// The rule of a table and of a perch of which nothing is asked.
+/// The empty rule, for a table and a perch without an invariant.
 struct Anything;
 
 impl TableRule<(), (), ()> for Anything {
@@ -38,7 +38,7 @@ impl<J: OpeningLogs<I, B>, I, B> PerchRule<LinkedList<Log<I, B>>> for Tells<J> {
     ghost first = { J.opening };
 }
 
-/// A key with these opening logs. The table that it is made beside has no words, and ends here.
+/// A key with these opening logs. It comes from a table without words, which ends here.
 pub(crate) fn opening_key<J: OpeningLogs<I, B>, I, B>(
     alloc: Global,
 ) -> Result<Opening<I, B>, AllocError>

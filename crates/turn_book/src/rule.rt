@@ -1,4 +1,4 @@
-//! The rule of the table, and the names of its steps.
+//! The invariant of the table, and the names of its steps.
 ghost use Rattle.std.specs.Prelude.{Option, None, Some};
 ghost use Rattle.turn_book.specs.TurnRule.{AreTurns};
 ghost use Rattle.turn_book.specs.TurnSteps.{taken, looked, added, retaken, released, learned};
@@ -25,14 +25,14 @@ impl<V: Logged<I, B>, I, B> Play<Option<V>, TurnView<I, B>> for Takes {
     ghost then = { taken V.stands };
 }
 
-/// Reads how long a log is, and gives the empty slot back.
+/// Reads the length of a log, and gives the empty slot back.
 pub(crate) struct Looks;
 
 impl<V, I, B> Play<Option<V>, TurnView<I, B>> for Looks {
     ghost then = { looked };
 }
 
-/// The item that a call picks.
+/// The item that a call chooses.
 pub(crate) trait Next<I> {
     ghost next: { Option I };
 }
@@ -62,7 +62,7 @@ impl<V, I, B> Play<Option<V>, TurnView<I, B>> for Releases {
     ghost then = { released };
 }
 
-/// Compares what the seats of a join had seen.
+/// Compares the logs that the seats of a join had seen.
 pub(crate) struct Learns;
 
 impl<V, I, B> Play<Option<V>, TurnView<I, B>> for Learns {

@@ -1,11 +1,11 @@
-//! What a caller takes its turns with.
+//! A caller's handle for turns.
 ghost use Rattle.std.specs.Prelude.{◌≡◌, [], ◌∷◌};
 
 use crate::view::TurnView;
 use atomic_table::{Badge, Seat};
 use std::mem;
 
-/// What one caller takes its turns with, and what it knows. It has no bytes, and ends by `join` or `close`.
+/// One caller's handle for turns, and what it knows. It has no bytes, and ends by `join` or `close`.
 pub struct TurnSeat<I, B> {
     badge: Badge<TurnView<I, B>>,
 }
@@ -13,7 +13,7 @@ pub struct TurnSeat<I, B> {
 impl<I, B> TurnSeat<I, B> {
     ghost use Rattle.turn_book.specs.Seats.{view_of};
 
-    /// A seat of this table's seat, which holds no slot.
+    /// Wraps a seat of the table, which holds no slot.
     pub(crate) fn of<V>(seat: Seat<Option<V>, TurnView<I, B>>) -> TurnSeat<I, B>
         requires { seat.me.1 ≡ [] }
         ensures { (result.badge.table_id ≡ seat.table_id) × (result.badge.views ≡ seat.me.0 ∷ []) }
@@ -23,7 +23,7 @@ impl<I, B> TurnSeat<I, B> {
         }
     }
 
-    /// The table's seat, to step with. It has to be put back.
+    /// Takes out the table's seat for a step. It must be put back.
     pub(crate) fn take<V>(&mut self) -> Seat<Option<V>, TurnView<I, B>>
         requires { self.old.badge.views ≡ view_of self.old ∷ [] }
         ensures { (result.table_id ≡ self.old.badge.table_id) × (result.me ≡ (view_of self.old, [])) }
@@ -39,7 +39,7 @@ impl<I, B> TurnSeat<I, B> {
         self.badge = seat.into_badge();
     }
 
-    /// The table's seat, where this one ends.
+    /// Unwraps the table's seat, and ends this one.
     pub(crate) fn into_seat<V>(self) -> Seat<Option<V>, TurnView<I, B>>
         requires { self.badge.views ≡ view_of self ∷ [] }
         ensures { (result.table_id ≡ self.badge.table_id) × (result.me ≡ (view_of self, [])) }

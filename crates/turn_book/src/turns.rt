@@ -1,4 +1,4 @@
-//! The shards that callers share, and the turns that they take at them.
+//! The shards that callers share, and their turns.
 ghost use Rattle.std.specs.Prelude.{◌≡◌, ℕ, List, ◌+◌, ◌*◌, ◌<◌, ◌≤◌, ◌^◌, [], ◌∷◌, ◌++◌, length, map, IfOk, IfErr, IfSome, IfNone, vec_len, Some};
 ghost use Rattle.issuer_base.specs.declared.limits.TheConstants.{MAX_SHARDS};
 ghost use Rattle.turn_book.specs.declared.layout.TheConstants.{SHARD_WORDS};
@@ -20,20 +20,21 @@ use std::marker::Brand;
 use std::sync::atomic::{AtomicU64, Ordering};
 use std::sync::{Mutex, Wait};
 
-/// How often a caller looks for a free turn before it sleeps.
+/// How often a caller tries to take a turn before it sleeps.
 const TRIES: u32 = 100;
 
-/// How many items a log may have before one more is added.
+/// The length of a log below which one more item may be appended.
 pub const MAX_ITEMS: u64 = 1 << 63;
 
-/// The shards, which callers share: each has a value that stands for its log.
+/// The shards, shared by callers: each has a value that stands for its log.
 pub struct Turns<V: Logged<I, B>, I, B> {
     pub(crate) table: Table<Option<V>, TurnView<I, B>, Opening<I, B>, TurnRule, Global>,
 
-    // Where `close` puts the values, so that it takes no memory. The lock is never taken: with it, the values need not be shared.
+    // Room for the values that `close` returns, so that `close` doesn't allocate. The lock is never taken. Because of
+    // it, the type of the values needn't be one that threads can share.
     pub(crate) spare: Mutex<Spare<V>>,
 
-    // How many callers sleep or are about to, so that whoever leaves wakes nobody in vain.
+    // How many callers sleep or are about to. If none does, a caller that leaves wakes none.
     pub(crate) sleepers: AtomicU64,
     ghost some_shard: { 0 < length table.shared.key.view },
     ghost few: { length table.shared.key.view ≤ MAX_SHARDS },
@@ -48,8 +49,9 @@ impl<V: Logged<I, B>, I, B> Turns<V, I, B> {
     ghost use Rattle.turn_book.specs.TurnViews.{times, first_view, entered, counted, free, parent_view, child_view, joined};
     ghost use Rattle.turn_book.specs.Seats.{opening_of, shards_of, view_of, IsOf};
 
-    /// The turns at shards with these values, in order, and the first seat. At first each value stands for a log with so many
-    /// items, the opening logs, which the caller picks as `J`. Where memory is wanting, and then alone, the values come back in order.
+    /// The turns at shards with these values, in order, and the first seat. Each value stands for its opening log,
+    /// whose length is in `counts`; the caller's proof chooses the opening logs as `J`. Only if an allocation fails,
+    /// the error returns the values in order.
     pub fn load<J: OpeningLogs<I, B>>(
         alloc: Global,
         mut values: Vec<V>,
@@ -88,14 +90,14 @@ impl<V: Logged<I, B>, I, B> Turns<V, I, B> {
         }
     }
 
-    /// Waits until it has the shard's turn, and takes the value, which stands for the log as it is now.
+    /// Waits for the shard's turn, and takes the value, which stands for the current log.
     pub fn enter<R: Wait>(&self, rt: &R, seat: &mut TurnSeat<I, B>, shard: u8) -> V
         requires seat { IsOf seat.old self.now }
         requires free { (view_of seat.old).turn ≡ Free }
         requires shard { shard < shards_of self.now }
         ensures seat { IsOf seat.new self.now }
 
-        // What the seat has seen of the shard's log is now the whole log, which begins with what it had seen before.
+        // The seat has now seen the whole log, of which the log that it had seen before is a prefix.
         ensures view { view_of seat.new ≡ entered shard (items_at (view_of seat.new).seen shard) (view_of seat.old) }
         ensures front { IsFront (items_at (view_of seat.old).seen shard) (items_at (view_of seat.new).seen shard) }
         ensures value { StandsAt V.stands result (view_of seat.new).seen shard }
@@ -109,7 +111,7 @@ impl<V: Logged<I, B>, I, B> Turns<V, I, B> {
         unreachable!()
     }
 
-    /// Adds the item that this value means to the log of the shard that the seat is in, by one atomic step.
+    /// Appends the item that this value represents to the log of the shard that the seat is in, by one atomic step.
     pub fn added<E: Item<I>>(&self, seat: &mut TurnSeat<I, B>, shard: u8, item: &E)
         requires seat { IsOf seat.old self.now }
         requires held { (view_of seat.old).turn ≡ Inside shard }
@@ -121,7 +123,7 @@ impl<V: Logged<I, B>, I, B> Turns<V, I, B> {
         self.count_next::<Brand, E>(seat, shard, item);
     }
 
-    /// Ends the seat's turn at the shard: the value goes back, and one caller that sleeps here is woken.
+    /// Ends the seat's turn at the shard: the value goes back, and one caller that sleeps for this turn is woken.
     pub fn leave(&self, seat: &mut TurnSeat<I, B>, shard: u8, value: V)
         requires seat { IsOf seat.old self.now }
         requires held { (view_of seat.old).turn ≡ Inside shard }
@@ -144,7 +146,7 @@ impl<V: Logged<I, B>, I, B> Turns<V, I, B> {
         self.wake(shard);
     }
 
-    /// A second seat, which has seen the same logs and has added nothing.
+    /// Splits off a second seat, which has seen the same logs and has appended nothing.
     pub fn split(&self, seat: &mut TurnSeat<I, B>) -> TurnSeat<I, B>
         requires seat { IsOf seat.old self.now }
         requires free { (view_of seat.old).turn ≡ Free }
@@ -157,14 +159,15 @@ impl<V: Logged<I, B>, I, B> Turns<V, I, B> {
         TurnSeat::of(new)
     }
 
-    /// Ends the other seat, and leaves this one with the items that both added, and of each log the longer that either has seen.
+    /// Merges `other` into `seat`. The seat then has the items that both have appended, and for each log the longer
+    /// prefix that either has seen.
     pub fn join(&self, seat: &mut TurnSeat<I, B>, other: TurnSeat<I, B>)
         requires seats { IsOf seat.old self.now × IsOf other self.now }
         requires free { ((view_of seat.old).turn ≡ Free) × ((view_of other).turn ≡ Free) }
         ensures seat { IsOf seat.new self.now }
         ensures view { view_of seat.new ≡ joined (view_of seat.old) (view_of other) }
 
-        // What either has seen of a log is a front of what the seat has now seen of it.
+        // What either had seen of a log is a prefix of what the seat has now seen of it.
         ensures fronts { (shard : ℕ) → IsFront (items_at (view_of seat.old).seen shard) (items_at (view_of seat.new).seen shard)
             × IsFront (items_at (view_of other).seen shard) (items_at (view_of seat.new).seen shard) }
     {
@@ -176,17 +179,18 @@ impl<V: Logged<I, B>, I, B> Turns<V, I, B> {
         seat.put(stepper);
     }
 
-    /// Ends the turns, with a seat into which all others were joined, and gives the values in order. It takes no memory.
+    /// Closes the turns, with a seat into which all others were joined, and returns the values in order. It doesn't
+    /// allocate.
     pub fn close(self, seat: TurnSeat<I, B>) -> Vec<V>
         requires seat { IsOf seat self }
         requires free { (view_of seat).turn ≡ Free }
         requires whole { IsWhole (view_of seat).names }
 
-        // Each value stands for the log that the seat has seen, which begins with the opening log.
+        // Each value stands for the log that the seat has seen, of which the opening log is a prefix.
         ensures values { StandFor V.stands result.items (view_of seat).seen }
         ensures fronts { (shard : ℕ) → IsFront (items_at (opening_of self) shard) (items_at (view_of seat).seen shard) }
 
-        // The items past the opening logs stand at just the places that are the seat's, each once.
+        // The indices of the items after the opening logs are exactly the seat's own, each once.
         ensures places { (shard place : ℕ) → shard < shards_of self → times shard place (view_of seat).mine
             ≡ between (length (items_at (opening_of self) shard)) (length (items_at (view_of seat).seen shard)) place }
     {
@@ -203,7 +207,7 @@ impl<V: Logged<I, B>, I, B> Turns<V, I, B> {
         values
     }
 
-    /// Looks some times for a free turn, and takes it and the value where it finds one.
+    /// Tries a fixed number of times to take the turn and the value.
     fn look_for_turn(&self, seat: &mut TurnSeat<I, B>, shard: u8) -> Option<V>
         requires seat { IsOf seat.old self.now }
         requires free { (view_of seat.old).turn ≡ Free }
@@ -226,7 +230,7 @@ impl<V: Logged<I, B>, I, B> Turns<V, I, B> {
         None
     }
 
-    /// Takes the shard's turn and its value, in one step, where nobody has the turn.
+    /// Takes the shard's turn and its value, in one step, if the turn is free.
     fn try_enter(&self, seat: &mut TurnSeat<I, B>, shard: u8) -> Option<V>
         requires seat { IsOf seat.old self.now }
         requires free { (view_of seat.old).turn ≡ Free }
@@ -257,7 +261,7 @@ impl<V: Logged<I, B>, I, B> Turns<V, I, B> {
         Some(value.unwrap())
     }
 
-    /// Sleeps while the shard's turn is taken, until somebody leaves. It may also return before.
+    /// Sleeps while the shard's turn is taken, until a caller leaves. It may also return earlier.
     fn sleep<R: Wait>(&self, rt: &R, shard: u8)
         requires { shard < shards_of self.now }
     {
@@ -266,7 +270,7 @@ impl<V: Logged<I, B>, I, B> Turns<V, I, B> {
         self.sleepers.fetch_sub(1, Ordering::SeqCst);
     }
 
-    /// Wakes one caller that sleeps until it has the shard's turn, if there is one.
+    /// Wakes one caller that sleeps for the shard's turn, if there is one.
     fn wake(&self, shard: u8)
         requires { shard < shards_of self.now }
     {
@@ -275,7 +279,7 @@ impl<V: Logged<I, B>, I, B> Turns<V, I, B> {
         }
     }
 
-    /// Adds the item that a call picks, as `added` says.
+    /// Appends the item that a call chooses, as `added` says.
     fn count_next<N: Next<I>, E: Item<I>>(&self, seat: &mut TurnSeat<I, B>, shard: u8, item: &E)
         requires seat { IsOf seat.old self.now }
         requires held { (view_of seat.old).turn ≡ Inside shard }

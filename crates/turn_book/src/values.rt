@@ -1,4 +1,4 @@
-//! The values of the shards, as they come in and go out again.
+//! The values of the shards, moved into slots and out again.
 ghost use Rattle.std.specs.Prelude.{◌≡◌, ℕ, ◌+◌, ◌*◌, ◌<◌, ◌≤◌, false, List, [], All, length, map, Some, None, IsSome, IfOk, vec_len, vec_capacity, slice_index_or};
 ghost use Rattle.std.specs.Mem.Slots.{slots_items, slots_filled, slots_len, IsFull};
 ghost use Rattle.issuer_base.specs.declared.limits.TheConstants.{MAX_SHARDS};
@@ -32,7 +32,7 @@ impl<V> Spare<V> {
     }
 }
 
-/// The words of a table that begins with so many items in each log, and whose turns are free.
+/// The initial words of a table: each log has its count of items, and each turn is free.
 pub(crate) fn opening_words(alloc: Global, counts: &[u64]) -> Result<Vec<u64>, AllocError>
     requires { length counts.now ≤ MAX_SHARDS }
     ensures { IfOk result (λ words. AreOpeningWords counts.now words.items) }
@@ -57,7 +57,7 @@ pub(crate) fn fill_slots<V>(values: &mut Vec<V>, slots: &mut Vec<Option<V>>)
     slots.reverse();
 }
 
-/// Moves the values out of slots that are full, in order.
+/// Moves the values out of full slots, in order.
 pub(crate) fn empty_slots<V>(mut slots: Vec<Option<V>>, values: &mut Vec<V>)
     requires full { All IsSome slots.items }
     requires empty { values.old.items ≡ [] }
@@ -84,14 +84,14 @@ pub(crate) fn take_values<V>(closed: &mut Closed<Option<V>, Global>, values: &mu
     }
 }
 
-/// What a table is made from: its words, its key, and room for its slots, of which the list of values has as much.
+/// The parts of a table before it exists: its words, its key, and room for its slots.
 pub(crate) struct Ground<V, I, B> {
     pub(crate) words: Vec<u64>,
     pub(crate) key: Opening<I, B>,
     pub(crate) slots: Vec<Option<V>>,
 }
 
-/// Takes the memory of a table for so many values.
+/// Allocates the parts of a table for the values, and reserves room for `MAX_SHARDS` values in their list.
 pub(crate) fn take_ground<V, J: OpeningLogs<I, B>, I, B>(
     alloc: Global,
     values: &mut Vec<V>,

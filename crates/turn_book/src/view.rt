@@ -1,4 +1,4 @@
-//! What a seat knows. It exists in proofs alone: no value of these types is made.
+//! What a seat knows. It exists in proofs alone: the program has no value of these types.
 use crate::logs::Log;
 use seat_names::SeatName;
 use std::collections::LinkedList;
@@ -11,7 +11,7 @@ pub enum Turn {
     /// It has the turn of this shard, and the shard's slot with the value.
     Moving(u8),
 
-    /// It has the turn of this shard, and the value is out with the caller.
+    /// It has the turn of this shard, and the caller holds the value.
     Inside(u8),
 }
 
@@ -20,7 +20,7 @@ pub struct TurnView<I, B> {
     /// What it has seen of each shard's log.
     pub seen: LinkedList<Log<I, B>>,
 
-    /// The shards and places of the items that it has added, newest first.
+    /// The shards and indices of the items that it has appended, newest first.
     pub mine: LinkedList<(u8, u64)>,
 
     /// Whether it has a turn.

@@ -1,4 +1,4 @@
--- The batches in the records of a card, and what one more record of its shard does to them.
+-- The batches in the records of a card, and the effect of one more record of its shard on them.
 use Rattle.std.proofs.Common.{◌≡◌, ℕ, ◌≤◌, true, List, [], ◌∷◌, ◌++◌, take, Option, Some, None}
 use Rattle.std.proofs.Common.{Contains, refl, ap, sym, ◌∙◌, subst, inl, inr, ◌⊎◌, suc, max, arith}
 use Rattle.std.proofs.lemmas.List.Elements.{All-contains}

@@ -1,4 +1,4 @@
--- What a genuine run keeps of one card, with the history of its shard and the requests that it made.
+-- The invariant of a genuine run for one card, with the history of its shard and the requests that it made.
 use Rattle.std.proofs.Common.{◌≡◌, ℕ, ◌+◌, ◌≤◌, ◌<◌, true, false, List, [], ◌++◌, length, take, drop, Option, Some, None, ap, sym, ◌∙◌, inl, inr}
 use Rattle.std.proofs.Common.{arith}
 use Rattle.std.proofs.lemmas.Bool.{cases_lt}

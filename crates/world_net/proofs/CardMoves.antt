@@ -1,4 +1,4 @@
--- How a card moves: what each step that a card takes makes of it.
+-- The effect of each step of a card on its state.
 use Rattle.std.proofs.Common.{◌≡◌, ℕ, ◌+◌, ◌*◌, ◌/◌, ◌%◌, Bool, true, false, cond, List, Option}
 use Rattle.std.proofs.Common.{Some, None, refl, ap, sym, ◌∙◌, inl, inr, ◌⊎◌, arith, subst, ◌==◌}
 use Rattle.std.proofs.Math.Nat.{div-add-mod}

@@ -1,4 +1,4 @@
--- A counter is free where no record and no claim is on it.
+-- A counter is free if no record and no claim is on it.
 use Rattle.std.proofs.Common.{◌≡◌, ◌≢◌, ℕ, zero, suc, true, not, ◌&&◌, ◌==◌, List, [], ◌∷◌, Some, IsTrue, ◌↔◌, refl, ap, sym, ◌∙◌, arith}
 use Rattle.std.proofs.lemmas.Bool.{and_parts, and_from, eqb-true, eq-eqb, not_from_true, not_from_false}
 use Rattle.std.proofs.lemmas.Bool.{false_from_ne_true, both_ways}

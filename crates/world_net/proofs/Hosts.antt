@@ -1,4 +1,4 @@
--- What every run keeps of the shards of a host: legal histories, and in doubt only what may come next.
+-- The invariant of every run for the shards of a host: legal histories, and in doubt only a valid successor.
 use Rattle.std.proofs.Common.{◌≡◌, ◌≢◌, ℕ, zero, suc, ◌%◌, ◌<◌, List, [], ◌∷◌, ◌++◌, length}
 use Rattle.std.proofs.Common.{take, map, get_or, set, Option, Some, None, Contains, refl, ap, sym}
 use Rattle.std.proofs.Common.{◌∙◌, subst, inl, inr, arith, length-set, replicate}

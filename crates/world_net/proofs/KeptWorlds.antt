@@ -1,4 +1,4 @@
--- What a genuine run keeps of a world: of each card what CardLaw says.
+-- The invariant of a genuine run for a world: that of CardLaw for each card.
 use Rattle.std.proofs.Common.{◌≡◌, ◌≢◌, ℕ, ◌%◌, ◌<◌, Bool, true, false, List, [], ◌∷◌, ◌++◌}
 use Rattle.std.proofs.Common.{length, get_or, set, Option, Some, None, Contains, refl, ap, sym, ◌∙◌, subst}
 use Rattle.std.proofs.Common.{inl, inr, arith}

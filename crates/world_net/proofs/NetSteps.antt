@@ -1,4 +1,4 @@
--- What a call found makes its event one that is allowed, and what it did a step of the world.
+-- An event is allowed by what its call found, and what the call did is a step of the world.
 use Rattle.std.proofs.Common.{◌≡◌, ◌≢◌, ℕ, ◌<◌, Bool, true, false, List, [], ◌∷◌, ◌++◌, length, get_or, set, Option, Some, None, Ok, is_some, IsTrue, ◌↔◌}
 use Rattle.std.proofs.Common.{ap, sym, ◌∙◌}
 use Rattle.std.proofs.lemmas.Bool.{false≢true}

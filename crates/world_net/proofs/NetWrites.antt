@@ -1,4 +1,4 @@
--- What a write and a restart do to a world and to the rows of its cards.
+-- The effect of a write and of a restart on a world and on the rows of its cards.
 use Rattle.std.proofs.Common.{◌≡◌, ℕ, ◌%◌, ◌<◌, Bool, true, false, ◌==◌, List, [], ◌∷◌, ◌++◌, length, get_or, set, Option, Some, None, Ok, IsTrue, ◌↔◌}
 use Rattle.std.proofs.Common.{refl, ap, sym, ◌∙◌, subst, inl, inr, arith, Result, Err, OnOk, OnErr, IfOk}
 use Rattle.std.proofs.lemmas.Bool.{cases_Bool, cond-true, cond-false, false≢true}

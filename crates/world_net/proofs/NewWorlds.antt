@@ -1,4 +1,4 @@
--- The rows of a world in which nothing happened.
+-- The rows of a world before any event.
 use Rattle.std.proofs.Common.{◌≡◌, ℕ, ◌+◌, ◌%◌, List, [], ◌∷◌, ◌++◌, length, take, map, Contains, replicate, refl, ap, sym, ◌∙◌, subst, inl, inr, Some, arith}
 use Rattle.std.proofs.lemmas.Bool.{cases_eq}
 use Rattle.std.proofs.lemmas.List.{length_push, length-map, map_more, get_or_push, get_or_append_left}

@@ -1,4 +1,4 @@
--- A reply that the decision table makes is one that the issuer makes, whatever its table is.
+-- A reply by the decision table is one that the issuer may make, whatever its table is.
 use Rattle.std.proofs.Common.{◌≡◌, ℕ, ◌%◌, Bool, true, List, [], ◌∷◌, ◌++◌, length, Option, Some, Ok, IsTrue, refl, ap, sym, ◌∙◌}
 use Rattle.std.proofs.Common.{subst, arith, inl, inr}
 use Rattle.std.proofs.lemmas.Bool.{and_parts, cases_Bool, cond-true, cond-false, not-true}

@@ -23,7 +23,7 @@ use Rattle.world_net.specs.declared.event.Event.TheVariants.{Tap, Claim, Release
 use Rattle.world_net.specs.declared.parts.OpenClaim.{OpenClaim}
 use Rattle.world_net.specs.WorldState.{WorldState, shard_at, record_in, history_for, claim_of}
 
--- a card that isn't at its last counter may be tapped, where the amount is decimal
+-- a card that isn't at its last counter may be tapped, if the amount is decimal
 pub record CanTap (world : WorldState) (number : ℕ) (terminal : Terminal) : Type 0 where
   pub card : CardState
   pub card_is : slice_get world.cards number ≡ Some card
@@ -35,7 +35,8 @@ pub record IsFree (world : WorldState) (request : Request) : Type 0 where
   pub unrecorded : All (λ decision. decision.request.atc ≢ request.atc) (decided_for request (history_for world request))
   pub unclaimed : All (λ claim. card_of claim.request ≡ card_of request → claim.request.atc ≢ request.atc) world.claims
 
--- a caller without a claim may claim the counter of the request that these bytes say, if the issuer would decide it and it is free
+-- a caller without a claim may claim the counter of the request in these bytes, if the issuer would decide the request
+-- and its counter is free
 pub record CanClaim (world : WorldState) (caller : ℕ) (bytes : List ℕ) : Type 0 where
   pub request : Request
   pub idle : claim_of caller world.claims ≡ None
@@ -43,12 +44,12 @@ pub record CanClaim (world : WorldState) (caller : ℕ) (bytes : List ℕ) : Typ
   pub genuine : checked world.issuer request ≡ Ok (Decide request)
   pub free : IsFree world request
 
--- a caller that has a claim may give it back
+-- a caller that has a claim may release it
 pub record CanRelease (world : WorldState) (caller : ℕ) : Type 0 where
   pub claim : OpenClaim
   pub claim_is : claim_of caller world.claims ≡ Some claim
 
--- and may write the decision of the request that it claimed, where its counter is in the window and unused
+-- a caller may write the decision of the request that it claimed, if its counter is in the window and unused
 pub record CanWrite (world : WorldState) (caller : ℕ) : Type 0 where
   pub claim : OpenClaim
   pub claim_is : claim_of caller world.claims ≡ Some claim
@@ -60,14 +61,14 @@ pub record CanSend (world : WorldState) (shard place : ℕ) : Type 0 where
   pub reply : Reply
   pub record_is : record_in world shard place ≡ Some (Decided request reply)
 
--- a command may be queued for a card whose queue takes it
+-- a command may be queued for a card if its record is legal after the history of the card's shard
 pub record CanQueue (world : WorldState) (number : ℕ) (command : Command) : Type 0 where
   pub card : CardInfo
   pub card_is : slice_get world.issuer.cards number ≡ Some card
   pub legal : IsLegalCommand (grounds_of world.issuer) (number % world.issuer.shards)
       (shard_at world (number % world.issuer.shards)).history (name_of card) command
 
--- a card may be given a status
+-- the status of a card may be set if its record is legal
 pub record CanSet (world : WorldState) (number status : ℕ) : Type 0 where
   pub card : CardInfo
   pub card_is : slice_get world.issuer.cards number ≡ Some card

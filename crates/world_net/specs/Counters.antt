@@ -1,4 +1,4 @@
--- Which requests are on the counter of another one.
+-- Whether two requests are on the same counter of a card.
 use Rattle.std.specs.Prelude.{Bool, true, not, ◌&&◌, ◌==◌}
 use Rattle.issuer_base.specs.declared.request.Request.{Request}
 use Rattle.issuer_base.specs.declared.entry.Entry.{Entry}

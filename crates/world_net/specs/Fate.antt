@@ -1,4 +1,4 @@
--- What happens to the steps of a large run, which goes round all cards again and again.
+-- The fates of the steps of a large run, which visits all cards in rounds.
 use Rattle.std.specs.Prelude.{ℕ, ◌+◌, ◌/◌, ◌%◌}
 
 -- the fate of a step: its round, the number of its card and the seed, modulo 8

@@ -1,4 +1,4 @@
--- Histories that a run may have.
+-- Legal histories, and runs that have them.
 use Rattle.std.specs.Prelude.{◌≡◌, ◌≤◌, ℕ, List, [], length, slice_index_or, All}
 use Rattle.issuer_base.specs.declared.entry.Entry.{Entry}
 use Rattle.issuer_base.specs.declared.limits.TheConstants.{MAX_CHIP_BYTES}
@@ -11,7 +11,7 @@ use Rattle.world_net.specs.declared.event.Event.TheVariants.{Claim}
 use Rattle.world_net.specs.WorldState.{WorldState, histories_of}
 use Rattle.world_net.specs.WorldRuns.{IsRun}
 
--- each record is an entry as the program holds it: a law over all histories ranges over lists of any length and numbers of any size
+-- each record is a value of its type: a law over all histories ranges over lists of any length and numbers of any size
 abbrev pub AreHeld : List (List Entry) → Type 0
 AreHeld histories = (shard : ℕ) → All IsEntry (slice_index_or histories shard [])
 

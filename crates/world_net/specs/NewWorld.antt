@@ -1,4 +1,4 @@
--- The parts of a world in which nothing happened, as far as they are made.
+-- The parts of a world before any event, as `World::new` builds them.
 use Rattle.std.specs.Prelude.{◌≡◌, ◌<◌, ℕ, List, [], length, map, slice_get, Some}
 use Rattle.issuer_setup.specs.declared.card.CardInfo.{CardInfo}
 use Rattle.issuer_setup.specs.IssuerSetup.{Setup}

@@ -23,13 +23,13 @@ pub record HasOneReply (world : WorldState) : Type 0 where
   pub same : (first second : Exchange) → Contains world.sent first → Contains world.sent second → first.request ≡ second.request
       → first.reply ≡ second.reply
 
--- what is sure of each run: no two decided records name the same card and counter, and each request has one reply
+-- what holds in each run: no two decided records name the same card and counter, and each request has one reply
 pub record IsSafe (world : WorldState) : Type 0 where
   pub once : IsOncePerCounter (histories_of world)
   pub one_reply : HasOneReply world
 
--- the commands that a card ran are the first ones of its queue, in order, each once: all that are done, and none past those in flight; and
--- the card's scripts aren't halted
+-- the commands that a card ran are a prefix of its queue, in order, each once: all that are done, and none after those
+-- in flight; and the card's scripts aren't halted
 pub record RanInOrder (name : CardName) (history : List Entry) (ran : List Command) : Type 0 where
   pub rest : List Command
   pub front : queue name history ≡ ran ++ rest
@@ -37,7 +37,7 @@ pub record RanInOrder (name : CardName) (history : List Entry) (ran : List Comma
   pub at_most : length ran ≤ (scripts_of name history).done + option_map_or (λ flight. flight.size) (scripts_of name history).flight 0
   pub goes_on : (scripts_of name history).halted ≡ false
 
--- besides, what is sure of a genuine run: so it is for each card
+-- what also holds in a genuine run: each card ran its commands in order
 abbrev pub RunsInOrder : WorldState → Type 0
 RunsInOrder world =
     (number : ℕ) (info : CardInfo) (card : CardState) → slice_get world.issuer.cards number ≡ Some info → slice_get world.cards number ≡ Some card

@@ -1,4 +1,4 @@
--- What a call makes of a world: the parts that a world's code holds, and what it answers.
+-- The effect of a call on a world: the parts that its code holds, and the call's result.
 use Rattle.std.specs.Prelude.{◌≡◌, ℕ, ◌%◌, Bool, true, false, List, slice_get, slice_index_or, Some, Result, Ok, Err}
 use Rattle.issuer_base.specs.declared.request.Request.{Request}
 use Rattle.issuer_setup.specs.declared.card.CardInfo.{CardInfo}
@@ -31,7 +31,7 @@ pub record RowsStand (issuer : Setup) (rows : List CardRow) (shards : List Shard
       → (row : CardRow) × (slice_get rows number ≡ Some row)
       × StandsFor info row (slice_index_or shards (number % issuer.shards) no_shard).history
 
--- so it is in these parts
+-- the rows of these parts stand for the histories of their cards' shards
 abbrev pub Stands : Net → Type 0
 Stands net = RowsStand net.issuer net.rows.items net.shards.items
 
@@ -41,22 +41,22 @@ pub record IsReached (world : WorldState) : Type 0 where
   pub events : List Event
   pub run : IsRun world.issuer events world
 
--- the parts of a run's end, with rows that stand
+-- the parts are the end of a run, and their rows stand for the histories
 pub record IsHeld (net : Net) : Type 0 where
   pub reached : IsReached (world_of net)
   pub rows : Stands net
 
--- true where something was allowed, and then it is done; else nothing changes
+-- true if the event was allowed, and then it is done; else nothing changes
 abbrev pub IsTaken : {E : Type 0} → Type 0 → Type 0 → WorldState → WorldState → Result Bool E → Type 0
 IsTaken Allowed Done before after (Ok true) = Allowed × Done
 IsTaken Allowed Done before after (Ok false) = (Allowed → ⊥) × (after ≡ before)
 IsTaken Allowed Done before after (Err fault) = after ≡ before
 
--- the issuer's own decision of a request, by its table as it is, after the history of its card's shard
+-- the issuer's own decision of a request, by its table, after the history of its card's shard
 abbrev pub own_decision : WorldState → Request → Exchange
 own_decision world request = record { request = request; reply = reply_to world.issuer (history_for world request) request }
 
--- what was written for the caller is the issuer's own decision of the request that the caller claimed
+-- the decision that was written for the caller is the issuer's own, of the request that the caller claimed
 pub record WritesOwn (world : WorldState) (caller : ℕ) (stored : Bool) (after : WorldState) : Type 0 where
   pub claim : OpenClaim
   pub claim_is : claim_of caller world.claims ≡ Some claim
@@ -67,7 +67,7 @@ abbrev pub IsOwn : WorldState → Event → WorldState → Type 0
 IsOwn world (Write caller stored) after = WritesOwn world caller stored after
 IsOwn world _ after = Unit {0}
 
--- if the call did something, this is what it did
+-- if the call performed the event, this holds
 abbrev pub IfDone : {E : Type 0} → Type 0 → Result Bool E → Type 0
 IfDone Done (Ok true) = Done
 IfDone Done _ = Unit {0}

@@ -22,12 +22,12 @@ use Rattle.world_net.specs.declared.parts.Exchange.{Exchange}
 use Rattle.world_net.specs.WorldState.{WorldState, no_shard, record_in, history_for}
 use Rattle.world_net.specs.WorldSteps.{IsStep}
 
--- an issuer that can be: 1 to 16 shards, and cards with names of their own
+-- a possible issuer: 1 to 16 shards, and cards with different names
 pub record IsIssuer (issuer : Setup) : Type 0 where
   pub shards : are_shards issuer.shards ≡ true
   pub cards : AreCards issuer.cards
 
--- a new card, whose keys come from this key set
+-- a new card, whose keys are derived from this key set
 abbrev pub card_under : KeySet → CardInfo → CardState
 card_under keys info = new_card info.pan info.psn keys.dki info.method (card_keys keys info.pan info.psn)
 
@@ -37,7 +37,7 @@ pub record IsNewCard (issuer : Setup) (info : CardInfo) (card : CardState) : Typ
   pub known : Contains issuer.keys keys
   pub card_is : card ≡ card_under keys info
 
--- the world in which nothing happened yet: its cards are new, and all else is empty
+-- the world before any event: its cards are new, and all else is empty
 pub record IsNewWorld (issuer : Setup) (world : WorldState) : Type 0 where
   pub issuer_is : world.issuer ≡ issuer
   pub count : length world.cards ≡ length issuer.cards
@@ -48,12 +48,12 @@ pub record IsNewWorld (issuer : Setup) (world : WorldState) : Type 0 where
   pub claims : world.claims ≡ []
   pub sent : world.sent ≡ []
 
--- a world becomes another by these events, one after another
+-- these events, one after another, turn a world into another
 abbrev pub IsRunFrom : WorldState → List Event → WorldState → Type 0
 IsRunFrom before [] after = after ≡ before
 IsRunFrom before (event ∷ events) after = (between : WorldState) × IsStep before event between × IsRunFrom between events after
 
--- a run: what becomes of a new world of the issuer by these events
+-- a run: these events turn a new world of the issuer into this world
 abbrev pub IsRun : Setup → List Event → WorldState → Type 0
 IsRun issuer events world = (start : WorldState) × IsNewWorld issuer start × IsRunFrom start events world
 
@@ -63,17 +63,17 @@ pub record IsMade (world : WorldState) (request : Request) : Type 0 where
   pub number_is : number_of (card_of request) world.issuer.cards ≡ Some number
   pub made : Contains world.made (record { card = number; request = request })
 
--- each request that a record decides was made before the record joined its history
+-- each request that a record decides was made by its card before the record was appended
 abbrev pub DecidesMade : WorldState → WorldState → Type 0
 DecidesMade before after =
     (shard place : ℕ) (request : Request) (reply : Reply) → record_in after shard place ≡ Some (Decided request reply) → IsMade before request
 
--- the bytes of the reply have this value of tag 91, behind tag 8A with the response code: EMV 4.3 Book 3, Annex A
+-- the bytes of the reply have this value of tag 91, after tag 8A with the response code: EMV 4.3 Book 3, Annex A
 pub record HasValue (reply : Reply) (value : List ℕ) : Type 0 where
   pub rest : List ℕ
   pub bytes_are : reply.bytes.items ≡ object_text 0x8A reply.arc ++ object_text 0x91 value ++ rest
 
--- what a card found right was the value of a reply that was sent to its open request and, by method 1, its response code
+-- the card accepted the value of a reply that was sent to its open request, and by method 1 that reply's response code
 pub record IsAnswered (world : WorldState) (card : CardState) (value arc : List ℕ) : Type 0 where
   pub exchange : Exchange
   pub sent : Contains world.sent exchange
@@ -81,7 +81,7 @@ pub record IsAnswered (world : WorldState) (card : CardState) (value arc : List 
   pub value_is : HasValue exchange.reply value
   pub code_is : card.method ≡ One → arc ≡ exchange.reply.arc
 
--- what a card ran is, of the batch in the record of its open request, the command with the number of those that it ran in this transaction
+-- the command that a card ran is the next one, by the card's count, of the batch in the record of its open request
 pub record IsOfBatch (world : WorldState) (card moved : CardState) : Type 0 where
   pub request : Request
   pub opened : card.open_request ≡ Some request
@@ -94,7 +94,7 @@ pub record IsOfBatch (world : WorldState) (card moved : CardState) : Type 0 wher
   pub command_is : slice_get batch card.count ≡ Some command
   pub ran : moved.ran ≡ card.ran ++ command ∷ []
 
--- the cryptograms that are accepted in this step are genuine
+-- a cryptogram that a card accepts in this step is genuine
 abbrev pub IsAcceptedRight : (world : WorldState) (event : Event) (after : WorldState) → IsStep world event after → Type 0
 IsAcceptedRight world (Authenticate number value arc) after step =
     step.right ≡ true → IsAnswered world step.card value.items arc
@@ -107,7 +107,7 @@ pub record IsGenuineStep (world : WorldState) (event : Event) (after : WorldStat
   pub decides : DecidesMade world after
   pub accepts : IsAcceptedRight world event after step
 
--- by genuine steps alone
+-- these events turn a world into another by genuine steps alone
 abbrev pub IsGenuineFrom : WorldState → List Event → WorldState → Type 0
 IsGenuineFrom before [] after = after ≡ before
 IsGenuineFrom before (event ∷ events) after = (between : WorldState) × IsGenuineStep before event between × IsGenuineFrom between events after

@@ -1,4 +1,4 @@
--- What a world is: an issuer with the shards of its host, the issuer's cards, and what passed between them.
+-- The state of a world: an issuer with the shards of its host, the issuer's cards, and what passed between them.
 use Rattle.std.specs.Prelude.{ℕ, ◌%◌, not, ◌==◌, ◌++◌, List, [], ◌∷◌, map, filter, slice_get, slice_set, slice_index_or, Option, None}
 use Rattle.std.specs.List.{find}
 use Rattle.issuer_base.specs.declared.request.Request.{Request}
@@ -10,7 +10,7 @@ use Rattle.world_net.specs.declared.parts.MadeRequest.{MadeRequest}
 use Rattle.world_net.specs.declared.parts.OpenClaim.{OpenClaim}
 use Rattle.world_net.specs.declared.parts.Exchange.{Exchange}
 
--- a shard of the host: its records, and the decision that was written last where nobody knows whether the store has it
+-- a shard of the host: its records, and the decision that was written last, if it is in doubt whether the store has it
 pub record ShardState : Type 0 where
   pub history : List Entry
   pub doubt : Option Exchange
@@ -37,7 +37,7 @@ shard_at world shard = slice_index_or world.shards shard no_shard
 abbrev pub histories_of : WorldState → List (List Entry)
 histories_of world = map (λ shard. shard.history) world.shards
 
--- the record at this place of this shard, if there is one
+-- the record at this index of this shard, if there is one
 abbrev pub record_in : WorldState → ℕ → ℕ → Option Entry
 record_in world shard place = slice_get (shard_at world shard).history place
 
@@ -61,19 +61,19 @@ claim_of caller claims = find (λ claim. claim.caller == caller) claims
 abbrev pub without : ℕ → List OpenClaim → List OpenClaim
 without caller claims = filter (λ claim. not (claim.caller == caller)) claims
 
--- the world with this shard in the place of the one with this number
+-- the world with this shard instead of the one with this number
 abbrev pub with_shard : WorldState → ℕ → ShardState → WorldState
 with_shard world number shard = record world { shards = slice_set world.shards number shard }
 
--- the world with one more record of a shard: what was in doubt there is dropped
+-- the world with one more record of a shard: a decision in doubt there is dropped
 abbrev pub with_record : WorldState → ℕ → Entry → WorldState
 with_record world number entry =
     with_shard world number (record { history = (shard_at world number).history ++ entry ∷ []; doubt = None })
 
--- the world with this in doubt, or nothing, in a shard
+-- the world with this decision in doubt, or none, in a shard
 abbrev pub with_doubt : WorldState → ℕ → Option Exchange → WorldState
 with_doubt world number doubt = with_shard world number (record { history = (shard_at world number).history; doubt = doubt })
 
--- the world with this card in the place of the one with this number
+-- the world with this card instead of the one with this number
 abbrev pub with_card : WorldState → ℕ → CardState → WorldState
 with_card world number card = record world { cards = slice_set world.cards number card }

@@ -1,4 +1,4 @@
--- What an event makes of a world that allows it.
+-- The effect of an event on a world that allows it.
 use Rattle.std.specs.Prelude.{◌≡◌, ℕ, ◌%◌, Bool, true, false, is_some, if◌then◌else◌, List, [], ◌∷◌, ◌++◌, slice_get, position, Option, Some, None, IsTrue}
 use Rattle.std.specs.List.{list_all}
 use Rattle.issuer_base.specs.declared.command.Command.{Command}
@@ -18,7 +18,7 @@ use Rattle.world_net.specs.declared.parts.Exchange.{Exchange}
 use Rattle.world_net.specs.WorldState.{WorldState, ShardState, shard_at, home_of, history_for, claim_of, without, with_record, with_doubt, with_card}
 use Rattle.world_net.specs.Allowed.{CanClaim, CanRelease, CanSend, CanQueue, CanSet}
 
--- a card is tapped, and the request that it makes is one of those that were made
+-- a card is tapped, and the request that it makes is added to those that were made
 pub record Taps (world : WorldState) (number : ℕ) (terminal : Terminal) (after : WorldState) : Type 0 where
   pub card : CardState
   pub moved : CardState
@@ -33,13 +33,13 @@ pub record Claims (world : WorldState) (caller : ℕ) (bytes : List ℕ) (after 
   pub can : CanClaim world caller bytes
   pub after_is : after ≡ record world { claims = world.claims ++ record { caller = caller; request = can.request } ∷ [] }
 
--- a caller gives its claim back
+-- a caller releases its claim
 pub record Releases (world : WorldState) (caller : ℕ) (after : WorldState) : Type 0 where
   pub can : CanRelease world caller
   pub after_is : after ≡ record world { claims = without caller world.claims }
 
--- the world after a decision of a shard was written for this caller: stored, it is recorded and the claim ends; else it is in doubt, and the
--- claim stays
+-- the world after a caller's write of a decision: if it was stored, it is recorded and the claim ends; else it is in
+-- doubt and the claim stays
 abbrev pub written : Bool → WorldState → ℕ → ℕ → Exchange → WorldState
 written true world caller shard exchange =
     record (with_record world shard (Decided exchange.request exchange.reply)) { claims = without caller world.claims }
@@ -58,7 +58,7 @@ pub record Sends (world : WorldState) (shard place : ℕ) (after : WorldState) :
   pub can : CanSend world shard place
   pub after_is : after ≡ record world { sent = world.sent ++ record { request = can.request; reply = can.reply } ∷ [] }
 
--- a card is given a value of tag 91 and a response code, whatever it finds
+-- a value of tag 91 and a response code reach a card, whether it accepts them or not
 pub record Authenticates (world : WorldState) (number : ℕ) (value arc : List ℕ) (after : WorldState) : Type 0 where
   pub card : CardState
   pub moved : CardState
@@ -67,7 +67,7 @@ pub record Authenticates (world : WorldState) (number : ℕ) (value arc : List �
   pub step : CardStep card (IsAuthenticate value arc right) moved
   pub after_is : after ≡ with_card world number moved
 
--- a card is given a script command, whether it runs it or not
+-- a script command reaches a card, whether it runs it or not
 pub record Runs (world : WorldState) (number : ℕ) (bytes : List ℕ) (after : WorldState) : Type 0 where
   pub card : CardState
   pub moved : CardState
@@ -81,7 +81,7 @@ pub record Queues (world : WorldState) (number : ℕ) (command : Command) (after
   pub can : CanQueue world number command
   pub after_is : after ≡ with_record world (number % world.issuer.shards) (IsQueued can.card.pan can.card.psn command)
 
--- a card is given a status
+-- the status of a card is set
 pub record Sets (world : WorldState) (number status : ℕ) (after : WorldState) : Type 0 where
   pub can : CanSet world number status
   pub after_is : after ≡ with_record world (number % world.issuer.shards) (IsStatus can.card.pan can.card.psn status)
@@ -90,23 +90,23 @@ pub record Sets (world : WorldState) (number status : ℕ) (after : WorldState) 
 abbrev pub first_doubtful : List ShardState → Option ℕ
 first_doubtful shards = position (λ shard. is_some shard.doubt) shards
 
--- the shard's decision in doubt is recorded where its store kept it, and dropped where it didn't
+-- the shard's decision in doubt is recorded if its store kept it, and dropped if it didn't
 abbrev pub settled_at : Bool → WorldState → ℕ → Option Exchange → WorldState
 settled_at kept world shard None = world
 settled_at kept world shard (Some exchange) =
     if kept then with_record world shard (Decided exchange.request exchange.reply) else with_doubt world shard None
 
--- so for the shard with this number, if there is one
+-- the same for the shard with this number, if there is one
 abbrev pub settled_in : Bool → WorldState → Option ℕ → WorldState
 settled_in kept world None = world
 settled_in kept world (Some shard) = settled_at kept world shard (shard_at world shard).doubt
 
--- the world after a restart: the lowest shard with a decision in doubt is settled, and all claims end. A restart with several of them
--- is that many of these
+-- the world after a restart: the lowest shard with a decision in doubt is settled, and all claims end. If several
+-- shards have one, a restart is several of these events
 abbrev pub restarted : Bool → WorldState → WorldState
 restarted kept world = record (settled_in kept world (first_doubtful world.shards)) { claims = [] }
 
--- a world takes an event that it allows, and becomes the second world
+-- a world allows this event, which turns it into the second world
 abbrev pub IsStep : WorldState → Event → WorldState → Type 0
 IsStep world (Tap number terminal) after = Taps world number terminal after
 IsStep world (Claim caller bytes) after = Claims world caller bytes.items after

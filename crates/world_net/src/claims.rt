@@ -1,4 +1,4 @@
-//! The open claims of callers, and the counters that they hold.
+//! The open claims of callers, and their counters.
 ghost use Rattle.std.specs.Prelude.{◌≡◌};
 ghost use Rattle.std.specs.List.{list_all};
 ghost use Rattle.std.specs.Option.{option_map};

@@ -1,10 +1,10 @@
-//! What happens in a world.
+//! The events of a world.
 
 use arrayvec::ArrayVec;
 use card_model::Terminal;
 use issuer_base::{Command, MAX_CHIP_BYTES};
 
-/// What happens in a world: to a card, to a caller of the host, to the store of a shard, or to the host itself.
+/// An event of a world: of a card, of a caller of the host, of the store of a shard, or of the host itself.
 #[derive(Clone, PartialEq, Eq, Debug, Drop)]
 pub enum Event {
     /// The card with this number is tapped at a terminal, and makes a request.
@@ -13,24 +13,25 @@ pub enum Event {
         terminal: Terminal,
     },
 
-    /// A caller claims the counter of the request that these chip data say.
+    /// A caller claims the counter of the request in these chip data.
     Claim {
         caller: u8,
         bytes: ArrayVec<u8, MAX_CHIP_BYTES>,
     },
 
-    /// A caller gives its claim back.
+    /// A caller releases its claim.
     Release {
         caller: u8,
     },
 
-    /// A caller writes the decision of the request that it claimed. Where it isn't `stored`, nobody knows whether the store has it.
+    /// A caller writes the decision of the request that it claimed. If it isn't `stored`, it is in doubt whether the
+    /// store has it.
     Write {
         caller: u8,
         stored: bool,
     },
 
-    /// The reply of the decision at this place of this shard is sent, maybe once more.
+    /// The reply of the decision at this index of this shard is sent, possibly again.
     Send {
         shard: u8,
         place: u64,
@@ -61,7 +62,7 @@ pub enum Event {
         status: u8,
     },
 
-    /// The host restarts: no claim outlives it, and a record in doubt was `kept` by its store or not.
+    /// The host restarts: all claims end, and a record in doubt was `kept` by its store or not.
     Restart {
         kept: bool,
     },

@@ -1,8 +1,8 @@
-//! What happens to the steps of a large run.
+//! The generator of a large run: the fate of each step.
 ghost use Rattle.std.specs.Prelude.{◌≡◌, ◌≤◌};
 ghost use Rattle.world_net.specs.Fate.{fate_of};
 
-/// The fate of step `index`, from 0, of a run with so many cards and this seed, which is 0 to 7.
+/// The fate, 0 to 7, of step `index`, from 0, of a run with `cards` cards and this seed.
 pub fn fate(index: u64, cards: u32, seed: u32) -> u8
     requires { 1 ≤ cards }
     ensures { result ≡ fate_of index cards seed }

@@ -1,4 +1,4 @@
-//! The parts of a world, and what each event does to them.
+//! The parts of a world, and the effect of each event on them.
 ghost use Rattle.std.specs.Prelude.{◌≡◌, ◌<◌, ◌≤◌, ◌%◌, ℕ, length, slice_get, Some, Ok, IsTrue, ◌↔◌, MatchOption, OnOk, OnErr, IfOk, IfSome, true, replicate};
 ghost use Rattle.issuer_base.specs.ScriptCommand.{is_command};
 ghost use Rattle.issuer_base.specs.declared.request.Request.{Request};
@@ -61,7 +61,7 @@ pub(crate) struct Net {
 }
 
 impl Net {
-    /// The parts of a world in which nothing happened.
+    /// The parts of a world before any event.
     pub(crate) fn new(alloc: Global, issuer: Issuer) -> Result<Net, NoMemory>
         ensures held { IfOk result IsHeld }
         ensures new { IfOk result (λ net. IsNewWorld issuer (world_of net)) }
@@ -81,7 +81,7 @@ impl Net {
         })
     }
 
-    /// Takes the event where it is allowed.
+    /// Performs the event if it is allowed.
     pub(crate) fn step(&mut self, event: &Event) -> Result<bool, NoMemory>
         requires { IsHeld self.old }
         ensures taken { IsTaken (IsAllowed (world_of self.old) event.now) (IsStep (world_of self.old) event.now (world_of self.new))
@@ -143,7 +143,7 @@ impl Net {
         Ok(true)
     }
 
-    /// Claims the counter of the request that these bytes say.
+    /// Claims the counter of the request in these bytes.
     pub(crate) fn claim(&mut self, caller: u8, bytes: &[u8]) -> Result<bool, NoMemory>
         requires issuer { IsIssuer self.old.issuer }
         requires short { length bytes.now ≤ MAX_CHIP_BYTES }
@@ -165,7 +165,7 @@ impl Net {
         Ok(true)
     }
 
-    /// Gives a claim back.
+    /// Releases a claim.
     pub(crate) fn release(&mut self, caller: u8) -> Result<bool, NoMemory>
         ensures taken { IsTaken (CanRelease (world_of self.old) caller) (Releases (world_of self.old) caller (world_of self.new))
             (world_of self.old) (world_of self.new) result }
@@ -191,7 +191,7 @@ impl Net {
         Ok(true)
     }
 
-    /// Gives the card with this number a value of tag 91 and a response code.
+    /// Passes a value of tag 91 and a response code to the card with this number.
     pub(crate) fn authenticate(
         &mut self,
         number: u32,
@@ -210,7 +210,7 @@ impl Net {
         Ok(true)
     }
 
-    /// Gives the card with this number a script command.
+    /// Passes a script command to the card with this number.
     pub(crate) fn run(&mut self, number: u32, bytes: &[u8]) -> Result<bool, NoMemory>
         ensures taken { IsTaken (number < length (world_of self.old).cards) (Runs (world_of self.old) number bytes.now (world_of self.new))
             (world_of self.old) (world_of self.new) result }
@@ -249,7 +249,7 @@ impl Net {
         Ok(true)
     }
 
-    /// Gives the card with this number a status.
+    /// Sets the status of the card with this number.
     pub(crate) fn set_status(&mut self, number: u32, status: u8) -> Result<bool, NoMemory>
         requires shards { length self.old.shards.items ≡ self.old.issuer.shards }
         requires rows { Stands self.old }
@@ -314,7 +314,7 @@ impl Net {
         Ok(true)
     }
 
-    /// Settles the decision in doubt of this shard: it is recorded where it was kept.
+    /// Settles the decision in doubt of this shard: it is recorded if its store kept it.
     fn settle(&mut self, home: usize, kept: bool) -> Result<(), NoMemory>
         requires reached { IsReached (world_of self.old) }
         requires home { home < length self.old.shards.items }
@@ -342,7 +342,7 @@ impl Net {
         Some(claim.request.copy())
     }
 
-    /// The issuer's own decision of a request that it decides, where its counter is in the window and unused.
+    /// The issuer's own decision of a request that it decides, if its counter is in the window and unused.
     fn planned(&self, request: &Request) -> Option<Exchange>
         requires shards { length self.now.shards.items ≡ self.now.issuer.shards }
         requires rows { Stands self.now }
@@ -371,7 +371,7 @@ impl Net {
         }
     }
 
-    /// Records a decision that may come next, in the shard and the row of its card.
+    /// Records a decision, a valid successor of its shard's history, in the shard and in the row of its card.
     fn join(&mut self, exchange: &Exchange) -> Result<(), NoMemory>
         requires shards { length self.old.shards.items ≡ self.old.issuer.shards }
         requires rows { Stands self.old }
@@ -412,7 +412,7 @@ impl Net {
         takes_one_more(&self.rows[number as usize])
     }
 
-    /// The request that chip data say, where the issuer decides it.
+    /// The request in chip data, if the issuer decides it.
     fn read(&self, bytes: &[u8]) -> Option<Request>
         requires { length bytes.now ≤ MAX_CHIP_BYTES }
         ensures { MatchOption result
@@ -448,7 +448,7 @@ impl Net {
         }
     }
 
-    /// The decision in the record at this place of this shard.
+    /// The decision in the record at this index of this shard.
     fn decision_at(&self, shard: u8, place: u64) -> Option<Exchange>
         ensures { MatchOption result
             ((request : Request) (reply : Reply) → record_in (world_of self.now) shard place ≡ Some (Entry.Decided request reply) → ⊥)
@@ -490,7 +490,7 @@ fn is_command(command: &Command) -> bool
     command.cla & 0x0F == 0x04 && INSTRUCTIONS.contains(&command.ins)
 }
 
-/// The place of the first shard with a decision in doubt.
+/// The index of the first shard with a decision in doubt.
 fn first_doubtful(shards: &[ShardRecords]) -> Option<usize>
     ensures place { result ≡ first_doubtful shards.now }
     ensures within { IfSome result (λ place. place < length shards.now) }
@@ -498,7 +498,8 @@ fn first_doubtful(shards: &[ShardRecords]) -> Option<usize>
     shards.iter().position(|shard| shard.is_doubtful())
 }
 
-/// The row of the table that decides a request of a card with this status, which tells its approval.
+/// The row of the table that decides a request of a card with this status. It comes from a table in which each row's
+/// card status update states its approval.
 fn deciding_row<'a>(table: &'a Table, status: u8, request: &Request) -> &'a TableRow
     ensures row { decision table.now status request.now ≡ Some result.now }
     ensures table { IsTrue (is_table table.now) }
@@ -557,7 +558,7 @@ fn empty_rows(alloc: Global, issuer: &Issuer) -> Result<Vec<Row>, NoMemory>
     Ok(rows)
 }
 
-/// So many shards without records.
+/// `count` shards without records.
 fn no_shards(alloc: Global, count: u8) -> Result<Vec<ShardRecords>, NoMemory>
     ensures { IfOk result (λ shards. shards.items ≡ replicate count no_shard) }
 {

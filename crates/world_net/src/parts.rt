@@ -1,4 +1,4 @@
-//! What a world remembers beside its cards and its host.
+//! The state of a world beside its cards and its host.
 ghost use Rattle.std.specs.Prelude.{◌≡◌};
 
 use issuer_base::{Reply, Request};
@@ -29,7 +29,7 @@ pub struct Exchange {
 }
 
 impl Exchange {
-    /// A copy, which takes no memory.
+    /// A copy. It doesn't allocate.
     pub fn copy(&self) -> Exchange
         ensures { result ≡ self.now }
     {

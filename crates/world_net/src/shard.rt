@@ -12,7 +12,7 @@ use std::marker::Model;
 pub(crate) struct ShardRecords {
     history: Vec<Entry>,
 
-    /// The decision that was written last, where nobody knows whether the store has it.
+    /// The decision that was written last, if it is in doubt whether the store has it.
     doubt: Option<Exchange>,
 }
 
@@ -57,7 +57,7 @@ impl ShardRecords {
         Some(doubt.copy())
     }
 
-    /// Adds a record; what was in doubt is dropped. Where no memory is left, nothing changes.
+    /// Appends a record; a decision in doubt is dropped. If memory runs out, nothing changes.
     pub(crate) fn add(&mut self, entry: Entry) -> Result<(), NoMemory>
         ensures added { OnOk result (self.new ≡ record { history = self.old.history ++ entry ∷ []; doubt = None }) }
         ensures unchanged { OnErr result (self.new ≡ self.old) }
@@ -67,7 +67,7 @@ impl ShardRecords {
         Ok(())
     }
 
-    /// Puts this in doubt, or nothing.
+    /// Sets the decision in doubt, or none.
     pub(crate) fn set_doubt(&mut self, doubt: Option<Exchange>)
         ensures { self.new ≡ record { history = self.old.history; doubt = doubt } }
     {

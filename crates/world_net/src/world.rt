@@ -1,4 +1,4 @@
-//! A world that takes events.
+//! A world that performs events.
 ghost use Rattle.std.specs.Prelude.{IfOk};
 ghost use Rattle.world_net.specs.Allowed.{IsAllowed};
 ghost use Rattle.world_net.specs.WorldSteps.{IsStep};
@@ -34,7 +34,7 @@ impl Model for World {
 }
 
 impl World {
-    /// The world of this issuer in which nothing happened: its cards are new, under the issuer's first key set.
+    /// The world of this issuer before any event: its cards are new, under the issuer's first key set.
     pub fn new(alloc: Global, issuer: Issuer) -> Result<World, NoMemory>
         ensures new { IfOk result (IsNewWorld issuer) }
         ensures first { IfOk result (λ world. AreFirst issuer world.cards) }
@@ -45,12 +45,12 @@ impl World {
         Ok(World { net })
     }
 
-    /// Takes the event where the world allows it, and says whether it does. Where it doesn't, and where no memory is left, nothing
-    /// changes.
+    /// Performs the event if the world allows it, and returns whether it does. If it doesn't, or if memory runs out,
+    /// nothing changes.
     pub fn step(&mut self, event: &Event) -> Result<bool, NoMemory>
         ensures taken { IsTaken (IsAllowed self.old event.now) (IsStep self.old event.now self.new) self.old self.new result }
 
-        // A write takes the reply of the issuer's own table.
+        // A write records the reply of the issuer's own table.
         ensures own { IfDone (IsOwn self.old event.now self.new) result }
 
         // At each moment it is the end of a run, and safe.

@@ -1,4 +1,4 @@
-//! Events that are drawn at random, alike in each run. A deck's own cards make the requests that callers claim.
+//! Events drawn from a generator with a fixed seed. A deck's own cards make the requests that callers claim.
 ghost use Rattle.std.specs.Prelude.{◌≤◌, ◌<◌};
 
 use crate::plain_world::{CALLERS, CARDS, SHARDS};
@@ -12,7 +12,8 @@ use sample_issuer::{SampleCard, card, key_set};
 use std::alloc::Global;
 use world_net::Event;
 
-/// What events are drawn from: the state of a linear congruential generator, cards, and the chip data of the requests that they made.
+/// The source of the events: the state of a linear congruential generator, cards, and the chip data of the requests
+/// that they made.
 #[derive(Drop)]
 pub(crate) struct Deck {
     state: u64,
@@ -38,7 +39,7 @@ impl Deck {
         })
     }
 
-    /// An event, whether it may happen or not, in a world with so many records.
+    /// An event, allowed or not, for a world with this many records.
     pub(crate) fn draw(&mut self, records: u64) -> Result<Event, NoMemory> {
         match self.below(32) {
             0..=3 => self.tap(),
@@ -86,12 +87,12 @@ impl Deck {
         (self.state >> 33) as u32 % limit
     }
 
-    /// The number of a card, or the one past the last.
+    /// The number of a card, or one past the last.
     fn card(&mut self) -> u32 {
         self.below(CARDS + 1)
     }
 
-    /// A tap, which the deck's own card follows.
+    /// A tap, which the deck's own card performs too.
     fn tap(&mut self) -> Result<Event, NoMemory> {
         let card = self.card();
         let mut terminal = PURCHASE;
@@ -111,7 +112,7 @@ impl Deck {
         Ok(Event::Tap { card, terminal })
     }
 
-    /// A claim of one of the last three requests or of any, which may have a wrong byte.
+    /// A claim of one of the last three requests or of any request. Its chip data may have a wrong byte.
     fn claim(&mut self) -> Event {
         let caller = self.below(u32::from(CALLERS)) as u8;
         let most = if self.below(4) == 0 { 10_000 } else { 3 };
@@ -131,7 +132,7 @@ impl Deck {
         Event::Claim { caller, bytes }
     }
 
-    /// A command, one that the host doesn't send now and then.
+    /// A command, sometimes one that the host doesn't send.
     fn queue(&mut self) -> Event {
         let card = self.card();
         let cla = if self.below(8) == 0 { 0x80 } else { 0x84 };

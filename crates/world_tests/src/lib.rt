@@ -1,4 +1,4 @@
-//! Tests of worlds of cards and callers: events one by one and at random, and small runs of the large world.
+//! Tests of worlds of cards and callers: chosen events, random events, and small runs of the large world.
 #![tactic(auto)]
 
 #[cfg(test)]

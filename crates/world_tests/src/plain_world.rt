@@ -1,4 +1,5 @@
-//! A world of five cards, two shards and three callers by plain lists, whose records tell only whose they are.
+//! A model of a world of five cards, two shards and three callers, by plain lists. A decision has its card and counter,
+//! a queued command its card, and a status nothing.
 ghost use Rattle.std.specs.Prelude.{◌<◌};
 
 use chip_request::read_request;
@@ -32,8 +33,8 @@ enum PlainRecord {
     Status,
 }
 
-/// The records of all shards, each with its shard, in the order in which they were added; of each shard the decision of which nobody knows
-/// whether the store has it; and of each caller its claim.
+/// The records of all shards, each with its shard, in the order in which they were appended; each shard's decision in
+/// doubt; and each caller's claim.
 #[derive(Drop)]
 pub(crate) struct PlainWorld {
     records: Vec<(u8, PlainRecord)>,
@@ -55,7 +56,7 @@ impl PlainWorld {
         self.records.len() as u64
     }
 
-    /// Takes the event where it may happen, and says whether it may.
+    /// Performs the event if it is allowed, and returns whether it is.
     pub(crate) fn step(&mut self, issuer: &Issuer, event: &Event) -> Result<bool, NoMemory> {
         match event {
             Event::Tap { card, terminal } => Ok(*card < CARDS && are_decimal(&terminal.amount)),
@@ -135,14 +136,14 @@ impl PlainWorld {
         Ok(true)
     }
 
-    /// Adds a record to the shard of this card, whose doubt ends.
+    /// Appends a record to the shard of this card, and drops the shard's decision in doubt.
     fn add(&mut self, card: u32, record: PlainRecord) -> Result<bool, NoMemory> {
         self.doubts[home(card)] = None;
         self.records.push((home(card) as u8, record))?;
         Ok(true)
     }
 
-    /// Whether a decision of the card is on this counter, or on one so far above it.
+    /// Whether a decision of the card is on this counter, or on one that is at least `window` above it.
     fn is_ruled_out(&self, spot: Spot, window: u32) -> bool {
         for (_, record) in self.records.as_slice() {
             if let PlainRecord::Decided(other) = record {
@@ -157,7 +158,7 @@ impl PlainWorld {
         false
     }
 
-    /// How many commands were queued for this card, none of which any card runs.
+    /// How many commands were queued for this card. No card runs a command here.
     fn commands(&self, card: u32) -> u64 {
         let mut count = 0_u64;
         for (_, record) in self.records.as_slice() {
@@ -168,7 +169,7 @@ impl PlainWorld {
         count
     }
 
-    /// Whether the record at this place of this shard is a decision.
+    /// Whether the record at this index of this shard is a decision.
     fn is_decided(&self, shard: u8, place: u64) -> bool {
         let mut left = place;
         for (at, record) in self.records.as_slice() {
@@ -190,7 +191,7 @@ fn home(card: u32) -> usize
     (card % u32::from(SHARDS)) as usize
 }
 
-/// The card and counter of the request that chip data say, where the issuer decides it.
+/// The card and counter of the request in chip data, if the issuer decides it.
 fn asked(issuer: &Issuer, bytes: &[u8]) -> Option<Spot> {
     if bytes.len() > MAX_CHIP_BYTES {
         return None;

@@ -1,4 +1,4 @@
-//! Small runs, against counts that were worked out without the product, and their text.
+//! Small runs, against counts that were computed without the product, and their text.
 
 ghost use Rattle.std.specs.Prelude.{◌≤◌, ◌*◌};
 
@@ -12,8 +12,8 @@ use world_play::{SUMMARY_ROOM, play, write_summary};
 const EACH_FATE: &[u8] =
     b"taps 8\nfresh 7\napproved 4\nkept 1\nrefused 1\nauthenticated 4\nunauthenticated 2\nqueued 3\ndone 3\nran 3\nhalted 0\n";
 
-/// Three cards over all fates again and again. The counts are those of a model that knows counters and numbers of commands, and no
-/// cryptograms.
+/// Three cards over all fates again and again. The counts are those of a model of counters and numbers of commands,
+/// without cryptograms.
 const ALL_FATES: &[u8] =
     b"taps 60\nfresh 52\napproved 25\nkept 6\nrefused 9\nauthenticated 29\nunauthenticated 14\nqueued 27\ndone 18\nran 19\nhalted 0\n";
 
@@ -41,8 +41,8 @@ fn commands(alloc: Global, cards: u32, steps: u32, seed: u32) -> Result<Commands
     Ok((summary.queued, summary.done, summary.ran, summary.halted))
 }
 
-// The sizes and seeds were drawn once. The counts are those of the model above: some commands were run whose count the host hasn't heard of,
-// and none was run that wasn't queued.
+// The sizes and seeds were drawn once. The counts are those of the model above: cards ran some commands that they
+// haven't reported yet, and none that wasn't queued.
 #[test]
 fn cards_run_the_commands_that_are_queued_for_them(rt: HostRuntime) -> Result<(), Fail> {
     assert_eq!(rt; commands(rt.alloc(), 1, 64, 11)?, (24, 21, 22, 0));

@@ -1,4 +1,4 @@
-//! Random events on a world and on a plain model of it, which have the same answers.
+//! Random events on a world and on a plain model of it, which have the same results.
 
 use crate::drawn_events::Deck;
 use crate::plain_world::{PlainWorld, SHARDS};
@@ -9,10 +9,10 @@ use std::alloc::Global;
 use std::test::Fail;
 use world_net::World;
 
-/// How many events are tried.
+/// The number of events.
 const EVENTS: u32 = 6_000;
 
-/// The cards, by both ways to make a cryptogram of the answer.
+/// The cards, of both ARPC methods.
 const NAMES: [SampleCard; 5] = [
     ([1, 0], Method::One),
     ([1, 1], Method::Two),

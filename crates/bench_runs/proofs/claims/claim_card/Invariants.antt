@@ -1,4 +1,4 @@
--- The caller's seat stays at the table, with the names that it had.
+-- The caller's seat stays at the table, with its names.
 use Rattle.std.proofs.Common.{◌≡◌}
 use Rattle.claim_words.specs.Seats.{view_of, IsOf}
 use Rattle.bench_runs.proofs.claims.claim_card.Given as goal

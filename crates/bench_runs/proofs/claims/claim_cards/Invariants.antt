@@ -1,4 +1,4 @@
--- Whatever cards and rounds are through, the caller's seat stays at the table, with the names that it had.
+-- After any cards and rounds, the caller's seat stays at the table, with its names.
 use Rattle.std.proofs.Common.{◌≡◌}
 use Rattle.claim_words.specs.Seats.{view_of, IsOf}
 use Rattle.bench_runs.proofs.claims.claim_cards.Given as goal

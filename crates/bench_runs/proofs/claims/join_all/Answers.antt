@@ -1,4 +1,4 @@
--- A seat that takes over the last caller's is whole with the callers that are left.
+-- A seat into which the last caller's is joined is whole with the callers that are left.
 use Rattle.std.proofs.Common.{rules, ◌≡◌, ◌++◌, ◌∷◌, []}
 use Rattle.std.proofs.lemmas.List.Elements.{All-pop}
 use Rattle.seat_names.proofs.ManySeats.{whole_popped}

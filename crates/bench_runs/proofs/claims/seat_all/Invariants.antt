@@ -1,4 +1,4 @@
--- So many callers are seated, and the seat is whole with all of theirs.
+-- The callers so far are seated, and the seat is whole with all of theirs.
 use Rattle.std.proofs.Common.{◌≡◌, ◌≤◌, ◌++◌, All, vec_len, vec_capacity}
 use Rattle.std.specs.List.{flat_map}
 use Rattle.seat_names.specs.SeatNames.{IsWhole}

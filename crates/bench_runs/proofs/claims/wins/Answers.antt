@@ -1,4 +1,4 @@
--- Claiming at once leaves each seat its names, so all seats together are still whole.
+-- Concurrent claims leave each seat its names, so all seats together are still whole.
 use Rattle.std.proofs.Common.{ap, length, arith}
 use Rattle.seat_names.proofs.ManySeats.{whole_lent}
 use Rattle.claim_words.specs.Seats.{view_of}

@@ -1,4 +1,4 @@
--- One seat more is split off.
+-- One more seat is split off.
 use Rattle.std.proofs.Common.{rules, arith, ◌%◌, ◌<◌, ap, ◌∙◌}
 use Rattle.std.proofs.Math.Nat.{mod-lt}
 use Rattle.std.proofs.lemmas.List.Elements.{All-push}

@@ -1,4 +1,4 @@
--- A pass that takes over the last lane's is free, whole with those left, and has what both had.
+-- A pass into which the last lane's is joined is free, whole with those left, and has what both had.
 use Rattle.std.proofs.Common.{◌≡◌, ◌++◌, ◌∷◌, [], List, sym, ap, ◌∙◌, append-nil, append_assoc}
 use Rattle.std.proofs.lemmas.List.Elements.{All-pop}
 use Rattle.seat_names.proofs.ManySeats.{whole_popped}

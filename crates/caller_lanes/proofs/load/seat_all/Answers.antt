@@ -1,4 +1,4 @@
--- One lane more is seated, and was asked nothing.
+-- One more lane is seated, and has had no line.
 use Rattle.std.proofs.Common.{◌≡◌, rules, sym, ap, ◌∙◌, subst}
 use Rattle.std.proofs.lemmas.List.Elements.{All-pop, All-push}
 use Rattle.shard_turns.specs.ShardSeats.{opening_in}

@@ -1,4 +1,4 @@
--- The lanes so far are seated and were asked nothing, and the rooms that are left have theirs to come.
+-- The lanes so far are seated and have had no line, and each room that is left is for a later lane.
 use Rattle.std.proofs.Common.{◌≡◌, ℕ, ◌+◌, ◌≤◌, All, vec_len, vec_capacity}
 use Rattle.shard_turns.specs.ShardSeats.{opening_in}
 use Rattle.caller_lanes.specs.OneLane.{IsNew}

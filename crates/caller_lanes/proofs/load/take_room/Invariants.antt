@@ -1,4 +1,4 @@
--- So many rooms were taken, each for so many lines.
+-- The rooms so far are allocated, each for its number of lines.
 use Rattle.std.proofs.Common.{◌≡◌, ◌≤◌, ◌/◌, All, vec_len, vec_capacity}
 use Rattle.caller_lanes.specs.declared.lanes.TheConstants.{BLOCK_LINES}
 use Rattle.caller_lanes.proofs.load.take_room.Given as goal

@@ -1,4 +1,4 @@
--- The account number where all nibbles are its digits.
+-- The account number, if all nibbles are its digits.
 use Rattle.std.proofs.Common.{sym, ap, ◌∙◌, arith}
 use Rattle.issuer_base.specs.CardNumber.{pan_from}
 use Rattle.chip_request.proofs.DecimalValues.{digits_alone}

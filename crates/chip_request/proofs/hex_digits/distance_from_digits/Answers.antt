@@ -1,4 +1,4 @@
--- Whether a byte is a digit is seen from its distance.
+-- Whether a byte is a digit, by its distance.
 use Rattle.std.proofs.Common.{arith}
 use Rattle.chip_request.proofs.HexDistance.{distance_at}
 use Rattle.chip_request.proofs.hex_digits.distance_from_digits.Goals as goal

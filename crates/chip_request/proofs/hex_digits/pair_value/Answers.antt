@@ -1,4 +1,4 @@
--- What stands for two digits adds up to their byte.
+-- The tables' values of two digits add up to their byte.
 use Rattle.std.proofs.Common.{arith}
 use Rattle.chip_request.proofs.HexTable.{pair_at_bytes, pair_fits}
 use Rattle.chip_request.proofs.hex_digits.pair_value.Goals as goal

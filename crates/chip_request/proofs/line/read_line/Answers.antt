@@ -1,4 +1,4 @@
--- A line is read as what it says, and as nothing else.
+-- A line is parsed as what it says, and as nothing else.
 use Rattle.std.proofs.Common.{◌≡◌, ℕ, List, Result, Ok, Err, sym, ap, ◌∙◌, subst}
 use Rattle.std.proofs.lemmas.Result.{err_from_is_err_and}
 use Rattle.chip_request.specs.declared.line.LineKind.{LineKind}

@@ -1,4 +1,4 @@
--- A line's form, or the column of its first byte that can't stand there.
+-- A line's form, or the column of its first wrong byte.
 use Rattle.std.proofs.Common.{sym, ap, length, arith}
 use Rattle.chip_request.specs.LineParts.{with_column, line_of}
 use Rattle.chip_request.proofs.LineLaws.{left_of_line}

@@ -1,4 +1,4 @@
--- The digits in front of a text.
+-- The leading digits of a text.
 use Rattle.std.proofs.Common.{◌-◌, sym, ◌∙◌, arith}
 use Rattle.issuer_base.specs.declared.limits.TheConstants.{MAX_PAN_DIGITS}
 use Rattle.chip_request.proofs.LoopsOfParts.{behind_digits-one, digits_at-full, digits_at-stopped}

@@ -1,4 +1,4 @@
--- The digits in front of a text.
+-- The leading digits of a text.
 use Rattle.std.proofs.Common.{◌≡◌, ◌-◌, length}
 use Rattle.issuer_base.specs.declared.limits.TheConstants.{MAX_PAN_DIGITS}
 use Rattle.chip_request.specs.LineParts.{digits_at}

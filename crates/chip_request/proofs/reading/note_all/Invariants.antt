@@ -1,4 +1,4 @@
--- The walk over the objects of a text.
+-- The pass over the objects of a text.
 use Rattle.std.proofs.Common.{◌≡◌, ◌+◌, length}
 use Rattle.tlv_objects.specs.Tlv.{objects_ahead}
 use Rattle.chip_request.specs.Slots.{with_objects}

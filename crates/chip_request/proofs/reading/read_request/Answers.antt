@@ -1,4 +1,4 @@
--- Chip data say a request, or the first thing that is wrong with them.
+-- Chip data are parsed as a request, or as their first fault.
 use Rattle.std.proofs.Common.{sym, ap, ◌∙◌, Err, is_some}
 use Rattle.std.proofs.lemmas.Result.{err_from_is_err_and}
 use Rattle.tlv_objects.specs.Tlv.{Ahead, objects_ahead, objects_of}

@@ -1,4 +1,4 @@
--- The request that was found, where nothing is wrong with any field.
+-- The request in the slots, if every field is right.
 use Rattle.std.proofs.Common.{sym, ◌∙◌}
 use Rattle.chip_request.proofs.Sizes.{wrong_tells, made_tells}
 use Rattle.chip_request.proofs.reading.right_request.Goals as goal

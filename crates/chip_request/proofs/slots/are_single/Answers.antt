@@ -1,4 +1,4 @@
--- No field is there twice where no mark is set.
+-- No field is repeated if no flag is set.
 use Rattle.std.proofs.Common.{sym, ap, ◌∙◌, arith, false, replicate}
 use Rattle.std.proofs.Math.Bool.{beq}
 use Rattle.std.specs.Cmp.Lexicographic.{pointwise}

@@ -1,4 +1,4 @@
--- The first field with which something is wrong.
+-- The first field with a fault.
 use Rattle.std.proofs.Common.{sym, ◌∙◌, arith}
 use Rattle.chip_request.proofs.Walk.{look_behind, look_here, look_end}
 use Rattle.chip_request.proofs.slots.first_wrong_among.Goals as goal

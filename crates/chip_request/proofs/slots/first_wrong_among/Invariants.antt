@@ -1,4 +1,4 @@
--- The first field with which something is wrong.
+-- The first field with a fault.
 use Rattle.std.proofs.Common.{◌≡◌, map, drop}
 use Rattle.chip_request.specs.Fields.{fields}
 use Rattle.chip_request.specs.Slots.{first_wrong_found, founds_of}

@@ -1,4 +1,4 @@
--- The place of a field by the last byte of its tag.
+-- The index of a field by the last byte of its tag.
 use Rattle.std.proofs.Common.{◌%◌, arith}
 use Rattle.chip_request.proofs.Places.{small_place, place_found, place_not_found}
 use Rattle.chip_request.proofs.slots.place_of.Goals as goal

@@ -1,4 +1,4 @@
--- The words are those that the recorded counters so far open with.
+-- The words are the initial ones for the recorded counters so far.
 use Rattle.std.proofs.Common.{take}
 use Rattle.claim_words.specs.Opening.{AreOpening}
 use Rattle.claim_words.proofs.opening.opening_words.Given as goal

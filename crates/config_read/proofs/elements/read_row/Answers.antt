@@ -1,4 +1,4 @@
--- An element without amounts or without a decision says no row; one with all its parts says the row of them.
+-- An element without amounts or without a decision is no row; one with all its parts is parsed as their row.
 use Rattle.std.proofs.Common.{◌∙◌, sym}
 use Rattle.serde_json.specs.View.{view}
 use Rattle.decision_table.specs.declared.row.TableRow.{TableRow}

@@ -1,4 +1,4 @@
--- The cards so far are those that the elements before this one say, and there is room for all.
+-- The cards so far are parsed from the elements before this one, and there is room for all.
 use Rattle.std.proofs.Common.{◌≡◌, length, vec_capacity}
 use Rattle.config_read.specs.Elements.{card_in}
 use Rattle.config_read.proofs.FrontLemmas.{HasFront}

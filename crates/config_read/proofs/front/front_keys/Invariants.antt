@@ -1,4 +1,4 @@
--- The key sets so far are those that the elements before this one say.
+-- The key sets so far are parsed from the elements before this one.
 use Rattle.config_read.specs.Elements.{key_set_in}
 use Rattle.config_read.proofs.FrontLemmas.{HasFront}
 use Rattle.config_read.proofs.front.front_keys.Given as goal

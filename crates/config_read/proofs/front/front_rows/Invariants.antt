@@ -1,4 +1,4 @@
--- The rows so far are those that the elements before this one say.
+-- The rows so far are parsed from the elements before this one.
 use Rattle.config_read.specs.Elements.{row_in}
 use Rattle.config_read.proofs.FrontLemmas.{HasFront}
 use Rattle.config_read.proofs.front.front_rows.Given as goal

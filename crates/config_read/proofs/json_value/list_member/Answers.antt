@@ -1,4 +1,4 @@
--- The items of an array are the elements of the list that it stands for.
+-- The items of an array are the elements of its list.
 use Rattle.std.proofs.Common.{refl}
 use Rattle.config_read.proofs.JsonLemmas.{elements_of-items_of}
 use Rattle.config_read.proofs.json_value.list_member.Goals as goal

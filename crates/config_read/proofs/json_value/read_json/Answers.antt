@@ -1,4 +1,4 @@
--- A text that is parsed says its value, and one that isn't says none unless memory was wanting.
+-- A text is parsed as its value; one that isn't parsed has none, unless memory ran out.
 use Rattle.std.proofs.Common.{refl, arith}
 use Rattle.config_read.proofs.JsonLemmas.{json_of-none, json_of-text}
 use Rattle.config_read.proofs.json_value.read_json.Goals as goal

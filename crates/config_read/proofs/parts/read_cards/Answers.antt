@@ -1,4 +1,4 @@
--- Named is the first card that may not stand, else the first element that says none; with neither, all cards are read.
+-- The fault is at the first bad card, or else at the first malformed element; without either, all cards are parsed.
 use Rattle.std.proofs.Common.{◌≡◌, ◌≤◌, length, Ok, Err, ap, sym, ◌∙◌}
 use Rattle.std.proofs.lemmas.Result.{err_from_is_err_and}
 use Rattle.serde_json.specs.View.{view}

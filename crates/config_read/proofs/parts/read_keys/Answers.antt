@@ -1,4 +1,4 @@
--- Named is the first key set that repeats an index, else the first element that says none; with neither, all are read.
+-- The fault is at the first repeated index, or else at the first malformed element; else all key sets are parsed.
 use Rattle.std.proofs.Common.{◌≡◌, ◌≤◌, length, Ok, Err, ap, sym, ◌∙◌, arith}
 use Rattle.std.proofs.lemmas.Result.{err_from_is_err_and}
 use Rattle.serde_json.specs.View.{view}

@@ -1,4 +1,4 @@
--- Named is the first element that says no row, else the last row where it doesn't take all; with neither, the rows are a table.
+-- The fault is at the first malformed element, or else at a last row that doesn't match all; else the rows are a table.
 use Rattle.std.proofs.Common.{◌≤◌, length, sym}
 use Rattle.std.proofs.lemmas.Result.{err_from_is_err_and}
 use Rattle.serde_json.specs.View.{view}

@@ -1,4 +1,4 @@
--- One more character is measured.
+-- One more character is converted.
 use Rattle.std.proofs.Common.{refl, arith}
 use Rattle.key_derive.proofs.Blocks.{map-over}
 use Rattle.config_read.specs.Words.{past_zero}

@@ -1,4 +1,4 @@
--- The characters so far are measured, and the others stand as they were.
+-- The characters so far are converted, and the others are unchanged.
 use Rattle.std.proofs.Common.{◌≡◌, ◌++◌, map, take, drop}
 use Rattle.config_read.specs.Words.{past_zero}
 use Rattle.config_read.proofs.words.past_zero.Given as goal

@@ -1,4 +1,4 @@
--- A text of more than nineteen characters is no account number, and what else is none is no account number by its values either.
+-- A text of more than nineteen characters is no account number; any other that is none is none by its values either.
 use Rattle.std.proofs.Common.{◌<◌, length, sym, ap, ◌∙◌, arith}
 use Rattle.std.proofs.lemmas.Grind.{common_steps}
 use Rattle.issuer_base.specs.CardNumber.{pan_from}

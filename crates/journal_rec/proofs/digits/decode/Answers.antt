@@ -1,4 +1,4 @@
--- Digits are decoded where there is room for their bytes.
+-- Digits are decoded if there is room for their bytes.
 use Rattle.std.proofs.Common.{◌≡◌, ◌/◌, length, Some, None, arith}
 use Rattle.journal_rec.specs.Reading.{spelled}
 use Rattle.journal_rec.proofs.Spelling.{spelled_within-odd, spelled_within-long, spelled_within-none, spelled_within-some}

@@ -1,4 +1,4 @@
--- Each pair of digits spells one byte more.
+-- Each pair of digits spells one more byte.
 use Rattle.std.proofs.Common.{sym, ◌∙◌, arith}
 use Rattle.journal_rec.proofs.Spelling.{spelled_more, spelled_none, spelled_done}
 use Rattle.journal_rec.proofs.digits.decode_into.Goals as goal

@@ -1,4 +1,4 @@
--- What the loop over pairs of digits keeps.
+-- The invariant of the loop over pairs of digits.
 use Rattle.std.proofs.Common.{◌≡◌, ◌*◌, take, drop}
 use Rattle.journal_rec.specs.Reading.{spelled}
 use Rattle.journal_rec.proofs.Spelling.{behind}

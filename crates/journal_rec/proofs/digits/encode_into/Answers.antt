@@ -1,4 +1,4 @@
--- Each byte is two digits more.
+-- Each byte adds two digits.
 use Rattle.std.proofs.Common.{ℕ, arith, slice_index, ap, ◌∙◌}
 use Rattle.std.proofs.lemmas.Nat.{and_mask}
 use Rattle.hex.specs.Hex.{lower_digits}

@@ -1,4 +1,4 @@
--- What the loop over bytes keeps.
+-- The invariant of the loop over bytes.
 use Rattle.std.proofs.Common.{◌≡◌, ◌*◌, ◌++◌, take, drop}
 use Rattle.hex.specs.Hex.{encode_lower}
 use Rattle.journal_rec.proofs.digits.encode_into.Given as goal

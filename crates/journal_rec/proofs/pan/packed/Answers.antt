@@ -1,4 +1,4 @@
--- Each pair of nibbles is packed into one byte more.
+-- Each pair of nibbles is packed into one more byte.
 use Rattle.std.proofs.Common.{◌+◌, ◌*◌, ◌++◌, drop, refl, ap, ◌∙◌, sym, arith}
 use Rattle.std.proofs.lemmas.List.{length-set, take_all, take_more_set}
 use Rattle.journal_rec.specs.RecordText.{packed}

@@ -1,4 +1,4 @@
--- What the loop over pairs of nibbles keeps.
+-- The invariant of the loop over pairs of nibbles.
 use Rattle.std.proofs.Common.{◌≡◌, ◌*◌, ◌++◌, length, take, drop}
 use Rattle.journal_rec.specs.declared.limits.TheConstants.{PAN_BYTES}
 use Rattle.journal_rec.specs.RecordText.{packed}

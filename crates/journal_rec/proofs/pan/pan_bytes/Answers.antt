@@ -1,4 +1,4 @@
--- The digits of an account number and what fills them up are nibbles.
+-- The digits of an account number and its padding are nibbles.
 use Rattle.std.proofs.Common.{◌<◌, All, IsTrue, length, subst, sym, ap, ◌∙◌, arith}
 use Rattle.issuer_base.specs.CardNumber.{is_pan}
 use Rattle.issuer_base.proofs.CardNumberLemmas.{length-pan}

@@ -1,4 +1,4 @@
--- What the loop over decimal digits keeps.
+-- The invariant of the loop over decimal digits.
 use Rattle.std.proofs.Common.{◌≡◌, ◌-◌, map, take}
 use Rattle.journal_rec.proofs.pan.values.Given as goal
 

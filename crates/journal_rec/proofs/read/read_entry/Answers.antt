@@ -1,4 +1,4 @@
--- What is read is the record whose line it is.
+-- A line is parsed as the record whose line it is.
 use Rattle.std.proofs.Common.{ap, ◌∙◌}
 use Rattle.journal_rec.specs.Reading.{entry_at}
 use Rattle.journal_rec.proofs.Lines.{reads_line}

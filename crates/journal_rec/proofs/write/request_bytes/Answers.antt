@@ -1,4 +1,4 @@
--- The fields of a request stand one behind another.
+-- The fields of a request are concatenated.
 use Rattle.std.proofs.Common.{[]}
 use Rattle.journal_rec.specs.RecordText.{request_fields}
 use Rattle.journal_rec.proofs.Joined.{fold-concat}

@@ -1,4 +1,4 @@
--- A card that the issuer knows has a number among its cards.
+-- The number of a card that the issuer has is that of one of its cards.
 use Rattle.std.proofs.Common.{ap, sym, ◌∙◌}
 use Rattle.card_history.specs.Records.{card_of}
 use Rattle.issuer_setup.specs.CardList.{number_of}

@@ -1,4 +1,4 @@
--- Bytes have just one reading as whole lines and a rest.
+-- A text splits into whole lines and a remainder in only one way.
 use Rattle.line_reader.proofs.LineLaws.{lines-whole_and_rest, IsLinesAndRest-same}
 use Rattle.line_reader.proofs.laws.lines_of_parts.Goals as goal
 

@@ -1,4 +1,4 @@
--- The law of the faults that several callers are told.
+-- The law of the faults that are reported to several callers.
 use Rattle.many_callers.proofs.RisingFaults.{faults-counted}
 use Rattle.many_callers.proofs.counts.faults_are_counted.Goals as goal
 

@@ -1,4 +1,4 @@
--- So many cards stand in the list as were taken.
+-- The list has as many cards as were taken.
 use Rattle.std.proofs.Common.{◌≡◌, length}
 use Rattle.sample_issuer.proofs.setup.issuer.Given as goal
 

@@ -1,4 +1,4 @@
--- A counter that is won is one more that was tried, and stands in the caller's list.
+-- A counter that is won is one more that was tried, and is in the caller's list.
 use Rattle.claim_words.specs.Seats.{view_of}
 use Rattle.claim_words.proofs.ContestLemmas.{tried_won}
 use Rattle.sharing_tests.proofs.claims.claim_next.Goals as goal

@@ -1,4 +1,4 @@
--- Claiming at once leaves all seats together whole, so each counter was won just once.
+-- Concurrent claims leave all seats together whole, so each counter was won exactly once.
 use Rattle.std.proofs.Common.{ℕ, ◌<◌, ap, List, length, map, Vec, Global, arith}
 use Rattle.std.proofs.lemmas.List.{length-map}
 use Rattle.seat_names.proofs.ManySeats.{whole_lent}

@@ -1,4 +1,4 @@
--- So many lists are made, each empty and with room for all counters.
+-- The lists so far are empty, with room for all counters.
 use Rattle.std.proofs.Common.{◌≡◌, ◌≤◌, [], All, vec_len, vec_capacity}
 use Rattle.claim_words.specs.declared.layout.TheConstants.{COUNTERS}
 use Rattle.sharing_tests.proofs.claims.empty_lists.Given as goal

@@ -1,4 +1,4 @@
--- A seat that takes over the last caller's has tried what that caller tried, and is whole with those left.
+-- A seat into which the last caller's is joined has tried what that caller tried, and is whole with those left.
 use Rattle.std.proofs.Common.{rules, ◌≡◌, ◌++◌, ◌∷◌, []}
 use Rattle.seat_names.proofs.Totals.{map-snoc}
 use Rattle.std.proofs.lemmas.List.Elements.{All-pop}

@@ -1,4 +1,4 @@
--- Each list so far has its caller, who has tried nothing, and all seats together are whole.
+-- Each list so far has its caller, which has tried nothing, and all seats together are whole.
 use Rattle.std.proofs.Common.{◌≡◌, ◌+◌, ◌≤◌, [], ◌++◌, All, vec_len, vec_capacity}
 use Rattle.std.specs.List.{flat_map}
 use Rattle.seat_names.specs.SeatNames.{IsWhole}

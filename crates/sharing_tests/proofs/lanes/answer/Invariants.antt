@@ -1,4 +1,4 @@
--- While lines are dealt no answer is due. Then fewer are due after each, and no line waits.
+-- While lines are dealt, no answer can be taken. Then each step takes one, and no line waits.
 use Rattle.std.proofs.Common.{◌≡◌, ℕ}
 use Rattle.caller_lanes.specs.Lanes.{waiting_in, due_in}
 use Rattle.sharing_tests.proofs.lanes.answer.Given as goal

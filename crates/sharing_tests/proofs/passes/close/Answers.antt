@@ -1,4 +1,4 @@
--- Two passes that were split from the first one are whole once they are joined.
+-- Two passes that were split from the first one are whole after they are joined.
 use Rattle.std.proofs.Common.{[], arith}
 use Rattle.seat_names.specs.SeatNames.{first_names}
 use Rattle.seat_names.proofs.ManySeats.{whole_seated}

@@ -1,4 +1,4 @@
--- The tally counts the item, whose place is noted.
+-- The tally counts the item, whose index is noted.
 use Rattle.std.proofs.Common.{arith, refl, ◌≡◌, ℕ, ◌+◌, length, length-append, ◌++◌, ◌∷◌, []}
 use Rattle.sharing_tests.specs.declared.turns.Tally.{Tally}
 use Rattle.turn_book.specs.Logs.{items_at}

@@ -1,4 +1,4 @@
--- The places of all lists are those that the whole seat has.
+-- The indices of all lists are those that the whole seat has.
 use Rattle.std.proofs.Common.{◌≡◌, ℕ, ◌<◌, ◌++◌, ◌∙◌, sym, ap, subst, List, length, get_or, drop, take, arith}
 use Rattle.std.specs.List.{flat_map}
 use Rattle.seat_names.specs.SeatNames.{IsWhole}

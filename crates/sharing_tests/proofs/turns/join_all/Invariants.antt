@@ -1,4 +1,4 @@
--- The seat has the places of the lists so far, and all seats are whole together.
+-- The seat has the indices of the lists so far, and all seats are whole together.
 use Rattle.std.proofs.Common.{◌≡◌, ◌+◌, ◌≤◌, ◌++◌, All, map, vec_len, vec_capacity}
 use Rattle.std.specs.List.{flat_map}
 use Rattle.seat_names.specs.SeatNames.{IsWhole}

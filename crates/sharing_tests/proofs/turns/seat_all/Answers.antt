@@ -1,4 +1,4 @@
--- One seat more is split off.
+-- One more seat is split off.
 use Rattle.std.proofs.Common.{rules, ◌≡◌, ◌≤◌, ℕ, [], Vec, vec_capacity, Global, sym, refl, ap, ◌∙◌, subst}
 use Rattle.std.proofs.lemmas.List.Elements.{All-pop, All-push}
 use Rattle.seat_names.proofs.ManySeats.{flat_map-snoc, whole_seated}

@@ -1,4 +1,4 @@
--- There is a tally less each time.
+-- There is one tally less each time.
 use Rattle.sharing_tests.proofs.turns.sum_counts.Given as goal
 
 abbrev pub decreases-loop-tally : goal.decreases-loop-tally

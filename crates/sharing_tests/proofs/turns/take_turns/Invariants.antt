@@ -1,4 +1,4 @@
--- After each turn the caller is ready for the next, and has noted a place a turn at most.
+-- After each turn the caller is ready for the next, and has noted at most one index a turn.
 use Rattle.std.proofs.Common.{◌≡◌, ◌≤◌, vec_len, vec_capacity}
 use Rattle.sharing_tests.specs.declared.turns.TheConstants.{ITEMS}
 use Rattle.turn_book.specs.Seats.{view_of}

@@ -1,4 +1,4 @@
--- The slots that are left, and the values that were moved, are those that there were.
+-- The slots that are left, and the values that were moved, are those from the beginning.
 use Rattle.std.proofs.Common.{◌≡◌, ◌+◌, ◌≤◌, ◌++◌, All, map, reverse, Some, IsSome, vec_len, vec_capacity}
 use Rattle.turn_book.proofs.values.empty_slots.Given as goal
 

@@ -1,4 +1,4 @@
--- The values that are left, and those that were moved, are those that there were.
+-- The values that are left, and those that were moved, are those from the beginning.
 use Rattle.std.proofs.Common.{◌≡◌, ◌+◌, ◌≤◌, ◌++◌, map, reverse, Some, vec_len, vec_capacity}
 use Rattle.turn_book.proofs.values.fill_slots.Given as goal
 

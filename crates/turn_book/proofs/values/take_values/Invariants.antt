@@ -1,4 +1,4 @@
--- The values so far were taken out of their slots, and the slots behind are full.
+-- The values so far were taken out of their slots, and the slots after them are full.
 use Rattle.std.proofs.Common.{◌≡◌, ℕ, ◌<◌, ◌≤◌, true, false, map, take, Some, get_or, vec_len, vec_capacity}
 use Rattle.std.specs.Mem.Slots.{slots_items, slots_filled, slots_len}
 use Rattle.turn_book.proofs.values.take_values.Given as goal

@@ -1,4 +1,4 @@
--- What the test keeps are the claims of the other callers.
+-- The claims that the filter keeps are those of the other callers.
 use Rattle.std.proofs.Common.{rules}
 use Rattle.std.proofs.lemmas.Fn.{filter_same}
 use Rattle.world_net.proofs.claims.end_claim.Goals as goal

@@ -1,4 +1,4 @@
--- Every run's end is sound, and so safe.
+-- The invariant holds at every run's end, which so is safe.
 use Rattle.world_net.proofs.Worlds.{sound-run, sound-safe}
 use Rattle.world_net.proofs.law.every_world_is_safe.Goals as goal
 

@@ -1,4 +1,4 @@
--- One line more waits for the lane whose turn it was, and the next lane has the turn.
+-- One more line waits for the lane whose turn it was, and the next lane has the turn.
 use Rattle.std.proofs.Common.{◌≡◌, ◌*◌, length, Some, rules}
 use Rattle.std.proofs.lemmas.List.Elements.{All-set}
 use Rattle.std.proofs.lemmas.Option.{slice_get_read}

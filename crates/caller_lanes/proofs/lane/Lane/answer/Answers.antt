@@ -1,4 +1,4 @@
--- One line more is answered, behind the others.
+-- One more line is answered, after the others.
 use Rattle.std.proofs.Common.{◌∷◌, [], length, ap, ◌∙◌, rules, arith}
 use Rattle.std.proofs.lemmas.List.{length-append}
 use Rattle.caller_lanes.proofs.Serving.{calls-line}

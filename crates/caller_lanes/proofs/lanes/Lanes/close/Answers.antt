@@ -1,4 +1,4 @@
--- The first pass has joined all others, and closing the host with it says what all callers shared.
+-- All others are joined into the first pass, and the close of the host with it says what all callers shared.
 use Rattle.std.proofs.Common.{ap, ◌∙◌, List, length}
 use Rattle.issuer_base.specs.declared.answer.Answer.{Answer}
 use Rattle.shard_turns.specs.ShardSeats.{opening_in}

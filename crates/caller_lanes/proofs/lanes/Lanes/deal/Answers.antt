@@ -1,4 +1,4 @@
--- The line waits behind the others, and all passes are as they were.
+-- The line waits after the others, and all passes are unchanged.
 use Rattle.std.proofs.Common.{refl}
 use Rattle.caller_lanes.proofs.Serving.{served-alike, seated-alike, same-length}
 use Rattle.caller_lanes.proofs.lanes.Lanes.deal.Goals as goal

@@ -1,4 +1,4 @@
--- The lanes begin with nothing asked, or the stores come back.
+-- The lanes begin without lines, or the stores come back.
 use Rattle.std.proofs.Common.{◌≡◌, ◌*◌, ◌/◌, ◌<◌, ◌≤◌, [], vec_len, inl, rules, refl, sym, subst, ap, ◌∙◌}
 use Rattle.shard_turns.specs.ShardSeats.{opening_in}
 use Rattle.host_calls.proofs.Loads.{none-loaded}

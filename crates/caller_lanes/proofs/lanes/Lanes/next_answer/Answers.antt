@@ -1,4 +1,4 @@
--- The first answer that was due is taken, and all passes are as they were.
+-- The first answer that wasn't taken yet is taken, and all passes are unchanged.
 use Rattle.std.proofs.Common.{List, [], ◌∷◌, ◌++◌, refl, sym, ap, ◌∙◌, append_assoc}
 use Rattle.issuer_base.specs.declared.answer.Answer.{Answer}
 use Rattle.caller_lanes.proofs.Serving.{served-alike, seated-alike, same-length}

@@ -1,4 +1,4 @@
--- So many places are made, and there is room for all.
+-- The slots so far are made, and there is room for all.
 use Rattle.std.proofs.Common.{◌≡◌, ◌≤◌, vec_len, vec_capacity}
 use Rattle.caller_lanes.proofs.slots.LineSlots.new.Given as goal
 

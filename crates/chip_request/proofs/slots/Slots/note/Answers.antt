@@ -1,4 +1,4 @@
--- An object is taken at the place of its field.
+-- An object is noted in the slot of its field.
 use Rattle.std.proofs.Common.{sym, refl, ◌∙◌, map}
 use Rattle.tlv_objects.specs.Seen.{seen as object_seen}
 use Rattle.chip_request.specs.Fields.{fields}

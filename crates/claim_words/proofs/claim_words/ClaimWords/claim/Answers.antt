@@ -1,4 +1,4 @@
--- A seat may set the bit of any claim, and its view grows by what the bit told: won or lost.
+-- A seat may set the bit of any claim, and its view gets the outcome: won or lost.
 use Rattle.std.proofs.Common.{rules, arith, ap, ◌∙◌, length, ◌<◌}
 use Rattle.claim_words.specs.declared.claim_words.Claim.{Claim}
 use Rattle.claim_words.specs.ClaimViews.{after_claim}

@@ -1,4 +1,4 @@
--- A seat may always take over the claims of another.
+-- A seat may always be joined with the claims of another.
 use Rattle.std.proofs.Common.{rules, arith}
 use Rattle.claim_words.proofs.KeepsClaims.{joins_allowed, no_slots}
 use Rattle.claim_words.proofs.claim_words.ClaimWords.join.Goals as goal

@@ -1,4 +1,4 @@
--- A line is given, too long, cut off by a fault, the end or the rest; or one more bufferful of it is passed.
+-- The outcome is a line, too long, a fault, the end or the last line; or one more buffer of the line is scanned.
 use Rattle.std.proofs.Common.{refl, ap, subst, ◌∙◌, arith}
 use Rattle.std.proofs.lemmas.List.{nil_from_length}
 use Rattle.line_reader.specs.Reading.{Reading}

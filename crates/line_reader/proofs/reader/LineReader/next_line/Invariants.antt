@@ -1,4 +1,4 @@
--- What is passed is the front of one line without its end, within what the limits leave.
+-- The bytes scanned are a prefix of one line without its newline, within the limits.
 use Rattle.std.proofs.Common.{◌+◌, ◌-◌, length}
 use Rattle.line_reader.specs.Window.{ahead_of}
 use Rattle.line_reader.proofs.InLine.{InLine}

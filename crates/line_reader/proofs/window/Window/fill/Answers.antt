@@ -1,4 +1,4 @@
--- What was read ends behind its last newline, or has none.
+-- The offset after the last newline of the bytes read, if they have one.
 use Rattle.std.proofs.Common.{arith}
 use Rattle.line_reader.proofs.Pieces.{newline_within, none_within}
 use Rattle.line_reader.proofs.window.Window.fill.Goals as goal

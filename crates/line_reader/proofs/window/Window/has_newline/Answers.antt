@@ -1,4 +1,4 @@
--- A newline stands ahead where the last one that was read ends behind what was passed.
+-- The unread bytes have a newline if the last newline that was read ends after the scanned bytes.
 use Rattle.std.proofs.Common.{◌≤◌, length, arith}
 use Rattle.line_reader.proofs.Pieces.{first_ahead}
 use Rattle.line_reader.proofs.window.Window.has_newline.Goals as goal

@@ -1,4 +1,4 @@
--- Up to the newline that is found, within the room, the bytes ahead are the rest of the line.
+-- Up to the newline that is found, within the room, the unread bytes complete the line.
 use Rattle.std.proofs.Common.{ℕ, ◌≡◌, ◌+◌, ◌-◌, ◌≤◌, List, ◌∷◌, ◌++◌, length, take, drop, sym, ap, subst, ◌∙◌, arith}
 use Rattle.std.specs.List.{between}
 use Rattle.std.proofs.lemmas.List.{length-drop, length-take-le, drop-drop}

@@ -1,4 +1,4 @@
--- Bytes that are taken leave what is ahead and lengthen the line in hand.
+-- Bytes that are taken leave the unread bytes and extend the current line.
 use Rattle.std.proofs.Common.{◌≤◌, ◌-◌, length, sym, arith}
 use Rattle.line_reader.proofs.Pieces.{drop-between, length-between, line-grown, line-joined}
 use Rattle.line_reader.proofs.window.Window.take.Goals as goal

@@ -1,4 +1,4 @@
--- The log now is the log before and the item.
+-- The new log is the log before with the item appended.
 use Rattle.std.proofs.Common.{ap, ◌∙◌}
 use Rattle.turn_book.specs.Logs.{items_at}
 use Rattle.turn_book.specs.Seats.{view_of}

@@ -1,4 +1,4 @@
--- The item that is counted is the one that was given.
+-- The item that is counted is the one that was passed.
 use Rattle.std.proofs.Common.{Some}
 use Rattle.turn_book.proofs.turns.Turns.added.Given as goal
 

@@ -1,4 +1,4 @@
--- At the end all values are at home, and the whole seat knows all.
+-- At the end all values are in their slots, and the whole seat knows all.
 use Rattle.std.proofs.Common.{◌≡◌, length, Some, ap, ◌∙◌, sym, subst}
 use Rattle.std.proofs.lemmas.List.{length-map}
 use Rattle.std.specs.Mem.Slots.{slots_items, slots_counts}

@@ -1,4 +1,4 @@
--- The count goes up by one, and the item stands in the log.
+-- The count increases by one, and the item is in the log.
 use Rattle.std.proofs.Common.{rules, arith, ◌<◌, ap, ◌∙◌}
 use Rattle.turn_book.specs.Layout.{count_word_of}
 use Rattle.turn_book.specs.Seats.{view_of}

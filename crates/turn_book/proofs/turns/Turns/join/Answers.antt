@@ -1,4 +1,4 @@
--- A join keeps the rule, and what either seat had seen is a front of what both have.
+-- A join preserves the invariant, and what either seat had seen is a prefix of what the joined one has.
 use Rattle.std.proofs.Common.{rules, arith, ◌≡◌, [], sym, ap, ◌∙◌}
 use Rattle.turn_book.specs.Seats.{view_of, opening_of}
 use Rattle.turn_book.specs.TurnViews.{joined, joining, settled}

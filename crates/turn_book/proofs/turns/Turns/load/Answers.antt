@@ -1,4 +1,4 @@
--- A table with these values and opening logs keeps the rule, and a refusal gives the values back.
+-- The invariant holds of a table with these values and opening logs, and a failed load returns the values.
 use Rattle.std.proofs.Common.{arith, ◌≡◌, ◌*◌, length, map, Some, All, IsSome, ap, ◌∙◌, sym, subst}
 use Rattle.std.proofs.lemmas.List.{length-map}
 use Rattle.turn_book.specs.declared.layout.TheConstants.{SHARD_WORDS}

@@ -1,4 +1,4 @@
--- Until it has the turn, the seat stays as it is.
+-- Until it has the turn, the seat is unchanged.
 use Rattle.std.proofs.Common.{◌≡◌}
 use Rattle.turn_book.specs.Seats.{view_of, IsOf}
 use Rattle.turn_book.proofs.turns.Turns.look_for_turn.Given as goal

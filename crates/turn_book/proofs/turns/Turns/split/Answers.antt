@@ -1,4 +1,4 @@
--- A split keeps the rule.
+-- A split preserves the invariant.
 use Rattle.std.proofs.Common.{rules, arith}
 use Rattle.turn_book.specs.Seats.{view_of}
 use Rattle.turn_book.proofs.SeatParts.{splits_allowed}

@@ -1,4 +1,4 @@
--- The request that was read is claimed.
+-- The request that was parsed is claimed.
 use Rattle.std.proofs.Common.{◌≡◌, false, is_some, ◌∙◌, ap, sym}
 use Rattle.world_net.specs.WorldState.{claim_of}
 use Rattle.world_net.specs.Stepping.{world_of}

@@ -1,4 +1,4 @@
--- What the tests say of the counter.
+-- What the tests show of the counter.
 use Rattle.std.proofs.Common.{◌<◌, length, arith, ap, ◌∙◌}
 use Rattle.std.specs.List.{list_all}
 use Rattle.world_net.specs.declared.parts.OpenClaim.{OpenClaim}

@@ -1,4 +1,4 @@
--- What the plan of the card's row is for a request that the issuer decides.
+-- The plan of the card's row for a request that the issuer decides.
 use Rattle.std.proofs.Common.{◌≡◌, ℕ, ◌<◌, ◌%◌, List, length, Some, Ok, ap, sym, ◌∙◌, subst, arith, IsTrue}
 use Rattle.issuer_base.specs.declared.request.Request.{Request}
 use Rattle.issuer_base.specs.declared.entry.Entry.{Entry}

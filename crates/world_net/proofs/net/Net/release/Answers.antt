@@ -1,4 +1,4 @@
--- The caller's claim is there, and ends.
+-- The caller's claim exists, and ends.
 use Rattle.std.proofs.Common.{◌≡◌, true, is_some, ◌∙◌, ap}
 use Rattle.world_net.specs.WorldState.{claim_of}
 use Rattle.world_net.specs.Stepping.{world_of}
