@@ -21,10 +21,10 @@ use Rattle.shard_turns.specs.declared.logs.LogItem.{LogItem}
 use Rattle.shard_turns.specs.declared.logs.LogHead.{LogHead}
 use Rattle.shard_turns.specs.ShardLogs.{records_of, faults_of}
 use Rattle.host_calls.specs.Closing.{AreClosed, AreItsOwn, AreSettled}
-use Rattle.host_calls.specs.OneHistory.{LegallyGoesOn}
+use Rattle.one_caller.specs.OneHistory.{LegallyGoesOn}
 use Rattle.host_calls.specs.Passes.{claims_of, logs_of}
 use Rattle.host_calls.specs.declared.pass.Pass.{Pass}
-use Rattle.host_calls.proofs.Places.{read-within, choose}
+use Rattle.one_caller.proofs.Places.{read-within, choose}
 use Rattle.many_callers.specs.Callers.{Caller, IsCaller, AreCallers}
 use Rattle.caller_lanes.specs.Dealing.{every}
 use Rattle.caller_lanes.specs.Joins.{HasJoined}

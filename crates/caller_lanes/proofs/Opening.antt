@@ -12,7 +12,7 @@ use Rattle.shard_turns.specs.declared.logs.LogItem.TheVariants.{Record}
 use Rattle.shard_turns.specs.declared.logs.LogHead.{LogHead}
 use Rattle.shard_turns.specs.ShardLogs.{faults_of}
 use Rattle.host_calls.specs.OpeningLogs.{AreOpenedFrom}
-use Rattle.host_calls.proofs.Places.{read-within}
+use Rattle.one_caller.proofs.Places.{read-within}
 
 plain-map : (history : List Entry) → faults_of (map Record history) ≡ []
 plain-map [] = refl

@@ -22,7 +22,7 @@ use Rattle.host_calls.specs.Authorising.{Authorises}
 use Rattle.host_calls.specs.Passes.{claims_of, logs_of, IsFree}
 use Rattle.host_calls.specs.declared.host.Host.{Host}
 use Rattle.host_calls.specs.declared.pass.Pass.{Pass}
-use Rattle.host_calls.proofs.Places.{read-map, read-mapped}
+use Rattle.one_caller.proofs.Places.{read-map, read-mapped}
 use Rattle.many_callers.specs.Callers.{Caller, Calls, IsCaller}
 use Rattle.many_callers.proofs.MoreLines.{calls-more}
 use Rattle.caller_lanes.specs.Dealing.{every}

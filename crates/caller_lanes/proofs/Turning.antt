@@ -8,7 +8,7 @@ use Rattle.std.proofs.Math.Logic.{∥∥₁_elim, ∥∥₁_map}
 use Rattle.std.proofs.Props.{props}
 use Rattle.std.specs.List.{slice_get}
 use Rattle.issuer_base.specs.declared.answer.Answer.{Answer}
-use Rattle.host_calls.proofs.Places.{read-within}
+use Rattle.one_caller.proofs.Places.{read-within}
 use Rattle.caller_lanes.specs.Dealing.{HaveTurns}
 use Rattle.caller_lanes.specs.OneLane.{waiting_lines, due_answers}
 use Rattle.caller_lanes.specs.Turns.{AreInTurns, IsBehind, IsInTurn}

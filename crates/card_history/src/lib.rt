@@ -7,8 +7,10 @@
 //! [`every_card_gets_its_commands_in_order`].
 #![tactic(auto)]
 
+mod card_view;
 mod decision;
 mod law;
 
+pub use card_view::CardView;
 pub use decision::{Asked, Decision};
 pub use law::every_card_gets_its_commands_in_order;

@@ -26,7 +26,7 @@ use Rattle.shard_turns.specs.Turned.{log_after, turned, DecidesInTurn}
 use Rattle.host_calls.specs.Finishes.{seen_for, is_decided_or_fault, is_by_record, IsOwn, IsOpenTo, IsRecorded}
 use Rattle.host_calls.proofs.Added.{IsHeaded}
 use Rattle.host_calls.proofs.Closed.{records-go_on}
-use Rattle.host_calls.proofs.Places.{read-front}
+use Rattle.one_caller.proofs.Places.{read-front}
 
 -- a decision stays one of a longer history
 decided-longer : (card : CardName) (history more : List Entry) (decision : Decision) → Contains (decided card history) decision

@@ -27,8 +27,8 @@ use Rattle.shard_turns.specs.ShardSeats.{StandForLogs}
 use Rattle.shard_book.specs.Histories.{GoesOn, IsImageBetween}
 use Rattle.host_calls.specs.Closing.{book_of, IsClosed, AreClosed, AreSettled}
 use Rattle.host_calls.specs.OpeningLogs.{AreCounted, AreRecordedIn}
-use Rattle.host_calls.proofs.Places.{read-within, read-map}
-use Rattle.host_calls.proofs.Running.{holds-with}
+use Rattle.one_caller.proofs.Places.{read-within, read-map}
+use Rattle.one_caller.proofs.Running.{holds-with}
 use Rattle.host_calls.proofs.Sharing.{items-there}
 
 -- the records of a log that goes on go on

@@ -20,7 +20,7 @@ use Rattle.shard_turns.specs.declared.logs.LogItem.{LogItem}
 use Rattle.shard_turns.specs.declared.logs.LogItem.TheVariants.{Record}
 use Rattle.host_calls.specs.Decisions.{is_number, decides}
 use Rattle.host_calls.specs.OpeningLogs.{is_decided}
-use Rattle.host_calls.proofs.Shown.{number-known}
+use Rattle.one_caller.proofs.Shown.{number-known}
 
 -- whether one of the records is a decision on the counter of the card
 record HasDecision (issuer : Setup) (card counter : ℕ) (history : List Entry) : Type 0 where

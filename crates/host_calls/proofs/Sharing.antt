@@ -29,12 +29,12 @@ use Rattle.shard_turns.specs.declared.logs.LogHead.{LogHead}
 use Rattle.shard_turns.specs.ShardLogs.{records_of}
 use Rattle.shard_turns.specs.Opening.{bytes_at, head_with, log_with, AreJustLoaded, IsOpeningLog, AreOpeningLogs}
 use Rattle.shard_book.specs.declared.replay.LoadFault.TheVariants.{NoMemory}
-use Rattle.host_calls.specs.Loading.{IsLoadedFrom, AreLoaded, IsGivenBack}
-use Rattle.host_calls.proofs.Loads.{given-back}
+use Rattle.one_caller.specs.Loading.{IsLoadedFrom, AreLoaded, IsGivenBack}
+use Rattle.one_caller.proofs.Loads.{given-back}
 use Rattle.host_calls.specs.OpeningLogs.{IsOpenedFrom, AreOpenedFrom, AreCounted, AllComeBack, is_decided}
 use Rattle.host_calls.specs.RecordedCounters.{AreStanding, AreRecordedOf}
 use Rattle.host_calls.proofs.OpeningCounters.{as-decided}
-use Rattle.host_calls.proofs.Places.{read-within, read-map}
+use Rattle.one_caller.proofs.Places.{read-within, read-map}
 
 -- the two counts of a pair in a list are one
 times-alike : (card counter : ℕ) (list : List (ℕ × ℕ)) → times_claimed card counter list ≡ times card counter list

@@ -15,7 +15,7 @@ use Rattle.row_core.specs.Replying.{reply_to}
 use Rattle.seat_names.specs.Totals.{one_if}
 use Rattle.claim_words.specs.declared.view.ClaimView.{ClaimView}
 use Rattle.claim_words.specs.ClaimViews.{HasOpen, settled}
-use Rattle.show_text.specs.declared.card_view.CardView.{CardView}
+use Rattle.card_history.specs.declared.card_view.CardView.{CardView}
 use Rattle.turn_book.specs.declared.logs.Log.{Log}
 use Rattle.turn_book.specs.declared.seat.TurnSeat.{TurnSeat}
 use Rattle.turn_book.specs.declared.view.TurnView.{TurnView}

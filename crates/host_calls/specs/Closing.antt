@@ -15,10 +15,10 @@ use Rattle.shard_turns.specs.declared.logs.LogItem.{LogItem}
 use Rattle.shard_turns.specs.declared.logs.LogHead.{LogHead}
 use Rattle.shard_turns.specs.ShardLogs.{records_of, faults_of, RiseTo}
 use Rattle.shard_book.specs.Histories.{IsImageBetween}
-use Rattle.host_calls.specs.Books.{Book}
-use Rattle.host_calls.specs.OneHistory.{LegallyGoesOn}
+use Rattle.one_caller.specs.Books.{Book}
+use Rattle.one_caller.specs.OneHistory.{LegallyGoesOn}
 use Rattle.host_calls.specs.OpeningLogs.{opened_on}
-use Rattle.host_calls.specs.Runs.{HoldsJournal}
+use Rattle.one_caller.specs.Runs.{HoldsJournal}
 
 -- the book of a log: its history, the count of faults of its store, and how many answers told that the store failed
 abbrev pub book_of : Log LogItem LogHead → ℕ → Book

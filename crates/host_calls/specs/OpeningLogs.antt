@@ -15,7 +15,7 @@ use Rattle.shard_book.specs.declared.replay.LoadFault.TheVariants.{NoMemory}
 use Rattle.shard_book.specs.Grounds.{grounds_of}
 use Rattle.shard_turns.specs.ShardLogs.{records_of}
 use Rattle.shard_turns.specs.Opening.{head_with, log_with}
-use Rattle.host_calls.specs.Loading.{IsGivenBack, ComeBack}
+use Rattle.one_caller.specs.Loading.{IsGivenBack, ComeBack}
 use Rattle.claim_words.specs.declared.layout.TheConstants.{COUNTERS}
 use Rattle.claim_words.specs.declared.claim_words.ClaimWords.{ClaimWords}
 use Rattle.claim_words.specs.Seats.{recorded_in}

@@ -7,8 +7,8 @@ ghost use Rattle.host_calls.specs.Passes.{claims_of, logs_of, IsFree};
 
 use crate::host::Host;
 use crate::pass::Pass;
+use card_history::CardView;
 use issuer_base::{Answer, Store};
-use show_text::CardView;
 use std::sync::Wait;
 
 impl<S: Store> Host<S> {

@@ -8,9 +8,9 @@ ghost use Rattle.host_calls.specs.Decisions.{decisions_at};
 ghost use Rattle.host_calls.specs.Passes.{claims_of, logs_of, IsFree};
 
 use crate::host::Host;
-use crate::loading::take_stores;
 use crate::pass::Pass;
 use issuer_base::Store;
+use one_caller::take_stores;
 
 impl<S: Store> Host<S> {
     /// Ends the host, with a pass into which all others were joined, and gives the stores in the order of their shards' numbers. It takes no

@@ -1,26 +1,20 @@
-//! The host over stores: a shard for each store, and the answer to each line.
+//! The host of several callers over stores: each caller has a pass of its own, claims a counter, and takes its turn at the shard.
 //!
-//! `specs/Turns.antt` says what one caller may be answered, `specs/OneHistory.antt` what is sure after any run of turns: it is the contract of
-//! [`every_run_is_one_history`]. `specs/Runs.antt` says what a crash may leave meanwhile.
+//! `specs/Authorising.antt` says what a line may be answered, `specs/Closing.antt` what is known once all passes are joined and the host is
+//! closed. [`Solo`] is the host of one caller, of the crate `one_caller`.
 #![tactic(auto)]
 
 mod answering;
 mod close;
 mod finish;
 mod host;
-mod law;
 mod load;
-mod loading;
 mod pass;
 mod pre_check;
 mod recorded;
 mod share;
-mod solo;
 
+pub use card_history::CardView;
 pub use host::Host;
-pub use law::every_run_is_one_history;
-pub use loading::HostBack;
+pub use one_caller::{HostBack, LoadFault, Solo, every_run_is_one_history};
 pub use pass::{Checked, Pass};
-pub use shard_book::LoadFault;
-pub use show_text::CardView;
-pub use solo::Solo;

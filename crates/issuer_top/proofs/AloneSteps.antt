@@ -14,13 +14,13 @@ use Rattle.answer_text.specs.AnswerText.{printed}
 use Rattle.shard_book.specs.declared.shard.Shard.{Shard}
 use Rattle.shard_book.specs.Shards.{store_in}
 use Rattle.shard_book.proofs.OwnDecisions.{legal-then}
-use Rattle.host_calls.specs.declared.solo.Solo.{Solo}
-use Rattle.host_calls.specs.Books.{Book}
-use Rattle.host_calls.specs.Hosts.{AreShards, Stand}
-use Rattle.host_calls.specs.Runs.{HasRun, LeaveBetween}
-use Rattle.host_calls.specs.Turns.{Run, Turn}
-use Rattle.host_calls.proofs.OneRun.{run-one_history}
-use Rattle.host_calls.proofs.Running.{begins-legal, run-on}
+use Rattle.one_caller.specs.declared.solo.Solo.{Solo}
+use Rattle.one_caller.specs.Books.{Book}
+use Rattle.one_caller.specs.Hosts.{AreShards, Stand}
+use Rattle.one_caller.specs.Runs.{HasRun, LeaveBetween}
+use Rattle.one_caller.specs.Turns.{Run, Turn}
+use Rattle.one_caller.proofs.OneRun.{run-one_history}
+use Rattle.one_caller.proofs.Running.{begins-legal, run-on}
 use Rattle.issuer_top.specs.Configuration.{HasSoundParts}
 use Rattle.issuer_top.specs.Hosts.{TakesLine, Settles, LeavesAnswered, LeavesLoaded, IsReadySolo, HasAnswered}
 use Rattle.issuer_top.specs.Journals.{IsReady}

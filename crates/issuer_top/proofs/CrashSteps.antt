@@ -9,8 +9,8 @@ use Rattle.issuer_setup.specs.IssuerSetup.{Setup}
 use Rattle.journal_rec.specs.RecordText.{texts_of}
 use Rattle.record_store.specs.Images.{IsCutImage}
 use Rattle.shard_book.specs.Histories.{IsImageBetween}
-use Rattle.host_calls.specs.Books.{Book}
-use Rattle.host_calls.specs.Runs.{HoldsJournal}
+use Rattle.one_caller.specs.Books.{Book}
+use Rattle.one_caller.specs.Runs.{HoldsJournal}
 use Rattle.issuer_top.specs.Kept.{CrashLeaves, LeavesNow}
 
 -- a crash that comes after a run leaves an image of the last history

@@ -6,13 +6,13 @@ use Rattle.issuer_base.specs.declared.outside.store.Store.{Ghosts}
 use Rattle.issuer_setup.specs.IssuerSetup.{Setup}
 use Rattle.line_checks.specs.Reading.{reading}
 use Rattle.shard_book.specs.declared.shard.Shard.{Shard}
-use Rattle.host_calls.specs.Books.{Book}
-use Rattle.host_calls.specs.Hosts.{Stand}
-use Rattle.host_calls.specs.OneHistory.{AreRecorded}
-use Rattle.host_calls.specs.Runs.{HasRun, LeaveBetween}
-use Rattle.host_calls.specs.Turns.{Turn}
-use Rattle.host_calls.proofs.Places.{read-within}
-use Rattle.host_calls.proofs.Running.{has_run-more}
+use Rattle.one_caller.specs.Books.{Book}
+use Rattle.one_caller.specs.Hosts.{Stand}
+use Rattle.one_caller.specs.OneHistory.{AreRecorded}
+use Rattle.one_caller.specs.Runs.{HasRun, LeaveBetween}
+use Rattle.one_caller.specs.Turns.{Turn}
+use Rattle.one_caller.proofs.Places.{read-within}
+use Rattle.one_caller.proofs.Running.{has_run-more}
 
 module _ {S : Type 0} {G : Ghosts S} where
   -- one line more is answered

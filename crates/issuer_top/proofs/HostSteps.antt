@@ -4,7 +4,7 @@ use Rattle.issuer_base.specs.declared.outside.store.Store.{Ghosts}
 use Rattle.line_reader.specs.declared.limits.TheConstants.{MAX_LINES}
 use Rattle.line_reader.specs.Reading.{kept}
 use Rattle.issuer_setup.specs.IssuerSetup.{Setup}
-use Rattle.host_calls.specs.declared.solo.Solo.{Solo}
+use Rattle.one_caller.specs.declared.solo.Solo.{Solo}
 use Rattle.caller_lanes.specs.declared.lanes.Lanes.{Lanes}
 use Rattle.caller_lanes.specs.Lanes.{callers_in}
 use Rattle.issuer_top.specs.declared.hosts.LineHost.{LineHost}

@@ -7,10 +7,10 @@ use Rattle.issuer_base.specs.declared.outside.store.Store.{Ghosts}
 use Rattle.issuer_setup.specs.IssuerSetup.{Setup}
 use Rattle.shard_book.specs.declared.shard.Shard.{Shard}
 use Rattle.shard_book.specs.Shards.{store_in, sure_in}
-use Rattle.host_calls.specs.Books.{Book}
-use Rattle.host_calls.specs.Hosts.{AreShards, Stand}
-use Rattle.host_calls.specs.Runs.{LeaveBetween}
-use Rattle.host_calls.proofs.Running.{Begins, run-none, holds-journal}
+use Rattle.one_caller.specs.Books.{Book}
+use Rattle.one_caller.specs.Hosts.{AreShards, Stand}
+use Rattle.one_caller.specs.Runs.{LeaveBetween}
+use Rattle.one_caller.proofs.Running.{Begins, run-none, holds-journal}
 use Rattle.issuer_top.specs.Seen.{SeenStore, store_seen, Logged}
 use Rattle.issuer_top.specs.Journals.{journal_name, IsReady}
 use Rattle.issuer_top.specs.Kept.{KeepsJournal, KeepJournals}

@@ -19,9 +19,9 @@ use Rattle.shard_book.specs.declared.replay.LoadFault.TheVariants.{BadLine, BadR
 use Rattle.shard_book.specs.declared.shard.Shard.{Shard}
 use Rattle.shard_book.specs.Shards.{store_in, IsCutToText, IsLoadImage}
 use Rattle.shard_book.proofs.LoadCrash.{crash-read, load-image}
-use Rattle.host_calls.specs.Loading.{ComeBack, IsGivenBack, IsNotLoaded}
+use Rattle.one_caller.specs.Loading.{ComeBack, IsGivenBack, IsNotLoaded}
 use Rattle.host_calls.specs.OpeningLogs.{AllComeBack, HostComesBack}
-use Rattle.host_calls.proofs.Loads.{given-back}
+use Rattle.one_caller.proofs.Loads.{given-back}
 use Rattle.issuer_top.specs.Seen.{Logged, SeenStore, store_seen}
 use Rattle.issuer_top.specs.Journals.{journal_name, IsOpened, AreOpened, IsReady}
 use Rattle.issuer_top.specs.Left.{KeepsLines, CrashSpares, LeavesJournal, LeaveJournals}

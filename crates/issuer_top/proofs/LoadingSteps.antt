@@ -11,7 +11,7 @@ use Rattle.issuer_setup.specs.IssuerSetup.{Setup}
 use Rattle.journal_rec.specs.RecordText.{texts_of}
 use Rattle.shard_book.specs.declared.replay.LoadFault.{LoadFault}
 use Rattle.shard_book.specs.declared.replay.LoadFault.TheVariants.{BadLine, BadRecord, StoreFault, NoMemory}
-use Rattle.host_calls.specs.Loading.{IsGivenBack, ComeBack, IsNotLoaded}
+use Rattle.one_caller.specs.Loading.{IsGivenBack, ComeBack, IsNotLoaded}
 use Rattle.host_calls.specs.OpeningLogs.{HostComesBack}
 use Rattle.issuer_top.specs.Seen.{Logged, SeenStore, store_seen}
 use Rattle.issuer_top.specs.Journals.{journal_name, IsOpened, AreOpened}

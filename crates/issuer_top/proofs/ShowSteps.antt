@@ -16,10 +16,10 @@ use Rattle.issuer_setup.specs.CardList.{name_of, number_of}
 use Rattle.issuer_setup.specs.IssuerSetup.{Setup, shard_of}
 use Rattle.shard_book.specs.declared.shard.Shard.{Shard}
 use Rattle.show_text.specs.CardText.{card_text}
-use Rattle.show_text.specs.declared.card_view.CardView.{CardView}
-use Rattle.host_calls.specs.Books.{Book, histories_of}
-use Rattle.host_calls.specs.Hosts.{AreShards, Stand}
-use Rattle.host_calls.specs.Views.{view_of}
+use Rattle.card_history.specs.declared.card_view.CardView.{CardView}
+use Rattle.one_caller.specs.Books.{Book, histories_of}
+use Rattle.one_caller.specs.Hosts.{AreShards, Stand}
+use Rattle.card_history.specs.CardViews.{card_shown}
 use Rattle.issuer_top.specs.Shown.{shown_card, shown_text}
 use Rattle.issuer_top.proofs.KeptSteps.{at-place}
 
@@ -78,7 +78,7 @@ shard-within issuer name some =
 -- what a host shows of a card is what its shard's book says
 pub shown-line : {S : Type 0} {G : Ghosts S} (issuer : Setup) (shards : List (Shard S G)) (books : List Book) (card : CardInfo) (view : CardView)
     → AreShards issuer shards → Stand issuer shards books → 0 < issuer.shards
-    → ((book : Book) → slice_get books (shard_of issuer (name_of card)) ≡ Some book → view ≡ view_of (name_of card) book.history)
+    → ((book : Book) → slice_get books (shard_of issuer (name_of card)) ≡ Some book → view ≡ card_shown (name_of card) book.history)
     → card_text card.pan card.psn view ≡ shown_card issuer books card
 shown-line issuer shards books card view are stand some shows =
     let below = shard-within issuer (name_of card) some in
@@ -89,4 +89,4 @@ shown-line issuer shards books card view are stand some shows =
     let histories : slice_get (histories_of books) (shard_of issuer (name_of card)) ≡ Some book.0.history =
     slice_get-map (λ (b : Book). b.history) books (shard_of issuer (name_of card)) ∙ ap (λ (o : Option Book). option_map (λ (b : Book). b.history) o) book.1 in
     let history = get_or_from_slice_get (histories_of books) (shard_of issuer (name_of card)) book.0.history [] histories in
-    ap (card_text card.pan card.psn) (shows book.0 book.1 ∙ ap (view_of (name_of card)) (sym history))
+    ap (card_text card.pan card.psn) (shows book.0 book.1 ∙ ap (card_shown (name_of card)) (sym history))

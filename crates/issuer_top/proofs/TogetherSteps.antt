@@ -34,9 +34,9 @@ use Rattle.shard_turns.specs.declared.logs.LogItem.TheVariants.{Record}
 use Rattle.shard_turns.specs.declared.logs.LogHead.{LogHead}
 use Rattle.shard_turns.specs.ShardLogs.{records_of, faults_of, RiseTo}
 use Rattle.host_calls.specs.Authorising.{Authorises}
-use Rattle.host_calls.specs.Books.{Book, histories_of}
+use Rattle.one_caller.specs.Books.{Book, histories_of}
 use Rattle.host_calls.specs.Closing.{book_of, IsClosed, AreClosed}
-use Rattle.host_calls.specs.OneHistory.{AreRecorded, GoOnLegally, HasFailed, LegallyGoesOn}
+use Rattle.one_caller.specs.OneHistory.{AreRecorded, GoOnLegally, HasFailed, LegallyGoesOn}
 use Rattle.host_calls.specs.OpeningLogs.{opened_on, IsOpenedFrom, AreOpenedFrom}
 use Rattle.many_callers.specs.Callers.{Calls, Caller, IsCaller, AreCallers}
 use Rattle.many_callers.specs.Explained.{AreExplained}

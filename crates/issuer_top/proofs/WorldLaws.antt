@@ -9,10 +9,10 @@ use Rattle.card_history.proofs.CommandsInOrder.{in_order}
 use Rattle.issuer_setup.specs.IssuerSetup.{Setup}
 use Rattle.journal_rec.specs.Record.{IsEntry, IsRecord}
 use Rattle.shard_book.specs.Grounds.{grounds_of}
-use Rattle.host_calls.specs.Books.{Book, histories_of}
-use Rattle.host_calls.specs.OneHistory.{AreLegalBooks, AreRecorded, GoOnLegally}
-use Rattle.host_calls.proofs.LegalBooks.{legal-once}
-use Rattle.host_calls.proofs.OneRun.{on-legal}
+use Rattle.one_caller.specs.Books.{Book, histories_of}
+use Rattle.one_caller.specs.OneHistory.{AreLegalBooks, AreRecorded, GoOnLegally}
+use Rattle.one_caller.proofs.LegalBooks.{legal-once}
+use Rattle.one_caller.proofs.OneRun.{on-legal}
 use Rattle.world_net.specs.Histories.{AreHeld, AreLegal}
 use Rattle.world_net.proofs.Worlds.{sound-run, sound-safe}
 use Rattle.world_net.proofs.KeptWorlds.{kept-run_end, kept-in_order}

@@ -5,10 +5,10 @@ use Rattle.issuer_setup.specs.IssuerSetup.{Setup}
 use Rattle.turn_book.specs.declared.logs.Log.{Log}
 use Rattle.shard_turns.specs.declared.logs.LogItem.{LogItem}
 use Rattle.shard_turns.specs.declared.logs.LogHead.{LogHead}
-use Rattle.host_calls.specs.Books.{Book, histories_of}
+use Rattle.one_caller.specs.Books.{Book, histories_of}
 use Rattle.host_calls.specs.Closing.{book_of}
-use Rattle.host_calls.specs.Turns.{Run}
-use Rattle.host_calls.specs.OneHistory.{HasFailed, IsOneHistory}
+use Rattle.one_caller.specs.Turns.{Run}
+use Rattle.one_caller.specs.OneHistory.{HasFailed, IsOneHistory}
 use Rattle.many_callers.specs.Callers.{Caller}
 use Rattle.many_callers.specs.Explained.{AreExplained}
 use Rattle.many_callers.specs.OwnPlaces.{AreOwnPlaces, all_faults_told}

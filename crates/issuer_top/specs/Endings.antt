@@ -19,7 +19,7 @@ use Rattle.answer_text.specs.declared.stop_line.Stop.{Stop}
 use Rattle.answer_text.specs.declared.stop_line.Stop.TheVariants.{Usage, Config, ReadFault, StoreFault, BadJournal, NoMemory, TooLong}
 use Rattle.shard_book.specs.Grounds.{grounds_of}
 use Rattle.shard_book.specs.Shards.{IsTextOf}
-use Rattle.host_calls.specs.Books.{Book}
+use Rattle.one_caller.specs.Books.{Book}
 use Rattle.issuer_top.specs.Command.{RequestFile, IsServe, IsShow, IsWorld, IsCommand, IsNoCommand}
 use Rattle.issuer_top.specs.Answers.{AreAnsweredBy, AnswersNone}
 use Rattle.issuer_top.specs.Seen.{Seen, SeenInput, SeenStore}

@@ -5,9 +5,9 @@ use Rattle.issuer_base.specs.declared.answer.Answer.{Answer}
 use Rattle.issuer_base.specs.declared.outside.store.Store.{Ghosts}
 use Rattle.issuer_setup.specs.IssuerSetup.{Setup}
 use Rattle.answer_text.specs.AnswerText.{printed}
-use Rattle.host_calls.specs.declared.solo.Solo.{Solo}
-use Rattle.host_calls.specs.Books.{Book}
-use Rattle.host_calls.specs.Runs.{HasRun}
+use Rattle.one_caller.specs.declared.solo.Solo.{Solo}
+use Rattle.one_caller.specs.Books.{Book}
+use Rattle.one_caller.specs.Runs.{HasRun}
 use Rattle.caller_lanes.specs.declared.lanes.Lanes.{Lanes}
 use Rattle.caller_lanes.specs.declared.lanes.TheConstants.{BLOCK_LINES}
 use Rattle.issuer_top.specs.declared.hosts.LineHost.{LineHost}

@@ -3,7 +3,7 @@ use Rattle.std.specs.Prelude.{◌≡◌, ℕ, ◌+◌, ◌/◌, ◌%◌, List, [
 use Rattle.issuer_base.specs.declared.outside.store.Store.{Ghosts}
 use Rattle.issuer_setup.specs.IssuerSetup.{Setup}
 use Rattle.shard_book.specs.declared.shard.Shard.{Shard}
-use Rattle.host_calls.specs.Loading.{AreLoaded}
+use Rattle.one_caller.specs.Loading.{AreLoaded}
 use Rattle.issuer_top.specs.Seen.{Logged}
 
 -- the name of a shard's journal: the name that the words give, a dot, and the shard's number in two decimal digits

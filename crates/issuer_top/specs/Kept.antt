@@ -10,8 +10,8 @@ use Rattle.journal_rec.specs.RecordText.{texts_of, IsUnbroken}
 use Rattle.record_store.specs.Images.{IsCutImage}
 use Rattle.shard_book.specs.Grounds.{grounds_of, grounds_now, IsImageOf}
 use Rattle.shard_book.specs.Histories.{IsImageBetween}
-use Rattle.host_calls.specs.Books.{Book}
-use Rattle.host_calls.specs.Runs.{HoldsJournal}
+use Rattle.one_caller.specs.Books.{Book}
+use Rattle.one_caller.specs.Runs.{HoldsJournal}
 use Rattle.issuer_top.specs.Seen.{Logged, SeenStore}
 use Rattle.issuer_top.specs.Journals.{journal_name}
 

@@ -4,8 +4,8 @@ use Rattle.card_history.specs.OneReply.{IsOncePerCounter}
 use Rattle.card_history.specs.Records.{CardName}
 use Rattle.card_history.specs.ScriptOrder.{AreInOrder}
 use Rattle.issuer_setup.specs.IssuerSetup.{Setup}
-use Rattle.host_calls.specs.Books.{Book, histories_of}
-use Rattle.host_calls.specs.OneHistory.{GoOnLegally}
+use Rattle.one_caller.specs.Books.{Book, histories_of}
+use Rattle.one_caller.specs.OneHistory.{GoOnLegally}
 use Rattle.issuer_top.specs.Worlds.{HaveSafeWorlds}
 
 -- the run that began with the first books and ended with the last is lawful

@@ -2,8 +2,8 @@
 ghost use Rattle.std.specs.Prelude.{◌≡◌, ◌<◌, List, is_err};
 ghost use Rattle.issuer_base.specs.OutsideFaults.{CountsFaults};
 ghost use Rattle.issuer_base.specs.Sink.{WritesAll};
-ghost use Rattle.host_calls.specs.Books.{Book};
-ghost use Rattle.host_calls.specs.Hosts.{Stand};
+ghost use Rattle.one_caller.specs.Books.{Book};
+ghost use Rattle.one_caller.specs.Hosts.{Stand};
 ghost use Rattle.issuer_top.specs.Shown.{shown_text};
 
 use arrayvec::ArrayVec;

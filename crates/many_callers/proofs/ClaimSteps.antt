@@ -28,7 +28,7 @@ use Rattle.host_calls.specs.declared.pass.Checked.{Checked}
 use Rattle.host_calls.specs.declared.pass.Checked.TheVariants.{Decide, Queue, Status}
 use Rattle.host_calls.specs.Authorising.{EndsIn, Authorises}
 use Rattle.host_calls.specs.Finishes.{standing_by}
-use Rattle.host_calls.specs.OneHistory.{IsAnswered}
+use Rattle.one_caller.specs.OneHistory.{IsAnswered}
 use Rattle.host_calls.specs.PreChecks.{asked_of, PreChecks}
 use Rattle.many_callers.specs.Callers.{Calls}
 use Rattle.many_callers.proofs.CallTurns.{ShardView}

@@ -27,9 +27,9 @@ use Rattle.shard_turns.specs.declared.logs.LogItem.{LogItem}
 use Rattle.shard_turns.specs.declared.logs.LogHead.{LogHead}
 use Rattle.shard_turns.specs.ShardLogs.{records_of, faults_of}
 use Rattle.host_calls.specs.OpeningLogs.{is_decided}
-use Rattle.host_calls.proofs.Asked.{asks-request}
-use Rattle.host_calls.proofs.LegalBooks.{goes-stays}
-use Rattle.host_calls.proofs.Places.{read-within}
+use Rattle.one_caller.proofs.Asked.{asks-request}
+use Rattle.one_caller.proofs.LegalBooks.{goes-stays}
+use Rattle.one_caller.proofs.Places.{read-within}
 use Rattle.many_callers.specs.Callers.{Caller, IsAnsweredOn, AreCallers}
 use Rattle.many_callers.specs.Explained.{IsDecidedOn, history_at, Explains}
 use Rattle.many_callers.specs.OwnPlaces.{is_record_at, is_for, faults_told}

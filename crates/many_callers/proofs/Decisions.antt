@@ -24,7 +24,7 @@ use Rattle.shard_turns.specs.ShardLogs.{records_of}
 use Rattle.shard_book.specs.Histories.{GoesOn}
 use Rattle.host_calls.specs.Decisions.{is_number, decides}
 use Rattle.host_calls.specs.OpeningLogs.{is_decided}
-use Rattle.host_calls.proofs.LegalBooks.{goes-stays}
+use Rattle.one_caller.proofs.LegalBooks.{goes-stays}
 use Rattle.many_callers.specs.Explained.{IsDecidedOn}
 
 -- some record is a decision on this counter of the issuer's card with this number

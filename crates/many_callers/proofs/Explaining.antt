@@ -32,13 +32,13 @@ use Rattle.shard_book.specs.Answering.{AnswersClaimed, AnswersQueueing, AnswersS
 use Rattle.shard_turns.specs.declared.logs.LogItem.{LogItem}
 use Rattle.shard_turns.specs.declared.logs.LogHead.{LogHead}
 use Rattle.shard_book.specs.Histories.{GoesOn}
-use Rattle.shard_turns.proofs.Since.{goes-then}
+use Rattle.shard_book.proofs.Histories.{goes-then}
 use Rattle.host_calls.specs.Authorising.{EndsIn, Authorises}
 use Rattle.host_calls.specs.Finishes.{FinishesInTurn, is_won}
 use Rattle.host_calls.specs.PreChecks.{asked_of, PreChecks}
 use Rattle.host_calls.specs.declared.pass.Checked.{Checked}
 use Rattle.host_calls.specs.declared.pass.Checked.TheVariants.{Decide as Decides, Queue as Queues, Status as Sets}
-use Rattle.host_calls.proofs.LegalBooks.{goes-stays}
+use Rattle.one_caller.proofs.LegalBooks.{goes-stays}
 use Rattle.many_callers.specs.Explained.{history_at, IsDecidedOn, ExplainsRequest, ExplainsCommand, ExplainsStatus, Explains}
 use Rattle.many_callers.proofs.Decisions.{greatest-decided, decided-stays}
 use Rattle.many_callers.proofs.Seen.{goes-same, IsWhole, turn-sees, home-there}

@@ -26,13 +26,13 @@ use Rattle.shard_turns.specs.declared.logs.LogItem.{LogItem}
 use Rattle.shard_turns.specs.declared.logs.LogHead.{LogHead}
 use Rattle.shard_turns.specs.ShardLogs.{records_of}
 use Rattle.shard_book.specs.Histories.{GoesOn}
-use Rattle.shard_turns.proofs.Since.{goes-then}
-use Rattle.host_calls.specs.Books.{Book, histories_of}
+use Rattle.shard_book.proofs.Histories.{goes-then}
+use Rattle.one_caller.specs.Books.{Book, histories_of}
 use Rattle.host_calls.specs.Closing.{book_of}
-use Rattle.host_calls.specs.OneHistory.{AreLegalBooks, IsAnswered}
+use Rattle.one_caller.specs.OneHistory.{AreLegalBooks, IsAnswered}
 use Rattle.host_calls.specs.OpeningLogs.{opened_on}
-use Rattle.host_calls.proofs.LegalBooks.{legal-once, one-reply}
-use Rattle.host_calls.proofs.Places.{read-mapped}
+use Rattle.one_caller.proofs.LegalBooks.{legal-once, one-reply}
+use Rattle.one_caller.proofs.Places.{read-mapped}
 use Rattle.many_callers.specs.Callers.{Calls, Caller, IsCaller, AreCallers}
 use Rattle.many_callers.specs.Explained.{history_at, histories_in, IsDecidedOn, Explains, AreAnsweredInOrder, AreExplained}
 use Rattle.many_callers.proofs.Lists.{part-within, some-part}

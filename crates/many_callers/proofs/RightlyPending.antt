@@ -26,9 +26,9 @@ use Rattle.shard_turns.specs.declared.logs.LogItem.{LogItem}
 use Rattle.shard_turns.specs.declared.logs.LogHead.{LogHead}
 use Rattle.shard_turns.specs.ShardLogs.{records_of}
 use Rattle.host_calls.specs.Authorising.{Authorises}
-use Rattle.host_calls.specs.OneHistory.{IsAnswered}
+use Rattle.one_caller.specs.OneHistory.{IsAnswered}
 use Rattle.host_calls.specs.OpeningLogs.{is_decided}
-use Rattle.host_calls.proofs.Asked.{asks-no_store, asks-no_pending}
+use Rattle.one_caller.proofs.Asked.{asks-no_store, asks-no_pending}
 use Rattle.many_callers.specs.Callers.{Caller, IsCaller, IsAnsweredOn, AreCallers}
 use Rattle.many_callers.specs.Explained.{IsDecidedOn}
 use Rattle.many_callers.specs.OwnPlaces.{shows_record, IsPending, Passes}

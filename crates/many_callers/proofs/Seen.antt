@@ -33,7 +33,7 @@ use Rattle.shard_turns.specs.declared.logs.LogHead.{LogHead}
 use Rattle.shard_turns.specs.ShardLogs.{records_of}
 use Rattle.shard_turns.specs.Turned.{log_after, AnswersInTurn}
 use Rattle.shard_book.specs.Histories.{GoesOn}
-use Rattle.shard_turns.proofs.Since.{goes-then}
+use Rattle.shard_book.proofs.Histories.{goes-then}
 use Rattle.host_calls.specs.Authorising.{EndsIn, Authorises}
 use Rattle.host_calls.specs.Finishes.{FinishesInTurn, is_won}
 use Rattle.host_calls.specs.PreChecks.{asked_of, PreChecks}

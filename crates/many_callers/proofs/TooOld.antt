@@ -29,7 +29,7 @@ use Rattle.shard_turns.specs.declared.logs.LogItem.{LogItem}
 use Rattle.shard_turns.specs.declared.logs.LogHead.{LogHead}
 use Rattle.host_calls.specs.Authorising.{EndsIn, Authorises}
 use Rattle.host_calls.specs.Finishes.{FinishesInTurn, is_won}
-use Rattle.host_calls.specs.OneHistory.{IsAnswered}
+use Rattle.one_caller.specs.OneHistory.{IsAnswered}
 use Rattle.host_calls.specs.PreChecks.{asked_of, PreChecks}
 use Rattle.host_calls.specs.declared.pass.Checked.{Checked}
 use Rattle.host_calls.specs.declared.pass.Checked.TheVariants.{Decide as Decides, Queue as Queues, Status as Sets}

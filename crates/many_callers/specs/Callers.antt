@@ -19,7 +19,7 @@ use Rattle.shard_turns.specs.declared.logs.LogItem.{LogItem}
 use Rattle.shard_turns.specs.declared.logs.LogHead.{LogHead}
 use Rattle.shard_turns.specs.ShardLogs.{records_of, faults_of}
 use Rattle.host_calls.specs.Authorising.{Authorises}
-use Rattle.host_calls.specs.OneHistory.{LegallyGoesOn, IsAnswered}
+use Rattle.one_caller.specs.OneHistory.{LegallyGoesOn, IsAnswered}
 use Rattle.host_calls.specs.OpeningLogs.{opened_on}
 
 -- these are the answers to these lines, one after another, for a pass that had these claims and had seen these logs

@@ -27,7 +27,7 @@ use Rattle.shard_turns.specs.declared.logs.LogItem.{LogItem}
 use Rattle.shard_turns.specs.declared.logs.LogHead.{LogHead}
 use Rattle.shard_turns.specs.ShardLogs.{records_of}
 use Rattle.shard_book.specs.Histories.{GoesOn}
-use Rattle.host_calls.specs.OneHistory.{IsAnswered}
+use Rattle.one_caller.specs.OneHistory.{IsAnswered}
 use Rattle.many_callers.specs.Callers.{Caller}
 
 -- the history of a shard: the records of its log

@@ -12,7 +12,7 @@ use Rattle.turn_book.specs.Logs.{items_at}
 use Rattle.shard_turns.specs.declared.logs.LogItem.{LogItem}
 use Rattle.shard_turns.specs.declared.logs.LogHead.{LogHead}
 use Rattle.shard_turns.specs.ShardLogs.{faults_of}
-use Rattle.host_calls.specs.OneHistory.{IsAnswered}
+use Rattle.one_caller.specs.OneHistory.{IsAnswered}
 use Rattle.many_callers.specs.Callers.{Caller, IsAnsweredOn}
 use Rattle.many_callers.specs.Explained.{IsDecidedOn, history_at}
 

@@ -2,6 +2,7 @@
 pub mod WindowLemmas
 pub mod LaunchLemmas
 pub mod RowLemmas
+pub mod Shown
 pub mod OtherCards
 pub mod PlanLemmas
 pub mod AcceptLemmas

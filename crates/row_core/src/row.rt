@@ -3,11 +3,13 @@ ghost use Rattle.std.specs.Prelude.{◌≡◌, ◌↔◌, ℕ, ◌+◌, ◌≤�
 ghost use Rattle.issuer_base.specs.declared.entry.Entry.{Entry};
 ghost use Rattle.issuer_base.specs.ScriptCommand.{is_command};
 ghost use Rattle.card_history.specs.declared.decision.Decision.{Decision};
+ghost use Rattle.card_history.specs.CardViews.{card_shown};
 ghost use Rattle.card_history.specs.Records.{greatest, IsBelow};
 ghost use Rattle.card_history.specs.Scripts.{Scripts, with_newest, in_flight, first_of, is_newest};
 ghost use Rattle.card_history.specs.Turns.{IsUnused};
 ghost use Rattle.script_queue.specs.CommandQueue.{TakesOneMore};
 ghost use Rattle.key_derive.specs.SessionKey.{session_ac};
+ghost use Rattle.issuer_setup.specs.CardList.{name_of};
 ghost use Rattle.issuer_setup.specs.declared.card.CardInfo.{CardInfo};
 ghost use Rattle.row_core.specs.CardRow.{KeepsWindow, KeepsScripts, StandsFor};
 ghost use Rattle.row_core.specs.Known.{IsKnown};
@@ -18,6 +20,7 @@ ghost use Rattle.row_core.specs.Plan.{IsPlan, StandsAt, IsNext, with_record, wit
 use crate::reply::{write_answer, write_scripts};
 use crate::scripts::CardScripts;
 use arrayvec::ArrayVec;
+use card_history::CardView;
 use cvr_settle::Flight;
 use decision_table::{Table, decide};
 use issuer_base::{
@@ -137,6 +140,21 @@ impl Row {
         ensures { result ≡ self.now.scripts.halted }
     {
         self.scripts.halted()
+    }
+
+    /// The card's view: what the histories that the row stands for state of it.
+    #[tactic(auto, using(crate::proofs::Shown::row_view))]
+    pub fn view(&self) -> CardView
+        ensures { (card : CardInfo) (history : List Entry) → StandsFor card self.now history → result ≡ card_shown (name_of card) history }
+    {
+        CardView {
+            hi: self.hi,
+            status: self.status,
+            queued: self.scripts.queue().queued(),
+            done: self.scripts.done(),
+            flight: self.scripts.flight(),
+            halted: self.scripts.halted(),
+        }
     }
 
     /// The plan for a request of the row's card: one turn's answer to it.

@@ -1,5 +1,6 @@
 -- The lemmas of this crate.
 pub mod Places
+pub mod Histories
 pub mod Marks
 pub mod RowsAfter
 pub mod RowPlans

@@ -38,7 +38,8 @@ use Rattle.shard_book.specs.Histories.{GoesOn, IsImageBetween}
 use Rattle.shard_turns.specs.Opening.{head_with}
 use Rattle.shard_turns.specs.ShardLogs.{records_of, faults_of, RiseTo, last_count, StandsForLog}
 use Rattle.shard_turns.specs.Turned.{log_after, AddsFault, IsAdded, decided_by, recorded_by, added_by}
-use Rattle.shard_turns.proofs.Since.{goes-none, since-more}
+use Rattle.shard_book.proofs.Histories.{goes-none}
+use Rattle.shard_turns.proofs.Since.{since-more}
 use Rattle.shard_turns.proofs.LogSteps.{records-record, records-fault, faults-record, faults-fault, rise-later, rise-more, last-more}
 
 -- ---- what an answer adds

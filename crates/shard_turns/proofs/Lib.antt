@@ -5,6 +5,5 @@ pub mod Standing
 pub mod Since
 pub mod Answered
 pub mod Ending
-pub mod Shown
 pub mod Turning
 pub mod ListLemmas

@@ -1,6 +1,6 @@
 -- What a crash since a log was opened may leave of its shard, as the shard is called.
-use Rattle.std.proofs.Common.{◌≡◌, ℕ, ◌≤◌, List, ◌++◌, [], length, take, drop, Option, sym, ap, subst, ◌∙◌, append-nil, append_assoc}
-use Rattle.std.proofs.lemmas.List.{take-append-drop, take-append-le}
+use Rattle.std.proofs.Common.{◌≡◌, ℕ, ◌≤◌, List, length, take, Option, sym, ap, subst, ◌∙◌}
+use Rattle.std.proofs.lemmas.List.{take-append-le}
 use Rattle.issuer_base.specs.Stores.{Disk, BothTold, LeavesOnly}
 use Rattle.issuer_base.specs.declared.entry.Entry.{Entry}
 use Rattle.issuer_base.proofs.Moments.{LeavesOnly-then, LeavesOnly-weaker}
@@ -8,23 +8,7 @@ use Rattle.issuer_base.proofs.ToldTwice.{BothTold-then, BothTold-weaker}
 use Rattle.issuer_setup.specs.IssuerSetup.{Setup}
 use Rattle.shard_book.specs.Grounds.{grounds_now, IsImageOf}
 use Rattle.shard_book.specs.Histories.{GoesOn, IsImageBetween}
-
--- ---- histories that go on
-
--- nothing is added
-pub goes-none : (history : List Entry) → GoesOn history history
-goes-none history = ([], sym (append-nil history))
-
--- records, and then more records
-pub goes-then : (first second third : List Entry) → GoesOn first second → GoesOn second third → GoesOn first third
-goes-then first second third on more =
-    (on.0 ++ more.0, more.1 ∙ ap (λ (l : List Entry). l ++ more.0) on.1 ∙ append_assoc first on.0 more.0)
-
--- a history goes on from its first records
-pub goes-from : (count : ℕ) (history : List Entry) → GoesOn (take count history) history
-goes-from count history = (drop count history, sym (take-append-drop count history))
-
--- ---- images
+use Rattle.shard_book.proofs.Histories.{goes-none, goes-then, goes-from}
 
 module _ (issuer : Setup) (shard count : ℕ) where
   abbrev Between : List Entry → List ℕ → Type 0

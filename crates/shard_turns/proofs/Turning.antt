@@ -7,7 +7,11 @@ use Rattle.issuer_base.specs.declared.answer.Answer.{Answer}
 use Rattle.issuer_base.specs.declared.entry.Entry.{Entry}
 use Rattle.issuer_base.specs.declared.limits.TheConstants.{MAX_FAULTS_TOLD}
 use Rattle.issuer_base.specs.declared.outside.store.Store.{Ghosts}
+use Rattle.card_history.specs.declared.card_view.CardView.{CardView}
+use Rattle.card_history.specs.CardViews.{card_shown}
 use Rattle.card_history.specs.Records.{CardName}
+use Rattle.issuer_setup.specs.declared.card.CardInfo.{CardInfo}
+use Rattle.issuer_setup.specs.CardList.{name_of}
 use Rattle.issuer_setup.specs.IssuerSetup.{Setup}
 use Rattle.issuer_setup.proofs.CardListLemmas.{number_of-found}
 use Rattle.line_checks.specs.AtHand.{IsCardAtHand}
@@ -27,15 +31,12 @@ use Rattle.shard_turns.specs.declared.held.HeldShard.{HeldShard}
 use Rattle.shard_turns.specs.declared.logs.LogHead.{LogHead}
 use Rattle.shard_turns.specs.declared.logs.LogItem.{LogItem}
 use Rattle.shard_turns.specs.declared.turns.ShardTurns.{ShardTurns}
-use Rattle.show_text.specs.declared.card_view.CardView.{CardView}
-use Rattle.shard_turns.specs.CardViews.{IsShownBy}
 use Rattle.shard_turns.specs.Opening.{head_with}
 use Rattle.shard_turns.specs.ShardLogs.{records_of, StandsForLog}
 use Rattle.shard_turns.specs.ShardSeats.{opening_in, AreTurnsOf, IsSeatOf, StandsIn}
 use Rattle.shard_turns.specs.Turned.{AnswersInTurn, ShowsInTurn, log_after, added_by, counted_if, turned}
 use Rattle.shard_turns.proofs.Answered.{IsAnsweredBy, IsCalled, log-step, records-after}
 use Rattle.shard_turns.proofs.Ending.{turned-is}
-use Rattle.shard_turns.proofs.Shown.{row-view}
 use Rattle.shard_turns.proofs.Standing.{held-stands, stands-open, stands-close, head-at}
 
 -- a card's number is within its issuer's cards, and it is one of its shard's
@@ -104,7 +105,8 @@ module _ {S : Type 0} {G : Ghosts S} where
   pub turn-shows : (issuer : Setup) (logs : List (Log LogItem LogHead)) (number : ℕ) (shard : Shard S G) → HasFound issuer logs number shard
       → (card : ℕ) → number ≡ card % issuer.shards → card < length issuer.cards → (row : CardRow)
       → slice_get shard.rows.rows (card / shard.rows.shards) ≡ Some row
-      → (view : CardView) → IsShownBy row view → (before after : TurnView LogItem LogHead) → IsFront (items_at before.seen number) (items_at logs number)
+      → (view : CardView) → ((info : CardInfo) (history : List Entry) → RowStandsFor info row history → view ≡ card_shown (name_of info) history)
+      → (before after : TurnView LogItem LogHead) → IsFront (items_at before.seen number) (items_at logs number)
       → after ≡ free (entered number (items_at logs number) before) → ShowsInTurn issuer card before view after
   turn-shows issuer logs number shard found card number_is within row row_is view shown before after front after_is =
       let home = has-card issuer logs number shard found card number_is within in
@@ -113,10 +115,9 @@ module _ {S : Type 0} {G : Ghosts S} where
         front = subst (λ n. IsFront (items_at before.seen n) (items_at logs number)) number_is front;
         shown = λ info info_is.
             let stands = found.stands.stands.rows_stand.each card info home info_is in
-            row-view info row (records_of (items_at logs number)) view
+            shown info (records_of (items_at logs number))
             (subst (λ (row : CardRow). RowStandsFor info row (records_of (items_at logs number))) (same_Some stands.row row (sym stands.row_is
-            ∙ row_is)) stands.stands)
-            shown;
+            ∙ row_is)) stands.stands);
         after_is = after_is ∙ ap (λ n. turned n (items_at logs number) None before) number_is;
       }
 

@@ -3,4 +3,3 @@ pub mod ShardLogs
 pub mod Opening
 pub mod Turned
 pub mod ShardSeats
-pub mod CardViews

@@ -16,7 +16,7 @@ use Rattle.issuer_setup.specs.IssuerSetup.{Setup, shard_of}
 use Rattle.row_core.specs.Replying.{reply_to}
 use Rattle.shard_book.specs.Answering.{AnswersClaimed, AnswersQueueing, AnswersSetting}
 use Rattle.shard_book.specs.Grounds.{grounds_now}
-use Rattle.show_text.specs.declared.card_view.CardView.{CardView}
+use Rattle.card_history.specs.declared.card_view.CardView.{CardView}
 use Rattle.turn_book.specs.declared.view.Turn.TheVariants.{Free}
 use Rattle.turn_book.specs.declared.view.TurnView.{TurnView}
 use Rattle.turn_book.specs.Logs.{items_at, with_items, IsFront}
@@ -24,7 +24,7 @@ use Rattle.turn_book.specs.TurnViews.{counted}
 use Rattle.shard_turns.specs.declared.logs.LogHead.{LogHead}
 use Rattle.shard_turns.specs.declared.logs.LogItem.{LogItem}
 use Rattle.shard_turns.specs.declared.logs.LogItem.TheVariants.{Record, Fault}
-use Rattle.shard_turns.specs.CardViews.{card_shown}
+use Rattle.card_history.specs.CardViews.{card_shown}
 use Rattle.shard_turns.specs.ShardLogs.{records_of, faults_of}
 
 -- the log with one item more, where there is one

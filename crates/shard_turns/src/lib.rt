@@ -7,9 +7,7 @@ mod lists;
 mod logs;
 mod opening;
 mod turns;
-mod views;
 
 pub use held::HeldShard;
 pub use logs::{LogHead, LogItem, SeenDisk};
 pub use turns::{ShardSeat, ShardTurns};
-pub use views::row_shown;

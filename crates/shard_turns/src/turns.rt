@@ -21,12 +21,11 @@ use crate::held::{Called, HeldShard};
 use crate::lists::{Lists, Spare, hold_all, release_all, take_lists};
 use crate::logs::{LogHead, LogItem};
 use crate::opening::{has_parts, opening_logs, start};
-use crate::views::row_shown;
+use card_history::CardView;
 use issuer_base::{Answer, Entry, MAX_FAULTS_TOLD, Refusal, Store};
 use issuer_setup::Issuer;
 use line_checks::{CheckedCommand, CheckedRequest, CheckedStatus};
 use shard_book::Shard;
-use show_text::CardView;
 use std::alloc::Global;
 use std::snapshot::Snapshot;
 use std::sync::{Mutex, Wait};
@@ -192,9 +191,9 @@ impl<S: Store> ShardTurns<S> {
     {
         let number = issuer.shard_of(card);
         let held = self.turns.enter(rt, seat, number);
-        let view = row_shown(held.shard.row(card));
+        let shown = held.shard.row(card).view();
         self.turns.leave(seat, number, held);
-        view
+        shown
     }
 
     /// A second seat, which has seen the same logs and has added nothing.

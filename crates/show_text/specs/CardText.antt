@@ -5,7 +5,7 @@ use Rattle.issuer_base.specs.ChipData.{digits_of}
 use Rattle.cvr_settle.specs.declared.settlement.Flight.{Flight}
 use Rattle.chip_request.specs.Lines.{digits_text}
 use Rattle.answer_text.specs.AnswerText.{line_of}
-use Rattle.show_text.specs.declared.card_view.CardView.{CardView}
+use Rattle.card_history.specs.declared.card_view.CardView.{CardView}
 
 -- a transaction counter, or a dash where there is none
 abbrev pub counter_word : Option ℕ → List ℕ

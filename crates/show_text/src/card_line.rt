@@ -6,9 +6,9 @@ ghost use Rattle.issuer_base.specs.ChipData.{digits_of};
 ghost use Rattle.chip_request.specs.Lines.{digits_text};
 ghost use Rattle.show_text.specs.CardText.{card_text, counter_word, flight_words};
 
-use crate::card_view::CardView;
 use answer_text::{LINE_ROOM, put, put_number};
 use arrayvec::ArrayVec;
+use card_history::CardView;
 use cvr_settle::Flight;
 use issuer_base::Pan;
 

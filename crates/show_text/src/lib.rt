@@ -1,8 +1,6 @@
-//! What a host shows of a card, and the line that the host prints of it.
+//! The line that a host prints of a card.
 #![tactic(auto)]
 
 mod card_line;
-mod card_view;
 
 pub use card_line::{CARD_ROOM, write_card};
-pub use card_view::CardView;

@@ -11,11 +11,11 @@ use Rattle.journal_rec.specs.RecordText.{texts_of}
 use Rattle.journal_rec.proofs.TextLaws.{texts_of-one_reading}
 use Rattle.shard_book.specs.declared.shard.Shard.{Shard}
 use Rattle.shard_book.specs.Shards.{faults_in}
-use Rattle.host_calls.specs.Books.{Book}
-use Rattle.host_calls.specs.Hosts.{Stand, StandsForBook}
-use Rattle.host_calls.specs.Loading.{IsLoadedFrom, AreLoaded}
-use Rattle.host_calls.proofs.Places.{read-within}
-use Rattle.host_calls.proofs.Running.{stands-loaded}
+use Rattle.one_caller.specs.Books.{Book}
+use Rattle.one_caller.specs.Hosts.{Stand, StandsForBook}
+use Rattle.one_caller.specs.Loading.{IsLoadedFrom, AreLoaded}
+use Rattle.one_caller.proofs.Places.{read-within}
+use Rattle.one_caller.proofs.Running.{stands-loaded}
 use Rattle.world_play.specs.Play.{empty_book}
 
 -- what stands in a list of equals

@@ -5,8 +5,8 @@ use Rattle.issuer_setup.specs.IssuerSetup.{Setup}
 use Rattle.issuer_base.specs.declared.request.Parts.{Parts}
 use Rattle.card_model.specs.Application.{CardState}
 use Rattle.card_model.specs.CardSteps.{CardStep, Tap as TapEvent}
-use Rattle.host_calls.specs.Books.{Book}
-use Rattle.host_calls.specs.Hosts.{Stand}
+use Rattle.one_caller.specs.Books.{Book}
+use Rattle.one_caller.specs.Hosts.{Stand}
 use Rattle.world_play.specs.declared.house.House.{House}
 use Rattle.world_play.specs.declared.moves.Move.{Move}
 use Rattle.world_play.specs.declared.moves.Move.TheVariants.{Tap}

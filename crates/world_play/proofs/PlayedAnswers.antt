@@ -41,9 +41,9 @@ use Rattle.request_text.proofs.FieldsOf.{has_fields}
 use Rattle.shard_book.specs.Answering.{is_store_fault, AnswersClaimed}
 use Rattle.shard_book.specs.Grounds.{IsMadeBy, grounds_of}
 use Rattle.shard_book.proofs.OwnDecisions.{row-made}
-use Rattle.host_calls.specs.Books.{Book, histories_of as book_histories}
-use Rattle.host_calls.specs.Turns.{AnswersIn}
-use Rattle.host_calls.proofs.Places.{write-same}
+use Rattle.one_caller.specs.Books.{Book, histories_of as book_histories}
+use Rattle.one_caller.specs.Turns.{AnswersIn}
+use Rattle.one_caller.proofs.Places.{write-same}
 use Rattle.world_net.specs.declared.parts.MadeRequest.{MadeRequest}
 use Rattle.world_net.specs.declared.parts.Exchange.{Exchange}
 use Rattle.world_net.specs.WorldState.{WorldState, ShardState, shard_at, record_in, histories_of, with_record}

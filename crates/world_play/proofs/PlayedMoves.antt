@@ -32,9 +32,9 @@ use Rattle.issuer_setup.specs.IssuerSetup.{Setup, shard_of}
 use Rattle.row_core.specs.Replying.{reply_to}
 use Rattle.shard_book.specs.Answering.{is_store_fault, AnswersClaimed}
 use Rattle.request_text.specs.ChipText.{request_line}
-use Rattle.host_calls.specs.Books.{Book, histories_of as book_histories}
-use Rattle.host_calls.specs.Turns.{Turn, AnswersIn}
-use Rattle.host_calls.proofs.Places.{read-written, read-other}
+use Rattle.one_caller.specs.Books.{Book, histories_of as book_histories}
+use Rattle.one_caller.specs.Turns.{Turn, AnswersIn}
+use Rattle.one_caller.proofs.Places.{read-written, read-other}
 use Rattle.world_net.specs.declared.parts.MadeRequest.{MadeRequest}
 use Rattle.world_net.specs.WorldState.{WorldState, ShardState, shard_at, home_of, history_for, histories_of}
 use Rattle.world_net.specs.WorldRuns.{IsIssuer}

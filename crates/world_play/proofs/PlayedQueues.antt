@@ -30,8 +30,8 @@ use Rattle.issuer_setup.proofs.Shards.{shard_of-known}
 use Rattle.line_checks.specs.Reading.{said_by, command_for, reading}
 use Rattle.shard_book.specs.Answering.{is_store_fault, AnswersQueueing}
 use Rattle.shard_book.specs.Grounds.{grounds_of}
-use Rattle.host_calls.specs.Books.{Book, histories_of as book_histories}
-use Rattle.host_calls.specs.Turns.{AnswersIn}
+use Rattle.one_caller.specs.Books.{Book, histories_of as book_histories}
+use Rattle.one_caller.specs.Turns.{AnswersIn}
 use Rattle.world_net.specs.declared.parts.MadeRequest.{MadeRequest}
 use Rattle.world_net.specs.Allowed.{CanQueue}
 use Rattle.world_net.specs.WorldState.{WorldState, shard_at, histories_of, with_record}

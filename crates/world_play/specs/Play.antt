@@ -15,11 +15,11 @@ use Rattle.issuer_setup.specs.CardList.{name_of}
 use Rattle.issuer_setup.specs.IssuerSetup.{Setup, shard_of}
 use Rattle.line_checks.specs.Reading.{reading}
 use Rattle.shard_book.specs.Answering.{is_store_fault}
-use Rattle.show_text.specs.declared.card_view.CardView.{CardView}
+use Rattle.card_history.specs.declared.card_view.CardView.{CardView}
 use Rattle.request_text.specs.ChipText.{request_line}
-use Rattle.host_calls.specs.Books.{Book, histories_of}
-use Rattle.host_calls.specs.Turns.{Turn}
-use Rattle.host_calls.specs.Views.{view_of}
+use Rattle.one_caller.specs.Books.{Book, histories_of}
+use Rattle.one_caller.specs.Turns.{Turn}
+use Rattle.card_history.specs.CardViews.{card_shown}
 use Rattle.world_net.specs.Fate.{fate_of}
 use Rattle.world_play.specs.declared.moves.Move.{Move}
 use Rattle.world_play.specs.declared.moves.Move.TheVariants.{Queue, Tap, Ask, AskSpoiled, Hold, TakeHeld, Hand, HandFirst, HandSpoiled}
@@ -195,7 +195,7 @@ IsAfter cards seed (suc steps) state = (before : State) × IsAfter cards seed st
 
 -- what the host shows of a card
 abbrev pub shown : Setup → List Book → CardInfo → CardView
-shown setup books info = view_of (name_of info) (slice_index_or (histories_of books) (shard_of setup (name_of info)) [])
+shown setup books info = card_shown (name_of info) (slice_index_or (histories_of books) (shard_of setup (name_of info)) [])
 
 -- one where it is so, and else none
 abbrev pub one_if : Bool → ℕ

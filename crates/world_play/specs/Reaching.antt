@@ -1,7 +1,7 @@
 -- What the program holds at a stage and at a state of a run.
 use Rattle.std.specs.Prelude.{◌≡◌, ℕ, List}
-use Rattle.host_calls.specs.Books.{Book}
-use Rattle.host_calls.specs.Hosts.{Stand}
+use Rattle.one_caller.specs.Books.{Book}
+use Rattle.one_caller.specs.Hosts.{Stand}
 use Rattle.world_play.specs.declared.house.House.{House}
 use Rattle.world_play.specs.declared.player.Player.{Player}
 use Rattle.world_play.specs.Play.{Stage, IsAfter}

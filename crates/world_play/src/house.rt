@@ -2,13 +2,13 @@
 ghost use Rattle.std.specs.Prelude.{◌≡◌, ◌+◌, List, false, IfOk};
 ghost use Rattle.line_checks.specs.Reading.{reading};
 ghost use Rattle.shard_book.specs.Answering.{is_store_fault};
-ghost use Rattle.host_calls.specs.Books.{Book};
-ghost use Rattle.host_calls.specs.Hosts.{Stand};
-ghost use Rattle.host_calls.specs.Turns.{Turn};
+ghost use Rattle.one_caller.specs.Books.{Book};
+ghost use Rattle.one_caller.specs.Hosts.{Stand};
+ghost use Rattle.one_caller.specs.Turns.{Turn};
 ghost use Rattle.world_play.specs.Play.{with_answer, with_tap};
 
 use crate::summary::Summary;
-use host_calls::Solo;
+use one_caller::Solo;
 use issuer_base::{Answer, NoMemory, Refusal, Request};
 use store_edge::RoomStore;
 

@@ -1,8 +1,8 @@
 //! What a run begins with: its cards, and its host over empty stores.
 ghost use Rattle.std.specs.Prelude.{◌≡◌, ◌<◌, ◌≤◌, [], length, map, replicate, All, IfOk};
 ghost use Rattle.std.specs.List.{range_with_len};
-ghost use Rattle.host_calls.specs.Hosts.{Stand};
-ghost use Rattle.host_calls.specs.Loading.{AreLoaded};
+ghost use Rattle.one_caller.specs.Hosts.{Stand};
+ghost use Rattle.one_caller.specs.Loading.{AreLoaded};
 ghost use Rattle.world_play.specs.Play.{empty_book, new_player, no_counts};
 ghost use Rattle.world_play.specs.Setting.{issuer, key_set};
 
@@ -11,7 +11,7 @@ use crate::player::Player;
 use crate::setting::{KEY_SET, SHARDS, card_info, issuer};
 use crate::summary::Summary;
 use card_model::Card;
-use host_calls::{HostBack, Solo};
+use one_caller::{HostBack, Solo};
 use issuer_base::NoMemory;
 use issuer_setup::{CardInfo, Issuer};
 use key_derive::MasterCiphers;

@@ -1,14 +1,14 @@
 //! What host and cards tell at the end of a run.
 ghost use Rattle.std.specs.Prelude.{◌≡◌, ℕ, ◌<◌, List, length, sum_by, IfOk};
-ghost use Rattle.host_calls.specs.Books.{Book};
-ghost use Rattle.host_calls.specs.Hosts.{Stand};
+ghost use Rattle.one_caller.specs.Books.{Book};
+ghost use Rattle.one_caller.specs.Hosts.{Stand};
 ghost use Rattle.world_play.specs.Play.{ComesTo, one_if, shown};
 ghost use Rattle.world_play.specs.Reaching.{IsAt};
 
 use crate::house::House;
 use crate::player::Player;
 use crate::summary::Summary;
-use host_calls::Solo;
+use one_caller::Solo;
 use issuer_base::NoMemory;
 use store_edge::RoomStore;
 

@@ -1,8 +1,8 @@
 -- The first cards are shown.
 use Rattle.std.proofs.Common.{◌≡◌, List, take}
 use Rattle.std.specs.Io.KnownBytes.{Appends}
-use Rattle.host_calls.specs.Books.{Book}
-use Rattle.host_calls.specs.Hosts.{Stand}
+use Rattle.one_caller.specs.Books.{Book}
+use Rattle.one_caller.specs.Hosts.{Stand}
 use Rattle.issuer_top.specs.Shown.{shown_text}
 use Rattle.issuer_top.proofs.show.show.Given as goal
 

@@ -2,7 +2,7 @@
 use Rattle.std.proofs.Common.{refl, ap, sym, subst}
 use Rattle.std.specs.Prelude.{map}
 use Rattle.issuer_setup.specs.IssuerSetup.{Setup}
-use Rattle.host_calls.specs.Hosts.{AreShards, Stand}
+use Rattle.one_caller.specs.Hosts.{AreShards, Stand}
 use Rattle.issuer_base.specs.Sink.{WritesAll}
 use Rattle.issuer_top.specs.Seen.{store_seen}
 use Rattle.issuer_top.specs.Shown.{shown_text}

@@ -1,7 +1,7 @@
 -- The host stands for books without records.
 use Rattle.std.proofs.Common.{◌≡◌, [], replicate, ap, sym, subst, Some}
 use Rattle.issuer_setup.specs.IssuerSetup.{Setup}
-use Rattle.host_calls.specs.Hosts.{Stand}
+use Rattle.one_caller.specs.Hosts.{Stand}
 use Rattle.world_play.specs.Play.{empty_book}
 use Rattle.world_play.proofs.EmptyBooks.{opened, all_at}
 use Rattle.world_play.proofs.opening.new_house.Goals as goal

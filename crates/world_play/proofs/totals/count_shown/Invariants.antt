@@ -1,8 +1,8 @@
 -- What the host shows of the first cards is counted.
 use Rattle.std.proofs.Common.{◌≡◌, ◌≤◌, ◌*◌, ◌^◌, List, take}
 use Rattle.std.specs.Prelude.{sum_by}
-use Rattle.host_calls.specs.Books.{Book}
-use Rattle.host_calls.specs.Hosts.{Stand}
+use Rattle.one_caller.specs.Books.{Book}
+use Rattle.one_caller.specs.Hosts.{Stand}
 use Rattle.world_play.specs.Play.{one_if, shown}
 use Rattle.world_play.proofs.totals.count_shown.Given as goal
 

@@ -1,7 +1,7 @@
 -- The lanes begin without lines, or the stores come back.
 use Rattle.std.proofs.Common.{◌≡◌, ◌*◌, ◌/◌, ◌<◌, ◌≤◌, [], vec_len, inl, rules, refl, sym, subst, ap, ◌∙◌}
 use Rattle.shard_turns.specs.ShardSeats.{opening_in}
-use Rattle.host_calls.proofs.Loads.{none-loaded}
+use Rattle.one_caller.proofs.Loads.{none-loaded}
 use Rattle.caller_lanes.specs.declared.lanes.TheConstants.{BLOCK_LINES}
 use Rattle.caller_lanes.proofs.Opening.{opened-plain}
 use Rattle.caller_lanes.proofs.Seating.{seated-none, new-in-turns, new-all-served, rooms-all, room-some, room-most}

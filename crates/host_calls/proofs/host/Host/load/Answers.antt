@@ -1,6 +1,6 @@
 -- What is shared is a host, or the stores of the shards come back.
 use Rattle.std.proofs.Common.{inl, inr, rules}
-use Rattle.host_calls.proofs.Loads.{none-loaded}
+use Rattle.one_caller.proofs.Loads.{none-loaded}
 use Rattle.host_calls.proofs.Sharing.{all-come-back, opened-counted}
 use Rattle.host_calls.proofs.host.Host.load.Goals as goal
 

@@ -1,0 +1,10 @@
+-- The lemmas of this crate.
+pub mod Places
+pub mod OneShard
+pub mod Asked
+pub mod TurnSteps
+pub mod LegalBooks
+pub mod OneRun
+pub mod Loads
+pub mod Shown
+pub mod Running

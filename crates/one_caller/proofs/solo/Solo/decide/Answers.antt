@@ -1,0 +1,47 @@
+-- A request is answered in the shard of its card.
+use Rattle.std.proofs.Common.{◌≤◌, length-set, vec_capacity, true, refl, sym, subst}
+use Rattle.std.proofs.lemmas.Option.{slice_get_read}
+use Rattle.card_history.specs.Records.{card_of}
+use Rattle.row_core.specs.Replying.{reply_to}
+use Rattle.shard_book.specs.Answering.{AnswersClaimed}
+use Rattle.one_caller.proofs.OneShard.{IsCalled, shards-after, turn-after, crash-after}
+use Rattle.one_caller.proofs.Places.{write-same}
+use Rattle.one_caller.proofs.solo.Solo.decide.Given.{Over}
+use Rattle.one_caller.proofs.solo.Solo.decide.Goals.{After-answer}
+use Rattle.one_caller.proofs.solo.Solo.decide.Goals as goal
+
+-- the shard at its place is called with the request
+call : (g : Over) (c : After-answer g) → IsCalled c.args.self.now.issuer c.args.self.now.shards.items (card_of c.args.found.now.request)
+    c.home-shard.result c.index_mut.result.now c.answer.new.self c.answer.result
+    (λ shard old new. AnswersClaimed shard (reply_to c.args.self.now.issuer) true old c.args.found.now.request c.answer.result new)
+call g c =
+    let its = c.answer.ensures in
+    record {
+      home_is = c.home-shard.ensures.shard _ c.requires.at_hand.card_is.number_is;
+      old_is = slice_get_read _ _ c.home-shard.result _ refl c.home-shard.ensures.within c.index_mut.ensures.value;
+      answers = its.answer;
+      leaves = its.crash;
+      counts = its.count;
+      told_is = its.told;
+      undoubted = its.undoubted;
+      under = its.under;
+      number_is = its.number;
+    }
+
+pub invariant_of-self-clause-are_shards : goal.invariant_of-self-clause-are_shards
+invariant_of-self-clause-are_shards g c = shards-after c.args.self.now.are_shards (call g (goal.at.invariant_of-self-clause-are_shards g c).After-answer)
+
+pub invariant_of-self-clause-room : goal.invariant_of-self-clause-room
+invariant_of-self-clause-room g c =
+    let host = c.args.self.now in
+    subst (λ count. count ≤ vec_capacity host.back) (sym (length-set host.shards.items c.home-shard.result c.answer.new.self)) host.room
+
+pub returns-clause-turn : goal.returns-clause-turn
+returns-clause-turn g c = turn-after c.args.self.now.are_shards (call g (goal.at.returns-clause-turn g c).After-answer)
+
+pub returns-clause-crash : goal.returns-clause-crash
+returns-clause-crash g c = crash-after c.args.self.now.are_shards (call g (goal.at.returns-clause-crash g c).After-answer)
+
+pub returns-clause-unchanged : goal.returns-clause-unchanged
+returns-clause-unchanged g c idle =
+    write-same _ _ _ _ (call g (goal.at.returns-clause-unchanged g c).After-answer).old_is (c.answer.ensures.unchanged idle)

@@ -1,0 +1,7 @@
+-- The definitions that the contracts of this crate cite.
+pub mod Books
+pub mod Turns
+pub mod OneHistory
+pub mod Hosts
+pub mod Loading
+pub mod Runs

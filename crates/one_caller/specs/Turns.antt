@@ -1,0 +1,51 @@
+-- One turn of a host over stores with one caller, and a run of turns.
+use Rattle.std.specs.Prelude.{◌≡◌, ℕ, true, List, [], ◌∷◌, slice_get, slice_set, Some, Result, Ok, Err}
+use Rattle.issuer_base.specs.OutsideFaults.{CountsFaults}
+use Rattle.issuer_base.specs.declared.entry.Entry.{Entry}
+use Rattle.issuer_base.specs.declared.answer.Answer.{Answer}
+use Rattle.issuer_base.specs.declared.answer.Answer.TheVariants.{Refused}
+use Rattle.issuer_base.specs.declared.answer.Refusal.{Refusal}
+use Rattle.card_history.specs.declared.decision.Asked.{Asked}
+use Rattle.card_history.specs.declared.decision.Asked.TheVariants.{Decide, Queue, Status}
+use Rattle.card_history.specs.Records.{CardName, named, card_of}
+use Rattle.issuer_setup.specs.IssuerSetup.{Setup, shard_of}
+use Rattle.row_core.specs.Replying.{reply_to}
+use Rattle.line_checks.specs.Reading.{reading}
+use Rattle.shard_book.specs.Answering.{is_store_fault, told_after, AnswersClaimed, AnswersQueueing, AnswersSetting}
+use Rattle.one_caller.specs.Books.{Book}
+
+-- a line is answered in the shard of its card, on that shard's history; the store's count rises just where the answer tells that the
+-- store failed, and the books of the other shards stay
+pub record AnswersIn (issuer : Setup) (before : List Book) (card : CardName) (answer : Answer)
+    (Changes : ℕ → List Entry → List Entry → Type 0) (after : List Book) : Type 0 where
+  pub old : Book
+  pub new : Book
+  pub old_is : slice_get before (shard_of issuer card) ≡ Some old
+  pub changes : Changes (shard_of issuer card) old.history new.history
+  pub counts : CountsFaults old.faults new.faults (is_store_fault answer)
+  pub told_is : new.told ≡ told_after old.told (is_store_fault answer)
+  pub after_is : after ≡ slice_set before (shard_of issuer card) new
+
+-- a line is refused for this, and the books stay
+abbrev pub IsRefused : List Book → Refusal → Answer → List Book → Type 0
+IsRefused before refusal answer after = (answer ≡ Refused refusal) × (after ≡ before)
+
+-- one turn: a line that is refused as it is read leaves all books; a request, a command and a status are answered in the shard of
+-- their card, and in place of an answer that adds a record it may be told that the store failed
+abbrev pub Turn : Setup → List Book → Result Asked Refusal → Answer → List Book → Type 0
+Turn issuer before (Err refusal) answer after = IsRefused before refusal answer after
+Turn issuer before (Ok (Decide request)) answer after =
+    AnswersIn issuer before (card_of request) answer
+    (λ shard old new. AnswersClaimed shard (reply_to issuer) true old request answer new) after
+Turn issuer before (Ok (Queue pan psn command)) answer after =
+    AnswersIn issuer before (named pan psn) answer (λ shard old new. AnswersQueueing shard old (named pan psn) command answer new) after
+Turn issuer before (Ok (Status pan psn status)) answer after =
+    AnswersIn issuer before (named pan psn) answer (λ shard old new. AnswersSetting shard old (named pan psn) status answer new) after
+
+-- a run of turns: these answers to these lines, one after another
+abbrev pub Run : Setup → List Book → List (List ℕ) → List Answer → List Book → Type 0
+Run issuer before [] [] after = after ≡ before
+Run issuer before (line ∷ lines) (answer ∷ answers) after =
+    (between : List Book) × Turn issuer before (reading issuer line) answer between × Run issuer between lines answers after
+Run issuer before [] (answer ∷ answers) after = ⊥
+Run issuer before (line ∷ lines) [] after = ⊥

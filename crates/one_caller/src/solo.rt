@@ -1,0 +1,195 @@
+//! The host of one caller.
+ghost use Rattle.std.specs.Prelude.{◌≡◌, ◌<◌, ◌≤◌, ◌%◌, ℕ, List, [], ◌∷◌, ◌++◌, length, map, reverse, vec_capacity, slice_get, Some, Ok, IfOk, IfErr, false};
+ghost use Rattle.card_history.specs.declared.decision.Asked.TheVariants.{Decide, Queue, Status};
+ghost use Rattle.card_history.specs.Records.{CardName};
+ghost use Rattle.issuer_setup.specs.CardList.{name_of, number_of};
+ghost use Rattle.issuer_setup.specs.IssuerSetup.{shard_of};
+ghost use Rattle.issuer_setup.specs.declared.card.CardInfo.{CardInfo};
+ghost use Rattle.line_checks.specs.AtHand.{IsRequestAtHand, IsCommandAtHand, IsStatusAtHand};
+ghost use Rattle.line_checks.specs.Reading.{checked, reading};
+ghost use Rattle.shard_book.specs.Answering.{tells_change};
+ghost use Rattle.shard_book.specs.Shards.{store_in};
+ghost use Rattle.one_caller.specs.Books.{Book};
+ghost use Rattle.one_caller.specs.Hosts.{AreShards, Stand};
+ghost use Rattle.one_caller.specs.Loading.{AreLoaded, ComeBack};
+ghost use Rattle.one_caller.specs.Runs.{HoldJournals, LeaveBetween};
+ghost use Rattle.one_caller.specs.Turns.{Turn};
+ghost use Rattle.card_history.specs.CardViews.{card_shown};
+
+use crate::loading::{HostBack, Lists, load_all, take_lists, take_stores};
+use card_history::CardView;
+use issuer_base::{Answer, MAX_CHIP_BYTES, Store};
+use issuer_setup::Issuer;
+use line_checks::{Checked, CheckedCommand, CheckedRequest, CheckedStatus, check_line_in};
+use shard_book::{LoadFault, Shard};
+use std::alloc::Global;
+
+/// The host of one caller over stores: it answers line after line, and each record is safe in its shard's store before it is answered.
+pub struct Solo<S: Store> {
+    issuer: Issuer,
+
+    /// The issuer's shards, in the order of their numbers.
+    shards: Vec<Shard<S>>,
+
+    /// Room for their stores.
+    back: Vec<S>,
+
+    /// Room for the data of a line.
+    data: [u8; MAX_CHIP_BYTES],
+    ghost are_shards: { AreShards issuer shards.items },
+    ghost empty: { back.items ≡ [] },
+    ghost room: { length shards.items ≤ vec_capacity back },
+}
+
+impl<S: Store> Solo<S> {
+    /// Loads the shards of an issuer from their stores, in order: takes over the records of each store's whole lines, cuts away what stands
+    /// behind them, and makes them safe. The first shard that can't be loaded stops it, and the stores come back in order.
+    ///
+    /// Where memory is wanting for the host itself, the shard that is named is the first one. No other call takes memory.
+    pub fn load(alloc: Global, stores: Vec<S>, issuer: Issuer) -> Result<Solo<S>, HostBack<S>>
+        requires { length stores.items ≡ issuer.shards }
+        ensures issuer { IfOk result (λ host. host.issuer ≡ issuer) }
+        ensures loaded { IfOk result (λ host. AreLoaded issuer stores.items host.shards.items) }
+        ensures stopped { IfErr result (λ back. ComeBack S.bytes S.disk S.faults issuer stores.items back.shard back.fault back.stores.items) }
+    {
+        let Ok(lists) = take_lists(alloc, stores.len()) else {
+            return Err(HostBack {
+                fault: LoadFault::NoMemory,
+                shard: 0,
+                stores,
+            });
+        };
+        let mut issuer = issuer;
+        keep_for_records(&mut issuer, stores.as_slice());
+        match load_all(alloc, &issuer, stores, lists) {
+            Ok(Lists { shards, back }) => Ok(Solo {
+                issuer,
+                shards,
+                back,
+                data: [0; MAX_CHIP_BYTES],
+            }),
+            Err(back) => Err(back),
+        }
+    }
+
+    /// The answer to a line, which is without its newline. A new record is safe in its shard's store before it is answered. A card's key for
+    /// cryptograms is derived at the card's first request, and kept set up.
+    pub fn authorise(&mut self, line: &[u8]) -> Answer
+        ensures turn { (books : List Book) → Stand self.old.issuer self.old.shards.items books
+            → (after : List Book) × Stand self.new.issuer self.new.shards.items after
+            × Turn self.old.issuer books (reading self.old.issuer line.now) result after }
+
+        // An answer that tells neither a new record nor that a store failed leaves all shards as they were.
+        ensures unchanged { tells_change result ≡ false → self.new.shards.items ≡ self.old.shards.items }
+
+        // Whatever a crash since the start of the call may leave of a store is the text of its shard's history before it, and a torn record behind it.
+        ensures crash { (books : List Book) → Stand self.old.issuer self.old.shards.items books
+            → LeaveBetween self.old.issuer books books self.old.shards.items self.new.shards.items }
+        ensures issuer { self.new.issuer ≡ self.old.issuer }
+    {
+        match check_line_in(&mut self.issuer, line, &mut self.data) {
+            Ok(Checked::Decide(found)) => self.decide(&found),
+            Ok(Checked::Queue(found)) => self.queue(found),
+            Ok(Checked::Status(found)) => self.set_status(found),
+            Err(refusal) => Answer::Refused(refusal),
+        }
+    }
+
+    /// The issuer that was given to `load`.
+    pub fn issuer(&self) -> &Issuer
+        ensures { result.now ≡ self.now.issuer }
+    {
+        &self.issuer
+    }
+
+    /// What the host shows of the card with this number.
+    pub fn show(&self, card: u32) -> CardView
+        requires { card < length self.now.issuer.cards }
+        ensures { (books : List Book) (info : CardInfo) (book : Book) → Stand self.now.issuer self.now.shards.items books
+            → slice_get self.now.issuer.cards card ≡ Some info → slice_get books (shard_of self.now.issuer (name_of info)) ≡ Some book
+            → result ≡ card_shown (name_of info) book.history }
+    {
+        let cards = self.issuer.cards();
+        prove!(card < cards);
+        self.shards[self.home(card)].row(card).view()
+    }
+
+    /// The stores, in the order of their shards' numbers. Each holds the journal of its shard's book, also after a crash.
+    pub fn close(self) -> Vec<S>
+        ensures stores { result.items ≡ map store_in self.shards.items }
+        ensures journals { (books : List Book) → Stand self.issuer self.shards.items books
+            → HoldJournals S.bytes S.disk self.issuer books result.items }
+    {
+        let Solo {
+            issuer: _,
+            shards,
+            back,
+            data: _,
+        } = self;
+        take_stores(shards, back)
+    }
+
+    /// The place of the shard of the card with this number.
+    fn home(&self, card: u32) -> usize
+        ensures number { result ≡ card % self.now.issuer.shards }
+        ensures within { result < length self.now.shards.items }
+        ensures shard { (name : CardName) → number_of name self.now.issuer.cards ≡ Some card → result ≡ shard_of self.now.issuer name }
+    {
+        usize::from(self.issuer.shard_of(card))
+    }
+
+    /// The answer to a request that was checked, in the shard of its card.
+    fn decide(&mut self, found: &CheckedRequest) -> Answer
+        requires at_hand { IsRequestAtHand self.old.issuer found.now }
+        requires genuine { checked self.old.issuer found.now.request ≡ Ok (Decide found.now.request) }
+        ensures turn { (books : List Book) → Stand self.old.issuer self.old.shards.items books
+            → (after : List Book) × Stand self.new.issuer self.new.shards.items after
+            × Turn self.old.issuer books (Ok (Decide found.now.request)) result after }
+        ensures crash { (books : List Book) → Stand self.old.issuer self.old.shards.items books
+            → LeaveBetween self.old.issuer books books self.old.shards.items self.new.shards.items }
+        ensures unchanged { tells_change result ≡ false → self.new.shards.items ≡ self.old.shards.items }
+        ensures issuer { self.new.issuer ≡ self.old.issuer }
+    {
+        let shard = self.home(found.card);
+        self.shards[shard].answer(&self.issuer, found, true)
+    }
+
+    /// The answer to a command that was checked, in the shard of its card.
+    fn queue(&mut self, found: CheckedCommand) -> Answer
+        requires { IsCommandAtHand self.old.issuer found }
+        ensures turn { (books : List Book) → Stand self.old.issuer self.old.shards.items books
+            → (after : List Book) × Stand self.new.issuer self.new.shards.items after
+            × Turn self.old.issuer books (Ok (Queue found.pan found.psn found.command)) result after }
+        ensures crash { (books : List Book) → Stand self.old.issuer self.old.shards.items books
+            → LeaveBetween self.old.issuer books books self.old.shards.items self.new.shards.items }
+        ensures unchanged { tells_change result ≡ false → self.new.shards.items ≡ self.old.shards.items }
+        ensures issuer { self.new.issuer ≡ self.old.issuer }
+    {
+        let shard = self.home(found.card);
+        self.shards[shard].queue(&self.issuer, found)
+    }
+
+    /// The answer to a status that was checked, in the shard of its card.
+    fn set_status(&mut self, found: CheckedStatus) -> Answer
+        requires { IsStatusAtHand self.old.issuer found }
+        ensures turn { (books : List Book) → Stand self.old.issuer self.old.shards.items books
+            → (after : List Book) × Stand self.new.issuer self.new.shards.items after
+            × Turn self.old.issuer books (Ok (Status found.pan found.psn found.status)) result after }
+        ensures crash { (books : List Book) → Stand self.old.issuer self.old.shards.items books
+            → LeaveBetween self.old.issuer books books self.old.shards.items self.new.shards.items }
+        ensures unchanged { tells_change result ≡ false → self.new.shards.items ≡ self.old.shards.items }
+        ensures issuer { self.new.issuer ≡ self.old.issuer }
+    {
+        let shard = self.home(found.card);
+        self.shards[shard].set_status(&self.issuer, found)
+    }
+}
+
+/// Keeps the keys of all cards where there is anything in these stores, whose records are checked again.
+fn keep_for_records<S: Store>(issuer: &mut Issuer, stores: &[S])
+    ensures { issuer.new ≡ issuer.old }
+{
+    if stores.iter().any(|store| store.len() > 0) {
+        issuer.keep_all();
+    }
+}
