@@ -1,5 +1,6 @@
 -- How a run ends, from what its parts did.
-use Rattle.std.proofs.Common.{◌≡◌, ◌⊎◌, ℕ, ◌<◌, ◌≤◌, true, false, List, [], ◌++◌, length, Option, None, Some, Err, Ok, inl, inr, ⊎_elim}
+use Rattle.std.proofs.Common.{◌≡◌, ◌⊎◌, ℕ, ◌<◌, ◌≤◌, true, false, List, [], ◌++◌, length, Option, None, Some, Err, Ok}
+use Rattle.std.proofs.Common.{inl, inr, ⊎_elim}
 use Rattle.std.proofs.Common.{refl, sym, subst, ap, ◌∙◌, arith}
 use Rattle.std.specs.Prelude.{is_some, IsSomeAnd, Result, is_err, slice_get}
 use Rattle.std.specs.Io.KnownBytes.{Appends}
@@ -16,35 +17,42 @@ use Rattle.issuer_base.proofs.ManyCalls.{AppendsFront-after, Rose-from_none, Ros
 use Rattle.line_reader.specs.declared.limits.TheConstants.{MAX_LINES}
 use Rattle.answer_text.specs.StopText.{stop_text}
 use Rattle.answer_text.specs.declared.stop_line.Stop.{Stop}
-use Rattle.answer_text.specs.declared.stop_line.Stop.TheVariants.{Usage, Config, ReadFault, StoreFault, BadJournal, NoMemory, TooLong}
+use Rattle.answer_text.specs.declared.stop_line.Stop.TheVariants.{Usage, Config, ReadFault, StoreFault, BadJournal}
+use Rattle.answer_text.specs.declared.stop_line.Stop.TheVariants.{NoMemory, TooLong}
 use Rattle.issuer_setup.specs.IssuerSetup.{Setup}
 use Rattle.one_caller.specs.Books.{Book}
 use Rattle.issuer_top.specs.declared.ending.Ending.{Ending}
-use Rattle.issuer_top.specs.declared.serve.Served.{Served}
-use Rattle.issuer_top.specs.declared.serve.Served.TheVariants.{All, ReadFault as ReadStopped, WriteFault as SinkFault, TooLong as LongStopped}
-use Rattle.issuer_top.specs.Seen.{Seen, SeenInput, SeenStore, Logged}
-use Rattle.issuer_top.specs.Answered.{AreAllLines, AreWholeLines, AreLinesBefore, AreFirstLines}
-use Rattle.issuer_top.specs.Hosts.{LeavesAnswered, LeavesLoaded}
-use Rattle.issuer_top.specs.Configuration.{Says, GivesNoIssuer, is_read_stop}
+use Rattle.line_serving.specs.declared.serve.Served.{Served}
+use Rattle.line_serving.specs.declared.serve.Served.TheVariants.{All, ReadFault as ReadStopped, WriteFault as SinkFault}
+use Rattle.line_serving.specs.declared.serve.Served.TheVariants.{TooLong as LongStopped}
+use Rattle.desk_host.specs.SeenStores.{SeenStore, Logged}
+use Rattle.issuer_top.specs.Seen.{Seen, SeenInput}
+use Rattle.line_serving.specs.Answered.{AreAllLines, AreWholeLines, AreLinesBefore, AreFirstLines}
+use Rattle.line_serving.specs.Hosts.{LeavesAnswered, LeavesLoaded}
+use Rattle.desk_host.specs.Configuration.{Says, GivesNoIssuer, is_read_stop}
 use Rattle.issuer_top.specs.Opening.{GivesInput, stop_of}
-use Rattle.issuer_top.specs.Command.{RequestFile, IsWorld, IsCommand, IsNoCommand}
-use Rattle.issuer_top.specs.Loading.{GivesNoHost}
-use Rattle.issuer_top.specs.Kept.{KeepJournals}
-use Rattle.issuer_top.specs.Lawful.{IsLawful}
-use Rattle.issuer_top.specs.Left.{LeaveJournals}
-use Rattle.issuer_top.specs.Shown.{shown_text}
-use Rattle.issuer_top.specs.Serving.{ServesLines, Serves, read_failed, write_failed}
+use Rattle.command_line.specs.Command.{RequestFile, IsWorld, IsCommand, IsNoCommand}
+use Rattle.desk_host.specs.Loading.{GivesNoHost}
+use Rattle.desk_host.specs.Kept.{KeepJournals}
+use Rattle.desk_host.specs.Lawful.{IsLawful}
+use Rattle.desk_host.specs.Left.{LeaveJournals}
+use Rattle.desk_host.specs.Shown.{shown_text}
+use Rattle.line_serving.specs.Serving.{ServesLines, Serves, read_failed, write_failed}
 use Rattle.issuer_top.specs.Stopping.{is_broken, GivesStop, EndsServing, written_ending}
 use Rattle.issuer_top.specs.Played.{IsWorldText, GivesText, PlaysBy}
-use Rattle.issuer_top.specs.Endings.{OpenedNoInput, OpenedConfigOnly, OpenedBothInputs, IsSetUp, AnswersLines, AnswersNoLine, IsPlayed, HasNoHost}
+use Rattle.issuer_top.specs.Endings.{OpenedNoInput, OpenedConfigOnly, OpenedBothInputs, IsSetUp, AnswersLines}
+use Rattle.issuer_top.specs.Endings.{AnswersNoLine, IsPlayed, HasNoHost}
 use Rattle.issuer_top.specs.Endings.{Stops, EndsBy}
 
 -- an input that a desk gave is one that stands there
-pub gives_input : (told : Option (Option (List ℕ))) (left : Option (List ℕ)) → Tells told left → (told ≡ Some None → false ≡ true) → GivesInput told left
-gives_input told left tells absent = record { tells = tells; stands = λ none. (let both : false ≡ true = absent none in cc) }
+pub gives_input : (told : Option (Option (List ℕ))) (left : Option (List ℕ)) → Tells told left
+    → (told ≡ Some None → false ≡ true) → GivesInput told left
+gives_input told left tells absent =
+    record { tells = tells; stands = λ none. (let both : false ≡ true = absent none in cc) }
 
 -- what an input had is what the desk tells of its name
-told-given : (told : Option (Option (List ℕ))) (left : Option (List ℕ)) (content : List ℕ) → GivesInput told left → Tells left content
+told-given : (told : Option (Option (List ℕ))) (left : Option (List ℕ)) (content : List ℕ) → GivesInput told left
+    → Tells left content
     → Tells told (Some content)
 told-given told left content given had = Tells-from_left told left content given.stands given.tells had
 
@@ -53,13 +61,18 @@ told-given told left content given had = Tells-from_left told left content given
 module _ (seen : Seen) where
   -- a run that stops: its answers were written, and then its last line, or a front of it
   pub ends_by_stop : (held : Option (List ℕ)) (faults : ℕ) (stop : Stop) (ending : Ending) (answers : List ℕ)
-      → Stops stop seen (answers ++ stop_text stop) → Appends seen.sink.held_before held answers → seen.sink.faults_before ≤ faults
+      → Stops stop seen (answers ++ stop_text stop) → Appends seen.sink.held_before held answers
+      → seen.sink.faults_before ≤ faults
       → GivesStop held seen.sink.held_after faults seen.sink.faults_after stop ending → EndsBy seen ending
   ends_by_stop held faults stop ending answers cause written earlier stopping =
       ⊎_elim
       (λ whole.
-      subst (EndsBy seen) (sym whole.0)
-      (answers ++ stop_text stop, cause, Appends-trans seen.sink.held_before held seen.sink.held_after answers (stop_text stop) written whole.1))
+      subst (EndsBy seen) (sym whole.0) (
+        answers ++ stop_text stop,
+        cause,
+        Appends-trans seen.sink.held_before held seen.sink.held_after answers
+            (stop_text stop) written whole.1,
+      ))
       (λ front.
       let failed : CountsFaults faults seen.sink.faults_after true =
       subst (λ e. CountsFaults faults seen.sink.faults_after (is_broken e)) front.0 stopping.count in
@@ -68,19 +81,23 @@ module _ (seen : Seen) where
         rose = Rose-since seen.sink.faults_before faults seen.sink.faults_after earlier failed.counted;
         text = answers ++ stop_text stop;
         due = inl (stop, cause);
-        front = AppendsFront-after seen.sink.held_before held seen.sink.held_after answers (stop_text stop) written front.1;
+        front =
+            AppendsFront-after seen.sink.held_before held seen.sink.held_after answers (stop_text stop) written front.1;
       }))
       stopping.stops
 
   -- a run that stops before it answers a line
   pub ends_at_once : (stop : Stop) (ending : Ending) → Stops stop seen (stop_text stop)
-      → GivesStop seen.sink.held_before seen.sink.held_after seen.sink.faults_before seen.sink.faults_after stop ending → EndsBy seen ending
+      → GivesStop seen.sink.held_before seen.sink.held_after seen.sink.faults_before seen.sink.faults_after stop ending
+      → EndsBy seen ending
   ends_at_once stop ending cause stopping =
-      ends_by_stop seen.sink.held_before seen.sink.faults_before stop ending [] cause (Appends-nil seen.sink.held_before) (omega arith) stopping
+      ends_by_stop seen.sink.held_before seen.sink.faults_before stop ending [] cause
+      (Appends-nil seen.sink.held_before) (omega arith) stopping
 
 -- the sink was given the last line of a run that stops at once
 abbrev pub StopsAtOnce : Seen → Stop → Ending → Type 0
-StopsAtOnce seen stop ending = GivesStop seen.sink.held_before seen.sink.held_after seen.sink.faults_before seen.sink.faults_after stop ending
+StopsAtOnce seen stop ending =
+    GivesStop seen.sink.held_before seen.sink.held_after seen.sink.faults_before seen.sink.faults_after stop ending
 
 -- ---- the ways that a run stops before it has a host
 
@@ -93,7 +110,8 @@ none-left prefix logs stores none shard store is =
 pub ends_usage : (seen : Seen) (ending : Ending) → IsNoCommand seen.words → OpenedNoInput seen → seen.stores ≡ []
     → StopsAtOnce seen Usage ending → EndsBy seen ending
 ends_usage seen ending none opened no_stores stopping =
-    ends_at_once seen Usage ending (record { no_command = none; opened = opened; no_stores = no_stores; last = refl }) stopping
+    ends_at_once seen Usage ending (record { no_command = none; opened = opened; no_stores = no_stores; last = refl })
+    stopping
 
 module _ (seen : Seen) (config : List ℕ) (requests : Option RequestFile) (journal : List ℕ) (ending : Ending)
     (command : IsCommand seen.words config requests journal) where
@@ -132,12 +150,18 @@ module _ (seen : Seen) (config : List ℕ) (requests : Option RequestFile) (jour
       }))
       stopping
   ends_no_config T other NoRoom no_config no_requests no_stores desk_count last stopping =
-      ends_no_memory (inl (record { config_is = no_config; requests_is = no_requests; desk_stood = desk_count.counted }))
+      ends_no_memory (inl (record {
+        config_is = no_config;
+        requests_is = no_requests;
+        desk_stood = desk_count.counted;
+      }))
       (none-left journal seen.desk.logs seen.stores no_stores) stopping
 
   -- the configuration gave no issuer
-  pub ends_no_issuer : (T : Type 0) (first : ℕ) (input : SeenInput) (left : Option (List ℕ)) (cause : Stop) → OpenedConfigOnly seen
-      → seen.config ≡ Some input → seen.stores ≡ [] → GivesInput (seen.desk.tells config) left → GivesNoIssuer left cause → first ≡ 0
+  pub ends_no_issuer : (T : Type 0) (first : ℕ) (input : SeenInput) (left : Option (List ℕ)) (cause : Stop)
+      → OpenedConfigOnly seen
+      → seen.config ≡ Some input → seen.stores ≡ [] → GivesInput (seen.desk.tells config) left
+      → GivesNoIssuer left cause → first ≡ 0
       → CountsFaults first input.faults (is_read_stop {T = T} (Err cause))
       → StopsAtOnce seen cause ending → EndsBy seen ending
   ends_no_issuer T first input left (Config part index) opened input_is no_stores given none fresh count stopping =
@@ -166,7 +190,9 @@ module _ (seen : Seen) (config : List ℕ) (requests : Option RequestFile) (jour
         journal = journal;
         command = command;
         opened = opened;
-        failed = subst (λ c. IsSomeAnd c (λ (i : SeenInput). 0 < i.faults)) (sym input_is) (Rose-from_none input.faults rose);
+        failed =
+            subst (λ c. IsSomeAnd c (λ (i : SeenInput). 0 < i.faults)) (sym input_is)
+            (Rose-from_none input.faults rose);
         no_stores = no_stores;
         last = refl;
       })))
@@ -174,13 +200,18 @@ module _ (seen : Seen) (config : List ℕ) (requests : Option RequestFile) (jour
   ends_no_issuer T first input left NoMemory opened input_is no_stores given none fresh count stopping =
       ends_no_memory (inr opened) (none-left journal seen.desk.logs seen.stores no_stores) stopping
   ends_no_issuer T first input left Usage opened input_is no_stores given none fresh count stopping = absurd none
-  ends_no_issuer T first input left (StoreFault shard) opened input_is no_stores given none fresh count stopping = absurd none
-  ends_no_issuer T first input left (BadJournal shard line) opened input_is no_stores given none fresh count stopping = absurd none
-  ends_no_issuer T first input left (TooLong line) opened input_is no_stores given none fresh count stopping = absurd none
+  ends_no_issuer T first input left (StoreFault shard) opened input_is no_stores given none fresh count stopping =
+      absurd none
+  ends_no_issuer T first input left (BadJournal shard line) opened input_is no_stores given none fresh count stopping =
+      absurd none
+  ends_no_issuer T first input left (TooLong line) opened input_is no_stores given none fresh count stopping =
+      absurd none
 
 -- the words and the configuration are as they should be
-pub IsSetUp-from_said : (seen : Seen) (config : List ℕ) (requests : Option RequestFile) (journal : List ℕ) (left : Option (List ℕ)) (issuer : Setup)
-    → IsCommand seen.words config requests journal → GivesInput (seen.desk.tells config) left → Says left issuer → IsSetUp seen requests journal issuer
+pub IsSetUp-from_said : (seen : Seen) (config : List ℕ) (requests : Option RequestFile) (journal : List ℕ)
+    (left : Option (List ℕ)) (issuer : Setup)
+    → IsCommand seen.words config requests journal → GivesInput (seen.desk.tells config) left → Says left issuer
+    → IsSetUp seen requests journal issuer
 IsSetUp-from_said seen config requests journal left issuer command given said = record {
   config = config;
   content = said.content;
@@ -190,7 +221,8 @@ IsSetUp-from_said seen config requests journal left issuer command given said = 
 }
 
 -- and with the request file that they name, for as many callers as there are
-pub set_up-named : (seen : Seen) (requests : Option RequestFile) (file : RequestFile) (callers : ℕ) (journal : List ℕ) (issuer : Setup)
+pub set_up-named : (seen : Seen) (requests : Option RequestFile) (file : RequestFile) (callers : ℕ) (journal : List ℕ)
+    (issuer : Setup)
     → requests ≡ Some file → callers ≡ file.callers → IsSetUp seen requests journal issuer
     → IsSetUp seen (Some (record { name = file.name; callers = callers })) journal issuer
 set_up-named seen requests file callers journal issuer named same set_up =
@@ -198,25 +230,31 @@ set_up-named seen requests file callers journal issuer named same set_up =
     (subst (λ (r : Option RequestFile). IsSetUp seen r journal issuer) named set_up)
 
 -- why there is no host, by what the desk told and counted before
-pub no_host-since : (issuer : Setup) (journal : List ℕ) (logs other : Logged) (before mid after : ℕ) (last : Option FailedCall) (stores : List SeenStore)
+pub no_host-since : (issuer : Setup) (journal : List ℕ) (logs other : Logged) (before mid after : ℕ)
+    (last : Option FailedCall) (stores : List SeenStore)
     (cause : Stop) → other ≡ logs → mid ≡ before
     → GivesNoHost issuer journal other (record { before = mid; after = after; last = last }) stores cause
     → GivesNoHost issuer journal logs (record { before = before; after = after; last = last }) stores cause
 no_host-since issuer journal logs other before mid after last stores cause told stood none =
-    subst (λ (n : ℕ). GivesNoHost issuer journal logs (record { before = n; after = after; last = last }) stores cause) stood
-    (subst (λ (l : Logged). GivesNoHost issuer journal l (record { before = mid; after = after; last = last }) stores cause) told none)
+    subst (λ (n : ℕ). GivesNoHost issuer journal logs (record { before = n; after = after; last = last }) stores cause)
+    stood
+    (subst (λ (l : Logged). GivesNoHost issuer journal l (record { before = mid; after = after; last = last }) stores
+    cause) told none)
 
 module _ (seen : Seen) (requests : Option RequestFile) (journal : List ℕ) (issuer : Setup) (ending : Ending)
     (set_up : IsSetUp seen requests journal issuer) where
   -- no memory was left once the issuer was known
-  pub ends_without_memory : OpenedConfigOnly seen → LeaveJournals journal seen.desk.logs seen.stores → StopsAtOnce seen NoMemory ending
+  pub ends_without_memory : OpenedConfigOnly seen → LeaveJournals journal seen.desk.logs seen.stores
+      → StopsAtOnce seen NoMemory ending
       → EndsBy seen ending
-  ends_without_memory opened left stopping = ends_no_memory seen set_up.config requests journal ending set_up.command (inr opened) left stopping
+  ends_without_memory opened left stopping =
+      ends_no_memory seen set_up.config requests journal ending set_up.command (inr opened) left stopping
 
   -- the journals gave no host
   no-host : (stop : Stop) → is_some seen.config ≡ true → is_some seen.requests ≡ false
       → GivesNoHost issuer journal seen.desk.logs
-      (record { before = seen.desk.faults_before; after = seen.desk.faults_after; last = seen.desk.last_fault }) seen.stores stop
+      (record { before = seen.desk.faults_before; after = seen.desk.faults_after; last = seen.desk.last_fault })
+      seen.stores stop
       → LeaveJournals journal seen.desk.logs seen.stores → HasNoHost stop seen (stop_text stop)
   no-host stop with_config no_requests cause left = record {
     requests = requests;
@@ -232,14 +270,18 @@ module _ (seen : Seen) (requests : Option RequestFile) (journal : List ℕ) (iss
 
   pub ends_no_host : (stop : Stop) → is_some seen.config ≡ true → is_some seen.requests ≡ false
       → GivesNoHost issuer journal seen.desk.logs
-      (record { before = seen.desk.faults_before; after = seen.desk.faults_after; last = seen.desk.last_fault }) seen.stores stop
+      (record { before = seen.desk.faults_before; after = seen.desk.faults_after; last = seen.desk.last_fault })
+      seen.stores stop
       → LeaveJournals journal seen.desk.logs seen.stores → StopsAtOnce seen stop ending → EndsBy seen ending
   ends_no_host (StoreFault shard) with_config no_requests cause left stopping =
-      ends_at_once seen (StoreFault shard) ending (no-host (StoreFault shard) with_config no_requests cause left) stopping
+      ends_at_once seen (StoreFault shard) ending (no-host (StoreFault shard) with_config no_requests cause left)
+      stopping
   ends_no_host (BadJournal shard line) with_config no_requests cause left stopping =
-      ends_at_once seen (BadJournal shard line) ending (no-host (BadJournal shard line) with_config no_requests cause left) stopping
+      ends_at_once seen (BadJournal shard line) ending
+      (no-host (BadJournal shard line) with_config no_requests cause left) stopping
   ends_no_host NoMemory with_config no_requests cause left stopping =
-      ends_without_memory (record { config_is = with_config; requests_is = no_requests; desk_stood = cause }) left stopping
+      ends_without_memory (record { config_is = with_config; requests_is = no_requests; desk_stood = cause }) left
+      stopping
   ends_no_host Usage with_config no_requests cause left stopping = absurd cause
   ends_no_host (Config part index) with_config no_requests cause left stopping = absurd cause
   ends_no_host ReadFault with_config no_requests cause left stopping = absurd cause
@@ -248,21 +290,27 @@ module _ (seen : Seen) (requests : Option RequestFile) (journal : List ℕ) (iss
 -- the journals gave no host, by what the desk told and counted before
 pub ends_unloaded : (seen : Seen) (requests : Option RequestFile) (journal : List ℕ) (issuer : Setup) (ending : Ending)
     (set_up : IsSetUp seen requests journal issuer) (other : Logged) (mid : ℕ) (stores : List SeenStore) (cause : Stop)
-    → is_some seen.config ≡ true → is_some seen.requests ≡ false → seen.stores ≡ stores → other ≡ seen.desk.logs → mid ≡ seen.desk.faults_before
-    → GivesNoHost issuer journal other (record { before = mid; after = seen.desk.faults_after; last = seen.desk.last_fault }) stores cause
+    → is_some seen.config ≡ true → is_some seen.requests ≡ false → seen.stores ≡ stores → other ≡ seen.desk.logs
+    → mid ≡ seen.desk.faults_before
+    → GivesNoHost issuer journal other (record
+    { before = mid; after = seen.desk.faults_after; last = seen.desk.last_fault }) stores cause
     → LeaveJournals journal other stores → StopsAtOnce seen cause ending → EndsBy seen ending
-ends_unloaded seen requests journal issuer ending set_up other mid stores cause with_config no_requests same told stood none left stopping =
+ends_unloaded seen requests journal issuer ending set_up other mid stores cause with_config no_requests same told stood
+    none left stopping =
     let logs = seen.desk.logs in
     ends_no_host seen requests journal issuer ending set_up cause with_config no_requests
     (subst (λ (ss : List SeenStore). GivesNoHost issuer journal logs
-    (record { before = seen.desk.faults_before; after = seen.desk.faults_after; last = seen.desk.last_fault }) ss cause) (sym same)
-    (no_host-since issuer journal logs other seen.desk.faults_before mid seen.desk.faults_after seen.desk.last_fault stores cause told stood none))
+    (record { before = seen.desk.faults_before; after = seen.desk.faults_after; last = seen.desk.last_fault }) ss
+    cause) (sym same)
+    (no_host-since issuer journal logs other seen.desk.faults_before mid seen.desk.faults_after seen.desk.last_fault
+    stores cause told stood none))
     (subst (LeaveJournals journal logs) (sym same) (subst (λ (l : Logged). LeaveJournals journal l stores) told left))
     stopping
 
 -- ---- the ways that serving ends
 
-module _ (seen : Seen) (requests : RequestFile) (journal : List ℕ) (issuer : Setup) (set_up : IsSetUp seen (Some requests) journal issuer) where
+module _ (seen : Seen) (requests : RequestFile) (journal : List ℕ) (issuer : Setup)
+    (set_up : IsSetUp seen (Some requests) journal issuer) where
   -- the journals were loaded, and no line was answered
   answers-none : LeavesLoaded requests.callers issuer journal seen.desk.logs seen.stores → AnswersNoLine seen
   answers-none leaves = record {
@@ -279,7 +327,8 @@ module _ (seen : Seen) (requests : RequestFile) (journal : List ℕ) (issuer : S
 
   -- no memory was left to serve with
   pub ends_unserved : (ending : Ending) → OpenedConfigOnly seen
-      → LeavesLoaded requests.callers issuer journal seen.desk.logs seen.stores → StopsAtOnce seen NoMemory ending → EndsBy seen ending
+      → LeavesLoaded requests.callers issuer journal seen.desk.logs seen.stores → StopsAtOnce seen NoMemory ending
+      → EndsBy seen ending
   unfolding answers-none
   ends_unserved ending opened leaves stopping =
       ends_at_once seen NoMemory ending
@@ -308,15 +357,21 @@ module _ (seen : Seen) (requests : RequestFile) (journal : List ℕ) (issuer : S
       }))))
       stopping
   ends_no_requests T other between NoRoom ending with_config no_requests leaves stood desk_count last stopping =
-      ends_unserved ending (record { config_is = with_config; requests_is = no_requests; desk_stood = desk_count.counted ∙ stood }) leaves stopping
+      ends_unserved ending (record {
+        config_is = with_config;
+        requests_is = no_requests;
+        desk_stood = desk_count.counted ∙ stood;
+      }) leaves stopping
 
-  module _ (input : SeenInput) (left : Option (List ℕ)) (opened : OpenedBothInputs seen) (input_is : seen.requests ≡ Some input)
+  module _ (input : SeenInput) (left : Option (List ℕ)) (opened : OpenedBothInputs seen)
+      (input_is : seen.requests ≡ Some input)
       (given : GivesInput (seen.desk.tells requests.name) left) (Answered : List (List ℕ) → List ℕ → Type 0)
       (leaves : (asked : List (List ℕ)) (text : List ℕ) → length asked ≤ MAX_LINES → Answered asked text
       → LeavesAnswered requests.callers issuer journal seen.desk.logs seen.stores asked text) where
     -- what was served are lines of the file that the desk holds
     lines-served : (Which : List ℕ → List ℕ → List (List ℕ) → Type 0) (Written : List ℕ → Type 0)
-        → (served : ServesLines Which Answered Written left input.left) → length served.asked ≤ MAX_LINES → AnswersLines seen served.text
+        → (served : ServesLines Which Answered Written left input.left) → length served.asked ≤ MAX_LINES
+        → AnswersLines seen served.text
     lines-served Which Written served within =
         let l = leaves served.asked served.text within served.answered in
         record {
@@ -343,10 +398,13 @@ module _ (seen : Seen) (requests : RequestFile) (journal : List ℕ) (issuer : S
 
     -- so many lines are within the limit
     all-within : (file read : List ℕ) (asked : List (List ℕ)) → AreAllLines file read asked → length asked ≤ MAX_LINES
-    all-within file read asked which = subst (λ (ls : List (List ℕ)). length ls ≤ MAX_LINES) (sym which.asked_are) which.within.lines_within
+    all-within file read asked which =
+        subst (λ (ls : List (List ℕ)). length ls ≤ MAX_LINES) (sym which.asked_are) which.within.lines_within
 
-    first-within : (file read : List ℕ) (asked : List (List ℕ)) → AreFirstLines file read asked → length asked ≤ MAX_LINES
-    first-within file read asked which = subst (λ (ls : List (List ℕ)). length ls ≤ MAX_LINES) (sym which.asked_are) which.within.lines_within
+    first-within : (file read : List ℕ) (asked : List (List ℕ)) → AreFirstLines file read asked
+        → length asked ≤ MAX_LINES
+    first-within file read asked which =
+        subst (λ (ls : List (List ℕ)). length ls ≤ MAX_LINES) (sym which.asked_are) which.within.lines_within
 
     -- how the run ends, by how serving did
     pub ends_serving : (served : Served) (ending : Ending) (held : Option (List ℕ)) (faults fresh : ℕ)
@@ -361,7 +419,10 @@ module _ (seen : Seen) (requests : RequestFile) (journal : List ℕ) (issuer : S
         let within = all-within serves.file serves.read serves.asked serves.which in
         subst (EndsBy seen) (sym ends.ending_is) (
           serves.text,
-          inl (record { lines = lines-served AreAllLines (Appends seen.sink.held_before held) serves within; which = serves.which }),
+          inl (record {
+            lines = lines-served AreAllLines (Appends seen.sink.held_before held) serves within;
+            which = serves.which;
+          }),
           written,
         )
     ends_serving SinkFault ending held faults fresh serves counts none failed ends =
@@ -374,14 +435,18 @@ module _ (seen : Seen) (requests : RequestFile) (journal : List ℕ) (issuer : S
             lines = lines-served AreFirstLines (AppendsFront seen.sink.held_before held) serves within;
             which = serves.which;
           }));
-          front = subst (λ (h : Option (List ℕ)). AppendsFront seen.sink.held_before h serves.text) (sym ends.same) serves.written;
+          front =
+              subst (λ (h : Option (List ℕ)). AppendsFront seen.sink.held_before h serves.text) (sym ends.same)
+              serves.written;
         })
     ends_serving ReadStopped ending held faults fresh serves counts none failed ends =
         let rose : Rose 0 input.faults = subst (λ (n : ℕ). Rose n input.faults) none (failed refl) in
         ends_by_stop seen held faults ReadFault ending serves.text
         (inr (inr (inr (record {
           answers = serves.text;
-          lines = lines-served (λ file read asked. AreWholeLines read asked) (Appends seen.sink.held_before held) serves serves.which.within.lines_fit;
+          lines =
+              lines-served (λ file read asked. AreWholeLines read asked) (Appends seen.sink.held_before held) serves
+              serves.which.within.lines_fit;
           which = serves.which;
           failed = Rose-from_none input.faults rose;
           last = refl;
@@ -392,7 +457,8 @@ module _ (seen : Seen) (requests : RequestFile) (journal : List ℕ) (issuer : S
         (record {
           answers = serves.text;
           lines =
-              lines-served (λ file read asked. AreLinesBefore number read asked) (Appends seen.sink.held_before held) serves
+              lines-served (λ file read asked. AreLinesBefore number read asked) (Appends seen.sink.held_before held)
+              serves
               serves.which.within.lines_within;
           which = serves.which;
           last = refl;
@@ -401,30 +467,53 @@ module _ (seen : Seen) (requests : RequestFile) (journal : List ℕ) (issuer : S
 
 -- ---- the ways that showing ends
 
-pub ends_showing : (seen : Seen) (journal : List ℕ) (issuer : Setup) (books : List Book) (result : Result (Unit {0}) SinkFails)
-    → OpenedConfigOnly seen → IsSetUp seen None journal issuer → KeepJournals issuer journal seen.desk.logs seen.stores books books
+pub ends_showing : (seen : Seen) (journal : List ℕ) (issuer : Setup) (books : List Book)
+    (result : Result (Unit {0}) SinkFails)
+    → OpenedConfigOnly seen → IsSetUp seen None journal issuer
+    → KeepJournals issuer journal seen.desk.logs seen.stores books books
     → IsLawful issuer books books
     → WritesAll seen.sink.held_before seen.sink.held_after result (shown_text issuer books issuer.cards)
     → CountsFaults seen.sink.faults_before seen.sink.faults_after (is_err result) → EndsBy seen (written_ending result)
 ends_showing seen journal issuer books (Ok done) opened set_up kept lawful written counts = (
   shown_text issuer books issuer.cards,
-  inr (inl (record { journal = journal; issuer = issuer; books = books; opened = opened; set_up = set_up; kept = kept; lawful = lawful; shown = refl })),
+  inr (inl (record {
+    journal = journal;
+    issuer = issuer;
+    books = books;
+    opened = opened;
+    set_up = set_up;
+    kept = kept;
+    lawful = lawful;
+    shown = refl;
+  })),
   written,
 )
 ends_showing seen journal issuer books (Err fault) opened set_up kept lawful written counts = record {
   rose = counts.counted;
   text = shown_text issuer books issuer.cards;
-  due = inr (inr (inl (record { journal = journal; issuer = issuer; books = books; opened = opened; set_up = set_up; kept = kept; lawful = lawful; shown = refl })));
+  due =
+      inr (inr (inl (record {
+        journal = journal;
+        issuer = issuer;
+        books = books;
+        opened = opened;
+        set_up = set_up;
+        kept = kept;
+        lawful = lawful;
+        shown = refl;
+      })));
   front = written;
 }
 
 -- ---- the ways that playing ends
 
-module _ (seen : Seen) (cards steps seed : ℕ) (world : IsWorld seen.words cards steps seed) (opened : OpenedNoInput seen)
+module _ (seen : Seen) (cards steps seed : ℕ) (world : IsWorld seen.words cards steps seed)
+    (opened : OpenedNoInput seen)
     (no_stores : seen.stores ≡ []) where
   -- the text of what the world came to was written, or a front of it
   ends_played : (ending : Ending) (text : List ℕ) → IsWorldText cards steps seed text
-      → GivesText seen.sink.held_before seen.sink.held_after seen.sink.faults_before seen.sink.faults_after text ending → EndsBy seen ending
+      → GivesText seen.sink.held_before seen.sink.held_after seen.sink.faults_before seen.sink.faults_after text ending
+      → EndsBy seen ending
   ends_played ending text is gives =
       let played : IsPlayed seen text = record {
         cards = cards;
@@ -445,7 +534,8 @@ module _ (seen : Seen) (cards steps seed : ℕ) (world : IsWorld seen.words card
       gives.written
 
   pub ends_playing : (ending : Ending)
-      → PlaysBy cards steps seed seen.sink.held_before seen.sink.held_after seen.sink.faults_before seen.sink.faults_after ending → EndsBy seen ending
+      → PlaysBy cards steps seed seen.sink.held_before seen.sink.held_after seen.sink.faults_before
+      seen.sink.faults_after ending → EndsBy seen ending
   ends_playing ending plays =
       ⊎_elim
       (λ told. ends_played ending told.0 told.1 told.2)

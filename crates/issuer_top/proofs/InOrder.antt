@@ -1,5 +1,6 @@
 -- All goes well where all is in order.
-use Rattle.std.proofs.Common.{◌≡◌, ℕ, ◌-◌, ◌<◌, ◌≤◌, ◌⊎◌, List, [], ◌∷◌, ◌++◌, length, Option, None, Some, Ok, Err, inl, inr, ⊎_elim}
+use Rattle.std.proofs.Common.{◌≡◌, ℕ, ◌-◌, ◌<◌, ◌≤◌, ◌⊎◌, List, [], ◌∷◌, ◌++◌, length, Option, None, Some, Ok, Err, inl}
+use Rattle.std.proofs.Common.{inr, ⊎_elim}
 use Rattle.std.proofs.Common.{refl, sym, subst, ap, ◌∙◌, arith}
 use Rattle.std.proofs.lemmas.List.{length-append, take-append-le}
 use Rattle.std.specs.List.{flat_map}
@@ -15,35 +16,40 @@ use Rattle.issuer_setup.specs.IssuerSetup.{Setup}
 use Rattle.config_read.specs.declared.fault.ConfigFault.{ConfigFault}
 use Rattle.config_read.specs.Configuration.{configured}
 use Rattle.answer_text.specs.declared.stop_line.Stop.{Stop}
-use Rattle.answer_text.specs.declared.stop_line.Stop.TheVariants.{Usage, Config, ReadFault, StoreFault, BadJournal, NoMemory, TooLong}
+use Rattle.answer_text.specs.declared.stop_line.Stop.TheVariants.{Usage, Config, ReadFault, StoreFault, BadJournal}
+use Rattle.answer_text.specs.declared.stop_line.Stop.TheVariants.{NoMemory, TooLong}
 use Rattle.shard_book.specs.declared.replay.LoadFault.{LoadFault}
 use Rattle.shard_book.specs.declared.replay.LoadFault.TheVariants.{BadLine, BadRecord}
 use Rattle.shard_book.specs.Loading.{StopsAt, StopsText, IsOutside}
 use Rattle.shard_book.proofs.Exactly.{stops-outside}
 use Rattle.issuer_top.specs.declared.ending.Ending.{Ending}
 use Rattle.issuer_top.specs.declared.ending.Ending.TheVariants.{Done, Stopped, WriteFault}
-use Rattle.issuer_top.specs.Command.{RequestFile, IsCommand}
-use Rattle.issuer_top.specs.Pairs.{value_in}
+use Rattle.command_line.specs.Command.{RequestFile, IsCommand}
+use Rattle.command_line.specs.Pairs.{value_in}
 use Rattle.issuer_top.specs.Seen.{Told, Seen, SeenInput}
-use Rattle.issuer_top.specs.Answered.{AreLinesBefore, WasRead}
-use Rattle.issuer_top.specs.Journals.{journal_name}
-use Rattle.issuer_top.specs.Loading.{DeskFaults, IsBadAt}
+use Rattle.line_serving.specs.Answered.{AreLinesBefore, WasRead}
+use Rattle.desk_host.specs.Journals.{journal_name}
+use Rattle.desk_host.specs.Loading.{DeskFaults, IsBadAt}
 use Rattle.issuer_top.specs.Status.{status_of}
-use Rattle.issuer_top.specs.Endings.{EndsBy, IsReadFault, HasNoHost, IsInOrder, ServesInOrder, ShowsInOrder, PlaysInOrder, Completes}
-use Rattle.issuer_top.proofs.CommandWords.{serve-gives, show-gives, serve-no_show, command-no_world}
+use Rattle.issuer_top.specs.Endings.{EndsBy, IsReadFault, HasNoHost, IsInOrder, ServesInOrder, ShowsInOrder}
+use Rattle.issuer_top.specs.Endings.{PlaysInOrder, Completes}
+use Rattle.command_line.proofs.CommandWords.{serve-gives, show-gives, serve-no_show, command-no_world}
 
 -- ---- what is said once
 
 -- words are a command in one way: with the same names
-record AreSame (config other_config : List ℕ) (requests other_requests : Option RequestFile) (journal other_journal : List ℕ) : Type 0 where
+record AreSame (config other_config : List ℕ) (requests other_requests : Option RequestFile)
+    (journal other_journal : List ℕ) : Type 0 where
   config_is : config ≡ other_config
-  file_is : option_map (λ (file : RequestFile). file.name) requests ≡ option_map (λ (file : RequestFile). file.name) other_requests
+  file_is : option_map (λ (file : RequestFile). file.name) requests
+      ≡ option_map (λ (file : RequestFile). file.name) other_requests
   journal_is : journal ≡ other_journal
 
 one-value : (value : Option (List ℕ)) (x y : List ℕ) → value ≡ Some x → value ≡ Some y → x ≡ y
 one-value value x y one two = let e : Some x ≡ Some y = sym one ∙ two in cc
 
-same-names : (words : List (List ℕ)) (config other_config : List ℕ) (requests other_requests : Option RequestFile) (journal other_journal : List ℕ)
+same-names : (words : List (List ℕ)) (config other_config : List ℕ) (requests other_requests : Option RequestFile)
+    (journal other_journal : List ℕ)
     → IsCommand words config requests journal → IsCommand words other_config other_requests other_journal
     → AreSame config other_config requests other_requests journal other_journal
 same-names words config other_config None None journal other_journal first second =
@@ -63,12 +69,15 @@ same-names words config other_config (Some file) (Some other) journal other_jour
     let two = serve-gives words other_config other other_journal second in
     record {
       config_is = one-value (value_in words (codes "--config")) config other_config one.config_is two.config_is;
-      file_is = ap Some (one-value (value_in words (codes "--requests")) file.name other.name one.requests_is two.requests_is);
+      file_is =
+          ap Some (one-value (value_in words (codes "--requests")) file.name other.name one.requests_is
+          two.requests_is);
       journal_is = one-value (value_in words (codes "--journal")) journal other_journal one.journal_is two.journal_is;
     }
 
 -- what stands under a name that the desk tells of is what it tells
-same-content : (desk : Told) (name other content told : List ℕ) → other ≡ name → desk name ≡ Some (Some told) → Tells (desk other) (Some content)
+same-content : (desk : Told) (name other content told : List ℕ) → other ≡ name → desk name ≡ Some (Some told)
+    → Tells (desk other) (Some content)
     → content ≡ told
 same-content desk name other content told same tells holds =
     let at_name : Tells (desk name) (Some content) = subst (λ (n : List ℕ). Tells (desk n) (Some content)) same holds in
@@ -76,11 +85,13 @@ same-content desk name other content told same tells holds =
     cc
 
 -- a text doesn't say an issuer and a fault, and no two issuers
-not-both : (content told : List ℕ) (issuer : Setup) (fault : ConfigFault) → content ≡ told → configured told ≡ Ok issuer → configured content ≡ Err fault → ⊥
+not-both : (content told : List ℕ) (issuer : Setup) (fault : ConfigFault) → content ≡ told → configured told ≡ Ok issuer
+    → configured content ≡ Err fault → ⊥
 not-both content told issuer fault same says broken =
     let e : Err fault ≡ Ok issuer = sym broken ∙ ap configured same ∙ says in cc
 
-one-issuer : (content told : List ℕ) (issuer other : Setup) → content ≡ told → configured told ≡ Ok issuer → configured content ≡ Ok other → other ≡ issuer
+one-issuer : (content told : List ℕ) (issuer other : Setup) → content ≡ told → configured told ≡ Ok issuer
+    → configured content ≡ Ok other → other ≡ issuer
 one-issuer content told issuer other same says others =
     let e : configured told ≡ Ok other = sym (ap configured same) ∙ others in cc
 
@@ -92,13 +103,18 @@ front-nil [] ys e = refl
 front-nil (x ∷ xs) ys e = cc
 
 -- what goes past a limit goes past it with more behind it
-passes-more : (lines_before bytes : ℕ) (ahead rest : List ℕ) → PassesLimit lines_before bytes ahead → PassesLimit lines_before bytes (ahead ++ rest)
+passes-more : (lines_before bytes : ℕ) (ahead rest : List ℕ) → PassesLimit lines_before bytes ahead
+    → PassesLimit lines_before bytes (ahead ++ rest)
 passes-more lines_before bytes ahead rest passes =
     ⊎_elim
     (λ begun. inl (begun.0, λ none. begun.1 (front-nil ahead rest none)))
     (λ long.
     let within : MAX_BYTES - bytes ≤ length ahead = omega (arith, long.1) in
-    inr (subst IsUnbroken (sym (take-append-le (MAX_BYTES - bytes) ahead rest within)) long.0, omega (arith, long.1, length-append ahead rest)))
+    inr (
+      subst IsUnbroken (sym (take-append-le (MAX_BYTES - bytes) ahead rest within)) long.0,
+      omega
+          (arith, long.1, length-append ahead rest),
+    ))
     passes
 
 -- a file within the limits goes past none
@@ -108,7 +124,13 @@ not-past file told read asked number left same within was_read passed =
     let parted = BeginsWithLines-given read asked passed.ahead was_read.unread passed.parted in
     let over = passes-more (length asked) (length (flat_map ended asked)) passed.ahead was_read.unread passed.passes in
     ⊎_elim
-    (λ lines_over. omega (arith, lines_over, within.lines_within, ap (λ t. length (lines t)) (sym was_read.split ∙ same)))
+    (λ lines_over. omega (
+      arith,
+      lines_over,
+      within.lines_within,
+      ap (λ t. length (lines t))
+          (sym was_read.split ∙ same),
+    ))
     (λ bytes_over. omega (arith, bytes_over, within.bytes_within, ap length (sym was_read.split ∙ same)))
     (PassesLimit-over (read ++ was_read.unread) asked (passed.ahead ++ was_read.unread) parted over)
 
@@ -116,13 +138,16 @@ not-past file told read asked number left same within was_read passed =
 
 -- the desk's faults, as they were seen
 abbrev desk_faults : Seen → DeskFaults
-desk_faults seen = record { before = seen.desk.faults_before; after = seen.desk.faults_after; last = seen.desk.last_fault }
+desk_faults seen =
+    record { before = seen.desk.faults_before; after = seen.desk.faults_after; last = seen.desk.last_fault }
 
 -- an input that counts a fault is one that was opened
-counted : (input : Option SeenInput) (seen : SeenInput) → input ≡ Some seen → 0 < seen.faults → IsSomeAnd input (λ i. 0 < i.faults)
+counted : (input : Option SeenInput) (seen : SeenInput) → input ≡ Some seen → 0 < seen.faults
+    → IsSomeAnd input (λ i. 0 < i.faults)
 counted input seen is failed = subst (λ o. IsSomeAnd o (λ (i : SeenInput). 0 < i.faults)) (sym is) failed
 
-module _ (seen : Seen) (config journal : List ℕ) (requests : Option RequestFile) (command : IsCommand seen.words config requests journal)
+module _ (seen : Seen) (config journal : List ℕ) (requests : Option RequestFile)
+    (command : IsCommand seen.words config requests journal)
     (order : IsInOrder seen config journal) where
   -- nothing could not be read
   not-unread : (text : List ℕ) → IsReadFault seen text → ⊥
@@ -138,7 +163,8 @@ module _ (seen : Seen) (config journal : List ℕ) (requests : Option RequestFil
   not-bad fault line is outside =
       ⊎_elim (λ bad. subst IsOutside bad outside) (λ bad. subst IsOutside bad outside) is
 
-  stops-text : (issuer : Setup) (shard : ℕ) (bytes : Option (List ℕ)) (fault : LoadFault) (line : ℕ) → (fault ≡ BadLine line) ⊎ (fault ≡ BadRecord line)
+  stops-text : (issuer : Setup) (shard : ℕ) (bytes : Option (List ℕ)) (fault : LoadFault) (line : ℕ)
+      → (fault ≡ BadLine line) ⊎ (fault ≡ BadRecord line)
       → IfSome bytes (λ text. StopsAt issuer shard [] text fault) → StopsText issuer shard bytes fault
   stops-text issuer shard bytes fault line is stops =
       ⊎_elim
@@ -150,13 +176,18 @@ module _ (seen : Seen) (config journal : List ℕ) (requests : Option RequestFil
 
   not-bad_journal : (shard line : ℕ) (text : List ℕ) → HasNoHost (BadJournal shard line) seen text → ⊥
   not-bad_journal shard line text none =
-      let same = same-names seen.words config none.set_up.config requests none.requests journal none.journal command none.set_up.command in
+      let same = same-names seen.words config none.set_up.config requests none.requests journal none.journal command
+      none.set_up.command in
       let content =
-      same-content seen.desk.tells config none.set_up.config none.set_up.content order.content (sym same.config_is) order.config_held none.set_up.held in
-      let issuer = one-issuer none.set_up.content order.content order.issuer none.issuer content order.says none.set_up.says in
+      same-content seen.desk.tells config none.set_up.config none.set_up.content order.content (sym same.config_is)
+      order.config_held none.set_up.held in
+      let issuer = one-issuer none.set_up.content order.content order.issuer none.issuer content order.says
+      none.set_up.says in
       let logs = seen.desk.logs in
-      let bad = subst (λ (i : Setup). IsBadAt i none.journal logs (desk_faults seen) seen.stores shard line) issuer none.cause in
-      let named = subst (λ (j : List ℕ). IsBadAt order.issuer j logs (desk_faults seen) seen.stores shard line) (sym same.journal_is) bad in
+      let bad = subst (λ (i : Setup). IsBadAt i none.journal logs (desk_faults seen) seen.stores shard line) issuer
+      none.cause in
+      let named = subst (λ (j : List ℕ). IsBadAt order.issuer j logs (desk_faults seen) seen.stores shard line)
+      (sym same.journal_is) bad in
       let held = order.journals_held shard named.within in
       let told = logs (journal_name journal shard) in
       let stops = stops-text order.issuer shard told named.fault line named.line_is named.stops in
@@ -164,7 +195,8 @@ module _ (seen : Seen) (config journal : List ℕ) (requests : Option RequestFil
 
   not-unstored : (shard : ℕ) (text : List ℕ) → HasNoHost (StoreFault shard) seen text → ⊥
   not-unstored shard text none =
-      ⊎_elim (λ log. order.desk_stood log.rose) (λ load. order.stores_stood shard load.store load.store_is load.failed) none.cause
+      ⊎_elim (λ log. order.desk_stood log.rose) (λ load. order.stores_stood shard load.store load.store_is load.failed)
+      none.cause
 
   -- where the request file isn't too long, the status is 0 or 7
   in-order : (status : ℕ) (ending : Ending) → status ≡ status_of ending → EndsBy seen ending
@@ -172,8 +204,10 @@ module _ (seen : Seen) (config journal : List ℕ) (requests : Option RequestFil
   in-order status Done is ends short = inl is
   in-order status (Stopped Usage) is ends short = absurd (ends.1.no_command.no_host config requests journal command)
   in-order status (Stopped (Config part index)) is ends short =
-      let same = same-names seen.words config ends.1.config requests ends.1.requests journal ends.1.journal command ends.1.command in
-      let content = same-content seen.desk.tells config ends.1.config ends.1.content order.content (sym same.config_is) order.config_held ends.1.held in
+      let same = same-names seen.words config ends.1.config requests ends.1.requests journal ends.1.journal command
+      ends.1.command in
+      let content = same-content seen.desk.tells config ends.1.config ends.1.content order.content (sym same.config_is)
+      order.config_held ends.1.held in
       absurd (not-both ends.1.content order.content order.issuer ends.1.fault content order.says ends.1.broken)
   in-order status (Stopped ReadFault) is ends short = absurd (not-unread ends.0 ends.1)
   in-order status (Stopped (StoreFault shard)) is ends short = absurd (not-unstored shard ends.0 ends.1)
@@ -184,7 +218,8 @@ module _ (seen : Seen) (config journal : List ℕ) (requests : Option RequestFil
 
 -- ---- the three commands
 
-serves-in_order : (seen : Seen) (status : ℕ) (ending : Ending) → status ≡ status_of ending → EndsBy seen ending → ServesInOrder seen
+serves-in_order : (seen : Seen) (status : ℕ) (ending : Ending) → status ≡ status_of ending → EndsBy seen ending
+    → ServesInOrder seen
     → (status ≡ 0) ⊎ (status ≡ 7)
 serves-in_order seen status ending is ends order =
     in-order seen order.config order.journal (Some order.requests) order.serve order.in_order status ending is ends
@@ -192,25 +227,32 @@ serves-in_order seen status ending is ends order =
     let passed = subst (EndsBy seen) long ends in
     let l = passed.1.lines in
     let same =
-    same-names seen.words order.config l.set_up.config (Some order.requests) (Some l.requests) order.journal l.journal order.serve l.set_up.command in
-    let name : l.requests.name ≡ order.requests.name = (let e : Some order.requests.name ≡ Some l.requests.name = same.file_is in cc) in
-    let content = same-content seen.desk.tells order.requests.name l.requests.name l.file order.file name order.requests_held l.held in
+    same-names seen.words order.config l.set_up.config (Some order.requests) (Some l.requests) order.journal l.journal
+    order.serve l.set_up.command in
+    let name : l.requests.name ≡ order.requests.name =
+    (let e : Some order.requests.name ≡ Some l.requests.name = same.file_is in cc) in
+    let content = same-content seen.desk.tells order.requests.name l.requests.name l.file order.file name
+    order.requests_held l.held in
     not-past l.file order.file l.read l.asked line l.input.left content order.within l.was_read passed.1.which)
 
-shows-in_order : (seen : Seen) (status : ℕ) (ending : Ending) → status ≡ status_of ending → EndsBy seen ending → ShowsInOrder seen
+shows-in_order : (seen : Seen) (status : ℕ) (ending : Ending) → status ≡ status_of ending → EndsBy seen ending
+    → ShowsInOrder seen
     → (status ≡ 0) ⊎ (status ≡ 7)
 shows-in_order seen status ending is ends order =
     in-order seen order.config order.journal None order.show order.in_order status ending is ends
     (λ line long.
     let passed = subst (EndsBy seen) long ends in
     let l = passed.1.lines in
-    let same = same-names seen.words order.config l.set_up.config None (Some l.requests) order.journal l.journal order.show l.set_up.command in
+    let same = same-names seen.words order.config l.set_up.config None (Some l.requests) order.journal l.journal
+    order.show l.set_up.command in
     (let e : None ≡ Some l.requests.name = same.file_is in cc))
 
 module _ (seen : Seen) (order : PlaysInOrder seen) where
   -- the words are no command over journals
-  no_host : (config : List ℕ) (requests : Option RequestFile) (journal : List ℕ) → IsCommand seen.words config requests journal → ⊥
-  no_host config requests journal command = command-no_world seen.words config requests journal order.cards order.steps order.seed command order.world
+  no_host : (config : List ℕ) (requests : Option RequestFile) (journal : List ℕ)
+      → IsCommand seen.words config requests journal → ⊥
+  no_host config requests journal command =
+      command-no_world seen.words config requests journal order.cards order.steps order.seed command order.world
 
   none-unread : (text : List ℕ) → IsReadFault seen text → ⊥
   none-unread text cannot =
@@ -223,20 +265,25 @@ module _ (seen : Seen) (order : PlaysInOrder seen) where
   none-unloaded : (stop : Stop) (text : List ℕ) → HasNoHost stop seen text → ⊥
   none-unloaded stop text none = no_host none.set_up.config none.requests none.journal none.set_up.command
 
-  plays-in_order : (status : ℕ) (ending : Ending) → status ≡ status_of ending → EndsBy seen ending → (status ≡ 0) ⊎ (status ≡ 7)
+  plays-in_order : (status : ℕ) (ending : Ending) → status ≡ status_of ending → EndsBy seen ending
+      → (status ≡ 0) ⊎ (status ≡ 7)
   plays-in_order status Done is ends = inl is
-  plays-in_order status (Stopped Usage) is ends = absurd (ends.1.no_command.no_world order.cards order.steps order.seed order.world)
+  plays-in_order status (Stopped Usage) is ends =
+      absurd (ends.1.no_command.no_world order.cards order.steps order.seed order.world)
   plays-in_order status (Stopped (Config part index)) is ends =
       let c = ends.1 in absurd (no_host c.config c.requests c.journal c.command)
   plays-in_order status (Stopped ReadFault) is ends = absurd (none-unread ends.0 ends.1)
   plays-in_order status (Stopped (StoreFault shard)) is ends = absurd (none-unloaded (StoreFault shard) ends.0 ends.1)
-  plays-in_order status (Stopped (BadJournal shard line)) is ends = absurd (none-unloaded (BadJournal shard line) ends.0 ends.1)
+  plays-in_order status (Stopped (BadJournal shard line)) is ends =
+      absurd (none-unloaded (BadJournal shard line) ends.0 ends.1)
   plays-in_order status (Stopped NoMemory) is ends = inr is
   plays-in_order status (Stopped (TooLong line)) is ends =
       let l = ends.1.lines in absurd (no_host l.set_up.config (Some l.requests) l.journal l.set_up.command)
   plays-in_order status WriteFault is ends = absurd (order.sink_stood ends.rose)
 
-pub completes : (seen : Seen) (status : ℕ) (ending : Ending) → status ≡ status_of ending → EndsBy seen ending → Completes status seen
+pub completes : (seen : Seen) (status : ℕ) (ending : Ending) → status ≡ status_of ending → EndsBy seen ending
+    → Completes status seen
 completes seen status ending is ends order =
     ⊎_elim (serves-in_order seen status ending is ends)
-    (⊎_elim (shows-in_order seen status ending is ends) (λ plays. plays-in_order seen plays status ending is ends)) order
+    (⊎_elim (shows-in_order seen status ending is ends) (λ plays. plays-in_order seen plays status ending is ends))
+    order

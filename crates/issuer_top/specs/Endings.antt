@@ -1,5 +1,6 @@
 -- How a run may end: for each ending a relation of what the run saw and of the text that was due at the sink.
-use Rattle.std.specs.Prelude.{◌≡◌, ℕ, ◌<◌, ◌⊎◌, Bool, true, false, List, [], length, ◌++◌, slice_get, Option, Some, None, is_some, IsSomeAnd, Ok, Err}
+use Rattle.std.specs.Prelude.{◌≡◌, ℕ, ◌<◌, ◌⊎◌, Bool, true, false, List, [], length, ◌++◌, slice_get, Option, Some}
+use Rattle.std.specs.Prelude.{None, is_some, IsSomeAnd, Ok, Err}
 use Rattle.std.specs.List.{flat_map}
 use Rattle.std.specs.Io.KnownBytes.{Appends}
 use Rattle.issuer_base.specs.OutsideFaults.{Rose}
@@ -16,21 +17,23 @@ use Rattle.config_read.specs.Configuration.{configured}
 use Rattle.answer_text.specs.AnswerText.{printed}
 use Rattle.answer_text.specs.StopText.{stop_text}
 use Rattle.answer_text.specs.declared.stop_line.Stop.{Stop}
-use Rattle.answer_text.specs.declared.stop_line.Stop.TheVariants.{Usage, Config, ReadFault, StoreFault, BadJournal, NoMemory, TooLong}
+use Rattle.answer_text.specs.declared.stop_line.Stop.TheVariants.{Usage, Config, ReadFault, StoreFault, BadJournal}
+use Rattle.answer_text.specs.declared.stop_line.Stop.TheVariants.{NoMemory, TooLong}
 use Rattle.shard_book.specs.Grounds.{grounds_of}
 use Rattle.shard_book.specs.Shards.{IsTextOf}
 use Rattle.one_caller.specs.Books.{Book}
-use Rattle.issuer_top.specs.Command.{RequestFile, IsServe, IsShow, IsWorld, IsCommand, IsNoCommand}
-use Rattle.issuer_top.specs.Answers.{AreAnsweredBy, AnswersNone}
-use Rattle.issuer_top.specs.Seen.{Seen, SeenInput, SeenStore}
-use Rattle.issuer_top.specs.Configuration.{config_stop}
-use Rattle.issuer_top.specs.Journals.{journal_name}
-use Rattle.issuer_top.specs.Loading.{GivesNoHost}
-use Rattle.issuer_top.specs.Answered.{WasRead, AreAllLines, AreWholeLines, AreLinesBefore, AreFirstLines}
-use Rattle.issuer_top.specs.Kept.{KeepJournals}
-use Rattle.issuer_top.specs.Lawful.{IsLawful}
-use Rattle.issuer_top.specs.Left.{LeaveJournals}
-use Rattle.issuer_top.specs.Shown.{shown_text}
+use Rattle.command_line.specs.Command.{RequestFile, IsServe, IsShow, IsWorld, IsCommand, IsNoCommand}
+use Rattle.line_serving.specs.Answers.{AreAnsweredBy, AnswersNone}
+use Rattle.desk_host.specs.SeenStores.{SeenStore}
+use Rattle.issuer_top.specs.Seen.{Seen, SeenInput}
+use Rattle.desk_host.specs.Configuration.{config_stop}
+use Rattle.desk_host.specs.Journals.{journal_name}
+use Rattle.desk_host.specs.Loading.{GivesNoHost}
+use Rattle.line_serving.specs.Answered.{WasRead, AreAllLines, AreWholeLines, AreLinesBefore, AreFirstLines}
+use Rattle.desk_host.specs.Kept.{KeepJournals}
+use Rattle.desk_host.specs.Lawful.{IsLawful}
+use Rattle.desk_host.specs.Left.{LeaveJournals}
+use Rattle.desk_host.specs.Shown.{shown_text}
 use Rattle.issuer_top.specs.Status.{status_of}
 use Rattle.issuer_top.specs.Played.{IsWorldText}
 use Rattle.issuer_top.specs.declared.ending.Ending.{Ending}
@@ -61,7 +64,8 @@ pub record FailsToOpen (seen : Seen) (name : List ℕ) (config : Bool) : Type 0 
   pub rose : Rose seen.desk.faults_before seen.desk.faults_after
   pub call_is : seen.desk.last_fault ≡ Some (record { call = Read; name = name })
 
--- the words are a command, with this request file where there is one and this name of journals, and the configuration says this issuer
+-- the words are a command, with this request file where there is one and this name of journals, and the configuration
+-- says this issuer
 pub record IsSetUp (seen : Seen) (requests : Option RequestFile) (journal : List ℕ) (issuer : Setup) : Type 0 where
   pub config : List ℕ
   pub content : List ℕ
@@ -69,7 +73,8 @@ pub record IsSetUp (seen : Seen) (requests : Option RequestFile) (journal : List
   pub held : Tells (seen.desk.tells config) (Some content)
   pub says : configured content ≡ Ok issuer
 
--- lines of the request file were read and answered, and this is the text of their answers; the journals are kept meanwhile, and the run is lawful
+-- lines of the request file were read and answered, and this is the text of their answers; the journals are kept
+-- meanwhile, and the run is lawful
 pub record AnswersLines (seen : Seen) (text : List ℕ) : Type 0 where
   pub requests : RequestFile
   pub journal : List ℕ
@@ -197,9 +202,11 @@ pub record CannotReadRequests (seen : Seen) (text : List ℕ) : Type 0 where
 -- status 3: an input failed, or the desk at the name of one
 abbrev pub IsReadFault : Seen → List ℕ → Type 0
 IsReadFault seen text =
-    CannotOpenConfig seen text ⊎ (CannotReadConfig seen text ⊎ (CannotOpenRequests seen text ⊎ CannotReadRequests seen text))
+    CannotOpenConfig seen text ⊎ (CannotReadConfig seen text
+    ⊎ (CannotOpenRequests seen text ⊎ CannotReadRequests seen text))
 
--- statuses 5 and 6: the journals gave no host, for this cause, and their whole lines stay; the request file was not opened
+-- statuses 5 and 6: the journals gave no host, for this cause, and their whole lines stay; the request file was not
+-- opened
 pub record HasNoHost (stop : Stop) (seen : Seen) (text : List ℕ) : Type 0 where
   pub requests : Option RequestFile
   pub journal : List ℕ
@@ -208,11 +215,13 @@ pub record HasNoHost (stop : Stop) (seen : Seen) (text : List ℕ) : Type 0 wher
   pub config_is : is_some seen.config ≡ true
   pub requests_is : is_some seen.requests ≡ false
   pub cause : GivesNoHost issuer journal seen.desk.logs
-      (record { before = seen.desk.faults_before; after = seen.desk.faults_after; last = seen.desk.last_fault }) seen.stores stop
+      (record { before = seen.desk.faults_before; after = seen.desk.faults_after; last = seen.desk.last_fault })
+      seen.stores stop
   pub left : LeaveJournals journal seen.desk.logs seen.stores
   pub last : text ≡ stop_text stop
 
--- status 7: no memory was left for the configuration, for the journals or for a host; the whole lines of journals that were opened stay
+-- status 7: no memory was left for the configuration, for the journals or for a host; the whole lines of journals that
+-- were opened stay
 pub record LacksMemory (seen : Seen) (text : List ℕ) : Type 0 where
   pub config : List ℕ
   pub requests : Option RequestFile
@@ -222,8 +231,8 @@ pub record LacksMemory (seen : Seen) (text : List ℕ) : Type 0 where
   pub left : LeaveJournals journal seen.desk.logs seen.stores
   pub last : text ≡ stop_text NoMemory
 
--- status 7: no memory was left to serve with, once the journals were loaded and before the request file was opened; they are kept, and with one
--- caller their whole lines stay at each crash since they were opened
+-- status 7: no memory was left to serve with, once the journals were loaded and before the request file was opened;
+-- they are kept, and with one caller their whole lines stay at each crash since they were opened
 pub record CannotServe (seen : Seen) (text : List ℕ) : Type 0 where
   pub loaded : AnswersNoLine seen
   pub opened : OpenedConfigOnly seen
@@ -244,7 +253,8 @@ pub record CannotPlay (seen : Seen) (text : List ℕ) : Type 0 where
 abbrev pub IsNoMemory : Seen → List ℕ → Type 0
 IsNoMemory seen text = LacksMemory seen text ⊎ (CannotServe seen text ⊎ CannotPlay seen text)
 
--- status 8: a byte of the request file past a limit was read, in the line of this number, and the lines before were answered
+-- status 8: a byte of the request file past a limit was read, in the line of this number, and the lines before were
+-- answered
 pub record IsTooLong (number : ℕ) (seen : Seen) (text : List ℕ) : Type 0 where
   pub answers : List ℕ
   pub lines : AnswersLines seen answers
@@ -270,10 +280,11 @@ pub record IsBegun (seen : Seen) (text : List ℕ) : Type 0 where
   pub lines : AnswersLines seen text
   pub which : AreFirstLines lines.file lines.read lines.asked
 
--- status 4: the texts of which the sink may have taken a prefix alone: that of a run that stops, the answers so far, the cards, or what a
--- world came to
+-- status 4: the texts of which the sink may have taken a prefix alone: that of a run that stops, the answers so far,
+-- the cards, or what a world came to
 abbrev pub IsDue : Seen → List ℕ → Type 0
-IsDue seen text = ((stop : Stop) × Stops stop seen text) ⊎ (IsBegun seen text ⊎ (IsShown seen text ⊎ IsPlayed seen text))
+IsDue seen text =
+    ((stop : Stop) × Stops stop seen text) ⊎ (IsBegun seen text ⊎ (IsShown seen text ⊎ IsPlayed seen text))
 
 -- status 4: the sink failed, and took a prefix of a text that was due, but not all of it
 pub record IsWriteFault (seen : Seen) : Type 0 where
@@ -296,14 +307,16 @@ pub record Ends (status : ℕ) (seen : Seen) : Type 0 where
 
 -- ---- all in order
 
--- the desk tells of an issuer by this name and of its journals by that one, each the text of a legal history, and no count rose
+-- the desk tells of an issuer by this name and of its journals by that one, each the text of a legal history, and no
+-- count rose
 pub record IsInOrder (seen : Seen) (config journal : List ℕ) : Type 0 where
   pub content : List ℕ
   pub issuer : Setup
   pub config_held : seen.desk.tells config ≡ Some (Some content)
   pub says : configured content ≡ Ok issuer
   pub journals_held : (shard : ℕ) → shard < issuer.shards
-      → (history : List Entry) × IsTextOf (grounds_of issuer) shard (seen.desk.logs (journal_name journal shard)) history
+      → (history : List Entry) × IsTextOf (grounds_of issuer) shard (seen.desk.logs (journal_name journal shard))
+      history
   pub desk_stood : Rose seen.desk.faults_before seen.desk.faults_after → ⊥
   pub config_stood : IsSomeAnd seen.config (λ input. 0 < input.faults) → ⊥
   pub requests_stood : IsSomeAnd seen.requests (λ input. 0 < input.faults) → ⊥

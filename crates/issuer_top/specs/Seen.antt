@@ -2,22 +2,19 @@
 use Rattle.std.specs.Prelude.{◌≡◌, ℕ, List, map, Option}
 use Rattle.std.specs.Option.{option_map}
 use Rattle.issuer_base.specs.Desk.{FailedCall}
-use Rattle.issuer_base.specs.Stores.{Disk}
 use Rattle.issuer_base.specs.declared.outside.Desk.{Ghosts as Desk}
 use Rattle.issuer_base.specs.declared.outside.Source.{Ghosts as Source}
 use Rattle.issuer_base.specs.declared.outside.Sink.{Ghosts as Sink}
 use Rattle.issuer_base.specs.declared.outside.store.Store.{Ghosts as Store}
+use Rattle.desk_host.specs.SeenStores.{Logged, SeenStore, store_seen}
 use Rattle.issuer_top.specs.declared.top_call.Ended.{Ended}
 
 -- what a desk tells of its inputs: nothing, or the bytes that stand under each name, if there is an input
 abbrev pub Told : Type 0
 Told = List ℕ → Option (Option (List ℕ))
 
--- what a desk tells of its journals: nothing, or the bytes of the one under each name
-abbrev pub Logged : Type 0
-Logged = List ℕ → Option (List ℕ)
-
--- the desk: what it told of its inputs and journals before the run, its count of faults before and after, and its last call that failed
+-- the desk: what it told of its inputs and journals before the run, its count of faults before and after, and its last
+-- call that failed
 pub record SeenDesk : Type 0 where
   pub tells : Told
   pub logs : Logged
@@ -30,12 +27,6 @@ pub record SeenInput : Type 0 where
   pub faults : ℕ
   pub left : Option (List ℕ)
 
--- the store of a journal that was opened, after the run: its bytes and its disk, where it tells, and its count of faults
-pub record SeenStore : Type 0 where
-  pub bytes : Option (List ℕ)
-  pub disk : Option Disk
-  pub faults : ℕ
-
 -- the sink: what it holds, where it tells, and its count of faults, before and after the run
 pub record SeenSink : Type 0 where
   pub held_before : Option (List ℕ)
@@ -43,7 +34,8 @@ pub record SeenSink : Type 0 where
   pub faults_before : ℕ
   pub faults_after : ℕ
 
--- all that a run sees; an input is there where it was opened, and the stores are those that were opened, in the order of their shards
+-- all that a run sees; an input is there where it was opened, and the stores are those that were opened, in the order
+-- of their shards
 pub record Seen : Type 0 where
   pub words : List (List ℕ)
   pub desk : SeenDesk
@@ -71,10 +63,6 @@ pub record IsSameDesk {D I J : Type 0} (desk : Desk D I J) (given now : D) : Typ
 abbrev pub input_seen : {I : Type 0} → Source I → I → SeenInput
 input_seen source input = record { faults = source.faults input; left = source.left input }
 
--- a store after the run
-abbrev pub store_seen : {J : Type 0} → Store J → J → SeenStore
-store_seen store journal = record { bytes = store.bytes journal; disk = store.disk journal; faults = store.faults journal }
-
 -- the sink before and after
 abbrev pub sink_seen : {W : Type 0} → Sink W → W → W → SeenSink
 sink_seen sink before after = record {
@@ -89,8 +77,11 @@ abbrev pub seen_of : List (List ℕ) → SeenDesk → Option SeenInput → Optio
 seen_of words desk config requests stores sink =
     record { words = words; desk = desk; config = config; requests = requests; stores = stores; sink = sink }
 
--- all that was seen of the words, of the desk that was given and of what was given back, and of the sink before and after
-abbrev pub seen_by : {D I J W : Type 0} → Desk D I J → Source I → Store J → Sink W → List (List ℕ) → D → Ended D I J → W → W → Seen
+-- all that was seen of the words, of the desk that was given and of what was given back, and of the sink before and
+-- after
+abbrev pub seen_by : {D I J W : Type 0} → Desk D I J → Source I → Store J → Sink W → List (List ℕ) → D → Ended D I J → W
+    → W → Seen
 seen_by desk source store sink words given ended before after =
     seen_of words (desk_seen desk given ended.desk) (option_map (input_seen source) ended.config)
-    (option_map (input_seen source) ended.requests) (map (store_seen store) ended.stores.items) (sink_seen sink before after)
+    (option_map (input_seen source) ended.requests) (map (store_seen store) ended.stores.items)
+    (sink_seen sink before after)

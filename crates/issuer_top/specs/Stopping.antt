@@ -7,8 +7,8 @@ use Rattle.issuer_base.specs.Sink.{AppendsFront}
 use Rattle.answer_text.specs.StopText.{stop_text}
 use Rattle.answer_text.specs.declared.stop_line.Stop.{Stop}
 use Rattle.answer_text.specs.declared.stop_line.Stop.TheVariants.{ReadFault as ReadStop, TooLong as LongStop}
-use Rattle.issuer_top.specs.declared.serve.Served.{Served}
-use Rattle.issuer_top.specs.declared.serve.Served.TheVariants.{All, ReadFault, WriteFault as SinkFault, TooLong}
+use Rattle.line_serving.specs.declared.serve.Served.{Served}
+use Rattle.line_serving.specs.declared.serve.Served.TheVariants.{All, ReadFault, WriteFault as SinkFault, TooLong}
 use Rattle.issuer_top.specs.declared.ending.Ending.{Ending}
 use Rattle.issuer_top.specs.declared.ending.Ending.TheVariants.{Done, Stopped, WriteFault}
 
@@ -30,19 +30,22 @@ written_ending (Ok done) = Done
 written_ending (Err fault) = WriteFault
 
 -- the sink was given a last line: what it held and counted before and after
-pub record GivesStop (held_before held_after : Option (List ℕ)) (faults_before faults_after : ℕ) (stop : Stop) (ending : Ending) : Type 0 where
+pub record GivesStop (held_before held_after : Option (List ℕ)) (faults_before faults_after : ℕ) (stop : Stop)
+    (ending : Ending) : Type 0 where
   pub stops : StopsBy held_before held_after stop ending
   pub count : CountsFaults faults_before faults_after (is_broken ending)
 
 -- the sink was given nothing, and the run ends so
-pub record GivesNothing (held_before held_after : Option (List ℕ)) (faults_before faults_after : ℕ) (ended ending : Ending) : Type 0 where
+pub record GivesNothing (held_before held_after : Option (List ℕ)) (faults_before faults_after : ℕ)
+    (ended ending : Ending) : Type 0 where
   pub ending_is : ending ≡ ended
   pub same : held_after ≡ held_before
   pub stood : faults_after ≡ faults_before
 
 -- how a run ends whose serving ended so
 abbrev pub EndsServing : Option (List ℕ) → Option (List ℕ) → ℕ → ℕ → Served → Ending → Type 0
-EndsServing held_before held_after faults_before faults_after All ending = GivesNothing held_before held_after faults_before faults_after Done ending
+EndsServing held_before held_after faults_before faults_after All ending =
+    GivesNothing held_before held_after faults_before faults_after Done ending
 EndsServing held_before held_after faults_before faults_after SinkFault ending =
     GivesNothing held_before held_after faults_before faults_after WriteFault ending
 EndsServing held_before held_after faults_before faults_after ReadFault ending =

@@ -1,13 +1,13 @@
 //! A world that is played, and the text of what it came to.
-ghost use Rattle.issuer_top.specs.Command.{IsSize};
+ghost use Rattle.command_line.specs.Command.{IsSize};
 ghost use Rattle.issuer_top.specs.Played.{GivesText, PlaysBy};
 ghost use Rattle.world_play.specs.SummaryText.{summary_text};
 
 use crate::ending::{Ending, end_writing};
 use crate::stopping::stop_with;
-use crate::words::WorldSize;
 use answer_text::Stop;
 use arrayvec::ArrayVec;
+use command_line::WorldSize;
 use issuer_base::{NoMemory, Sink, write_all};
 use std::alloc::Global;
 use world_play::{Summary, play, write_summary};
@@ -15,7 +15,8 @@ use world_play::{Summary, play, write_summary};
 /// Plays a world of this size, writes the text of what it came to, and says how the run ends.
 pub(crate) fn play_world<W: Sink>(alloc: Global, size: WorldSize, out: &mut W) -> Ending
     requires { IsSize size.cards size.steps }
-    ensures { PlaysBy size.cards size.steps size.seed (W.held out.old) (W.held out.new) (W.faults out.old) (W.faults out.new) result }
+    ensures { PlaysBy size.cards size.steps size.seed (W.held out.old) (W.held out.new) (W.faults out.old)
+        (W.faults out.new) result }
 {
     match play(alloc, size.cards, size.steps, size.seed) {
         Ok(summary) => tell(&summary, out),
@@ -25,7 +26,8 @@ pub(crate) fn play_world<W: Sink>(alloc: Global, size: WorldSize, out: &mut W) -
 
 /// Writes the text of a summary, and says how the run ends.
 fn tell<W: Sink>(summary: &Summary, out: &mut W) -> Ending
-    ensures { GivesText (W.held out.old) (W.held out.new) (W.faults out.old) (W.faults out.new) (summary_text summary.now) result }
+    ensures { GivesText (W.held out.old) (W.held out.new) (W.faults out.old) (W.faults out.new)
+        (summary_text summary.now) result }
 {
     let mut text = ArrayVec::new();
     write_summary(summary, &mut text);

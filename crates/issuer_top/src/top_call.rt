@@ -2,37 +2,38 @@
 ghost use Rattle.std.specs.Prelude.{◌≡◌, ◌<◌, ℕ, List, [], map, None, Some, IfSome};
 ghost use Rattle.std.specs.Option.{option_map};
 ghost use Rattle.issuer_setup.specs.IssuerSetup.{Setup};
-ghost use Rattle.issuer_top.specs.Configuration.{HasSoundParts};
+ghost use Rattle.desk_host.specs.Configuration.{HasSoundParts};
 ghost use Rattle.issuer_top.specs.Opening.{stop_of};
-ghost use Rattle.issuer_top.specs.Hosts.{IsReadySolo, callers_of, IsReady, HasServed, MaySettle, HasRoom, IsSettled};
+ghost use Rattle.desk_host.specs.Journals.{IsReadySolo};
+ghost use Rattle.line_serving.specs.Hosts.{callers_of, IsReady, HasServed, IsIdle};
 ghost use Rattle.issuer_top.specs.Stopping.{EndsServing, GivesStop};
-ghost use Rattle.issuer_top.specs.Seen.{SeenDesk, SeenInput, IsSameDesk, seen_of, seen_by, desk_seen, input_seen, store_seen, sink_seen};
-ghost use Rattle.issuer_top.specs.Command.{IsCommand, IsGroup};
-ghost use Rattle.issuer_top.specs.Pairs.{request_file};
+ghost use Rattle.desk_host.specs.SeenStores.{store_seen};
+ghost use Rattle.issuer_top.specs.Seen.{SeenDesk, SeenInput, IsSameDesk, seen_of, seen_by, desk_seen, input_seen};
+ghost use Rattle.issuer_top.specs.Seen.{sink_seen};
+ghost use Rattle.command_line.specs.Command.{IsCommand, IsGroup};
+ghost use Rattle.command_line.specs.Pairs.{request_file};
 ghost use Rattle.issuer_top.specs.Endings.{IsSetUp, EndsBy, Ends, Completes};
 
-use crate::config::read_issuer;
 use crate::ending::{Ending, end_writing, status_of};
-use crate::hosts::LineHost;
-use crate::journals::{NoHost, load_alone, load_host};
 use crate::play::play_world;
-use crate::serve::{Served, Server};
-use crate::show::show;
 use crate::stopping::stop_with;
-use crate::words::{Names, Task, read_words};
 use answer_text::Stop;
-use host_calls::Solo;
+use command_line::{Names, Task, read_words};
+use desk_host::{NoHost, load_alone, read_issuer, show};
+use one_caller::Solo;
 use issuer_base::{Desk, DeskFault, Gate, NoMemory, Sink, Store, Words};
 use issuer_setup::Issuer;
+use line_serving::{LineHost, Served, Server, load_host};
 use std::alloc::Global;
 use std::sync::Wait;
 use std::thread::Threads;
 
 /// What a run gives back: its status, the desk, and all that was opened.
 pub struct Ended<D: Desk> {
-    /// 0: all lines were answered, all cards shown, or a world played; 1: the words are no command; 2: the configuration is none; 3: an
-    /// input failed; 4: the sink failed; 5: a journal can't be opened, or its store failed while it was loaded; 6: a line
-    /// of a journal is bad; 7: no memory was left; 8: the request file goes past a limit.
+    /// 0: all lines were answered, all cards shown, or a world played; 1: the words are no command; 2: the
+    /// configuration is none; 3: an input failed; 4: the sink failed; 5: a journal can't be opened, or its store failed
+    /// while it was loaded; 6: a line of a journal is bad; 7: no memory was left; 8: the request file goes past a
+    /// limit.
     pub status: u8,
     /// The desk that was given.
     pub desk: D,
@@ -44,10 +45,11 @@ pub struct Ended<D: Desk> {
     pub stores: Vec<D::Journal>,
 }
 
-/// Does all that the program does: reads the words and the configuration, loads the journals, and answers each line of the
-/// request file, by one caller or by several at once, or shows all cards; or plays a world of its own.
+/// Does all that the program does: reads the words and the configuration, loads the journals, and answers each line of
+/// the request file, by one caller or by several at once, or shows all cards; or plays a world of its own.
 ///
-/// The gate is told of each request line by its number, from 1: before it is answered and once it is. It may wait for the gate.
+/// The gate is told of each request line by its number, from 1: before it is answered and once it is. It may wait for
+/// the gate.
 pub fn issue<R, D, W, G>(rt: &R, words: &Words, mut desk: D, out: &mut W, gate: &G) -> Ended<D>
 where
     R: AllocGlobal + Threads + Wait + Sync,
@@ -57,10 +59,13 @@ where
     G: Gate + Sync,
 
     // What the status says of the words, the desk, all that was opened, and what was written.
-    ensures ends { Ends result.status (seen_by D.Desk D.Input.Source D.Journal.Store W.Sink words.now desk result out.old out.new) }
+    ensures ends { Ends result.status (seen_by D.Desk D.Input.Source D.Journal.Store W.Sink words.now desk result
+        out.old out.new) }
 
-    // Where words, configuration, journals and request file are in order and no count rose, all is done, or memory was wanting.
-    ensures completes { Completes result.status (seen_by D.Desk D.Input.Source D.Journal.Store W.Sink words.now desk result out.old out.new) }
+    // Where words, configuration, journals and request file are in order and no count rose, all is done, or memory was
+    // wanting.
+    ensures completes { Completes result.status
+        (seen_by D.Desk D.Input.Source D.Journal.Store W.Sink words.now desk result out.old out.new) }
 {
     let Outcome {
         ending,
@@ -141,7 +146,8 @@ where
     W: Sink,
     G: Gate + Sync,
     requires { IfSome names.requests (λ requests. IsGroup requests.callers) }
-    ensures { (words : List (List ℕ)) → IsCommand words names.entry.config.now (option_map request_file names.entry.requests) names.entry.journal.now
+    ensures { (words : List (List ℕ)) → IsCommand words names.entry.config.now
+        (option_map request_file names.entry.requests) names.entry.journal.now
         → EndsBy (seen_of words (desk_seen D.Desk desk.old desk.new)
         (option_map (input_seen D.Input.Source) result.config) (option_map (input_seen D.Input.Source) result.requests)
         (map (store_seen D.Journal.Store) result.stores.items) (sink_seen W.Sink out.old out.new)) result.ending }
@@ -212,9 +218,12 @@ where
     G: Gate + Sync,
     requires { IfSome names.requests (λ requests. IsGroup requests.callers) }
     ensures { (words : List (List ℕ)) (given : D) (config : SeenInput)
-        → let seen = seen_of words (desk_seen D.Desk given desk.new) (Some config) (option_map (input_seen D.Input.Source) result.requests)
+        → let seen =
+        seen_of words (desk_seen D.Desk given desk.new) (Some config)
+        (option_map (input_seen D.Input.Source) result.requests)
         (map (store_seen D.Journal.Store) result.stores.items) (sink_seen W.Sink out.old out.new) in
-        IsSetUp seen (option_map request_file names.entry.requests) names.entry.journal.now issuer → HasSoundParts issuer
+        IsSetUp seen (option_map request_file
+        names.entry.requests) names.entry.journal.now issuer → HasSoundParts issuer
         → IsSameDesk D.Desk given desk.old → D.logs desk.old ≡ D.logs given → EndsBy seen result.ending }
 {
     let alloc = rt.alloc();
@@ -236,7 +245,8 @@ where
 fn not_loaded<I, J, W: Sink>(back: NoHost<J>, out: &mut W) -> Finished<I, J>
     ensures requests { result.requests ≡ None }
     ensures stores { result.stores ≡ back.stores }
-    ensures ending { GivesStop (W.held out.old) (W.held out.new) (W.faults out.old) (W.faults out.new) back.cause result.ending }
+    ensures ending { GivesStop (W.held out.old) (W.held out.new) (W.faults out.old) (W.faults out.new) back.cause
+        result.ending }
 {
     let NoHost { cause, stores } = back;
     Finished {
@@ -261,9 +271,11 @@ where
     D::Journal: Send,
     W: Sink,
     G: Gate + Sync,
-    requires room { HasRoom host 0 × MaySettle host 0 × IsSettled host }
+    requires idle { IsIdle host 0 }
     ensures { (words : List (List ℕ)) (given : D) (config : SeenInput) (journal : List ℕ) (issuer : Setup)
-        → let seen = seen_of words (desk_seen D.Desk given desk.new) (Some config) (option_map (input_seen D.Input.Source) result.requests)
+        → let seen =
+        seen_of words (desk_seen D.Desk given desk.new) (Some config)
+        (option_map (input_seen D.Input.Source) result.requests)
         (map (store_seen D.Journal.Store) result.stores.items) (sink_seen W.Sink out.old out.new) in
         IsSetUp seen (Some (record { name = name.now; callers = callers_of host })) journal issuer
         → IsReady issuer journal (D.logs given) host → HasServed host [] [] [] host
@@ -318,7 +330,8 @@ fn show_cards<D: Desk, W: Sink>(
     ensures { (words : List (List ℕ)) (desk : SeenDesk) (config : SeenInput) (journal : List ℕ) (issuer : Setup)
         → let seen = seen_of words desk (Some config) (option_map (input_seen D.Input.Source) result.requests)
         (map (store_seen D.Journal.Store) result.stores.items) (sink_seen W.Sink out.old out.new) in
-        IsSetUp seen None journal issuer → IsReadySolo issuer journal desk.logs host → HasSoundParts issuer → desk.faults_after ≡ desk.faults_before
+        IsSetUp seen None journal issuer → IsReadySolo issuer journal desk.logs host → HasSoundParts issuer
+        → desk.faults_after ≡ desk.faults_before
         → EndsBy seen result.ending }
 {
     let ending = end_writing(show(&host, out));

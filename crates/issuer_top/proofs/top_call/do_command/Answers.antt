@@ -2,31 +2,37 @@
 use Rattle.std.proofs.Common.{refl, ap, ◌∙◌, subst}
 use Rattle.std.specs.Prelude.{map, is_some}
 use Rattle.std.specs.Option.{option_map}
-use Rattle.issuer_top.specs.Seen.{Logged, input_seen, store_seen}
-use Rattle.issuer_top.specs.Pairs.{request_file}
-use Rattle.issuer_top.specs.Hosts.{IsReadySolo, IsReady}
+use Rattle.desk_host.specs.SeenStores.{Logged, store_seen}
+use Rattle.issuer_top.specs.Seen.{input_seen}
+use Rattle.command_line.specs.Pairs.{request_file}
+use Rattle.desk_host.specs.Journals.{IsReadySolo}
+use Rattle.line_serving.specs.Hosts.{IsReady}
 use Rattle.issuer_top.proofs.EndingSteps.{ends_unloaded, set_up-named}
 use Rattle.issuer_top.proofs.top_call.do_command.Goals as goal
 
 pub returns-in-Ok : goal.returns-in-Ok
 returns-in-Ok g c = λ words given config set_up sound same same_logs.
     c.show_cards.ensures words _ config _ _ (rw c.in-None.is at set_up)
-    (subst (λ (l : Logged). IsReadySolo c.args.issuer c.args.names.journal.now l c.in-Ok.host) same_logs c.in-Ok.ensures.ready)
+    (subst (λ (l : Logged). IsReadySolo c.args.issuer c.args.names.journal.now l c.in-Ok.host) same_logs
+    c.in-Ok.ensures.ready)
     sound (c.in-Ok.ensures.stood refl ∙ same.faults_are)
 
 pub returns-in-Err : goal.returns-in-Err
 returns-in-Err g c = λ words given config set_up sound same same_logs.
     ends_unloaded _ _ _ _ _ set_up _ _ _ _ refl
     (ap (λ input. is_some (option_map (input_seen g.D.Input.Source) input)) c.not_loaded.ensures.requests)
-    (ap (λ stores. map (store_seen g.D.Journal.Store) stores.items) c.not_loaded.ensures.stores) same_logs same.faults_are c.in-Err.ensures.none
-    c.in-Err.ensures.left c.not_loaded.ensures.ending
+    (ap (λ stores. map (store_seen g.D.Journal.Store) stores.items) c.not_loaded.ensures.stores) same_logs
+    same.faults_are c.in-Err.ensures.none.why
+    c.in-Err.ensures.none.left c.not_loaded.ensures.ending
 
 pub returns-in-Ok-load_host : goal.returns-in-Ok-load_host
 returns-in-Ok-load_host g c = λ words given config set_up sound same same_logs.
     c.serve_requests.ensures words given config c.args.names.journal.now c.args.issuer
-    (set_up-named _ _ _ _ _ _ (ap (option_map request_file) c.in-Some.is) c.in-Ok-load_host.ensures.callers set_up)
-    (subst (λ (l : Logged). IsReady c.args.issuer c.args.names.journal.now l c.in-Ok-load_host.host) same_logs c.in-Ok-load_host.ensures.ready)
-    c.in-Ok-load_host.ensures.fresh sound
+    (set_up-named _ _ _ _ _ _ (ap (option_map request_file) c.in-Some.is) c.in-Ok-load_host.ensures.fresh.callers_are
+    set_up)
+    (subst (λ (l : Logged). IsReady c.args.issuer c.args.names.journal.now l c.in-Ok-load_host.host) same_logs
+    c.in-Ok-load_host.ensures.ready)
+    c.in-Ok-load_host.ensures.fresh.none_served sound
     (record {
       holds_are = c.in-Ok-load_host.ensures.kept ∙ same.holds_are;
       faults_are = c.in-Ok-load_host.ensures.stood refl ∙ same.faults_are;
@@ -35,6 +41,9 @@ returns-in-Ok-load_host g c = λ words given config set_up sound same same_logs.
 pub returns-in-Err-load_host : goal.returns-in-Err-load_host
 returns-in-Err-load_host g c = λ words given config set_up sound same same_logs.
     ends_unloaded _ _ _ _ _ set_up _ _ _ _ refl
-    (ap (λ input. is_some (option_map (input_seen g.D.Input.Source) input)) c.not_loaded-in-Err-load_host.ensures.requests)
-    (ap (λ stores. map (store_seen g.D.Journal.Store) stores.items) c.not_loaded-in-Err-load_host.ensures.stores) same_logs same.faults_are
-    c.in-Err-load_host.ensures.none c.in-Err-load_host.ensures.left c.not_loaded-in-Err-load_host.ensures.ending
+    (ap (λ input. is_some (option_map (input_seen g.D.Input.Source) input))
+    c.not_loaded-in-Err-load_host.ensures.requests)
+    (ap (λ stores. map (store_seen g.D.Journal.Store) stores.items) c.not_loaded-in-Err-load_host.ensures.stores)
+    same_logs same.faults_are
+    c.in-Err-load_host.ensures.none.why c.in-Err-load_host.ensures.none.left
+    c.not_loaded-in-Err-load_host.ensures.ending

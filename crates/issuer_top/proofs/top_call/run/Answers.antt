@@ -2,9 +2,10 @@
 use Rattle.std.proofs.Common.{refl, ap, sym, subst}
 use Rattle.std.specs.Prelude.{map, is_some}
 use Rattle.std.specs.Option.{option_map}
-use Rattle.issuer_top.specs.Seen.{input_seen, store_seen}
+use Rattle.desk_host.specs.SeenStores.{store_seen}
+use Rattle.issuer_top.specs.Seen.{input_seen}
 use Rattle.issuer_top.specs.Endings.{EndsBy}
-use Rattle.issuer_top.specs.Pairs.{IsTask}
+use Rattle.command_line.specs.Pairs.{IsTask}
 use Rattle.issuer_top.proofs.EndingSteps.{ends_usage, ends_playing}
 use Rattle.issuer_top.proofs.top_call.run.Goals as goal
 
@@ -13,7 +14,8 @@ returns-in-Some-Play g c =
     let none = c.nothing_opened.ensures in
     let size = c.in-Some-Play.size in
     subst (EndsBy _) (sym none.ending)
-    (ends_playing _ size.cards size.steps size.seed (subst (IsTask c.args.words.now) c.in-Some-Play.field-0-is c.in-Some-Play.ensures.task)
+    (ends_playing _ size.cards size.steps size.seed
+    (subst (IsTask c.args.words.now) c.in-Some-Play.field-0-is c.in-Some-Play.ensures.task)
     (record {
       config_is = ap (λ input. is_some (option_map (input_seen g.D.Input.Source) input)) none.no_config;
       requests_is = ap (λ input. is_some (option_map (input_seen g.D.Input.Source) input)) none.no_requests;
@@ -31,4 +33,5 @@ returns-in-None g c =
       requests_is = ap (λ input. is_some (option_map (input_seen g.D.Input.Source) input)) none.no_requests;
       desk_stood = refl;
     })
-    (ap (map (store_seen g.D.Journal.Store)) none.no_stores) (record { stops = c.stop_with.ensures.ended; count = c.stop_with.ensures.count }))
+    (ap (map (store_seen g.D.Journal.Store)) none.no_stores)
+    (record { stops = c.stop_with.ensures.ended; count = c.stop_with.ensures.count }))

@@ -1,0 +1,104 @@
+-- The words of the three commands that the program knows.
+use Rattle.std.specs.Prelude.{◌≡◌, ◌≢◌, ◌⊎◌, ℕ, ◌*◌, ◌^◌, ◌<◌, ◌≤◌, Bool, false, ◌||◌, if◌then◌else◌}
+use Rattle.std.specs.Prelude.{List, [], ◌∷◌, map, Option, None, Some, codes, IsTrue, All}
+use Rattle.std.specs.Fmt.{decimal}
+use Rattle.std.specs.Str.{bytes_eq}
+use Rattle.issuer_base.specs.declared.limits.TheConstants.{MAX_CALLERS}
+
+-- a value is a word that isn't empty and doesn't begin with a hyphen
+abbrev pub IsValue : List ℕ → Type 0
+IsValue [] = ⊥
+IsValue (first ∷ rest) = first ≢ 45
+
+-- an option and its value
+pub record Pair : Type 0 where
+  pub option : List ℕ
+  pub value : List ℕ
+
+-- the words of pairs, in their order
+abbrev pub words_of : List Pair → List (List ℕ)
+words_of [] = []
+words_of (pair ∷ pairs) = pair.option ∷ pair.value ∷ words_of pairs
+
+-- the values that the pairs give an option, in their order
+abbrev pub values_of : List ℕ → List Pair → List (List ℕ)
+values_of option [] = []
+values_of option (pair ∷ pairs) =
+    if bytes_eq pair.option option then pair.value ∷ values_of option pairs else values_of option pairs
+
+-- whether the word is one of these
+abbrev pub is_one_of : List (List ℕ) → List ℕ → Bool
+is_one_of [] word = false
+is_one_of (other ∷ others) word = bytes_eq word other || is_one_of others word
+
+-- the words are the command and then pairs in any order: they give each of its options once, with this value, and no
+-- other option
+pub record IsCall (command : List ℕ) (options words values : List (List ℕ)) : Type 0 where
+  pub pairs : List Pair
+  pub words_are : words ≡ command ∷ words_of pairs
+  pub once : map (λ option. values_of option pairs) options ≡ map (λ value. value ∷ []) values
+  pub known : All (λ pair. IsTrue (is_one_of options pair.option)) pairs
+  pub named : All (λ pair. IsValue pair.value) pairs
+
+-- the options that the command to serve needs and the one that it may have besides, those of the command to show, and
+-- of the one to play a world
+abbrev pub serve_options : List (List ℕ)
+serve_options = codes "--config" ∷ codes "--requests" ∷ codes "--journal" ∷ []
+
+abbrev pub callers_option : List ℕ
+callers_option = codes "--callers"
+
+abbrev pub show_options : List (List ℕ)
+show_options = codes "--config" ∷ codes "--journal" ∷ []
+
+abbrev pub world_options : List (List ℕ)
+world_options = codes "--cards" ∷ codes "--steps" ∷ codes "--seed" ∷ []
+
+-- a request file, by its name and by how many callers answer its lines
+pub record RequestFile : Type 0 where
+  pub name : List ℕ
+  pub callers : ℕ
+
+-- so many callers may answer the lines of a run
+pub record IsGroup (callers : ℕ) : Type 0 where
+  pub some : 1 ≤ callers
+  pub few : callers ≤ MAX_CALLERS
+
+-- the words are the command to serve, with the names of the configuration, of the request file and of the journals; and
+-- with the number of its callers in decimal digits without a sign or a zero in front, or without it, and then there is
+-- one
+abbrev pub IsServe : List (List ℕ) → List ℕ → RequestFile → List ℕ → Type 0
+IsServe words config requests journal =
+    (IsCall (codes "serve") serve_options words (config ∷ requests.name ∷ journal ∷ []) × (requests.callers ≡ 1))
+    ⊎ (IsCall (codes "serve") (callers_option ∷ serve_options) words
+    (decimal requests.callers ∷ config ∷ requests.name ∷ journal ∷ [])
+    × IsGroup requests.callers)
+
+-- the words are the command to show, with the names of the configuration and of the journals
+abbrev pub IsShow : List (List ℕ) → List ℕ → List ℕ → Type 0
+IsShow words config journal = IsCall (codes "show") show_options words (config ∷ journal ∷ [])
+
+-- a world may have so many cards and so many steps: no card is in more steps than a card gives requests
+pub record IsSize (cards steps : ℕ) : Type 0 where
+  pub some_cards : 1 ≤ cards
+  pub few_cards : cards ≤ 4096
+  pub few_steps : steps ≤ 200000
+  pub few_each : steps ≤ 65535 * cards
+
+-- the words are the command to play a world, with its numbers of cards and steps and its seed, in decimal digits
+-- without a sign or a zero in front
+pub record IsWorld (words : List (List ℕ)) (cards steps seed : ℕ) : Type 0 where
+  pub call : IsCall (codes "world") world_options words (decimal cards ∷ decimal steps ∷ decimal seed ∷ [])
+  pub size : IsSize cards steps
+  pub seed_within : seed < 2 ^ 32
+
+-- the words are a command over journals, with these names, and it is to serve where there is a request file
+abbrev pub IsCommand : List (List ℕ) → List ℕ → Option RequestFile → List ℕ → Type 0
+IsCommand words config (Some requests) journal = IsServe words config requests journal
+IsCommand words config None journal = IsShow words config journal
+
+-- the words are none of the three
+pub record IsNoCommand (words : List (List ℕ)) : Type 0 where
+  pub no_host : (config : List ℕ) (requests : Option RequestFile) (journal : List ℕ)
+      → IsCommand words config requests journal → ⊥
+  pub no_world : (cards steps seed : ℕ) → IsWorld words cards steps seed → ⊥

@@ -1,0 +1,3 @@
+-- The words of the command line, and what they ask for.
+pub mod Command
+pub mod Pairs

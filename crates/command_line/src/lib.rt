@@ -1,0 +1,6 @@
+//! The words of a run: the command that they are, and its names and numbers.
+#![tactic(auto)]
+
+mod words;
+
+pub use words::{Names, Requests, Task, WorldSize, read_words};

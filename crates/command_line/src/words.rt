@@ -1,0 +1,292 @@
+//! The words of a run.
+ghost use Rattle.std.specs.Prelude.{◌≡◌, ◌≢◌, ◌+◌, ◌*◌, ◌%◌, ◌<◌, ◌^◌, ℕ, length, drop, slice_get, IfNone, IfSome};
+ghost use Rattle.std.specs.Prelude.{MatchOption};
+ghost use Rattle.std.specs.Fmt.{decimal};
+ghost use Rattle.std.specs.Option.{option_map};
+ghost use Rattle.command_line.specs.Command.{is_one_of, IsGroup, IsNoCommand};
+ghost use Rattle.command_line.specs.Pairs.{is_value, first_word, options_of, is_pair, are_pairs, pairs_of, values_in};
+ghost use Rattle.command_line.specs.Pairs.{value_in, is_within, AreWordsOf, GivesCallers, Asks, IsTask};
+ghost use Rattle.command_line.specs.declared.words.Command.{Command};
+ghost use Rattle.command_line.specs.declared.words.Command.TheVariants.{Serve, Show, World};
+ghost use Rattle.command_line.specs.declared.words.Task.TheVariants.{Host, Play};
+
+use issuer_base::{MAX_CALLERS, Words};
+use itoa::Buffer;
+
+/// How many cards a world may have.
+const MOST_CARDS: u32 = 4_096;
+
+/// How many steps a world may have.
+const MOST_STEPS: u32 = 200_000;
+
+/// How many steps a world may have for each of its cards: no card gives more requests.
+const MOST_STEPS_EACH: u32 = 65_535;
+
+/// The words that a command begins with.
+#[derive(Clone, Copy)]
+pub(crate) enum Command {
+    /// It answers the lines of a request file.
+    Serve,
+    /// It shows all cards.
+    Show,
+    /// It plays a world.
+    World,
+}
+
+/// What the program does.
+#[derive(Clone, Copy)]
+pub enum Task<'a> {
+    /// It answers request lines or shows cards, over the journals of a configuration.
+    Host(Names<'a>),
+    /// It plays a world of its own.
+    Play(WorldSize),
+}
+
+/// The names in the words of a command over journals.
+#[derive(Clone, Copy)]
+pub struct Names<'a> {
+    /// The name of the configuration.
+    pub config: &'a str,
+    /// The request file, where the command is to serve.
+    pub requests: Option<Requests<'a>>,
+    /// What the names of the journals begin with.
+    pub journal: &'a str,
+}
+
+/// What the words of the command to serve say of the request lines.
+#[derive(Clone, Copy)]
+pub struct Requests<'a> {
+    /// The name of their file.
+    pub file: &'a str,
+    /// How many callers answer them, 1 to 16.
+    pub callers: u8,
+}
+
+/// The numbers in the words of the command to play a world.
+#[derive(Clone, Copy)]
+pub struct WorldSize {
+    /// How many cards there are, 1 to 4,096.
+    pub cards: u32,
+    /// How many steps are played, at most 200,000, and at most 65,535 for each card.
+    pub steps: u32,
+    /// What the fates of the steps begin with.
+    pub seed: u32,
+}
+
+/// What the words ask for, and `None` where they are no command.
+pub fn read_words(words: &Words) -> Option<Task<'_>>
+    ensures task { IfSome result (IsTask words.now) }
+    ensures other { IfNone result (IsNoCommand words.now) }
+{
+    match command_in(words)? {
+        Command::Serve => Some(Task::Host(serve_names(words)?)),
+        Command::Show => Some(Task::Host(show_names(words)?)),
+        Command::World => Some(Task::Play(world_size(words)?)),
+    }
+}
+
+/// The command that the words begin with, where pairs of its options and their values stand behind it.
+fn command_in(words: &Words) -> Option<Command>
+    ensures { MatchOption result ((command : Command) → AreWordsOf command words.now → ⊥)
+        (λ command. AreWordsOf command words.now) }
+{
+    if words.count() % 2 == 0 {
+        return None;
+    }
+    let command = command_of(words.word(0))?;
+    if !are_pairs(words, command) {
+        return None;
+    }
+    Some(command)
+}
+
+/// The names in the words of the command to serve.
+fn serve_names(words: &Words) -> Option<Names<'_>>
+    requires { AreWordsOf Serve words.now }
+    ensures names { IfSome result (λ names. IsTask words.now (Host names)) }
+    ensures none { IfNone result (Asks Serve words.now → ⊥) }
+{
+    let config = value_of(words, "--config")?;
+    let file = value_of(words, "--requests")?;
+    let journal = value_of(words, "--journal")?;
+    let callers = callers_of(words)?;
+    Some(Names {
+        config,
+        requests: Some(Requests { file, callers }),
+        journal,
+    })
+}
+
+/// How many callers the words ask for: one where they don't say.
+fn callers_of(words: &Words) -> Option<u8>
+    requires { length words.now % 2 ≡ 1 }
+    ensures { MatchOption result ((callers : ℕ) → GivesCallers words.now callers → ⊥) (GivesCallers words.now) }
+{
+    let given = given_for(words, "--callers");
+    match given.first {
+        None => Some(1),
+        Some(word) if given.times == 1 => group_of(word),
+        Some(_) => None,
+    }
+}
+
+/// The number of callers that a word says; `None` where it says none that a run may have.
+fn group_of(word: &str) -> Option<u8>
+    ensures { MatchOption result ((callers : ℕ) → IsGroup callers → word.now ≢ decimal callers)
+        (λ callers. (word.now ≡ decimal callers) × IsGroup callers) }
+{
+    let number = number_of(word)?;
+    if 1 <= number && number <= u32::from(MAX_CALLERS) {
+        Some(number as u8)
+    } else {
+        None
+    }
+}
+
+/// The names in the words of the command to show.
+fn show_names(words: &Words) -> Option<Names<'_>>
+    requires { AreWordsOf Show words.now }
+    ensures names { IfSome result (λ names. IsTask words.now (Host names)) }
+    ensures none { IfNone result (Asks Show words.now → ⊥) }
+{
+    let config = value_of(words, "--config")?;
+    let journal = value_of(words, "--journal")?;
+    Some(Names {
+        config,
+        requests: None,
+        journal,
+    })
+}
+
+/// The numbers in the words of the command to play a world.
+fn world_size(words: &Words) -> Option<WorldSize>
+    requires { AreWordsOf World words.now }
+    ensures size { IfSome result (λ size. IsTask words.now (Play size)) }
+    ensures none { IfNone result (Asks World words.now → ⊥) }
+{
+    let cards = number_of(value_of(words, "--cards")?)?;
+    let steps = number_of(value_of(words, "--steps")?)?;
+    let seed = number_of(value_of(words, "--seed")?)?;
+    if is_within(cards, steps) {
+        Some(WorldSize { cards, steps, seed })
+    } else {
+        None
+    }
+}
+
+/// Whether a world may have so many cards and steps.
+fn is_within(cards: u32, steps: u32) -> bool
+    ensures { result ≡ is_within cards steps }
+{
+    1 <= cards && cards <= MOST_CARDS && steps <= MOST_STEPS && steps <= MOST_STEPS_EACH * cards
+}
+
+/// The number that a word says in decimal digits, without a sign or a zero in front; `None` where it says none below
+/// 2^32.
+fn number_of(word: &str) -> Option<u32>
+    ensures { MatchOption result ((number : ℕ) → number < 2 ^ 32 → word.now ≢ decimal number)
+        (λ number. word.now ≡ decimal number) }
+{
+    let Ok(number) = word.parse::<u32>() else {
+        return None;
+    };
+    let mut digits = Buffer::new();
+    if digits.format(number) == word {
+        Some(number)
+    } else {
+        None
+    }
+}
+
+/// The command that begins with this word.
+fn command_of(word: &str) -> Option<Command>
+    ensures { MatchOption result ((command : Command) → word.now ≢ first_word command)
+        (λ command. word.now ≡ first_word command) }
+{
+    if word == "serve" {
+        Some(Command::Serve)
+    } else if word == "show" {
+        Some(Command::Show)
+    } else if word == "world" {
+        Some(Command::World)
+    } else {
+        None
+    }
+}
+
+/// Whether the words behind the first one are pairs, each of an option of the command and its value.
+fn are_pairs(words: &Words, command: Command) -> bool
+    requires { length words.now % 2 ≡ 1 }
+    ensures { result ≡ are_pairs (options_of command) (pairs_of (drop 1 words.now)) }
+{
+    let mut left = words.count() / 2;
+    let mut all = true;
+    while left > 0 {
+        left -= 1;
+        if !is_pair(words.word(2 * left + 1), words.word(2 * left + 2), command) {
+            all = false;
+        }
+    }
+    all
+}
+
+fn is_pair(option: &str, value: &str, command: Command) -> bool
+    ensures { result ≡ is_pair (options_of command) (record { option = option.now; value = value.now }) }
+{
+    is_option(option, command) && is_value(value)
+}
+
+fn is_option(word: &str, command: Command) -> bool
+    ensures { result ≡ is_one_of (options_of command) word.now }
+{
+    match command {
+        Command::Serve => {
+            word == "--callers" || word == "--config" || word == "--requests" || word == "--journal"
+        }
+        Command::Show => word == "--config" || word == "--journal",
+        Command::World => word == "--cards" || word == "--steps" || word == "--seed",
+    }
+}
+
+fn is_value(word: &str) -> bool
+    ensures { result ≡ is_value word.now }
+{
+    !word.is_empty() && !word.starts_with('-')
+}
+
+/// The value that the words behind the first one give the option, where they give it once.
+fn value_of<'a>(words: &'a Words, option: &str) -> Option<&'a str>
+    requires { length words.now % 2 ≡ 1 }
+    ensures { option_map (λ value. value.now) result ≡ value_in words.now option.now }
+{
+    let given = given_for(words, option);
+    if given.times == 1 { given.first } else { None }
+}
+
+/// What the words behind the first one give an option.
+#[derive(Clone, Copy)]
+struct Given<'a> {
+    /// How often they give it a value.
+    times: usize,
+    /// The first of its values.
+    first: Option<&'a str>,
+}
+
+fn given_for<'a>(words: &'a Words, option: &str) -> Given<'a>
+    requires { length words.now % 2 ≡ 1 }
+    ensures times { result.times ≡ length (values_in words.now option.now) }
+    ensures first { option_map (λ value. value.now) result.first ≡ slice_get (values_in words.now option.now) 0 }
+{
+    let mut left = words.count() / 2;
+    let mut first = None;
+    let mut times: usize = 0;
+    while left > 0 {
+        left -= 1;
+        let (name, value) = (words.word(2 * left + 1), words.word(2 * left + 2));
+        if name == option {
+            first = Some(value);
+            times += 1;
+        }
+    }
+    Given { times, first }
+}

@@ -1,0 +1,12 @@
+-- The lemmas of this crate.
+pub mod InputFronts
+pub mod ConfigurationReads
+pub mod HostRuns
+pub mod WorldLaws
+pub mod JournalSteps
+pub mod CrashSteps
+pub mod KeptSteps
+pub mod LeftSteps
+pub mod LoadingSteps
+pub mod LoadedLaws
+pub mod ShowSteps

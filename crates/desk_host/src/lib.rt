@@ -1,0 +1,11 @@
+//! An issuer and its host from a desk: the configuration is read, the journals are opened and loaded, and the cards
+//! shown.
+#![tactic(auto)]
+
+mod config;
+mod journals;
+mod showing;
+
+pub use config::read_issuer;
+pub use journals::{NoHost, load_alone, no_host, open_journals};
+pub use showing::show;

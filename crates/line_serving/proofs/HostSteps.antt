@@ -1,0 +1,115 @@
+-- What holds of the host of one caller and of that of several, of either.
+use Rattle.std.proofs.Common.{◌≡◌, ◌≤◌, ℕ, List, [], length, map, sym, subst}
+use Rattle.issuer_base.specs.declared.outside.store.Store.{Ghosts}
+use Rattle.line_reader.specs.declared.limits.TheConstants.{MAX_LINES}
+use Rattle.line_reader.specs.Reading.{kept}
+use Rattle.issuer_setup.specs.IssuerSetup.{Setup}
+use Rattle.one_caller.specs.declared.solo.Solo.{Solo}
+use Rattle.caller_lanes.specs.declared.lanes.Lanes.{Lanes}
+use Rattle.caller_lanes.specs.Lanes.{callers_in}
+use Rattle.line_serving.specs.declared.hosts.LineHost.{LineHost}
+use Rattle.line_serving.specs.declared.hosts.LineHost.TheVariants.{Alone, Together}
+use Rattle.desk_host.specs.Journals.{IsReadySolo}
+use Rattle.line_serving.specs.Hosts.{TakesLine, Settles, LeavesAnswered, IsReadyTogether, HasAnswered, HaveAnswered}
+use Rattle.line_serving.specs.Hosts.{callers_of}
+use Rattle.line_serving.specs.Hosts.{IsReady, HasServed}
+use Rattle.desk_host.specs.SeenStores.{Logged, SeenStore}
+use Rattle.desk_host.specs.Configuration.{HasSoundParts}
+use Rattle.line_serving.proofs.AloneSteps.{settles-alone}
+
+module _ {S : Type 0} {G : Ghosts S} (first : LineHost S G) where
+  pub takes_alone : (old new : Solo S G) (line was_due is_due : List ℕ)
+      → ((first : Solo S G) (lines : List (List ℕ)) (text : List ℕ) (waiting : List (List ℕ))
+      → HasAnswered first lines text waiting old
+      → TakesLine (λ lines text waiting. HasAnswered first lines text waiting new) lines text waiting line was_due
+      is_due)
+      → (lines : List (List ℕ)) (text : List ℕ) (waiting : List (List ℕ))
+      → HasServed first lines text waiting (Alone old)
+      → TakesLine (λ lines text waiting. HasServed first lines text waiting (Alone new)) lines text waiting line was_due
+      is_due
+  takes_alone old new line was_due is_due takes lines text waiting =
+      elim first as (λ first. HasServed first lines text waiting (Alone old)
+      → TakesLine (λ lines text waiting. HasServed first lines text waiting (Alone new)) lines text waiting line was_due
+      is_due) [
+        | Alone host ↦ λ so_far. takes host lines text waiting so_far
+        | Together host ↦ λ so_far. absurd so_far
+      ]
+
+  pub takes_together : (old new : Lanes S G) (line was_due is_due : List ℕ)
+      → ((first : Lanes S G) (lines : List (List ℕ)) (text : List ℕ) (waiting : List (List ℕ))
+      → HaveAnswered first lines text waiting old
+      → TakesLine (λ lines text waiting. HaveAnswered first lines text waiting new) lines text waiting line was_due
+      is_due)
+      → (lines : List (List ℕ)) (text : List ℕ) (waiting : List (List ℕ))
+      → HasServed first lines text waiting (Together old)
+      → TakesLine (λ lines text waiting. HasServed first lines text waiting (Together new)) lines text waiting line
+      was_due is_due
+  takes_together old new line was_due is_due takes lines text waiting =
+      elim first as (λ first. HasServed first lines text waiting (Together old)
+      → TakesLine (λ lines text waiting. HasServed first lines text waiting (Together new)) lines text waiting line
+      was_due is_due) [
+        | Alone host ↦ λ so_far. absurd so_far
+        | Together host ↦ λ so_far. takes host lines text waiting so_far
+      ]
+
+  pub settles_none : (now later : LineHost S G) (host : Solo S G) (due : List ℕ) → now ≡ Alone host → later ≡ Alone host
+      → (lines : List (List ℕ)) (text : List ℕ) (waiting : List (List ℕ)) → HasServed first lines text waiting now
+      → Settles (λ lines text waiting. HasServed first lines text waiting later) lines text waiting due due
+  settles_none now later host due same kept_same lines text waiting served =
+      subst (λ (l : LineHost S G). Settles (λ lines text waiting. HasServed first lines text waiting l) lines text
+      waiting due due) (sym kept_same)
+      (elim first as (λ first. HasServed first lines text waiting (Alone host)
+      → Settles (λ lines text waiting. HasServed first lines text waiting (Alone host)) lines text waiting due due) [
+        | Alone begun ↦ λ so_far. settles-alone begun host due lines text waiting so_far
+        | Together begun ↦ λ so_far. absurd so_far
+      ] (subst (HasServed first lines text waiting) same served))
+
+  pub settles_together : (old new : Lanes S G) (was_due is_due : List ℕ)
+      → ((first : Lanes S G) (lines : List (List ℕ)) (text : List ℕ) (waiting : List (List ℕ))
+      → HaveAnswered first lines text waiting old
+      → Settles (λ lines text waiting. HaveAnswered first lines text waiting new) lines text waiting was_due is_due)
+      → (lines : List (List ℕ)) (text : List ℕ) (waiting : List (List ℕ))
+      → HasServed first lines text waiting (Together old)
+      → Settles (λ lines text waiting. HasServed first lines text waiting (Together new)) lines text waiting was_due
+      is_due
+  settles_together old new was_due is_due settles lines text waiting =
+      elim first as (λ first. HasServed first lines text waiting (Together old)
+      → Settles (λ lines text waiting. HasServed first lines text waiting (Together new)) lines text waiting was_due
+      is_due) [
+        | Alone host ↦ λ so_far. absurd so_far
+        | Together host ↦ λ so_far. settles host lines text waiting so_far
+      ]
+
+  -- ---- what they leave
+
+  pub leaves_alone : (now : LineHost S G) (host : Solo S G) (stores : List SeenStore) → now ≡ Alone host
+      → ((issuer : Setup) (prefix : List ℕ) (logs : Logged) (first : Solo S G) (lines : List (List ℕ)) (text : List ℕ)
+      → IsReadySolo issuer prefix logs first → HasSoundParts issuer → HasAnswered first (map kept lines) text [] host
+      → LeavesAnswered 1 issuer prefix logs stores lines text)
+      → (issuer : Setup) (prefix : List ℕ) (logs : Logged) (lines : List (List ℕ)) (text : List ℕ)
+      → IsReady issuer prefix logs first
+      → HasSoundParts issuer → length lines ≤ MAX_LINES → HasServed first (map kept lines) text [] now
+      → LeavesAnswered (callers_of first) issuer prefix logs stores lines text
+  leaves_alone now host stores same leaves issuer prefix logs lines text ready sound within served =
+      elim first as (λ first. IsReady issuer prefix logs first → HasServed first (map kept lines) text [] (Alone host)
+      → LeavesAnswered (callers_of first) issuer prefix logs stores lines text) [
+        | Alone begun ↦ λ ready so_far. leaves issuer prefix logs begun lines text ready sound so_far
+        | Together begun ↦ λ ready so_far. absurd so_far
+      ] ready (subst (HasServed first (map kept lines) text []) same served)
+
+  pub leaves_together : (now : LineHost S G) (host : Lanes S G) (stores : List SeenStore) → now ≡ Together host
+      → ((issuer : Setup) (prefix : List ℕ) (logs : Logged) (first : Lanes S G) (lines : List (List ℕ)) (text : List ℕ)
+      → IsReadyTogether issuer prefix logs first → HasSoundParts issuer → length lines ≤ MAX_LINES
+      → HaveAnswered first (map kept lines) text [] host
+      → LeavesAnswered (callers_in first) issuer prefix logs stores lines text)
+      → (issuer : Setup) (prefix : List ℕ) (logs : Logged) (lines : List (List ℕ)) (text : List ℕ)
+      → IsReady issuer prefix logs first
+      → HasSoundParts issuer → length lines ≤ MAX_LINES → HasServed first (map kept lines) text [] now
+      → LeavesAnswered (callers_of first) issuer prefix logs stores lines text
+  leaves_together now host stores same leaves issuer prefix logs lines text ready sound within served =
+      elim first as (λ first. IsReady issuer prefix logs first
+      → HasServed first (map kept lines) text [] (Together host)
+      → LeavesAnswered (callers_of first) issuer prefix logs stores lines text) [
+        | Alone begun ↦ λ ready so_far. absurd so_far
+        | Together begun ↦ λ ready so_far. leaves issuer prefix logs begun lines text ready sound within so_far
+      ] ready (subst (HasServed first (map kept lines) text []) same served)

@@ -1,0 +1,802 @@
+-- The host of several callers: a line more, and what it leaves.
+use Rattle.std.proofs.Common.{◌≡◌, ℕ, ◌+◌, ◌-◌, ◌^◌, ◌<◌, ◌≤◌, zero, suc, List, [], ◌∷◌, ◌++◌, length, take, map}
+use Rattle.std.proofs.Common.{Option, None, Some}
+use Rattle.std.proofs.Common.{refl, sym, ap, subst, ◌∙◌, arith, append-nil, append_assoc}
+use Rattle.std.specs.Prelude.{slice_get, IfSome, All}
+use Rattle.std.proofs.lemmas.List.{length-map, take_all, flat_map_more}
+use Rattle.std.proofs.lemmas.Grind.{flat_map-append}
+use Rattle.std.proofs.lemmas.Option.{slice_get_within}
+use Rattle.std.specs.List.{flat_map}
+use Rattle.issuer_base.specs.OutsideFaults.{Rose}
+use Rattle.issuer_base.specs.Tells.{Tells}
+use Rattle.issuer_base.specs.declared.answer.Answer.{Answer}
+use Rattle.issuer_base.specs.declared.limits.TheConstants.{MAX_FAULTS_TOLD}
+use Rattle.issuer_base.specs.declared.entry.Entry.{Entry}
+use Rattle.issuer_base.specs.declared.outside.store.Store.{Ghosts}
+use Rattle.card_history.specs.LegalRecords.{IsLegalHistory}
+use Rattle.issuer_setup.specs.IssuerSetup.{Setup}
+use Rattle.journal_rec.specs.Record.{IsRecord}
+use Rattle.journal_rec.specs.RecordText.{texts_of}
+use Rattle.line_reader.specs.declared.limits.TheConstants.{MAX_LINES}
+use Rattle.line_reader.specs.Reading.{kept}
+use Rattle.line_checks.proofs.KeptLines.{reading-kept}
+use Rattle.answer_text.specs.AnswerText.{printed}
+use Rattle.seat_names.specs.Totals.{total}
+use Rattle.claim_words.specs.declared.view.ClaimView.{ClaimView}
+use Rattle.claim_words.specs.ClaimViews.{claims_on, times, is_live, is_kept, is_any}
+use Rattle.turn_book.specs.declared.logs.Log.{Log}
+use Rattle.turn_book.specs.declared.view.TurnView.{TurnView}
+use Rattle.turn_book.specs.Logs.{items_at}
+use Rattle.turn_book.specs.TurnRule.{between}
+use Rattle.turn_book.specs.TurnViews.{times as times_placed}
+use Rattle.shard_book.specs.Grounds.{grounds_of}
+use Rattle.shard_turns.specs.declared.logs.LogItem.{LogItem}
+use Rattle.shard_turns.specs.declared.logs.LogItem.TheVariants.{Record}
+use Rattle.shard_turns.specs.declared.logs.LogHead.{LogHead}
+use Rattle.shard_turns.specs.ShardLogs.{records_of, faults_of, RiseTo}
+use Rattle.host_calls.specs.Authorising.{Authorises}
+use Rattle.one_caller.specs.Books.{Book, histories_of}
+use Rattle.host_calls.specs.Closing.{book_of, IsClosed, AreClosed}
+use Rattle.one_caller.specs.OneHistory.{AreRecorded, GoOnLegally, HasFailed, LegallyGoesOn}
+use Rattle.host_calls.specs.OpeningLogs.{opened_on, IsOpenedFrom, AreOpenedFrom}
+use Rattle.many_callers.specs.Callers.{Calls, Caller, IsCaller, AreCallers}
+use Rattle.many_callers.specs.Explained.{AreExplained}
+use Rattle.many_callers.specs.FaultCounts.{all_answers, AreFaultsCounted}
+use Rattle.many_callers.specs.OwnPlaces.{AreOwnPlaces, all_faults_told}
+use Rattle.many_callers.specs.Settled.{TellNoFault, AreSettled}
+use Rattle.caller_lanes.specs.Dealing.{every, AreDealt}
+use Rattle.caller_lanes.specs.declared.lanes.Lanes.{Lanes}
+use Rattle.caller_lanes.specs.Lanes.{issuer_in, opening_logs, callers_in, HasSameHost, HasClosed}
+use Rattle.caller_lanes.specs.Lanes.{HasServed as LanesServe}
+use Rattle.line_serving.specs.Answers.{AreAnsweredTogether, AreBooksOf, ByCallers}
+use Rattle.desk_host.specs.Configuration.{HasSoundParts}
+use Rattle.line_serving.specs.Hosts.{TakesLine, Settles, LeavesAnswered, LeavesLoaded, IsReadyTogether, HaveAnswered}
+use Rattle.desk_host.specs.Journals.{journal_name, IsOpened, AreOpened}
+use Rattle.desk_host.specs.Lawful.{IsLawful}
+use Rattle.desk_host.specs.Kept.{WasJournal, KeepsJournal, KeepJournals}
+use Rattle.desk_host.specs.SeenStores.{Logged, SeenStore, store_seen}
+use Rattle.desk_host.proofs.CrashSteps.{crash-leaves, leaves-now}
+use Rattle.line_serving.proofs.DealtAnswers.{answers-dealt}
+use Rattle.desk_host.proofs.KeptSteps.{at-place, mapped, held-told}
+use Rattle.desk_host.proofs.WorldLaws.{is-lawful}
+
+-- ---- lines as far as they are kept
+
+every-map : {A B : Type 0} (f : A → B) (count skip : ℕ) (xs : List A)
+    → every count skip (map f xs) ≡ map f (every count skip xs)
+every-map f count skip [] = refl
+every-map f count zero (x ∷ xs) = ap (λ rest. f x ∷ rest) (every-map f count (count - 1) xs)
+every-map f count (suc skip) (x ∷ xs) = every-map f count skip xs
+
+-- calls with lines cut to what is kept of them are those with the lines
+calls-kept : (issuer : Setup) (asked : List (List ℕ)) (answers : List Answer) (claims : ClaimView)
+    (logs : TurnView LogItem LogHead)
+    (claims_now : ClaimView) (logs_now : TurnView LogItem LogHead)
+    → Calls issuer (map kept asked) answers claims logs claims_now logs_now
+    → Calls issuer asked answers claims logs claims_now logs_now
+calls-kept issuer [] [] claims logs claims_now logs_now calls = calls
+calls-kept issuer (line ∷ asked) (answer ∷ answers) claims logs claims_now logs_now calls = (
+  calls.0,
+  calls.1,
+  subst (λ says. Authorises issuer says claims logs answer calls.0 calls.1) (reading-kept issuer line) calls.2,
+  calls-kept issuer asked answers calls.0 calls.1 claims_now logs_now calls.3,
+)
+calls-kept issuer [] (answer ∷ answers) claims logs claims_now logs_now calls = absurd calls
+calls-kept issuer (line ∷ asked) [] claims logs claims_now logs_now calls = absurd calls
+
+-- callers, from the one of this number on, with the lines of their turns
+abbrev with_turns : ℕ → ℕ → List (List ℕ) → List Caller → List Caller
+with_turns count number asked [] = []
+with_turns count number asked (caller ∷ callers) =
+    record caller { lines = every count number asked } ∷ with_turns count (suc number) asked callers
+
+-- the caller at a place of them
+record IsAt (count number : ℕ) (asked : List (List ℕ)) (callers : List Caller) (place : ℕ)
+    (caller : Caller) : Type 0 where
+  was : Caller
+  was_at : slice_get callers place ≡ Some was
+  is : caller ≡ record was { lines = every count (number + place) asked }
+
+turns-at : (count number : ℕ) (asked : List (List ℕ)) (callers : List Caller) (place : ℕ) (caller : Caller)
+    → slice_get (with_turns count number asked callers) place ≡ Some caller
+    → IsAt count number asked callers place caller
+turns-at count number asked [] place caller is = absurd (let e : None ≡ Some caller = is in cc)
+turns-at count number asked (first ∷ callers) zero caller is = record {
+  was = first;
+  was_at = refl;
+  is = let e : Some (record first { lines = every count number asked }) ≡ Some caller = is in
+      (let same : record first { lines = every count number asked } ≡ caller = cc in
+      sym same ∙ ap (λ (n : ℕ). record first { lines = every count n asked }) (omega arith));
+}
+turns-at count number asked (first ∷ callers) (suc place) caller is =
+    let rest = turns-at count (suc number) asked callers place caller is in
+    record {
+      was = rest.was;
+      was_at = rest.was_at;
+      is = rest.is ∙ ap (λ (n : ℕ). record rest.was { lines = every count n asked }) (omega arith);
+    }
+
+-- and of those from the first one on
+first-turn : (count : ℕ) (asked : List (List ℕ)) (callers : List Caller) (place : ℕ) (caller : Caller)
+    → slice_get (with_turns count 0 asked callers) place ≡ Some caller
+    → (was : Caller) × (slice_get callers place ≡ Some was) × (caller ≡ record was { lines = every count place asked })
+first-turn count asked callers place caller is =
+    let at = turns-at count 0 asked callers place caller is in
+    (at.was, at.was_at, at.is ∙ ap (λ (n : ℕ). record at.was { lines = every count n asked }) (omega arith))
+
+length-turns : (count number : ℕ) (asked : List (List ℕ)) (callers : List Caller)
+    → length (with_turns count number asked callers) ≡ length callers
+length-turns count number asked [] = refl
+length-turns count number asked (caller ∷ callers) = ap suc (length-turns count (suc number) asked callers)
+
+-- a sum over callers that doesn't look at their lines
+total-turns : (f : Caller → ℕ) → ((caller : Caller) (asked : List (List ℕ))
+    → f (record caller { lines = asked }) ≡ f caller)
+    → (count number : ℕ) (asked : List (List ℕ)) (callers : List Caller)
+    → total f (with_turns count number asked callers) ≡ total f callers
+total-turns f same count number asked [] = refl
+total-turns f same count number asked (caller ∷ callers) =
+    ap (λ (n : ℕ). n + total f (with_turns count (suc number) asked callers)) (same caller (every count number asked))
+    ∙ ap (λ (n : ℕ). f caller + n) (total-turns f same count (suc number) asked callers)
+
+module _ (count : ℕ) (asked : List (List ℕ)) (answers : List Answer) (callers : List Caller)
+    (dealt : AreDealt count (map kept asked) answers callers) where
+  abbrev askers : List Caller
+  askers = with_turns count 0 asked callers
+
+  pub dealt-kept : AreDealt count asked answers askers
+  dealt-kept = record {
+    count_is = length-turns count 0 asked callers ∙ dealt.count_is;
+    answered = dealt.answered ∙ length-map asked kept;
+    lines_are =
+        λ number caller is. let at =
+        first-turn count asked callers number caller is in ap (λ (c : Caller). c.lines) at.2;
+    answers_are = λ number caller is.
+        let at = first-turn count asked callers number caller is in
+        ap (λ (c : Caller). c.answers) at.2 ∙ dealt.answers_are number at.0 at.1;
+  }
+
+  pub callers-kept : (issuer : Setup) (opening logs : List (Log LogItem LogHead))
+      → AreCallers issuer opening logs callers
+      → AreCallers issuer opening logs askers
+  callers-kept issuer opening logs are = record {
+    some = are.some;
+    count_is = are.count_is;
+    same_count = are.same_count;
+    heads = are.heads;
+    each = λ number caller is.
+        let at = first-turn count asked callers number caller is in
+        let one = are.each number at.0 at.1 in
+        let lines_are = dealt.lines_are number at.0 at.1 ∙ every-map kept count number asked in
+        subst (IsCaller issuer opening) (sym at.2)
+        (record {
+          no_claims = one.no_claims;
+          no_found = one.no_found;
+          no_tops = one.no_tops;
+          no_places = one.no_places;
+          opened = one.opened;
+          calls =
+              calls-kept issuer (every count number asked) at.0.answers at.0.claims at.0.logs at.0.claims_now
+              at.0.logs_now
+              (subst (λ (ls : List (List ℕ)). Calls issuer ls at.0.answers at.0.claims at.0.logs at.0.claims_now
+              at.0.logs_now) lines_are
+              one.calls);
+        });
+    seen = λ number shard caller is.
+        let at = first-turn count asked callers number caller is in
+        subst (λ (c : Caller). take (length (items_at c.logs_now.seen shard)) (items_at logs shard)
+        ≡ items_at c.logs_now.seen shard) (sym at.2)
+        (are.seen number shard at.0 at.1);
+    opening_front = are.opening_front;
+    own = λ shard place below.
+        total-turns (λ caller. times_placed shard place caller.logs_now.mine) (λ caller lines. refl) count 0 asked
+        callers ∙ are.own shard place below;
+    found = λ card counter below some.
+        let lost = total-turns (λ caller. times card counter caller.claims_now.found) (λ caller lines. refl) count 0
+        asked callers in
+        let any = total-turns (λ caller. claims_on is_any card counter caller.claims_now.claims) (λ caller lines. refl)
+        count 0 asked callers in
+        subst (λ (n : ℕ). 0 < opened_on issuer opening card counter + n) (sym any)
+        (are.found card counter below (subst (λ (n : ℕ). 0 < n) lost some));
+    tops = λ card counter below some.
+        let told = total-turns (λ caller. times card counter caller.claims_now.tops) (λ caller lines. refl) count 0
+        asked callers in
+        let are_kept = total-turns (λ caller. claims_on is_kept card counter caller.claims_now.claims)
+        (λ caller lines. refl) count 0 asked callers in
+        subst (λ (n : ℕ). 0 < opened_on issuer opening card counter + n) (sym are_kept)
+        (are.tops card counter below (subst (λ (n : ℕ). 0 < n) told some));
+    once = λ card counter below.
+        let live = total-turns (λ caller. claims_on is_live card counter caller.claims_now.claims)
+        (λ caller lines. refl) count 0 asked callers in
+        subst (λ (n : ℕ). opened_on issuer opening card counter + n ≤ 1) (sym live) (are.once card counter below);
+    goes_on = are.goes_on;
+    opened_plain = are.opened_plain;
+  }
+
+-- ---- logs and their books
+
+-- the records of a history that is a log are the history, and it tells no fault
+records-only : (history : List Entry) → records_of (map Record history) ≡ history
+records-only [] = refl
+records-only (entry ∷ history) = ap (λ rest. entry ∷ rest) (records-only history)
+
+faults-none : (history : List Entry) → faults_of (map Record history) ≡ []
+faults-none [] = refl
+faults-none (entry ∷ history) = faults-none history
+
+-- counts that rise don't fall
+rise-below : (first : ℕ) (counts : List ℕ) (now : ℕ) → RiseTo first counts now → first ≤ now
+rise-below first [] now rises = rises
+rise-below first (count ∷ counts) now rises =
+    let rest = rise-below count counts now rises.2 in let here = rises.0 in omega (arith, rest, here)
+
+rose-to : (first count now : ℕ) → first ≤ count → Rose first count → count ≤ now → Rose first now
+rose-to first count now least rose most = grind (arith, least, rose, most)
+
+-- where the count didn't rise, none was told
+none-rise : (first : ℕ) (counts : List ℕ) (now : ℕ) → RiseTo first counts now → (Rose first now → ⊥) → counts ≡ []
+none-rise first [] now rises stood = refl
+none-rise first (count ∷ counts) now rises stood =
+    absurd (stood (rose-to first count now rises.0 rises.1 (rise-below count counts now rises.2)))
+
+-- the items of a shard's log
+items-of : (logs : List (Log LogItem LogHead)) (shard : ℕ) (log : Log LogItem LogHead) → slice_get logs shard ≡ Some log
+    → items_at logs shard ≡ log.items
+items-of [] shard log is = absurd (let e : None ≡ Some log = is in cc)
+items-of (first ∷ logs) zero log is =
+    ap (λ (l : Log LogItem LogHead). l.items)
+    (let e : Some first ≡ Some log = is in (let same : first ≡ log = cc in same))
+items-of (first ∷ logs) (suc shard) log is = items-of logs shard log is
+
+-- what a mapped list has at a place
+mapped-at : {X Y : Type 0} (f : X → Y) (xs : List X) (k : ℕ) (y : Y) → slice_get (map f xs) k ≡ Some y
+    → (x : X) × (slice_get xs k ≡ Some x) × (y ≡ f x)
+mapped-at f [] k y is = absurd (let e : None ≡ Some y = is in cc)
+mapped-at f (x ∷ xs) zero y is = (x, refl, (let e : Some (f x) ≡ Some y = is in (let same : f x ≡ y = cc in sym same)))
+mapped-at f (x ∷ xs) (suc k) y is = mapped-at f xs k y is
+
+-- the book of a log as it was opened
+abbrev opening_book : Log LogItem LogHead → Book
+opening_book log = book_of log log.head.faults
+
+module _ {S : Type 0} (faults : S → ℕ) where
+  -- the books of logs at close, with the counts of their stores
+  abbrev closing_books : List (Log LogItem LogHead) → List S → List Book
+  closing_books [] stores = []
+  closing_books (log ∷ logs) [] = book_of log 0 ∷ closing_books logs []
+  closing_books (log ∷ logs) (store ∷ stores) = book_of log (faults store) ∷ closing_books logs stores
+
+  length-closing : (logs : List (Log LogItem LogHead)) (stores : List S)
+      → length (closing_books logs stores) ≡ length logs
+  length-closing [] stores = refl
+  length-closing (log ∷ logs) [] = ap suc (length-closing logs [])
+  length-closing (log ∷ logs) (store ∷ stores) = ap suc (length-closing logs stores)
+
+  closing-at : (logs : List (Log LogItem LogHead)) (stores : List S) (k : ℕ) (book : Book) (store : S)
+      → slice_get (closing_books logs stores) k ≡ Some book → slice_get stores k ≡ Some store
+      → (log : Log LogItem LogHead) × (slice_get logs k ≡ Some log) × (book ≡ book_of log (faults store))
+  closing-at [] stores k book store is at = absurd (let e : None ≡ Some book = is in cc)
+  closing-at (log ∷ logs) [] k book store is at = absurd (let e : None ≡ Some store = at in cc)
+  closing-at (log ∷ logs) (here ∷ stores) zero book store is at = (
+    log,
+    refl,
+    (let e : Some (book_of log (faults here)) ≡ Some book = is in
+        let same : book_of log (faults here) ≡ book = cc in
+        let f : Some here ≡ Some store = at in
+        let one : here ≡ store = cc in
+        sym same ∙ ap (λ (s : S). book_of log (faults s)) one),
+  )
+  closing-at (log ∷ logs) (here ∷ stores) (suc k) book store is at = closing-at logs stores k book store is at
+
+-- what holds of several callers
+several : (count : ℕ) (Alone Together : Type 0) → 1 < count → Together → ByCallers count Alone Together
+several zero Alone Together more holds = holds
+several (suc zero) Alone Together more holds = absurd (omega (arith, more))
+several (suc (suc count)) Alone Together more holds = holds
+
+-- nothing is dealt where there is nothing
+every-none : {A : Type 0} (count skip : ℕ) → every {A = A} count skip [] ≡ []
+every-none count zero = refl
+every-none count (suc skip) = refl
+
+-- a sum of nothing
+total-zero : {A : Type 0} (f : A → ℕ) (xs : List A) → ((number : ℕ) (x : A) → slice_get xs number ≡ Some x → f x ≡ 0)
+    → total f xs ≡ 0
+total-zero f [] none = refl
+total-zero f (x ∷ xs) none =
+    let here = none zero x refl in let rest = total-zero f xs (λ number. none (suc number)) in omega (arith, here, rest)
+
+-- where no place is between two counts, the second isn't above the first
+between-none : (first last : ℕ) → between first last first ≡ 0 → last ≤ first
+between-none first last none = grind (arith, none)
+
+-- lists that have the same at each place
+same-lists : {A : Type 0} (xs ys : List A) → length xs ≡ length ys
+    → ((number : ℕ) (x y : A) → slice_get xs number ≡ Some x → slice_get ys number ≡ Some y → x ≡ y) → xs ≡ ys
+same-lists [] [] long same = refl
+same-lists [] (y ∷ ys) long same = absurd (omega (arith, long))
+same-lists (x ∷ xs) [] long same = absurd (omega (arith, long))
+same-lists (x ∷ xs) (y ∷ ys) long same =
+    ap (λ (first : _). first ∷ xs) (same zero x y refl refl)
+    ∙ ap (λ rest. y ∷ rest) (same-lists xs ys (omega (arith, long)) (λ number. same (suc number)))
+
+-- ---- what it leaves
+
+module _ {S : Type 0} {G : Ghosts S} (count : ℕ) (issuer : Setup) (prefix : List ℕ) (told : Logged)
+    (stores back : List S)
+    (opening logs : List (Log LogItem LogHead)) (stores_are : length stores ≡ issuer.shards)
+    (opened : AreOpened G prefix told stores)
+    (opens : AreOpenedFrom G.bytes G.disk G.faults issuer stores opening) (same_count : length logs ≡ length opening)
+    (closed : AreClosed G.bytes G.disk G.faults issuer opening logs back)
+    (told_bytes : (store : S) → IfSome (G.disk store) (λ disk. G.bytes store ≡ Some disk.now.bytes)) where
+  abbrev first_books : List Book
+  first_books = map opening_book opening
+
+  abbrev last_books : List Book
+  last_books = closing_books G.faults logs back
+
+  count-first : length first_books ≡ issuer.shards
+  count-first = length-map opening opening_book ∙ opens.count_is ∙ stores_are
+
+  count-last : length last_books ≡ issuer.shards
+  count-last = length-closing G.faults logs back ∙ same_count ∙ opens.count_is ∙ stores_are
+
+  -- a shard, from its store as it was opened to the one that is given back
+  record IsKeptAt (shard : ℕ) (was is : Book) : Type 0 where
+    within : shard < issuer.shards
+    before : S
+    after : S
+    first : Log LogItem LogHead
+    last : Log LogItem LogHead
+    after_at : slice_get back shard ≡ Some after
+    first_at : slice_get opening shard ≡ Some first
+    last_at : slice_get logs shard ≡ Some last
+    was_is : was ≡ opening_book first
+    is_is : is ≡ book_of last (G.faults after)
+    log : IsOpened G (told (journal_name prefix shard)) before
+    opens_from : IsOpenedFrom G.bytes G.disk G.faults issuer shard before first
+    closes : IsClosed G.bytes G.disk G.faults issuer shard first last after
+
+  kept-at : (shard : ℕ) (was is : Book) → slice_get first_books shard ≡ Some was → slice_get last_books shard ≡ Some is
+      → IsKeptAt shard was is
+  kept-at shard was is was_at is_at =
+      let within : shard < issuer.shards =
+      (let inside = slice_get_within first_books shard was was_at in let long = count-first in
+      omega (arith, inside, long)) in
+      let before = at-place stores shard (omega (arith, within, stores_are)) in
+      let after = at-place back shard (let long = closed.count_is in omega (arith, within, long)) in
+      let first = mapped-at opening_book opening shard was was_at in
+      let last = closing-at G.faults logs back shard is after.0 is_at after.1 in
+      record {
+        within = within;
+        before = before.0;
+        after = after.0;
+        first = first.0;
+        last = last.0;
+        after_at = after.1;
+        first_at = first.1;
+        last_at = last.1;
+        was_is = first.2;
+        is_is = last.2;
+        log = opened shard before.0 before.1;
+        opens_from = opens.each shard before.0 first.0 before.1 first.1;
+        closes = closed.each shard first.0 last.0 after.0 first.1 last.1 after.1;
+      }
+
+  module _ (shard : ℕ) (was is : Book) (at : IsKeptAt shard was is) where
+    history-opened : records_of at.first.items ≡ at.opens_from.history
+    history-opened =
+        ap (λ (l : Log LogItem LogHead). records_of l.items) at.opens_from.log_is ∙ records-only at.opens_from.history
+
+    was-journal : WasJournal issuer shard (told (journal_name prefix shard)) (opening_book at.first)
+    was-journal =
+        let o = at.opens_from in
+        record {
+          rest = o.rest;
+          held_is =
+              held-told (told (journal_name prefix shard)) (G.bytes at.before)
+              (texts_of (records_of at.first.items) ++ o.rest) at.log.bytes_are
+              (subst (λ (h : List Entry). Tells (G.bytes at.before) (texts_of h ++ o.rest)) (sym history-opened)
+              o.text_is);
+          unbroken = o.unbroken;
+          records = subst (All IsRecord) (sym history-opened) o.records;
+          legal = subst (IsLegalHistory (grounds_of issuer) shard) (sym history-opened) o.legal;
+          no_fault = o.counts.counted ∙ at.log.new;
+          none_told =
+              ap (λ (l : Log LogItem LogHead). length (faults_of l.items)) o.log_is ∙ ap length (faults-none o.history);
+        }
+
+    -- the history went on legally, and the count never fell
+    legally-on : LegallyGoesOn issuer shard was.history is.history × (was.faults ≤ is.faults)
+    legally-on =
+        subst (λ (w : Book). LegallyGoesOn issuer shard w.history is.history × (w.faults ≤ is.faults)) (sym at.was_is)
+        (subst (λ (i : Book). LegallyGoesOn issuer shard (records_of at.first.items) i.history
+        × (at.first.head.faults ≤ i.faults)) (sym at.is_is) (
+          at.closes.goes_on,
+          rise-below at.first.head.faults (faults_of at.last.items) (G.faults at.after)
+              at.closes.rise,
+        ))
+
+    keeps-journal : (seen : SeenStore) → store_seen G at.after ≡ seen
+        → KeepsJournal issuer shard (told (journal_name prefix shard)) was is seen
+    keeps-journal seen same =
+        subst (λ (w : Book). KeepsJournal issuer shard (told (journal_name prefix shard)) w is seen) (sym at.was_is)
+        (subst (λ (i : Book). KeepsJournal issuer shard (told (journal_name prefix shard)) (opening_book at.first) i
+        seen) (sym at.is_is)
+        (subst (KeepsJournal issuer shard (told (journal_name prefix shard)) (opening_book at.first)
+        (book_of at.last (G.faults at.after))) same
+        (record {
+          was = was-journal;
+          holds = at.closes.holds;
+          faults_are = refl;
+          crash_now =
+              leaves-now issuer shard (book_of at.last (G.faults at.after)) (G.bytes at.after) (G.disk at.after)
+              at.closes.holds;
+          crash_since =
+              crash-leaves issuer shard (told (journal_name prefix shard)) (records_of at.first.items)
+              (records_of at.last.items)
+              (length (texts_of at.opens_from.history))
+              (ap (λ (h : List Entry). length (texts_of h)) (sym history-opened))
+              (G.disk at.before) at.first.head.opened (G.disk at.after) (G.bytes at.before) at.opens_from.leaves
+              at.closes.since
+              at.log.untouched (told_bytes at.before) at.log.bytes_are;
+        })))
+
+  keep-together : KeepJournals issuer prefix told (map (store_seen G) back) first_books last_books
+  keep-together = record {
+    stores_are = mapped (store_seen G) back ∙ closed.count_is;
+    first_are = count-first;
+    last_are = count-last;
+    each = λ shard was is seen was_at is_at seen_at.
+        let at = kept-at shard was is was_at is_at in
+        let here = mapped-at (store_seen G) back shard seen seen_at in
+        let same : at.after ≡ here.0 = (let both : Some at.after ≡ Some here.0 = sym at.after_at ∙ here.1 in cc) in
+        keeps-journal shard was is at seen (ap (store_seen G) same ∙ sym here.2);
+  }
+
+  goes-on : GoOnLegally issuer first_books last_books
+  goes-on shard was is was_at is_at = legally-on shard was is (kept-at shard was is was_at is_at)
+
+  -- the books of logs that there are for each shard
+  some-first : (shard : ℕ) → shard < issuer.shards → (book : Book) × (slice_get first_books shard ≡ Some book)
+  some-first shard within = at-place first_books shard (let long = count-first in omega (arith, within, long))
+
+  some-last : (shard : ℕ) → shard < issuer.shards → (book : Book) × (slice_get last_books shard ≡ Some book)
+  some-last shard within = at-place last_books shard (let long = count-last in omega (arith, within, long))
+
+  last-recorded : AreRecorded last_books
+  last-recorded shard book is =
+      let within : shard < issuer.shards = (let inside = slice_get_within last_books shard book is in
+      let long = count-last in omega (arith, inside, long)) in
+      let first = some-first shard within in
+      let at = kept-at shard first.0 book first.1 is in
+      subst (λ (b : Book). All IsRecord b.history) (sym at.is_is) at.closes.records
+
+  books-opened : AreBooksOf opening first_books
+  books-opened = record {
+    count_is = length-map opening opening_book;
+    each = λ shard log book log_at book_at.
+        let here = mapped-at opening_book opening shard book book_at in
+        let same : here.0 ≡ log = (let both : Some here.0 ≡ Some log = sym here.1 ∙ log_at in cc) in
+        let is : book ≡ opening_book log = here.2 ∙ ap opening_book same in
+        is ∙ ap (book_of log) (sym (ap (λ (b : Book). b.faults) is));
+  }
+
+  books-closed : AreBooksOf logs last_books
+  books-closed = record {
+    count_is = length-closing G.faults logs back;
+    each = λ shard log book log_at book_at.
+        let within : shard < length back =
+        (let inside = slice_get_within last_books shard book book_at in let long = count-last in
+        let many = closed.count_is in
+        omega (arith, inside, long, many)) in
+        let store = at-place back shard within in
+        let here = closing-at G.faults logs back shard book store.0 book_at store.1 in
+        let same : here.0 ≡ log = (let both : Some here.0 ≡ Some log = sym here.1 ∙ log_at in cc) in
+        let is : book ≡ book_of log (G.faults store.0) = here.2
+        ∙ ap (λ (l : Log LogItem LogHead). book_of l (G.faults store.0)) same in
+        is ∙ ap (book_of log) (sym (ap (λ (b : Book). b.faults) is));
+  }
+
+  lawful-together : HasSoundParts issuer → IsLawful issuer first_books last_books
+  lawful-together sound =
+      is-lawful issuer first_books last_books sound count-first (count-last ∙ sym count-first) goes-on last-recorded
+
+  module _ (more : 1 < count) (sound : HasSoundParts issuer) (asked : List (List ℕ)) (answers : List Answer)
+      (callers : List Caller)
+      (dealt : AreDealt count asked answers callers) (shared : AreCallers issuer opening logs callers)
+      (explained : AreExplained issuer opening logs callers) (own : AreOwnPlaces issuer opening logs callers)
+      (settled : TellNoFault issuer logs → AreSettled issuer opening callers)
+      (counted : AreFaultsCounted issuer logs callers)
+      (within : length asked ≤ MAX_LINES) where
+    -- there are fewer answers than a log may have faults
+    few-answers : all_answers callers < MAX_FAULTS_TOLD
+    few-answers =
+        let all = answers-dealt count asked answers callers (omega (arith, more)) dealt in omega (arith, all, within)
+
+    -- where no store's count rose, no log tells a fault
+    none-told : (HasFailed first_books last_books → ⊥) → TellNoFault issuer logs
+    none-told stood shard within =
+        let was = some-first shard within in
+        let is = some-last shard within in
+        let at = kept-at shard was.0 is.0 was.1 is.1 in
+        ap faults_of (items-of logs shard at.last at.last_at)
+        ∙ none-rise at.first.head.faults (faults_of at.last.items) (G.faults at.after) at.closes.rise
+        (λ rose. stood (record {
+          shard = shard;
+          was = was.0;
+          is = is.0;
+          was_is = was.1;
+          is_is = is.1;
+          rose = subst (λ (w : Book). Rose w.faults is.0.faults) (sym at.was_is)
+              (subst (λ (i : Book). Rose at.first.head.faults i.faults) (sym at.is_is) rose);
+        }))
+
+    answered-together : AreAnsweredTogether count issuer first_books last_books asked answers
+    answered-together = record {
+      callers = callers;
+      dealt = dealt;
+      opening = opening;
+      opening_are = books-opened;
+      logs = logs;
+      logs_are = books-closed;
+      explained = explained;
+      each_record_is_one_answers = own;
+      faults_are_counted = λ shard was is was_at is_at below.
+          let at = kept-at shard was is was_at is_at in
+          let rises = subst (λ (items : List LogItem).
+          RiseTo at.first.head.faults (faults_of items) (G.faults at.after))
+          (sym (items-of logs shard at.last at.last_at)) at.closes.rise in
+          subst (λ (w : Book). w.faults + all_faults_told issuer shard callers ≤ is.faults) (sym at.was_is)
+          (subst (λ (i : Book). at.first.head.faults + all_faults_told issuer shard callers ≤ i.faults) (sym at.is_is)
+          (counted shard at.first.head.faults (G.faults at.after) at.within rises
+          (subst (λ (i : Book). i.faults < 2 ^ 64 - 1) at.is_is below) few-answers));
+      settled = λ stood. settled (none-told stood);
+    }
+
+    pub leaves-together : (text : List ℕ) → text ≡ flat_map printed answers
+        → LeavesAnswered count issuer prefix told (map (store_seen G) back) asked text
+    leaves-together text text_is = record {
+      first = first_books;
+      last = last_books;
+      kept = keep-together;
+      lawful = lawful-together sound;
+      answers = answers;
+      answered =
+          several count _ (AreAnsweredTogether count issuer first_books last_books asked answers) more
+          answered-together;
+      text_is = text_is;
+    }
+
+  -- ---- where no line was answered
+
+  module _ (more : 1 < count) (sound : HasSoundParts issuer) (callers : List Caller)
+      (dealt : AreDealt count [] [] callers)
+      (shared : AreCallers issuer opening logs callers) where
+    no-places : (shard place : ℕ) (caller : Caller) → (number : ℕ) → slice_get callers number ≡ Some caller
+        → times_placed shard place caller.logs_now.mine ≡ 0
+    no-places shard place caller number is =
+        let one = shared.each number caller is in
+        let lines_are : caller.lines ≡ [] = dealt.lines_are number caller is ∙ every-none count number in
+        let answers_are : caller.answers ≡ [] = dealt.answers_are number caller is ∙ every-none count number in
+        let calls = subst (λ (given : List Answer).
+        Calls issuer [] given caller.claims caller.logs caller.claims_now caller.logs_now) answers_are
+        (subst (λ (ls : List (List ℕ)). Calls issuer ls caller.answers caller.claims caller.logs caller.claims_now
+        caller.logs_now) lines_are one.calls) in
+        ap (λ (view : TurnView LogItem LogHead). times_placed shard place view.mine) calls.1
+        ∙ ap (times_placed shard place) one.no_places
+
+    no-items : (shard : ℕ) → shard < issuer.shards → items_at logs shard ≡ items_at opening shard
+    no-items shard within =
+        let none : total (λ (caller : Caller). times_placed shard (length (items_at opening shard))
+        caller.logs_now.mine) callers ≡ 0 =
+        total-zero (λ (caller : Caller). times_placed shard (length (items_at opening shard)) caller.logs_now.mine)
+        callers
+        (λ number caller is. no-places shard (length (items_at opening shard)) caller number is) in
+        let least = between-none (length (items_at opening shard)) (length (items_at logs shard))
+        (sym (shared.own shard (length (items_at opening shard)) within) ∙ none) in
+        sym (take_all (length (items_at opening shard)) (items_at logs shard) least) ∙ shared.opening_front shard
+
+    no-items_at : (shard : ℕ) (was is : Book) (at : IsKeptAt shard was is) → at.last.items ≡ at.first.items
+    no-items_at shard was is at =
+        sym (items-of logs shard at.last at.last_at) ∙ no-items shard at.within
+        ∙ items-of opening shard at.first at.first_at
+
+    same-histories : histories_of last_books ≡ histories_of first_books
+    same-histories =
+        same-lists (histories_of last_books) (histories_of first_books)
+        (length-map last_books (λ (b : Book). b.history) ∙ count-last ∙ sym count-first
+        ∙ sym (length-map first_books (λ (b : Book). b.history)))
+        (λ shard is was is_at was_at.
+        let last = mapped-at (λ (b : Book). b.history) last_books shard is is_at in
+        let first = mapped-at (λ (b : Book). b.history) first_books shard was was_at in
+        let at = kept-at shard first.0 last.0 first.1 last.1 in
+        last.2 ∙ ap (λ (b : Book). b.history) at.is_is ∙ ap records_of (no-items_at shard first.0 last.0 at)
+        ∙ sym (first.2 ∙ ap (λ (b : Book). b.history) at.was_is))
+
+    no-fault : (shard : ℕ) (book : Book) → slice_get last_books shard ≡ Some book → book.told ≡ 0
+    no-fault shard book is =
+        let within : shard < issuer.shards = (let inside = slice_get_within last_books shard book is in
+        let long = count-last in omega (arith, inside, long)) in
+        let was = some-first shard within in
+        let at = kept-at shard was.0 book was.1 is in
+        ap (λ (b : Book). b.told) at.is_is ∙ ap (λ (items : List LogItem). length (faults_of items))
+        (no-items_at shard was.0 book at)
+        ∙ (was-journal shard was.0 book at).none_told
+
+    pub leaves-loaded_together : LeavesLoaded count issuer prefix told (map (store_seen G) back)
+    leaves-loaded_together = record {
+      first = first_books;
+      last = last_books;
+      kept = keep-together;
+      lawful = lawful-together sound;
+      none =
+          record {
+            same_histories = same-histories;
+            none_told = no-fault;
+            alone = λ one. absurd (omega (arith, one, more));
+          };
+      left = λ one. absurd (omega (arith, one, more));
+    }
+
+-- ---- what it leaves, by what its close says
+
+module _ {S : Type 0} {G : Ghosts S} (told_bytes : (store : S)
+    → IfSome (G.disk store) (λ disk. G.bytes store ≡ Some disk.now.bytes))
+    (issuer : Setup) (prefix : List ℕ) (told : Logged) where
+  -- a host under the issuer that it was loaded for was closed
+  module _ (first now : Lanes S G) (back : List S) (ready : IsReadyTogether issuer prefix told first)
+      (same : HasSameHost first now)
+      (asked : List (List ℕ)) (answers : List Answer) where
+    closed-under : HasClosed G.bytes G.disk G.faults (issuer_in now) (opening_logs now) (callers_in now) asked answers
+        back
+        → HasClosed G.bytes G.disk G.faults issuer (opening_logs first) (callers_in first) asked answers back
+    closed-under closed =
+        subst (λ (i : Setup). HasClosed G.bytes G.disk G.faults i (opening_logs first) (callers_in first) asked answers
+        back)
+        (same.same_issuer ∙ ready.issuer_is)
+        (subst (λ (o : List (Log LogItem LogHead)).
+        HasClosed G.bytes G.disk G.faults (issuer_in now) o (callers_in first) asked answers back)
+        same.same_opening
+        (subst (λ (n : ℕ). HasClosed G.bytes G.disk G.faults (issuer_in now) (opening_logs now) n asked answers back)
+        same.same_callers closed))
+
+  pub closes-together : (first now : Lanes S G) (back : List S) → IsReadyTogether issuer prefix told first
+      → HasSoundParts issuer
+      → (asked : List (List ℕ)) (text : List ℕ) → length asked ≤ MAX_LINES
+      → HaveAnswered first (map kept asked) text [] now
+      → ((issuer : Setup) (opening logs : List (Log LogItem LogHead)) (callers : List Caller)
+      → AreCallers issuer opening logs callers
+      → AreExplained issuer opening logs callers)
+      → ((issuer : Setup) (opening logs : List (Log LogItem LogHead)) (callers : List Caller)
+      → AreCallers issuer opening logs callers
+      → AreOwnPlaces issuer opening logs callers)
+      → ((issuer : Setup) (opening logs : List (Log LogItem LogHead)) (callers : List Caller)
+      → AreCallers issuer opening logs callers
+      → TellNoFault issuer logs → AreSettled issuer opening callers)
+      → ((issuer : Setup) (opening logs : List (Log LogItem LogHead)) (callers : List Caller)
+      → AreCallers issuer opening logs callers
+      → AreFaultsCounted issuer logs callers)
+      → ((lines : List (List ℕ)) (answers due : List Answer) → LanesServe now lines answers due []
+      → HasClosed G.bytes G.disk G.faults (issuer_in now) (opening_logs now) (callers_in now) lines answers back)
+      → LeavesAnswered (callers_in first) issuer prefix told (map (store_seen G) back) asked text
+  closes-together first now back ready sound asked text within so_far explained own settled counted closes =
+      let answers = so_far.answers in
+      let c = closed-under first now back ready so_far.same (map kept asked) answers
+      (closes (map kept asked) answers [] so_far.served) in
+      let count = callers_in first in
+      let opening = opening_logs first in
+      let callers = askers count asked answers c.callers c.dealt in
+      let shared = callers-kept count asked answers c.callers c.dealt issuer opening c.logs c.shared in
+      leaves-together count issuer prefix told ready.stores back opening c.logs ready.stores_are ready.opened
+      ready.opening c.shared.same_count c.closed told_bytes
+      ready.several sound asked answers callers (dealt-kept count asked answers c.callers c.dealt) shared
+      (explained issuer opening c.logs callers shared) (own issuer opening c.logs callers shared)
+      (settled issuer opening c.logs callers shared)
+      (counted issuer opening c.logs callers shared) within text so_far.text_is
+
+  pub closes-loaded_together : (host : Lanes S G) (back : List S) → IsReadyTogether issuer prefix told host
+      → HasSoundParts issuer
+      → ((lines : List (List ℕ)) (answers due : List Answer) → LanesServe host lines answers due []
+      → HasClosed G.bytes G.disk G.faults (issuer_in host) (opening_logs host) (callers_in host) lines answers back)
+      → LeavesLoaded (callers_in host) issuer prefix told (map (store_seen G) back)
+  closes-loaded_together host back ready sound closes =
+      let c = closed-under host host back ready
+      (record { same_issuer = refl; same_opening = refl; same_callers = refl }) [] []
+      (closes [] [] [] ready.none) in
+      leaves-loaded_together (callers_in host) issuer prefix told ready.stores back (opening_logs host) c.logs
+      ready.stores_are ready.opened ready.opening
+      c.shared.same_count c.closed told_bytes ready.several sound c.callers c.dealt c.shared
+
+-- ---- a line more
+
+module _ {S : Type 0} {G : Ghosts S} where
+  same-again : (a b c : Lanes S G) → HasSameHost a b → HasSameHost b c → HasSameHost a c
+  same-again a b c one two = record {
+    same_issuer = two.same_issuer ∙ one.same_issuer;
+    same_opening = two.same_opening ∙ one.same_opening;
+    same_callers = two.same_callers ∙ one.same_callers;
+  }
+
+  -- no line is answered yet
+  pub answer-none : (host : Lanes S G) → LanesServe host [] [] [] [] → HaveAnswered host [] [] [] host
+  answer-none host none = record {
+    same = record { same_issuer = refl; same_opening = refl; same_callers = refl };
+    answers = [];
+    text_is = refl;
+    served = none;
+  }
+
+  -- a line waits
+  pub takes-together : (first old new : Lanes S G) (line due : List ℕ) → HasSameHost old new
+      → ((lines : List (List ℕ)) (answers due : List Answer) (waiting : List (List ℕ))
+      → LanesServe old lines answers due waiting
+      → LanesServe new lines answers due (waiting ++ line ∷ []))
+      → (lines : List (List ℕ)) (text : List ℕ) (waiting : List (List ℕ)) → HaveAnswered first lines text waiting old
+      → TakesLine (λ lines text waiting. HaveAnswered first lines text waiting new) lines text waiting line due due
+  takes-together first old new line due same deals lines text waiting so_far = record {
+    answered = lines;
+    left = waiting ++ line ∷ [];
+    more = [];
+    all = sym (append_assoc lines waiting (line ∷ []));
+    due = sym (append-nil due);
+    served = record {
+      same = same-again first old new so_far.same same;
+      answers = so_far.answers;
+      text_is = append-nil text ∙ so_far.text_is;
+      served = deals lines so_far.answers [] waiting so_far.served;
+    };
+  }
+
+  -- the lines that waited are answered, and so many of the answers were taken
+  pub record AreBeingTaken (old now : Lanes S G) (was_due is_due : List ℕ) (lines : List (List ℕ))
+      (answers : List Answer)
+      (waiting : List (List ℕ)) : Type 0 where
+    pub same : HasSameHost old now
+    pub taken : List Answer
+    pub rest : List Answer
+    pub due : is_due ≡ was_due ++ flat_map printed taken
+    pub served : LanesServe now (lines ++ waiting) (answers ++ (taken ++ rest)) rest []
+
+  -- one more was taken
+  pub takes-answer : (old mid now : Lanes S G) (was_due due is_due : List ℕ) (answer : Answer) (lines : List (List ℕ))
+      (answers : List Answer)
+      (waiting : List (List ℕ)) (so_far : AreBeingTaken old mid was_due due lines answers waiting) → HasSameHost mid now
+      → ((rest : List Answer) × (so_far.rest ≡ answer ∷ rest)
+      × LanesServe now (lines ++ waiting) (answers ++ (so_far.taken ++ so_far.rest)) rest [])
+      → is_due ≡ due ++ printed answer → AreBeingTaken old now was_due is_due lines answers waiting
+  takes-answer old mid now was_due due is_due answer lines answers waiting so_far same next more = record {
+    same = same-again old mid now so_far.same same;
+    taken = so_far.taken ++ answer ∷ [];
+    rest = next.0;
+    due =
+        more ∙ ap (λ (t : List ℕ). t ++ printed answer) so_far.due
+        ∙ append_assoc was_due (flat_map printed so_far.taken) (printed answer)
+        ∙ ap (λ (t : List ℕ). was_due ++ t) (flat_map_more printed [] so_far.taken answer);
+    served = subst (λ (rest : List Answer). LanesServe now (lines ++ waiting) (answers ++ rest) next.0 [])
+        (ap (λ (rest : List Answer). so_far.taken ++ rest) next.1
+        ∙ sym (append_assoc so_far.taken (answer ∷ []) next.0)) next.2;
+  }
+
+  -- all were taken
+  pub settles-together : (first old now : Lanes S G) (was_due is_due : List ℕ) (lines : List (List ℕ)) (text : List ℕ)
+      (waiting : List (List ℕ))
+      (so_far : HaveAnswered first lines text waiting old)
+      (taking : AreBeingTaken old now was_due is_due lines so_far.answers waiting)
+      → taking.rest ≡ []
+      → Settles (λ lines text waiting. HaveAnswered first lines text waiting now) lines text waiting was_due is_due
+  settles-together first old now was_due is_due lines text waiting so_far taking none = record {
+    more = flat_map printed taking.taken;
+    due = taking.due;
+    served = record {
+      same = same-again first old now so_far.same taking.same;
+      answers = so_far.answers ++ taking.taken;
+      text_is =
+          ap (λ (t : List ℕ). t ++ flat_map printed taking.taken) so_far.text_is
+          ∙ sym (flat_map-append printed so_far.answers taking.taken);
+      served = subst (λ (rest : List Answer). LanesServe now (lines ++ waiting) (so_far.answers ++ rest) [] [])
+          (append-nil taking.taken)
+          (subst (λ (rest : List Answer). LanesServe now (lines ++ waiting) (so_far.answers ++ (taking.taken ++ rest))
+          rest []) none taking.served);
+    };
+  }

@@ -1,0 +1,161 @@
+-- The hosts that lines are served with: what is asked of each, and what the one of one caller is.
+use Rattle.std.specs.Prelude.{◌≡◌, ⊤, ℕ, ◌<◌, ◌≤◌, false, List, [], ◌∷◌, ◌++◌, length}
+use Rattle.std.specs.List.{flat_map}
+use Rattle.issuer_base.specs.declared.answer.Answer.{Answer}
+use Rattle.issuer_base.specs.declared.outside.store.Store.{Ghosts}
+use Rattle.issuer_setup.specs.IssuerSetup.{Setup}
+use Rattle.answer_text.specs.AnswerText.{printed}
+use Rattle.one_caller.specs.declared.solo.Solo.{Solo}
+use Rattle.one_caller.specs.Books.{Book}
+use Rattle.one_caller.specs.Runs.{HasRun}
+use Rattle.caller_lanes.specs.declared.lanes.Lanes.{Lanes}
+use Rattle.caller_lanes.specs.declared.lanes.TheConstants.{BLOCK_LINES}
+use Rattle.line_serving.specs.declared.hosts.LineHost.{LineHost}
+use Rattle.line_serving.specs.declared.hosts.LineHost.TheVariants.{Alone, Together}
+use Rattle.caller_lanes.specs.Lanes.{issuer_in, opening_logs, callers_in, waiting_in, due_in, is_full_in, HasSameHost}
+use Rattle.caller_lanes.specs.Lanes.{HasServed as LanesServe}
+use Rattle.line_serving.specs.Answers.{AreAnsweredBy, AnswersNone}
+use Rattle.host_calls.specs.OpeningLogs.{AreOpenedFrom}
+use Rattle.desk_host.specs.Journals.{AreOpened, IsReadySolo}
+use Rattle.desk_host.specs.Kept.{KeepJournals}
+use Rattle.desk_host.specs.Lawful.{IsLawful}
+use Rattle.desk_host.specs.Left.{LeaveJournals}
+use Rattle.desk_host.specs.SeenStores.{Logged, SeenStore}
+
+-- ---- what a host does
+
+-- `Served` says that lines were answered since the host was loaded, with this text, and that these wait
+
+-- one line more was taken: of all that were taken the first are answered and the others wait, and the text of answers
+-- given meanwhile is due, behind what was due
+pub record TakesLine (Served : List (List ℕ) → List ℕ → List (List ℕ) → Type 0) (lines : List (List ℕ)) (text : List ℕ)
+    (waiting : List (List ℕ))
+    (line was_due is_due : List ℕ) : Type 0 where
+  pub answered : List (List ℕ)
+  pub left : List (List ℕ)
+  pub more : List ℕ
+  pub all : answered ++ left ≡ (lines ++ waiting) ++ line ∷ []
+  pub due : is_due ≡ was_due ++ more
+  pub served : Served answered (text ++ more) left
+
+-- all lines that waited are answered, and the text of their answers is due, behind what was due
+pub record Settles (Served : List (List ℕ) → List ℕ → List (List ℕ) → Type 0) (lines : List (List ℕ)) (text : List ℕ)
+    (waiting : List (List ℕ))
+    (was_due is_due : List ℕ) : Type 0 where
+  pub more : List ℕ
+  pub due : is_due ≡ was_due ++ more
+  pub served : Served (lines ++ waiting) (text ++ more) []
+
+-- what a host of so many callers leaves that answered these lines since its journals were loaded
+pub record LeavesAnswered (count : ℕ) (issuer : Setup) (prefix : List ℕ) (logs : Logged) (stores : List SeenStore)
+    (lines : List (List ℕ))
+    (text : List ℕ) : Type 0 where
+  pub first : List Book
+  pub last : List Book
+  pub kept : KeepJournals issuer prefix logs stores first last
+  pub lawful : IsLawful issuer first last
+  pub answers : List Answer
+  pub answered : AreAnsweredBy count issuer first last lines answers
+  pub text_is : text ≡ flat_map printed answers
+
+-- what it leaves where it answered none
+pub record LeavesLoaded (count : ℕ) (issuer : Setup) (prefix : List ℕ) (logs : Logged)
+    (stores : List SeenStore) : Type 0 where
+  pub first : List Book
+  pub last : List Book
+  pub kept : KeepJournals issuer prefix logs stores first last
+  pub lawful : IsLawful issuer first last
+  pub none : AnswersNone count first last
+  pub left : count ≡ 1 → LeaveJournals prefix logs stores
+
+-- ---- the host of one caller, that of several, and either
+
+module _ {S : Type 0} {G : Ghosts S} where
+  -- since it was the first host, these lines were answered, with this text, and none waits
+  pub record HasAnswered (first : Solo S G) (lines : List (List ℕ)) (text : List ℕ) (waiting : List (List ℕ))
+      (now : Solo S G) : Type 0 where
+    pub none_waits : waiting ≡ []
+    pub issuer_is : now.issuer ≡ first.issuer
+    pub answers : List Answer
+    pub text_is : text ≡ flat_map printed answers
+    pub run : (books : List Book) → HasRun first.issuer first.shards.items books [] [] first.shards.items books
+        → (last : List Book) × HasRun first.issuer first.shards.items books lines answers now.shards.items last
+
+  -- it was loaded for this issuer and more than one caller, from the journals that the desk had under their names, and
+  -- has answered no line
+  pub record IsReadyTogether (issuer : Setup) (prefix : List ℕ) (logs : Logged) (host : Lanes S G) : Type 0 where
+    pub issuer_is : issuer_in host ≡ issuer
+    pub several : 1 < callers_in host
+    pub stores : List S
+    pub stores_are : length stores ≡ issuer.shards
+    pub opened : AreOpened G prefix logs stores
+    pub opening : AreOpenedFrom G.bytes G.disk G.faults issuer stores (opening_logs host)
+    pub none : LanesServe host [] [] [] []
+
+  -- since it was the first host, its callers answered these lines, with this text, and these wait
+  pub record HaveAnswered (first : Lanes S G) (lines : List (List ℕ)) (text : List ℕ) (waiting : List (List ℕ))
+      (now : Lanes S G) : Type 0 where
+    pub same : HasSameHost first now
+    pub answers : List Answer
+    pub text_is : text ≡ flat_map printed answers
+    pub served : LanesServe now lines answers [] waiting
+
+  -- all answers of its block were written, and none is to be taken; and another line may be taken
+  pub record OwesNone (host : Lanes S G) (lines : ℕ) : Type 0 where
+    pub no_lines : lines ≡ 0
+    pub none_due : due_in host ≡ 0
+
+  pub record TakesMore (host : Lanes S G) (lines : ℕ) : Type 0 where
+    pub owes_none : OwesNone host lines
+    pub not_full : is_full_in host ≡ false
+
+  -- it has so many callers, no line waits, and one may be taken
+  pub record IsFreshTogether (callers : ℕ) (host : Lanes S G) : Type 0 where
+    pub callers_are : callers_in host ≡ callers
+    pub takes_more : TakesMore host 0
+    pub none_waits : waiting_in host ≡ 0
+
+  -- ---- either host
+
+  -- how many callers it has
+  abbrev pub callers_of : LineHost S G → ℕ
+  callers_of (Alone host) = 1
+  callers_of (Together host) = callers_in host
+
+  -- it was just loaded for this issuer, from the journals that the desk had under their names
+  abbrev pub IsReady : Setup → List ℕ → Logged → LineHost S G → Type 0
+  IsReady issuer prefix logs (Alone host) = IsReadySolo issuer prefix logs host
+  IsReady issuer prefix logs (Together host) = IsReadyTogether issuer prefix logs host
+
+  -- since it was the first host, these lines were answered, with this text, and these were taken and wait
+  abbrev pub HasServed : LineHost S G → List (List ℕ) → List ℕ → List (List ℕ) → LineHost S G → Type 0
+  HasServed (Alone first) lines text waiting (Alone now) = HasAnswered first lines text waiting now
+  HasServed (Together first) lines text waiting (Together now) = HaveAnswered first lines text waiting now
+  HasServed _ lines text waiting _ = ⊥
+
+  -- the lines that wait may be settled into a block that has the answers to so many lines
+  abbrev pub MaySettle : LineHost S G → ℕ → Type 0
+  MaySettle (Alone host) lines = lines ≤ BLOCK_LINES
+  MaySettle (Together host) lines = OwesNone host lines
+
+  -- beside such a block another line may be taken
+  abbrev pub HasRoom : LineHost S G → ℕ → Type 0
+  HasRoom (Alone host) lines = lines < BLOCK_LINES
+  HasRoom (Together host) lines = TakesMore host lines
+
+  -- no line waits
+  abbrev pub IsSettled : LineHost S G → Type 0
+  IsSettled (Alone host) = ⊤
+  IsSettled (Together host) = waiting_in host ≡ 0
+
+  -- no line waits, and beside a block that has the answers to so many lines one may be taken
+  pub record IsIdle (host : LineHost S G) (lines : ℕ) : Type 0 where
+    pub room : HasRoom host lines
+    pub may_settle : MaySettle host lines
+    pub settled : IsSettled host
+
+  -- it has so many callers, has answered no line, and is idle
+  pub record IsFresh (callers : ℕ) (host : LineHost S G) : Type 0 where
+    pub callers_are : callers_of host ≡ callers
+    pub none_served : HasServed host [] [] [] host
+    pub idle : IsIdle host 0

@@ -1,0 +1,90 @@
+-- What serving a file of request lines does, from its first line on.
+use Rattle.std.specs.Prelude.{◌≡◌, ◌⊎◌, ℕ, Bool, true, false, List, [], ◌++◌, Option, Result, Ok}
+use Rattle.std.specs.Io.KnownBytes.{Appends}
+use Rattle.issuer_base.specs.declared.faults.WriteFault.{WriteFault}
+use Rattle.issuer_base.specs.Sink.{AppendsFront, WritesAll}
+use Rattle.issuer_base.specs.Tells.{Tells}
+use Rattle.line_reader.specs.Reading.{unread}
+use Rattle.line_serving.specs.declared.serve.Server.{Server}
+use Rattle.line_serving.specs.declared.serve.Served.{Served}
+use Rattle.line_serving.specs.declared.serve.Served.TheVariants.{All, ReadFault, WriteFault as SinkFault, TooLong}
+use Rattle.line_serving.specs.Answered.{WasRead, AreAllLines, AreWholeLines, AreLinesBefore, AreFirstLines}
+
+-- a server that has read nothing and owes no answer
+pub record IsNew (server : Server) : Type 0 where
+  pub reads_first : server.reader ≡ unread
+  pub none_due : server.block.text.items ≡ []
+  pub no_lines : server.block.lines ≡ 0
+
+-- lines were answered, and their answers written: `Which` says which lines, of the file and of what was read of it,
+-- `Answered` with which text, and `Written` what the sink took
+pub record ServesLines (Which : List ℕ → List ℕ → List (List ℕ) → Type 0) (Answered : List (List ℕ) → List ℕ → Type 0)
+    (Written : List ℕ → Type 0)
+    (was now : Option (List ℕ)) : Type 0 where
+  pub file : List ℕ
+  pub read : List ℕ
+  pub asked : List (List ℕ)
+  pub text : List ℕ
+  pub content : Tells was file
+  pub was_read : WasRead file read now
+  pub which : Which file read asked
+  pub answered : Answered asked text
+  pub written : Written text
+
+-- what serving did, by how it ended: of the input before and after, and of the sink before and after; `Answered` says
+-- of lines that they were answered, and with which text
+abbrev pub Serves : (List (List ℕ) → List ℕ → Type 0) → Option (List ℕ) → Option (List ℕ) → Option (List ℕ)
+    → Option (List ℕ) → Served → Type 0
+Serves Answered was now held_before held_after All =
+    ServesLines AreAllLines Answered (Appends held_before held_after) was now
+Serves Answered was now held_before held_after ReadFault =
+    ServesLines (λ file read asked. AreWholeLines read asked) Answered (Appends held_before held_after) was now
+Serves Answered was now held_before held_after SinkFault =
+    ServesLines AreFirstLines Answered (AppendsFront held_before held_after) was now
+Serves Answered was now held_before held_after (TooLong number) =
+    ServesLines (λ file read asked. AreLinesBefore number read asked) Answered (Appends held_before held_after) was now
+
+-- ---- lines that wait, and answers that are due
+
+-- `HasServed` says that lines were answered, with this text, and that these wait
+
+-- all lines are answered, and all answers were written, or the sink took a front of them and failed
+pub record WritesAnswers (HasServed : List (List ℕ) → List ℕ → List (List ℕ) → Type 0) (lines : List (List ℕ))
+    (text : List ℕ)
+    (waiting : List (List ℕ)) (due : List ℕ) (held_before held_after : Option (List ℕ))
+    (result : Result (Unit {0}) WriteFault) : Type 0 where
+  pub more : List ℕ
+  pub served : HasServed (lines ++ waiting) (text ++ more) []
+  pub written : WritesAll held_before held_after result (due ++ more)
+
+-- so it is, and no answer is due; or lines wait and answers are due as before
+abbrev pub WritesDue : (List (List ℕ) → List ℕ → List (List ℕ) → Type 0) → List (List ℕ) → List ℕ → List (List ℕ)
+    → List ℕ → List ℕ
+    → Option (List ℕ) → Option (List ℕ) → Result (Unit {0}) WriteFault → Type 0
+WritesDue HasServed lines text waiting due left held_before held_after result =
+    ((left ≡ []) × WritesAnswers HasServed lines text waiting due held_before held_after result)
+    ⊎ ((result ≡ Ok tt) × (left ≡ due) × (held_after ≡ held_before) × HasServed lines text waiting)
+
+-- all lines are answered, and the answers that were left were written, and serving ended so; or the sink took a front
+-- of them and failed
+pub record EndsBy (HasServed : List (List ℕ) → List ℕ → List (List ℕ) → Type 0) (lines : List (List ℕ)) (text : List ℕ)
+    (waiting : List (List ℕ)) (due : List ℕ) (held_before held_after : Option (List ℕ))
+    (how ended : Served) : Type 0 where
+  pub more : List ℕ
+  pub answered : HasServed (lines ++ waiting) (text ++ more) []
+  pub ends : ((ended ≡ how) × Appends held_before held_after (due ++ more))
+      ⊎ ((ended ≡ SinkFault) × AppendsFront held_before held_after (due ++ more))
+
+-- whether the input failed, and the answers before were written
+abbrev pub read_failed : Served → Bool
+read_failed All = false
+read_failed ReadFault = true
+read_failed SinkFault = false
+read_failed (TooLong number) = false
+
+-- whether the sink failed
+abbrev pub write_failed : Served → Bool
+write_failed All = false
+write_failed ReadFault = false
+write_failed SinkFault = true
+write_failed (TooLong number) = false

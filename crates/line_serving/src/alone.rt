@@ -1,0 +1,51 @@
+//! Lines that one caller answers, each at once.
+ghost use Rattle.std.specs.Prelude.{◌≡◌, ◌+◌, ◌<◌, ℕ, List, [], map};
+ghost use Rattle.issuer_setup.specs.IssuerSetup.{Setup};
+ghost use Rattle.line_reader.specs.Reading.{kept};
+ghost use Rattle.caller_lanes.specs.declared.lanes.TheConstants.{BLOCK_LINES};
+ghost use Rattle.desk_host.specs.Configuration.{HasSoundParts};
+ghost use Rattle.desk_host.specs.Journals.{IsReadySolo};
+ghost use Rattle.line_serving.specs.Hosts.{TakesLine, LeavesAnswered, LeavesLoaded, HasAnswered};
+ghost use Rattle.desk_host.specs.SeenStores.{Logged, store_seen};
+
+use crate::block::Block;
+use one_caller::Solo;
+use issuer_base::{Gate, Store};
+use std::sync::Wait;
+
+/// Answers the line with this number, of which the gate is told before it and behind it. The answer goes into the
+/// block.
+pub(crate) fn answer_at_once<S: Store, R: Wait, G: Gate>(
+    host: &mut Solo<S>,
+    rt: &R,
+    gate: &G,
+    number: u64,
+    line: &[u8],
+    block: &mut Block,
+)
+    requires { block.old.lines < BLOCK_LINES }
+    ensures taken { (first : Solo S S.Store) (lines : List (List ℕ)) (text : List ℕ) (waiting : List (List ℕ))
+        → HasAnswered first lines text waiting host.old
+        → TakesLine (λ lines text waiting. HasAnswered first lines text waiting host.new) lines text waiting line.now
+        block.old.text.items
+        block.new.text.items }
+    ensures one_more { block.new.lines ≡ block.old.lines + 1 }
+{
+    gate.at(rt, number);
+    let answer = host.authorise(line);
+    gate.done(rt, number);
+    block.add(&answer);
+}
+
+/// The stores of the host's journals, in the order of their shards.
+pub(crate) fn close_alone<S: Store>(host: Solo<S>) -> Vec<S>
+    ensures answered { (issuer : Setup) (prefix : List ℕ) (logs : Logged) (first : Solo S S.Store)
+        (lines : List (List ℕ)) (text : List ℕ)
+        → IsReadySolo issuer prefix logs first → HasSoundParts issuer → HasAnswered first (map kept lines) text [] host
+        → LeavesAnswered 1 issuer prefix logs (map (store_seen S.Store) result.items) lines text }
+    ensures loaded { (issuer : Setup) (prefix : List ℕ) (logs : Logged) → IsReadySolo issuer prefix logs host
+        → HasSoundParts issuer
+        → LeavesLoaded 1 issuer prefix logs (map (store_seen S.Store) result.items) }
+{
+    host.close()
+}

@@ -1,0 +1,108 @@
+//! The hosts that lines are served with: that of one caller, and that of several.
+ghost use Rattle.std.specs.Prelude.{◌≡◌, ◌≤◌, ℕ, List, [], length, map, false};
+ghost use Rattle.issuer_base.specs.declared.limits.TheConstants.{KEPT_BYTES};
+ghost use Rattle.issuer_setup.specs.IssuerSetup.{Setup};
+ghost use Rattle.line_reader.specs.declared.limits.TheConstants.{MAX_LINES};
+ghost use Rattle.line_reader.specs.Reading.{kept};
+ghost use Rattle.desk_host.specs.Configuration.{HasSoundParts};
+ghost use Rattle.desk_host.specs.SeenStores.{Logged, store_seen};
+
+use crate::alone::{answer_at_once, close_alone};
+use crate::block::Block;
+use crate::together::{close_together, settle_together};
+use caller_lanes::Lanes;
+use one_caller::Solo;
+use issuer_base::{Gate, Store};
+use std::sync::Wait;
+use std::thread::Threads;
+
+/// The host of a run: with one caller, who answers each line at once, or with several, who answer lines together.
+pub enum LineHost<S: Store> {
+    /// One caller.
+    Alone(Solo<S>),
+    /// Several callers.
+    Together(Lanes<S>),
+}
+
+impl<S: Store> LineHost<S> {
+    ghost use Rattle.line_serving.specs.Hosts.{TakesLine, Settles, LeavesAnswered, LeavesLoaded, callers_of, IsReady};
+    ghost use Rattle.line_serving.specs.Hosts.{HasServed, MaySettle, HasRoom, IsSettled};
+
+    /// Whether no other line is taken before the lines that wait are settled and the answers of the block are written.
+    pub(crate) fn is_full(&self, block: &Block) -> bool
+        requires { MaySettle self.now block.now.lines }
+        ensures { result ≡ false → HasRoom self.now block.now.lines }
+    {
+        match self {
+            LineHost::Alone(_) => block.is_full(),
+            LineHost::Together(lanes) => lanes.is_full(),
+        }
+    }
+
+    /// Takes the line with this number. Its answer goes into the block at once, or it waits.
+    pub(crate) fn take_line<R: Wait, G: Gate>(
+        &mut self,
+        rt: &R,
+        gate: &G,
+        number: u64,
+        line: &[u8],
+        block: &mut Block,
+    )
+        requires room { HasRoom self.old block.old.lines }
+        requires kept { length line.now ≤ KEPT_BYTES }
+        ensures taken { (first : LineHost S S.Store) (lines : List (List ℕ)) (text : List ℕ) (waiting : List (List ℕ))
+            → HasServed first lines text waiting self.old
+            → TakesLine (λ lines text waiting. HasServed first lines text waiting self.new) lines text waiting line.now
+            block.old.text.items
+            block.new.text.items }
+        ensures open { MaySettle self.new block.new.lines }
+    {
+        match self {
+            LineHost::Alone(host) => answer_at_once(host, rt, gate, number, line, block),
+            LineHost::Together(lanes) => lanes.deal(line),
+        }
+    }
+
+    /// Answers all lines that wait. Their answers go into the block.
+    pub(crate) fn settle<R: Threads + Wait + Sync, G: Gate + Sync>(
+        &mut self,
+        rt: &R,
+        gate: &G,
+        block: &mut Block,
+    )
+    where
+        S: Send,
+        requires { MaySettle self.old block.old.lines }
+        ensures answered { (first : LineHost S S.Store) (lines : List (List ℕ)) (text : List ℕ)
+            (waiting : List (List ℕ))
+            → HasServed first lines text waiting self.old
+            → Settles (λ lines text waiting. HasServed first lines text waiting self.new) lines text waiting
+            block.old.text.items
+            block.new.text.items }
+        ensures room { HasRoom self.new 0 × MaySettle self.new 0 }
+        ensures settled { IsSettled self.new }
+    {
+        match self {
+            LineHost::Alone(_) => {}
+            LineHost::Together(lanes) => settle_together(lanes, rt, gate, block),
+        }
+    }
+
+    /// The stores of its journals, in the order of their shards.
+    pub fn close(self) -> Vec<S>
+        requires { IsSettled self }
+        ensures answered { (issuer : Setup) (prefix : List ℕ) (logs : Logged) (first : LineHost S S.Store)
+            (lines : List (List ℕ)) (text : List ℕ)
+            → IsReady issuer prefix logs first → HasSoundParts issuer → length lines ≤ MAX_LINES
+            → HasServed first (map kept lines) text [] self
+            → LeavesAnswered (callers_of first) issuer prefix logs (map (store_seen S.Store) result.items) lines text }
+        ensures loaded { (issuer : Setup) (prefix : List ℕ) (logs : Logged) → IsReady issuer prefix logs self
+            → HasSoundParts issuer
+            → LeavesLoaded (callers_of self) issuer prefix logs (map (store_seen S.Store) result.items) }
+    {
+        match self {
+            LineHost::Alone(host) => close_alone(host),
+            LineHost::Together(lanes) => close_together(lanes),
+        }
+    }
+}

@@ -1,0 +1,13 @@
+//! Request lines, answered by one caller or by several at once, and their answers, written in blocks.
+#![tactic(auto)]
+
+mod alone;
+mod block;
+mod hosts;
+mod loading;
+mod serve;
+mod together;
+
+pub use hosts::LineHost;
+pub use loading::load_host;
+pub use serve::{Served, Server};

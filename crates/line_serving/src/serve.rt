@@ -1,0 +1,215 @@
+//! Request lines, answered one after another or several together, and their answers, written in blocks.
+ghost use Rattle.std.specs.Prelude.{◌≡◌, ◌≤◌, true, false, ℕ, List, [], length, map, is_err, IfOk, OnOk, OnErr};
+ghost use Rattle.issuer_base.specs.OutsideFaults.{Rose, CountsFaults};
+ghost use Rattle.issuer_base.specs.declared.limits.TheConstants.{KEPT_BYTES};
+ghost use Rattle.line_reader.specs.Reading.{kept};
+
+use crate::block::Block;
+use crate::hosts::LineHost;
+use issuer_base::{Gate, NoMemory, Sink, Source, Store, WriteFault};
+use line_reader::{LineReader, NextLine};
+use std::alloc::Global;
+use std::sync::Wait;
+use std::thread::Threads;
+
+/// What it takes to read lines for a host and to write its answers.
+#[derive(Drop)]
+pub struct Server {
+    pub(crate) reader: LineReader,
+    pub(crate) block: Block,
+}
+
+/// How serving ended.
+#[derive(Clone, Copy)]
+pub enum Served {
+    /// All lines were answered.
+    All,
+    /// The input failed.
+    ReadFault,
+    /// The sink failed.
+    WriteFault,
+    /// The input goes past a limit.
+    TooLong {
+        /// The number of the line, from 1, in which it does.
+        line: u64,
+    },
+}
+
+impl Server {
+    ghost use Rattle.line_serving.specs.Hosts.{TakesLine, HasServed, MaySettle, HasRoom, IsSettled, IsIdle};
+    ghost use Rattle.line_serving.specs.Serving.{IsNew, Serves, WritesAnswers, WritesDue, EndsBy, read_failed};
+    ghost use Rattle.line_serving.specs.Serving.{write_failed};
+
+    /// All the memory that serving takes.
+    pub fn new(alloc: Global) -> Result<Self, NoMemory>
+        ensures { IfOk result IsNew }
+    {
+        Ok(Server {
+            reader: LineReader::new(alloc)?,
+            block: Block::new(alloc)?,
+        })
+    }
+
+    /// Answers the lines of an input. Answers are written where the host or their block is full, and before more of the
+    /// input is waited for. The gate is told of each line by its number, from 1: before it is answered and once it is.
+    pub fn serve<R, T, I, W, G>(
+        &mut self,
+        rt: &R,
+        gate: &G,
+        host: &mut LineHost<T>,
+        source: &mut I,
+        out: &mut W,
+    ) -> Served
+    where
+        R: Threads + Wait + Sync,
+        T: Store + Send,
+        I: Source,
+        W: Sink,
+        G: Gate + Sync,
+        requires new { IsNew self.old }
+        requires room { HasRoom host.old 0 × MaySettle host.old 0 }
+        ensures served { (first : LineHost T T.Store) → HasServed first [] [] [] host.old
+            → Serves (λ lines text. HasServed first (map kept lines) text [] host.new) (I.left source.old)
+            (I.left source.new)
+            (W.held out.old) (W.held out.new) result }
+        ensures settled { IsSettled host.new }
+        ensures source_count { read_failed result ≡ true → Rose (I.faults source.old) (I.faults source.new) }
+        ensures sink_count { CountsFaults (W.faults out.old) (W.faults out.new) (write_failed result) }
+    {
+        loop {
+            match self.reader.next_line(source) {
+                NextLine::Line => {
+                    self.take_line(rt, gate, host);
+                    match self.write_due(rt, gate, host, out) {
+                        Ok(()) => {}
+                        Err(WriteFault) => return Served::WriteFault,
+                    }
+                }
+                NextLine::Rest => {
+                    self.take_line(rt, gate, host);
+                    return self.end(rt, gate, host, Served::All, out);
+                }
+                NextLine::End => return self.end(rt, gate, host, Served::All, out),
+                NextLine::Fault => return self.end(rt, gate, host, Served::ReadFault, out),
+                NextLine::TooLong => {
+                    let line = u64::from(self.reader.number()) + 1;
+                    return self.end(rt, gate, host, Served::TooLong { line }, out);
+                }
+            }
+        }
+    }
+
+    /// Lets the host take the line in hand.
+    fn take_line<R: Wait, T: Store, G: Gate>(&mut self, rt: &R, gate: &G, host: &mut LineHost<T>)
+        requires room { HasRoom host.old self.old.block.lines }
+        requires kept { length self.old.reader.line ≤ KEPT_BYTES }
+        ensures taken { (first : LineHost T T.Store) (lines : List (List ℕ)) (text : List ℕ) (waiting : List (List ℕ))
+            → HasServed first lines text waiting host.old
+            → TakesLine (λ lines text waiting. HasServed first lines text waiting host.new) lines text waiting
+            self.old.reader.line
+            self.old.block.text.items self.new.block.text.items }
+        ensures open { MaySettle host.new self.new.block.lines }
+        ensures reader { self.new.reader ≡ self.old.reader }
+    {
+        let number = u64::from(self.reader.number());
+        host.take_line(rt, gate, number, self.reader.line(), &mut self.block);
+    }
+
+    /// Settles the lines that wait and writes the answers, where that is due.
+    fn write_due<R, T, W, G>(
+        &mut self,
+        rt: &R,
+        gate: &G,
+        host: &mut LineHost<T>,
+        out: &mut W,
+    ) -> Result<(), WriteFault>
+    where
+        R: Threads + Wait + Sync,
+        T: Store + Send,
+        W: Sink,
+        G: Gate + Sync,
+        requires open { MaySettle host.old self.old.block.lines }
+        ensures written { (first : LineHost T T.Store) (lines : List (List ℕ)) (text : List ℕ) (waiting : List (List ℕ))
+            → HasServed first lines text waiting host.old
+            → WritesDue (λ lines text waiting. HasServed first lines text waiting host.new) lines text waiting
+            self.old.block.text.items
+            self.new.block.text.items (W.held out.old) (W.held out.new) result }
+        ensures room { OnOk result (HasRoom host.new self.new.block.lines × MaySettle host.new self.new.block.lines) }
+        ensures settled { OnErr result (IsSettled host.new) }
+        ensures reader { self.new.reader ≡ self.old.reader }
+        ensures count { CountsFaults (W.faults out.old) (W.faults out.new) (is_err result) }
+    {
+        if self.is_due(host) {
+            self.write(rt, gate, host, out)
+        } else {
+            Ok(())
+        }
+    }
+
+    /// Whether answers are to be written before more is read: no other line can be taken, or no whole line is in hand.
+    fn is_due<T: Store>(&self, host: &LineHost<T>) -> bool
+        requires { MaySettle host.now self.now.block.lines }
+        ensures { result ≡ false → HasRoom host.now self.now.block.lines }
+    {
+        host.is_full(&self.block) || !self.reader.has_line()
+    }
+
+    /// Settles the lines that wait, and writes all answers.
+    fn write<R, T, W, G>(
+        &mut self,
+        rt: &R,
+        gate: &G,
+        host: &mut LineHost<T>,
+        out: &mut W,
+    ) -> Result<(), WriteFault>
+    where
+        R: Threads + Wait + Sync,
+        T: Store + Send,
+        W: Sink,
+        G: Gate + Sync,
+        requires open { MaySettle host.old self.old.block.lines }
+        ensures written { (first : LineHost T T.Store) (lines : List (List ℕ)) (text : List ℕ) (waiting : List (List ℕ))
+            → HasServed first lines text waiting host.old
+            → WritesAnswers (λ lines text waiting. HasServed first lines text waiting host.new) lines text waiting
+            self.old.block.text.items
+            (W.held out.old) (W.held out.new) result }
+        ensures none { self.new.block.text.items ≡ [] }
+        ensures idle { IsIdle host.new self.new.block.lines }
+        ensures reader { self.new.reader ≡ self.old.reader }
+        ensures count { CountsFaults (W.faults out.old) (W.faults out.new) (is_err result) }
+    {
+        host.settle(rt, gate, &mut self.block);
+        self.block.write(out)
+    }
+
+    /// Settles the lines that wait, writes the answers that are left, and says how serving ended.
+    fn end<R, T, W, G>(
+        &mut self,
+        rt: &R,
+        gate: &G,
+        host: &mut LineHost<T>,
+        served: Served,
+        out: &mut W,
+    ) -> Served
+    where
+        R: Threads + Wait + Sync,
+        T: Store + Send,
+        W: Sink,
+        G: Gate + Sync,
+        requires open { MaySettle host.old self.old.block.lines }
+        ensures ended { (first : LineHost T T.Store) (lines : List (List ℕ)) (text : List ℕ) (waiting : List (List ℕ))
+            → HasServed first lines text waiting host.old
+            → EndsBy (λ lines text waiting. HasServed first lines text waiting host.new) lines text waiting
+            self.old.block.text.items
+            (W.held out.old) (W.held out.new) served result }
+        ensures settled { IsSettled host.new }
+        ensures count { write_failed served ≡ false
+            → CountsFaults (W.faults out.old) (W.faults out.new) (write_failed result) }
+        ensures read { read_failed result ≡ true → read_failed served ≡ true }
+    {
+        match self.write(rt, gate, host, out) {
+            Ok(()) => served,
+            Err(WriteFault) => Served::WriteFault,
+        }
+    }
+}
