@@ -7,7 +7,7 @@ use crate::words::{LINE_ROOM, put, put_number};
 use arrayvec::ArrayVec;
 
 /// The error with which a run stops, before its input ends or before it began.
-#[derive(Clone, Copy, PartialEq, Eq, Debug)]
+#[derive(Clone, Copy)]
 pub enum Stop {
     /// The command-line arguments are wrong: status 1.
     Usage,

@@ -3,7 +3,7 @@
 use cvr_settle::Flight;
 
 /// What a shard's history shows of a card: its counters, its status and its script commands.
-#[derive(Clone, Copy, PartialEq, Eq, Debug)]
+#[derive(Clone, Copy, PartialEq, Eq)]
 pub struct CardView {
     /// The greatest transaction counter that was decided, or none.
     pub hi: Option<u16>,

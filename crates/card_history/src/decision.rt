@@ -3,7 +3,7 @@
 use issuer_base::{Command, Pan, Reply, Request};
 
 /// What a line requests of a host.
-#[derive(Clone, PartialEq, Eq, Debug, Drop)]
+#[derive(Drop)]
 pub enum Asked {
     /// This request is to be decided.
     Decide(Request),
@@ -16,7 +16,7 @@ pub enum Asked {
 }
 
 /// A decided request with its reply, and the index of its record in the shard's history, from 0.
-#[derive(Clone, PartialEq, Eq, Debug, Drop)]
+#[derive(Drop)]
 pub struct Decision {
     /// The request that was decided.
     pub request: Request,

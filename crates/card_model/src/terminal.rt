@@ -1,7 +1,7 @@
 //! The terminal's data of a transaction.
 
 /// The terminal's data of a transaction: EMV 4.3 Book 3, Annex A.
-#[derive(Clone, Copy, PartialEq, Eq, Debug)]
+#[derive(Clone, Copy)]
 pub struct Terminal {
     /// The terminal verification results, tag 95.
     pub tvr: [u8; 5],

@@ -7,7 +7,7 @@ ghost use Rattle.chip_request.specs.Forms.{fits, account_number_in};
 use issuer_base::{Pan, are_decimal, has_profile};
 
 /// What the value of a field has to be.
-#[derive(Clone, Copy, Debug, PartialEq, Eq)]
+#[derive(Clone, Copy)]
 pub(crate) enum Form {
     /// So many bytes.
     Bytes(usize),

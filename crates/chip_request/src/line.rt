@@ -13,7 +13,7 @@ use issuer_base::{MAX_CHIP_BYTES, Pan};
 pub const MAX_QUEUE_BYTES: usize = 128;
 
 /// What a line asks for.
-#[derive(Clone, Debug, PartialEq, Eq, Drop)]
+#[derive(Drop)]
 pub enum LineKind {
     /// The check of a request, with its chip data: `A`, one space, and 1 to 1,024 pairs of hexadecimal digits.
     Ask(ArrayVec<u8, MAX_CHIP_BYTES>),
@@ -36,7 +36,7 @@ pub enum LineKind {
 }
 
 /// What a line asks for, with its data as the first `count` bytes of the caller's buffer.
-#[derive(Clone, Debug, PartialEq, Eq, Drop)]
+#[derive(Drop)]
 pub enum LineForm {
     /// As [`LineKind::Ask`].
     Ask {

@@ -11,7 +11,7 @@ use crate::form::Form;
 use tlv_objects::Object;
 
 /// A field that a request may have.
-#[derive(Clone, Copy, Debug, PartialEq, Eq)]
+#[derive(Clone, Copy)]
 pub(crate) struct Field {
     pub(crate) tag: u32,
     pub(crate) is_required: bool,
@@ -49,14 +49,14 @@ const FIELDS: [Field; 15] = [
 
 /// What was found of each field, in the order of the table: the value of the first object with its tag, and whether
 /// there is another.
-#[derive(Clone, Copy, Debug)]
+#[derive(Clone, Copy)]
 pub(crate) struct Slots<'a> {
     pub(crate) firsts: [Option<&'a [u8]>; 15],
     pub(crate) are_repeated: [bool; 15],
 }
 
 /// What may be wrong with a field.
-#[derive(Clone, Copy, Debug, PartialEq, Eq)]
+#[derive(Clone, Copy)]
 pub(crate) enum Wrong {
     Missing,
     Misformed,

@@ -3,7 +3,7 @@ ghost use Rattle.std.specs.Prelude.{◌≡◌};
 ghost use Rattle.cvr_settle.specs.Settlement.{settled};
 
 /// The batch in flight: the issuer script commands that the last reply carried to a card.
-#[derive(Clone, Copy, PartialEq, Eq, Debug)]
+#[derive(Clone, Copy, PartialEq, Eq)]
 pub struct Flight {
     /// The ATC of the request that was replied to.
     pub counter: u16,

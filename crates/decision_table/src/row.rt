@@ -11,7 +11,7 @@ use issuer_base::Request;
 pub const MAX_AMOUNT: u64 = 999_999_999_999;
 
 /// One row of a decision table: which requests it matches, and what it decides.
-#[derive(Clone, Copy, PartialEq, Eq, Default, Debug)]
+#[derive(Clone, Copy, Default)]
 pub struct TableRow {
     /// Which bits of the terminal verification results, tag 95, are compared.
     pub tvr_mask: [u8; 5],

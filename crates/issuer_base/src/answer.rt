@@ -5,7 +5,7 @@ use crate::limits::MAX_REPLY_BYTES;
 use arrayvec::ArrayVec;
 
 /// What the host answers to a request that it decided.
-#[derive(Clone, PartialEq, Eq, Debug, Drop)]
+#[derive(PartialEq, Eq, Drop)]
 pub struct Reply {
     /// The authorisation response code, tag 8A.
     pub arc: [u8; 2],
@@ -63,7 +63,7 @@ pub enum MasterOption {
 }
 
 /// The answer to one line of the host's input.
-#[derive(Clone, PartialEq, Eq, Debug, Drop)]
+#[derive(PartialEq, Eq, Drop)]
 pub enum Answer {
     /// The request was decided now. Its record is at this index of this shard's journal.
     Fresh { shard: u8, place: u64, reply: Reply },

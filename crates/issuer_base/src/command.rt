@@ -5,7 +5,7 @@ use crate::limits::MAX_BODY_BYTES;
 use arrayvec::ArrayVec;
 
 /// An issuer script command for a card, before it is sealed: EMV 4.3 Book 3, section 6.3.2.
-#[derive(Clone, PartialEq, Eq, Debug, Drop)]
+#[derive(PartialEq, Eq, Drop)]
 pub struct Command {
     /// The class byte.
     pub cla: u8,
@@ -28,7 +28,18 @@ impl Command {
     pub fn copy(&self) -> Command
         ensures { result ≡ self.now }
     {
-        self.clone().unwrap()
+        let mut command = Command {
+            cla: self.cla,
+            ins: self.ins,
+            p1: self.p1,
+            p2: self.p2,
+            body: ArrayVec::new(),
+        };
+        command
+            .body
+            .try_extend_from_slice(self.body.as_slice())
+            .unwrap();
+        command
     }
 
     /// Whether the two are the same, as `==` is.

@@ -7,7 +7,7 @@ use crate::pan::Pan;
 use crate::request::Request;
 
 /// A record of a shard's journal.
-#[derive(Clone, PartialEq, Eq, Debug, Drop)]
+#[derive(Drop)]
 pub enum Entry {
     /// A request was decided, with this reply.
     Decided { request: Request, reply: Reply },
@@ -24,10 +24,25 @@ impl Entry {
     pub fn copy(&self) -> Entry
         ensures { result ≡ self.now }
     {
-        self.clone().unwrap()
+        match self {
+            Entry::Decided { request, reply } => Entry::Decided {
+                request: request.copy(),
+                reply: reply.copy(),
+            },
+            Entry::Queued { pan, psn, command } => Entry::Queued {
+                pan: pan.copy(),
+                psn: *psn,
+                command: command.copy(),
+            },
+            Entry::Status { pan, psn, status } => Entry::Status {
+                pan: pan.copy(),
+                psn: *psn,
+                status: *status,
+            },
+        }
     }
 
-    /// Whether the two are the same, as `==` is.
+    /// Whether the two are the same.
     pub fn is_same(&self, other: &Entry) -> bool
         ensures { IsTrue result ↔ (self.now ≡ other.now) }
     {

@@ -10,7 +10,7 @@ use std::marker::Model;
 /// A card's primary account number: 8 to 19 decimal digits, from the left, each a value from 0 to 9.
 ///
 /// A contract sees the list of its digits.
-#[derive(Clone, PartialEq, Eq, PartialOrd, Ord, Hash, Debug, Drop)]
+#[derive(PartialEq, Eq, PartialOrd, Ord, Drop)]
 pub struct Pan {
     kept: ArrayVec<u8, MAX_PAN_DIGITS>,
 }

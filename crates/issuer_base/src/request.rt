@@ -8,7 +8,7 @@ use crate::pan::Pan;
 use std::marker::Model;
 
 /// The fields of one request for a cryptogram's check, as the terminal sends them: EMV 4.3 Book 3, Annex A.
-#[derive(Clone, PartialEq, Eq, Debug, Drop)]
+#[derive(PartialEq, Eq, Drop)]
 pub struct Parts {
     /// The primary account number, tag 5A.
     pub pan: Pan,
@@ -91,7 +91,7 @@ impl Parts {
 /// A request whose fields have the forms that the host reads.
 ///
 /// A contract sees its `Parts`.
-#[derive(Clone, PartialEq, Eq, Debug, Drop)]
+#[derive(PartialEq, Eq, Drop)]
 pub struct Request {
     fields: Parts,
 }

@@ -8,7 +8,7 @@ use std::marker::Model;
 /// Command-line arguments.
 ///
 /// A contract sees the list of the arguments, each as the list of its bytes.
-#[derive(Debug, Drop)]
+#[derive(Drop)]
 pub struct Words {
     kept: Vec<String>,
     alloc: Global,

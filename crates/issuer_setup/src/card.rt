@@ -3,7 +3,7 @@
 use issuer_base::{Method, Pan};
 
 /// A card of the issuer, as the configuration names it.
-#[derive(Clone, PartialEq, Eq, Debug, Drop)]
+#[derive(Drop)]
 pub struct CardInfo {
     /// The primary account number, tag 5A.
     pub pan: Pan,

@@ -8,7 +8,7 @@ use std::marker::Model;
 /// A number of shards that an issuer may have: 1 to 16.
 ///
 /// A contract sees the number.
-#[derive(Clone, Copy, PartialEq, Eq, Debug)]
+#[derive(Clone, Copy)]
 pub struct ShardCount {
     count: u8,
 }

@@ -10,7 +10,7 @@ use issuer_base::{MasterOption, Pan};
 use std::marker::Model;
 
 /// The issuer's master keys that a derivation key index names.
-#[derive(Clone, Copy, PartialEq, Eq, Debug)]
+#[derive(Clone, Copy)]
 pub struct KeySet {
     /// The derivation key index.
     pub dki: u8,

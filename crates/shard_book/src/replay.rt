@@ -38,7 +38,7 @@ pub(crate) struct TakenOver {
 }
 
 /// How many records were taken over from the front of a text, and how many bytes they have.
-#[derive(Clone, Copy, PartialEq, Eq, Debug)]
+#[derive(Clone, Copy)]
 pub(crate) struct Taken {
     pub(crate) records: u64,
     pub(crate) bytes: usize,

@@ -26,7 +26,7 @@ pub enum TlvFault {
 }
 
 /// A cursor over the objects of a text.
-#[derive(Debug, Drop)]
+#[derive(Drop)]
 pub struct Objects<'a> {
     ahead: &'a [u8],
     at: usize,

@@ -5,7 +5,7 @@ use card_model::Terminal;
 use issuer_base::{Command, MAX_CHIP_BYTES};
 
 /// An event of a world: of a card, of a caller of the host, of the store of a shard, or of the host itself.
-#[derive(Clone, PartialEq, Eq, Debug, Drop)]
+#[derive(Drop)]
 pub enum Event {
     /// The card with this number is tapped at a terminal, and makes a request.
     Tap {

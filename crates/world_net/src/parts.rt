@@ -4,7 +4,7 @@ ghost use Rattle.std.specs.Prelude.{◌≡◌};
 use issuer_base::{Reply, Request};
 
 /// A request that a card made.
-#[derive(Clone, PartialEq, Eq, Debug, Drop)]
+#[derive(Drop)]
 pub struct MadeRequest {
     /// The number of the card.
     pub card: u32,
@@ -13,7 +13,7 @@ pub struct MadeRequest {
 }
 
 /// A caller's open claim on the counter of a request.
-#[derive(Clone, PartialEq, Eq, Debug, Drop)]
+#[derive(Drop)]
 pub struct OpenClaim {
     pub caller: u8,
 
@@ -21,7 +21,7 @@ pub struct OpenClaim {
 }
 
 /// A request and the reply to it.
-#[derive(Clone, PartialEq, Eq, Debug, Drop)]
+#[derive(Drop)]
 pub struct Exchange {
     pub request: Request,
 

@@ -3,7 +3,7 @@ ghost use Rattle.std.specs.Prelude.{◌≡◌, ◌<◌};
 ghost use Rattle.world_play.specs.Moves.{moves_of};
 
 /// One move of a step, with the step's card, its host, and the network between them.
-#[derive(Clone, Copy, PartialEq, Eq, Debug)]
+#[derive(Clone, Copy)]
 pub enum Move {
     /// The step's command with this number is queued for the card.
     Queue(u8),

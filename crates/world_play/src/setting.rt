@@ -63,7 +63,7 @@ const APPROVES: TableRow = TableRow {
 };
 
 /// A step of a run: its number from 0, its card and round, and the run's seed.
-#[derive(Clone, Copy, PartialEq, Eq, Debug)]
+#[derive(Clone, Copy)]
 pub(crate) struct Step {
     pub(crate) index: u32,
     pub(crate) card: u32,

@@ -12,7 +12,7 @@ use arrayvec::ArrayVec;
 pub const SUMMARY_ROOM: usize = LINE_ROOM;
 
 /// What a run comes to: eleven counts.
-#[derive(Clone, Copy, PartialEq, Eq, Default, Debug)]
+#[derive(Clone, Copy, Default)]
 pub struct Summary {
     /// Taps that gave a request.
     pub taps: u64,
