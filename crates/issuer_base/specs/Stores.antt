@@ -1,5 +1,5 @@
 -- What a store holds, what a crash may leave of it, and what its calls do to both.
-use Rattle.std.specs.Prelude.{◌≡◌, ◌⊎◌, ℕ, ◌≤◌, min, Bool, false, List, [], ◌∷◌, ◌++◌, length, take, drop}
+use Rattle.std.specs.Prelude.{◌≡◌, ◌⊎◌, ℕ, ◌+◌, ◌≤◌, min, Bool, false, List, [], ◌∷◌, ◌++◌, length, take, drop}
 use Rattle.std.specs.Prelude.{Option, None, Some, ⊤, MatchBool, All, Contains}
 
 -- a store at one moment: its bytes, and the length of their durable prefix
@@ -100,3 +100,14 @@ BothTold R None None = ⊤
 BothTold R None (Some new) = ⊥
 BothTold R (Some old) None = ⊥
 BothTold R (Some old) (Some new) = R old new
+
+-- a store of this size tells its room, the size up to which it works, and so many more bytes are within it
+pub record HasRoom (bytes size : ℕ) (room : Option ℕ) : Type 0 where
+  pub most : ℕ
+  pub told : room ≡ Some most
+  pub within : size + bytes ≤ most
+
+-- a call that adds so many bytes leaves the room that is told, and doesn't fail where there is room for them
+pub record WorksWithin (bytes : ℕ) (failed : Bool) (size : ℕ) (old new : Option ℕ) : Type 0 where
+  pub stays : new ≡ old
+  pub works : HasRoom bytes size old → failed ≡ false

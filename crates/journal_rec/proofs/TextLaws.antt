@@ -14,13 +14,14 @@ use Rattle.hex.specs.Hex.{encode_lower, encode_with, lower_digits}
 use Rattle.hex.proofs.HexLemmas.{length-encode_with}
 use Rattle.issuer_base.specs.ChipData.{is_bcd}
 use Rattle.issuer_base.specs.ScriptCommand.{command_bytes}
+use Rattle.issuer_base.specs.declared.command.Command.{Command}
 use Rattle.issuer_base.specs.declared.entry.Entry.{Entry}
 use Rattle.issuer_base.specs.declared.entry.Entry.TheVariants.{Decided, Queued, Status}
 use Rattle.issuer_base.specs.declared.request.Parts.{Parts}
 use Rattle.journal_rec.specs.RecordText.{IsLine, IsUnbroken, newline, pan_bytes, request_bytes, request_fields, space, text_of, texts_of, words_of}
 use Rattle.journal_rec.specs.Record.{IsRecord, request_sizes}
 use Rattle.journal_rec.specs.Reading.{entry_at}
-use Rattle.journal_rec.specs.declared.limits.TheConstants.{LEAST_RECORD_BYTES, MOST_RECORD_BYTES}
+use Rattle.journal_rec.specs.declared.limits.TheConstants.{LEAST_RECORD_BYTES, MOST_QUEUED_BYTES, MOST_RECORD_BYTES}
 use Rattle.journal_rec.proofs.PanText.{length-pan_bytes}
 use Rattle.journal_rec.proofs.Records.{approval_text, exact_entry, line_of}
 
@@ -192,6 +193,20 @@ length-four : (letter : ℕ) (a b c : List ℕ)
     → length ((letter ∷ space ∷ (a ++ (space ∷ (b ++ (space ∷ c))))) ++ newline ∷ []) ≡ length a + length b + length c + 5
 length-four letter a b c = simp length-append (omega arith)
 
+-- the text of a queued command has 28 bytes at least and 163 at most
+pub length-text_of-queued : (pan : List ℕ) (psn : ℕ) (command : Command) → IsRecord (Queued pan psn command)
+    → (LEAST_RECORD_BYTES ≤ length (text_of (Queued pan psn command))) × (length (text_of (Queued pan psn command)) ≤ MOST_QUEUED_BYTES)
+unfolding text_of
+length-text_of-queued pan psn command record_is =
+    let whole = length-four 113 (encode_lower (pan_bytes pan)) (encode_lower (psn ∷ [])) (encode_lower (command_bytes command)) in
+    let held = record_is.held in
+    let a = length-encode_lower (pan_bytes pan) in
+    let ten : length (pan_bytes pan) ≡ 10 = length-pan_bytes pan held.0 in
+    let b : length (encode_lower (psn ∷ [])) ≡ 2 = length-encode_lower (psn ∷ []) in
+    let c = length-encode_lower (command_bytes command) in
+    let few : length command.body.items ≤ 64 = held.2.size in
+    (omega arith, omega arith)
+
 -- the text of a record has 28 bytes at least and 501 at most
 pub length-text_of : (entry : Entry) → IsRecord entry → (LEAST_RECORD_BYTES ≤ length (text_of entry)) × (length (text_of entry) ≤ MOST_RECORD_BYTES)
 unfolding text_of
@@ -207,14 +222,8 @@ length-text_of (Decided request reply) record_is =
     let few : length reply.bytes.items ≤ 160 = held.1.size in
     (omega arith, omega arith)
 length-text_of (Queued pan psn command) record_is =
-    let whole = length-four 113 (encode_lower (pan_bytes pan)) (encode_lower (psn ∷ [])) (encode_lower (command_bytes command)) in
-    let held = record_is.held in
-    let a = length-encode_lower (pan_bytes pan) in
-    let ten : length (pan_bytes pan) ≡ 10 = length-pan_bytes pan held.0 in
-    let b : length (encode_lower (psn ∷ [])) ≡ 2 = length-encode_lower (psn ∷ []) in
-    let c = length-encode_lower (command_bytes command) in
-    let few : length command.body.items ≤ 64 = held.2.size in
-    (omega arith, omega arith)
+    let its = length-text_of-queued pan psn command record_is in
+    (its.0, omega (arith, its.1))
 length-text_of (Status pan psn status) record_is =
     let whole = length-four 115 (encode_lower (pan_bytes pan)) (encode_lower (psn ∷ [])) (decimal status) in
     let held = record_is.held in

@@ -11,7 +11,10 @@ pub const LEAST_RECORD_BYTES: usize = 28;
 /// The greatest length of a record's text: that of a decided request with the longest reply.
 pub const MOST_RECORD_BYTES: usize = 501;
 
-/// The length of a request.
+/// The length of the text of a queued command has at most: that of a command with the longest data.
+pub const MOST_QUEUED_BYTES: usize = 163;
+
+/// How many bytes a request.
 pub(crate) const REQUEST_BYTES: usize = 85;
 
 /// The length of an account number.

@@ -1,3 +1,4 @@
 -- The lemmas of this crate, lowest first.
 pub mod Passing
 pub mod ReadSoFar
+pub mod Rooms

@@ -1,7 +1,7 @@
 //! A text of records that is appended to: a record is durable in the store before it counts.
-ghost use Rattle.std.specs.Prelude.{◌≡◌, ◌⊎◌, ◌+◌, ◌^◌, ◌<◌, ◌≤◌, ℕ, List, [], ◌++◌, length, false, IfOk, IfErr, IsErr, OnOk, is_err, true};
+ghost use Rattle.std.specs.Prelude.{◌≡◌, ◌⊎◌, ◌+◌, ◌^◌, ◌<◌, ◌≤◌, ℕ, List, [], ◌++◌, length, false, IfOk, IfErr, IsErr, IsOkAnd, OnOk, is_err, true};
 ghost use Rattle.issuer_base.specs.OutsideFaults.{CountsFaults};
-ghost use Rattle.issuer_base.specs.Stores.{BothTold, CutsBytes, Disk, LeavesOnly, Passes};
+ghost use Rattle.issuer_base.specs.Stores.{BothTold, CutsBytes, Disk, HasRoom, LeavesOnly, Passes};
 ghost use Rattle.issuer_base.specs.Tells.{Tells};
 ghost use Rattle.record_store.specs.Images.{HasSafeText, IsImage, IsCutImage, IsEitherImage};
 
@@ -45,6 +45,8 @@ impl<S: Store> Journal<S> {
         ensures opened { IfOk result (λ journal. BothTold (λ old new. LeavesOnly (IsCutImage sure old.now) old new) (S.disk store) (S.disk journal.store)) }
         ensures kept { IfErr result (λ back. BothTold (CutsBytes sure true) (S.bytes store) (S.bytes back)) }
         ensures crash { IfErr result (λ back. BothTold (λ old new. LeavesOnly (IsCutImage sure old.now) old new) (S.disk store) (S.disk back)) }
+        ensures room { (spare : ℕ) → HasRoom spare (S.size store) (S.room store)
+            → IsOkAnd result (λ journal. HasRoom spare (S.size journal.store) (S.room journal.store)) }
         ensures count { IfOk result (λ journal. CountsFaults (S.faults store) (S.faults journal.store) false) }
         ensures failed { IfErr result (λ back. CountsFaults (S.faults store) (S.faults back) true) }
     {
@@ -92,6 +94,10 @@ impl<S: Store> Journal<S> {
         // A crash since the start of the call leaves the text, and behind it a front of what was in doubt or of the record.
         ensures crash { (count : ℕ) (text tail : List ℕ) → Holds self.old count text tail
             → BothTold (LeavesOnly (IsEitherImage text tail piece.now)) (S.disk self.old.store) (S.disk self.new.store) }
+
+        // With room for the record and so much more the store doesn't fail, and the room for the more is left.
+        ensures room { (spare : ℕ) → HasRoom (length piece.now + spare) (S.size self.old.store) (S.room self.old.store)
+            → IsOkAnd result (λ _. HasRoom spare (S.size self.new.store) (S.room self.new.store)) }
         ensures count { CountsFaults (S.faults self.old.store) (S.faults self.new.store) (is_err result) }
     {
         self.clear()?;
@@ -105,6 +111,8 @@ impl<S: Store> Journal<S> {
         ensures failed { (count : ℕ) (text tail : List ℕ) → Holds self.old count text tail → IsErr result → Holds self.new count text tail }
         ensures passes { (count : ℕ) (text tail : List ℕ) → Holds self.old count text tail
             → BothTold (Passes (HasSafeText text tail)) (S.disk self.old.store) (S.disk self.new.store) }
+        ensures room { (spare : ℕ) → HasRoom spare (S.size self.old.store) (S.room self.old.store)
+            → IsOkAnd result (λ _. HasRoom spare (S.size self.new.store) (S.room self.new.store)) }
         ensures count { CountsFaults (S.faults self.old.store) (S.faults self.new.store) (is_err result) }
     {
         if !self.in_doubt {
@@ -125,6 +133,8 @@ impl<S: Store> Journal<S> {
         ensures settled { OnOk result (self.new.in_doubt ≡ false) }
         ensures passes { (count : ℕ) (text : List ℕ) → Holds self.old count text []
             → BothTold (Passes (HasSafeText text piece.now)) (S.disk self.old.store) (S.disk self.new.store) }
+        ensures room { (spare : ℕ) → HasRoom (length piece.now + spare) (S.size self.old.store) (S.room self.old.store)
+            → IsOkAnd result (λ _. HasRoom spare (S.size self.new.store) (S.room self.new.store)) }
         ensures count { CountsFaults (S.faults self.old.store) (S.faults self.new.store) (is_err result) }
     {
         self.in_doubt = true;

@@ -1,7 +1,7 @@
 //! Reading the bytes of a store into a buffer, and truncating a store to its text.
-ghost use Rattle.std.specs.Prelude.{◌≡◌, ◌-◌, ◌≤◌, ℕ, List, [], ◌++◌, min, length, take, drop, IfOk, IfSome, OnOk, is_err, true};
+ghost use Rattle.std.specs.Prelude.{◌≡◌, ◌-◌, ◌≤◌, ℕ, List, [], ◌++◌, min, length, take, drop, IfOk, IfSome, IsOkAnd, OnOk, is_err, true};
 ghost use Rattle.issuer_base.specs.OutsideFaults.{CountsFaults};
-ghost use Rattle.issuer_base.specs.Stores.{BothTold, CutsBytes, Disk, LeavesOnly};
+ghost use Rattle.issuer_base.specs.Stores.{BothTold, CutsBytes, Disk, HasRoom, LeavesOnly, WorksWithin};
 ghost use Rattle.issuer_base.specs.Tells.{Tells};
 ghost use Rattle.record_store.specs.Images.{HasSafeText, IsCutImage, IsImage, OnlyReads};
 
@@ -15,6 +15,7 @@ pub fn read_from<S: Store>(store: &mut S, at: u64, into: &mut [u8]) -> Result<us
     ensures size { S.size store.new ≡ S.size store.old }
     ensures bytes { S.bytes store.new ≡ S.bytes store.old }
     ensures disk { BothTold OnlyReads (S.disk store.old) (S.disk store.new) }
+    ensures room { WorksWithin 0 (is_err result) (S.size store.old) (S.room store.old) (S.room store.new) }
     ensures count { CountsFaults (S.faults store.old) (S.faults store.new) (is_err result) }
 {
     let room = (store.len() - at).min(into.len() as u64) as usize;
@@ -35,6 +36,8 @@ pub(crate) fn settle<S: Store>(store: &mut S, sure: u64) -> Result<(), StoreFail
         → OnOk result (IfSome (S.disk store.new) (λ disk. HasSafeText text [] disk.now)) }
     ensures kept { BothTold (CutsBytes sure true) (S.bytes store.old) (S.bytes store.new) }
     ensures crash { BothTold (λ old new. LeavesOnly (IsCutImage sure old.now) old new) (S.disk store.old) (S.disk store.new) }
+    ensures room { (spare : ℕ) → HasRoom spare (S.size store.old) (S.room store.old)
+        → IsOkAnd result (λ _. HasRoom spare (S.size store.new) (S.room store.new)) }
     ensures count { CountsFaults (S.faults store.old) (S.faults store.new) (is_err result) }
 {
     if sure == store.len() {

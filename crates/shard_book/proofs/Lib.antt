@@ -5,6 +5,7 @@ pub mod Marks
 pub mod RowsAfter
 pub mod RowPlans
 pub mod Recorded
+pub mod Rooms
 pub mod ShardSteps
 pub mod LegalNext
 pub mod Adopted

@@ -7,5 +7,6 @@ pub mod Recorded
 pub mod Answering
 pub mod LineAhead
 pub mod Loading
+pub mod Room
 pub mod Histories
 pub mod Restarts

@@ -1,7 +1,7 @@
 //! Reading the text of a journal from its store, a part at a time.
 ghost use Rattle.std.specs.Prelude.{◌≡◌, ◌≢◌, ℕ, ◌^◌, ◌<◌, ◌≤◌, [], length, take, drop, MatchBool, IfOk, IfErr, IfSome, OnOk, is_err};
 ghost use Rattle.issuer_base.specs.OutsideFaults.{CountsFaults};
-ghost use Rattle.issuer_base.specs.Stores.{BothTold};
+ghost use Rattle.issuer_base.specs.Stores.{BothTold, WorksWithin};
 ghost use Rattle.issuer_setup.specs.IssuerSetup.{Setup};
 ghost use Rattle.journal_rec.specs.RecordText.{IsUnbroken};
 ghost use Rattle.record_store.specs.Images.{OnlyReads};
@@ -37,6 +37,7 @@ pub(crate) fn take_over<S: Store>(
     ensures size { S.size store.new ≡ S.size store.old }
     ensures bytes { S.bytes store.new ≡ S.bytes store.old }
     ensures disk { BothTold OnlyReads (S.disk store.old) (S.disk store.new) }
+    ensures room { WorksWithin 0 (is_by_store result) (S.size store.old) (S.room store.old) (S.room store.new) }
     ensures count { CountsFaults (S.faults store.old) (S.faults store.new) (is_by_store result) }
     ensures untouched { IfErr result (λ fault. fault ≡ LoadFault.NoMemory → store.new ≡ store.old) }
 {
@@ -67,6 +68,7 @@ fn take_text<S: Store>(
     ensures size { S.size store.new ≡ S.size store.old }
     ensures bytes { S.bytes store.new ≡ S.bytes store.old }
     ensures disk { BothTold OnlyReads (S.disk store.old) (S.disk store.new) }
+    ensures room { WorksWithin 0 (is_by_store result) (S.size store.old) (S.room store.old) (S.room store.new) }
     ensures count { CountsFaults (S.faults store.old) (S.faults store.new) (is_by_store result) }
     ensures memory { IfErr result (λ fault. fault ≢ LoadFault.NoMemory) }
 {
@@ -99,6 +101,7 @@ impl Rows {
         ensures size { S.size store.new ≡ S.size store.old }
         ensures bytes { S.bytes store.new ≡ S.bytes store.old }
         ensures disk { BothTold OnlyReads (S.disk store.old) (S.disk store.new) }
+        ensures room { WorksWithin 0 (is_by_store result) (S.size store.old) (S.room store.old) (S.room store.new) }
         ensures count { CountsFaults (S.faults store.old) (S.faults store.new) (is_by_store result) }
         ensures memory { IfErr result (λ fault. fault ≢ LoadFault.NoMemory) }
     {
@@ -145,6 +148,7 @@ impl Rows {
         ensures size { S.size store.new ≡ S.size store.old }
         ensures bytes { S.bytes store.new ≡ S.bytes store.old }
         ensures disk { BothTold OnlyReads (S.disk store.old) (S.disk store.new) }
+        ensures room { WorksWithin 0 (is_by_store result) (S.size store.old) (S.room store.old) (S.room store.new) }
         ensures count { CountsFaults (S.faults store.old) (S.faults store.new) (is_by_store result) }
         ensures memory { IfErr result (λ fault. fault ≢ LoadFault.NoMemory) }
     {
@@ -175,6 +179,7 @@ fn check_rest<S: Store>(store: &mut S, taken: Taken, buffer: &mut [u8]) -> Resul
     ensures size { S.size store.new ≡ S.size store.old }
     ensures bytes { S.bytes store.new ≡ S.bytes store.old }
     ensures disk { BothTold OnlyReads (S.disk store.old) (S.disk store.new) }
+    ensures room { WorksWithin 0 (is_by_store result) (S.size store.old) (S.room store.old) (S.room store.new) }
     ensures count { CountsFaults (S.faults store.old) (S.faults store.new) (is_by_store result) }
     ensures memory { IfErr result (λ fault. fault ≢ LoadFault.NoMemory) }
 {
@@ -201,6 +206,7 @@ fn has_newline<S: Store>(store: &mut S, from: u64, buffer: &mut [u8]) -> Result<
     ensures size { S.size store.new ≡ S.size store.old }
     ensures bytes { S.bytes store.new ≡ S.bytes store.old }
     ensures disk { BothTold OnlyReads (S.disk store.old) (S.disk store.new) }
+    ensures room { WorksWithin 0 (is_err result) (S.size store.old) (S.room store.old) (S.room store.new) }
     ensures count { CountsFaults (S.faults store.old) (S.faults store.new) (is_err result) }
 {
     let mut at = from;

@@ -14,7 +14,7 @@ ghost use Rattle.line_checks.specs.AtHand.{IsRequestAtHand, IsCommandAtHand, IsS
 ghost use Rattle.line_checks.specs.Reading.{checked};
 ghost use Rattle.journal_rec.specs.Record.{is_record, IsRecord};
 ghost use Rattle.journal_rec.specs.RecordText.{text_of};
-ghost use Rattle.journal_rec.specs.declared.limits.TheConstants.{LEAST_RECORD_BYTES};
+ghost use Rattle.journal_rec.specs.declared.limits.TheConstants.{LEAST_RECORD_BYTES, MOST_QUEUED_BYTES, MOST_RECORD_BYTES};
 ghost use Rattle.issuer_base.specs.Tells.{Tells};
 ghost use Rattle.record_store.specs.Holding.{Holds};
 ghost use Rattle.record_store.specs.Images.{IsCutImage};
@@ -23,6 +23,7 @@ ghost use Rattle.shard_book.specs.Grounds.{grounds_now, grounds_of, HasTable, Is
 ghost use Rattle.shard_book.specs.Steps.{IsCardOf};
 ghost use Rattle.shard_book.specs.Shards.{number_in, IsUnder, HasCard, store_in, sure_in, disk_in, faults_in, places_in, told_in, IsUndoubted, HoldsHistory, StandsFor, HasTail, Adds, IsLoaded, IsLoadImage, IsTextOf, IsImageLeft, IsSettled, StandsForLeft, LeavesBytes, LeavesDisk};
 ghost use Rattle.shard_book.specs.Recorded.{AddsRecorded};
+ghost use Rattle.shard_book.specs.Room.{most_of, UsesRoom, LoadsWithin};
 ghost use Rattle.shard_book.specs.Answering.{is_store_fault, tells_change, LeavesTail, told_after, AnswersClaimed, AnswersQueueing, AnswersSetting};
 
 use crate::reading::take_over;
@@ -93,6 +94,9 @@ impl<S: Store> Shard<S> {
         // While it is loaded a crash leaves what it might leave before, or the text of the records alone.
         ensures opened { IfOk result (λ loaded. BothTold (λ old new. LeavesOnly (IsCutImage (sure_in loaded) old.now) old new) (S.disk store) (disk_in loaded)) }
         ensures crash { IfErr result (λ back. BothTold (λ old new. LeavesOnly (IsLoadImage old.now) old new) (S.disk store) (S.disk back.store)) }
+
+        // A store that works at the size that it has doesn't fail, and has the same room when it is loaded.
+        ensures room { LoadsWithin (S.size store) (S.room store) result }
         ensures count { IfOk result (λ loaded. CountsFaults (S.faults store) (faults_in loaded) false) }
         ensures failed { IfErr result (λ back. CountsFaults (S.faults store) (S.faults back.store) (is_store_failure back.fault)) }
     {
@@ -124,6 +128,9 @@ impl<S: Store> Shard<S> {
         // Whatever a crash since the start of the call may leave is the text of the history before it, and a torn record behind it.
         ensures crash { (history : List Entry) → StandsFor issuer.now self.old history
             → BothTold (LeavesOnly (IsImageOf (grounds_now issuer.now) (number_in self.old) history)) (disk_in self.old) (disk_in self.new) }
+
+        // With room for so many bytes and more the store doesn't fail, and the room for the more is left.
+        ensures room { UsesRoom MOST_RECORD_BYTES (is_store_fault result) self.old self.new }
         ensures count { CountsFaults (faults_in self.old) (faults_in self.new) (is_store_fault result) }
         ensures told { told_in self.new ≡ told_after (told_in self.old) (is_store_fault result) }
         ensures undoubted { IsUndoubted self.old → IsUndoubted self.new }
@@ -161,6 +168,7 @@ impl<S: Store> Shard<S> {
         ensures unchanged { tells_change result ≡ false → self.new ≡ self.old }
         ensures crash { (history : List Entry) → StandsFor issuer.now self.old history
             → BothTold (LeavesOnly (IsImageOf (grounds_now issuer.now) (number_in self.old) history)) (disk_in self.old) (disk_in self.new) }
+        ensures room { UsesRoom MOST_QUEUED_BYTES (is_store_fault result) self.old self.new }
         ensures count { CountsFaults (faults_in self.old) (faults_in self.new) (is_store_fault result) }
         ensures told { told_in self.new ≡ told_after (told_in self.old) (is_store_fault result) }
         ensures undoubted { IsUndoubted self.old → IsUndoubted self.new }
@@ -204,6 +212,7 @@ impl<S: Store> Shard<S> {
         ensures unchanged { tells_change result ≡ false → self.new ≡ self.old }
         ensures crash { (history : List Entry) → StandsFor issuer.now self.old history
             → BothTold (LeavesOnly (IsImageOf (grounds_now issuer.now) (number_in self.old) history)) (disk_in self.old) (disk_in self.new) }
+        ensures room { UsesRoom MOST_RECORD_BYTES (is_store_fault result) self.old self.new }
         ensures count { CountsFaults (faults_in self.old) (faults_in self.new) (is_store_fault result) }
         ensures told { told_in self.new ≡ told_after (told_in self.old) (is_store_fault result) }
         ensures undoubted { IsUndoubted self.old → IsUndoubted self.new }
@@ -291,6 +300,7 @@ impl<S: Store> Shard<S> {
         ensures crash { (issuer : Setup) (history : List Entry) → StandsFor issuer self.old history
             → IsLegal (grounds_now issuer) (number_in self.old) history (Entry.Decided found.now.request reply)
             → BothTold (LeavesOnly (IsImageOf (grounds_now issuer) (number_in self.old) history)) (disk_in self.old) (disk_in self.new) }
+        ensures room { UsesRoom MOST_RECORD_BYTES (is_store_fault result) self.old self.new }
         ensures count { CountsFaults (faults_in self.old) (faults_in self.new) (is_store_fault result) }
         ensures told { told_in self.new ≡ told_after (told_in self.old) (is_store_fault result) }
         ensures undoubted { IsUndoubted self.new }
@@ -325,6 +335,7 @@ impl<S: Store> Shard<S> {
         ensures crash { (issuer : Setup) (history : List Entry) → StandsFor issuer self.old history
             → IsLegal (grounds_now issuer) (number_in self.old) history entry.now
             → BothTold (LeavesOnly (IsImageOf (grounds_now issuer) (number_in self.old) history)) (disk_in self.old) (disk_in self.new) }
+        ensures room { UsesRoom (most_of entry.now) (is_err result) self.old self.new }
         ensures count { CountsFaults (faults_in self.old) (faults_in self.new) (is_err result) }
         ensures told { told_in self.new ≡ told_after (told_in self.old) (is_err result) }
         ensures undoubted { IsUndoubted self.new }
@@ -347,6 +358,7 @@ impl<S: Store> Shard<S> {
         ensures crash { (issuer : Setup) (history : List Entry) (entry : Entry) → IsRecord entry → text.now ≡ text_of entry → StandsFor issuer self.old history
             → IsLegal (grounds_now issuer) (number_in self.old) history entry
             → BothTold (LeavesOnly (IsImageOf (grounds_now issuer) (number_in self.old) history)) (disk_in self.old) (disk_in self.new) }
+        ensures room { UsesRoom (length text.now) (is_err result) self.old self.new }
         ensures count { CountsFaults (faults_in self.old) (faults_in self.new) (is_err result) }
         ensures told { told_in self.new ≡ told_after (told_in self.old) (is_err result) }
         ensures undoubted { IsUndoubted self.new }
@@ -372,6 +384,7 @@ fn open<S: Store>(store: S, rows: Rows, taken: Taken) -> Result<Shard<S>, LoadBa
     ensures kept { IfErr result (λ back. BothTold (CutsBytes taken.bytes true) (S.bytes store) (S.bytes back.store)) }
     ensures crash { IfErr result (λ back. BothTold (λ old new. LeavesOnly (IsCutImage taken.bytes old.now) old new) (S.disk store) (S.disk back.store)) }
     ensures fault { IfErr result (λ back. back.fault ≡ LoadFault.StoreFault) }
+    ensures room { LoadsWithin (S.size store) (S.room store) result }
     ensures count { IfOk result (λ loaded. CountsFaults (S.faults store) (faults_in loaded) false) }
     ensures failed { IfErr result (λ back. CountsFaults (S.faults store) (S.faults back.store) true) }
 {

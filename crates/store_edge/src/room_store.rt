@@ -1,8 +1,8 @@
-//! A store in memory that exposes its bytes alone.
+//! A store in memory that exposes its bytes and its room.
 ghost use Rattle.std.specs.Prelude.{◌≡◌, ◌⊎◌, ◌+◌, ◌-◌, ◌<◌, ◌≤◌, [], min, nat_lt, length, take, drop, Some, is_err, IfOk, IsOk, OnErr, OnOk};
 ghost use Rattle.std.specs.Io.{ReadsAtMost};
 ghost use Rattle.issuer_base.specs.OutsideFaults.{CountsFaults};
-ghost use Rattle.issuer_base.specs.Stores.{AppendsToBytes, CutsBytes};
+ghost use Rattle.issuer_base.specs.Stores.{AppendsToBytes, CutsBytes, WorksWithin};
 ghost use Rattle.std.proofs.Common.{refl};
 
 use crate::copy::copy_from;
@@ -12,8 +12,8 @@ use std::marker::Model;
 
 /// A store in memory with room for so many bytes, which fails past its room and nowhere else.
 ///
-/// It allocates all of its room at first, so that no later call allocates. It doesn't expose what
-/// a crash may leave.
+/// It exposes its room. It allocates all of that at first, so that no later call allocates. It
+/// doesn't expose what a crash may leave.
 #[derive(Drop)]
 pub struct RoomStore {
     bytes: Vec<u8>,
@@ -34,7 +34,7 @@ impl Model for RoomStore {
 }
 
 impl RoomStore {
-    /// An empty store. More room than [`MAX_STORE_BYTES`] isn't to be had.
+    /// An empty store. A room above [`MAX_STORE_BYTES`] is refused.
     pub fn new(alloc: Global, room: usize) -> Result<RoomStore, NoMemory>
         ensures { IfOk result (λ store. store ≡ record { held = []; room = room; faults = 0 }) }
     {
@@ -55,6 +55,8 @@ impl Store for RoomStore {
 
     ghost bytes = { λ s. Some s.held };
 
+    ghost room = { λ s. Some s.room };
+
     ghost faults = { λ s. s.faults };
 
     ghost told_size = { λ s. refl };
@@ -74,6 +76,7 @@ impl Store for RoomStore {
         ensures given { IfOk result (λ n. take n into.new ≡ take n (drop at self.old.held)) }
         ensures size { length self.new.held ≡ length self.old.held }
         ensures bytes { Some self.new.held ≡ Some self.old.held }
+        ensures told { WorksWithin 0 (is_err result) (length self.old.held) (Some self.old.room) (Some self.new.room) }
         ensures count { CountsFaults self.old.faults self.new.faults (is_err result) }
         ensures ok { IsOk result }
         ensures full { IfOk result (λ n. n ≡ min (length self.old.held - at) (length into.old)) }
@@ -88,6 +91,7 @@ impl Store for RoomStore {
         ensures size { OnOk result (length self.new.held ≡ length self.old.held + length piece.now) }
         ensures size_err { OnErr result (length self.old.held ≤ length self.new.held) }
         ensures bytes { AppendsToBytes piece.now (is_err result) self.old.held self.new.held }
+        ensures told { WorksWithin (length piece.now) (is_err result) (length self.old.held) (Some self.old.room) (Some self.new.room) }
         ensures count { CountsFaults self.old.faults self.new.faults (is_err result) }
         ensures fails { is_err result ≡ nat_lt self.old.room (length self.old.held + length piece.now) }
         ensures err { OnErr result (self.new.held ≡ self.old.held) }
@@ -107,6 +111,7 @@ impl Store for RoomStore {
         ensures size { OnOk result (length self.new.held ≡ len) }
         ensures size_err { OnErr result ((length self.new.held ≡ length self.old.held) ⊎ (length self.new.held ≡ len)) }
         ensures bytes { CutsBytes len (is_err result) self.old.held self.new.held }
+        ensures told { WorksWithin 0 (is_err result) (length self.old.held) (Some self.old.room) (Some self.new.room) }
         ensures count { CountsFaults self.old.faults self.new.faults (is_err result) }
         ensures ok { IsOk result }
         ensures cut { self.new ≡ record self.old { held = take len self.old.held } }
@@ -119,6 +124,7 @@ impl Store for RoomStore {
     fn sync(&mut self) -> Result<(), StoreFail>
         ensures size { length self.new.held ≡ length self.old.held }
         ensures bytes { Some self.new.held ≡ Some self.old.held }
+        ensures told { WorksWithin 0 (is_err result) (length self.old.held) (Some self.old.room) (Some self.new.room) }
         ensures count { CountsFaults self.old.faults self.new.faults (is_err result) }
         ensures ok { IsOk result }
         ensures same { self.new ≡ self.old }

@@ -2,7 +2,7 @@
 ghost use Rattle.std.specs.Prelude.{◌≡◌, ◌⊎◌, ℕ, ◌+◌, ◌<◌, ◌≤◌, List, length, take, drop, Option, None, Some, is_err, IfOk, IfSome, OnErr, OnOk};
 ghost use Rattle.std.specs.Io.{ReadsAtMost};
 ghost use Rattle.issuer_base.specs.OutsideFaults.{CountsFaults};
-ghost use Rattle.issuer_base.specs.Stores.{AppendsToBytes, AppendsToDisk, BothTold, CutsBytes, CutsDisk, Disk, KeepsDisk, SyncsDisk};
+ghost use Rattle.issuer_base.specs.Stores.{AppendsToBytes, AppendsToDisk, BothTold, CutsBytes, CutsDisk, Disk, KeepsDisk, SyncsDisk, WorksWithin};
 
 use crate::faults::StoreFail;
 use crate::limits::MAX_STORE_BYTES;
@@ -21,6 +21,9 @@ pub trait Store {
 
     // The moments that it was through and the present one, where the store tells: what a crash may leave.
     ghost disk: { Self → Option Disk } = { λ _. None };
+
+    // Up to which size it works, where the store tells: no call fails but an append that would go past it.
+    ghost room: { Self → Option ℕ } = { λ _. None };
 
     // How many of its calls failed, counted up to 2^64 - 1.
     ghost faults: { Self → ℕ };
@@ -42,6 +45,7 @@ pub trait Store {
         ensures size { size self.new ≡ size self.old }
         ensures bytes { bytes self.new ≡ bytes self.old }
         ensures disk { BothTold KeepsDisk (disk self.old) (disk self.new) }
+        ensures room { WorksWithin 0 (is_err result) (size self.old) (room self.old) (room self.new) }
         ensures count { CountsFaults (faults self.old) (faults self.new) (is_err result) };
 
     /// Puts a piece behind the bytes. A fault may leave a front of it there.
@@ -53,6 +57,7 @@ pub trait Store {
         ensures size_err { OnErr result (size self.old ≤ size self.new) }
         ensures bytes { BothTold (AppendsToBytes piece.now (is_err result)) (bytes self.old) (bytes self.new) }
         ensures disk { BothTold (AppendsToDisk piece.now (is_err result)) (disk self.old) (disk self.new) }
+        ensures room { WorksWithin (length piece.now) (is_err result) (size self.old) (room self.old) (room self.new) }
         ensures count { CountsFaults (faults self.old) (faults self.new) (is_err result) };
 
     /// Cuts the bytes to a length, and makes them safe. A fault may leave them cut or not.
@@ -62,6 +67,7 @@ pub trait Store {
         ensures size_err { OnErr result ((size self.new ≡ size self.old) ⊎ (size self.new ≡ len)) }
         ensures bytes { BothTold (CutsBytes len (is_err result)) (bytes self.old) (bytes self.new) }
         ensures disk { BothTold (CutsDisk len (is_err result)) (disk self.old) (disk self.new) }
+        ensures room { WorksWithin 0 (is_err result) (size self.old) (room self.old) (room self.new) }
         ensures count { CountsFaults (faults self.old) (faults self.new) (is_err result) };
 
     /// Makes all bytes safe.
@@ -69,6 +75,7 @@ pub trait Store {
         ensures size { size self.new ≡ size self.old }
         ensures bytes { bytes self.new ≡ bytes self.old }
         ensures disk { BothTold (SyncsDisk (is_err result)) (disk self.old) (disk self.new) }
+        ensures room { WorksWithin 0 (is_err result) (size self.old) (room self.old) (room self.new) }
         ensures count { CountsFaults (faults self.old) (faults self.new) (is_err result) };
 
     // Told bytes are as many as the size says.

@@ -11,6 +11,7 @@ invariant-loop-count g l = record {
   within : l.count ≤ l.room;
   room_is : l.room ≡ min (length l.into) (g.S.Store.size l.store - l.at);
   size_is : g.S.Store.size l.store ≡ g.S.Store.size l.fn.store;
+  room_stays : g.S.Store.room l.store ≡ g.S.Store.room l.fn.store;
   bytes_are : g.S.Store.bytes l.store ≡ g.S.Store.bytes l.fn.store;
   given : IfSome (g.S.Store.bytes l.fn.store) (HasRead l.at l.count l.into);
   disk : BothTold OnlyReads (g.S.Store.disk l.fn.store) (g.S.Store.disk l.store);

@@ -10,6 +10,7 @@ parts-init g c = record {
   above = omega arith;
   within = omega (arith, c.requires.within);
   size_is = refl;
+  room_stays = refl;
   bytes_are = refl;
   passed = passed-none _ _;
   disk = reads-none _;
@@ -33,6 +34,7 @@ parts-preserved g c = record {
   above = let before = c.parts.invariant.above in omega arith;
   within = let all = c.in-Ok.ensures.all in let before = c.parts.invariant.within in let same = c.read_from.ensures.size in omega arith;
   size_is = c.read_from.ensures.size ∙ c.parts.invariant.size_is;
+  room_stays = c.read_from.ensures.room.stays ∙ c.parts.invariant.room_stays;
   bytes_are = c.read_from.ensures.bytes ∙ c.parts.invariant.bytes_are;
   passed =
       passed-part c.args.from c.parts.at c.in-Ok.count (g.S.Store.size c.parts.store) c.read_from.new.into c.parts.invariant.above _ _

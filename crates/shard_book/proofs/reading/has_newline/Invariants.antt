@@ -11,6 +11,7 @@ invariant-parts g l = record {
   above : l.from ≤ l.at;
   within : l.at ≤ g.S.Store.size l.store;
   size_is : g.S.Store.size l.store ≡ g.S.Store.size l.fn.store;
+  room_stays : g.S.Store.room l.store ≡ g.S.Store.room l.fn.store;
   bytes_are : g.S.Store.bytes l.store ≡ g.S.Store.bytes l.fn.store;
   passed : IfSome (g.S.Store.bytes l.fn.store) (λ text. IsUnbroken (take (l.at - l.from) (drop l.from text)));
   disk : BothTold OnlyReads (g.S.Store.disk l.fn.store) (g.S.Store.disk l.store);

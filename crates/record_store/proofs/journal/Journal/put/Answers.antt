@@ -11,3 +11,6 @@ pub returns-clause-crash : goal.returns-clause-crash
 returns-clause-crash g c count text tail holds =
     crash-put text tail c.args.piece.now _ _ _ holds.disk_is (c.clear.ensures.passes count text tail holds)
     (c.write.ensures.passes count text (c.in_ok-clear.ensures.holds count text tail holds))
+
+pub returns-in_err-clear-clause-room : goal.returns-in_err-clear-clause-room
+returns-in_err-clear-clause-room g c spare has = absurd (c.in_err-clear.ensures.room _ has)

@@ -1,8 +1,19 @@
 -- The moments of an append and a sync.
-use Rattle.std.proofs.Common.{sym}
+use Rattle.std.proofs.Common.{refl, sym}
 use Rattle.std.proofs.lemmas.Bool.{false≢true}
 use Rattle.record_store.proofs.Passing.{told-append, told-append_bytes, told-sync, told-last}
 use Rattle.record_store.proofs.journal.Journal.write.Goals as goal
+
+pub returns-in_err-append-clause-failed : goal.returns-in_err-append-clause-failed
+returns-in_err-append-clause-failed g c count text holds failed =
+    let piece = c.args.piece.now in
+    record {
+      count_is = holds.count_is;
+      sure_is = holds.sure_is;
+      tail_is = λ cleared. absurd (false≢true (sym cleared));
+      bytes_are = told-append_bytes text piece _ _ _ _ holds.bytes_are c.append.ensures.bytes refl;
+      disk_is = told-last text piece _ _ (told-append text piece _ _ _ holds.disk_is c.append.ensures.disk);
+    }
 
 pub returns-in_err-append-clause-passes : goal.returns-in_err-append-clause-passes
 returns-in_err-append-clause-passes g c count text holds = told-append text c.args.piece.now _ _ _ holds.disk_is c.append.ensures.disk

@@ -14,6 +14,7 @@ parts-init g c = record {
   within = omega arith;
   front = λ stands. takes-none c.args.issuer.now c.args.self.now.shard _ c.args.self.now stands;
   size_is = refl;
+  room_stays = refl;
   bytes_are = refl;
   disk = reads-none _;
   counts = CountsFaults-no_call _;
@@ -42,6 +43,7 @@ parts-preserved g c =
           front-step c.args.issuer.now c.args.self.now.shard c.parts.self.shard _ _ c.parts.self c.adopt_part.new.self c.parts.taken c.in-Ok.more
           before.same.shard_is before.bytes_are c.in-Ok.ensures.front (before.front stands);
       size_is = c.adopt_part.ensures.size ∙ before.size_is;
+      room_stays = c.adopt_part.ensures.room.stays ∙ before.room_stays;
       bytes_are = c.adopt_part.ensures.bytes ∙ before.bytes_are;
       disk = reads-then _ _ _ before.disk c.adopt_part.ensures.disk;
       counts = CountsFaults-then _ _ _ _ _ before.counts c.in-Ok.ensures.count;

@@ -15,6 +15,7 @@ invariant-parts g l = record {
   within : l.taken.bytes ≤ g.S.Store.size l.store;
   front : StandsFor l.issuer l.fn.self [] → ReadsFront l.issuer l.fn.self.shard (g.S.Store.bytes l.fn.store) l.self l.taken;
   size_is : g.S.Store.size l.store ≡ g.S.Store.size l.fn.store;
+  room_stays : g.S.Store.room l.store ≡ g.S.Store.room l.fn.store;
   bytes_are : g.S.Store.bytes l.store ≡ g.S.Store.bytes l.fn.store;
   disk : BothTold OnlyReads (g.S.Store.disk l.fn.store) (g.S.Store.disk l.store);
   counts : CountsFaults (g.S.Store.faults l.fn.store) (g.S.Store.faults l.store) false;

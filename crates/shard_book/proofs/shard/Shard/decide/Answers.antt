@@ -1,11 +1,13 @@
 -- A decision that was put is added.
-use Rattle.std.proofs.Common.{◌≡◌, ℕ, [], ◌∷◌, ◌++◌, length, ap, arith, sym, subst, ◌∙◌, inl, inr, refl}
+use Rattle.std.proofs.Common.{◌≡◌, ℕ, ◌+◌, [], ◌∷◌, ◌++◌, length, ap, arith, sym, subst, ◌∙◌, inl, inr, refl}
 use Rattle.issuer_base.specs.declared.answer.Answer.TheVariants.{Fresh}
 use Rattle.issuer_base.specs.declared.entry.Entry.TheVariants.{Decided}
 use Rattle.journal_rec.specs.RecordText.{text_of}
+use Rattle.journal_rec.specs.declared.limits.TheConstants.{MOST_RECORD_BYTES}
 use Rattle.journal_rec.proofs.TextLaws.{length-text_of}
 use Rattle.shard_book.specs.ShardRows.{ShardRows, StandsFor as RowsStandFor}
 use Rattle.shard_book.proofs.ShardSteps.{stands-with}
+use Rattle.shard_book.proofs.Rooms.{no-failure, room-less}
 use Rattle.shard_book.proofs.shard.Shard.decide.Goals as goal
 
 pub put_text-requires : goal.put_text-requires
@@ -58,3 +60,20 @@ pub returns-clause-crash : goal.returns-clause-crash
 returns-clause-crash g c issuer history stands legal =
     c.put_text.ensures.crash issuer history (Decided c.args.found.now.request c.args.reply) c.write_decided.ensures.record
     (c.as_slice.ensures.value ∙ c.write_decided.ensures.text) stands legal
+
+pub returns-in_default-clause-room : goal.returns-in_default-clause-room
+returns-in_default-clause-room g c spare has =
+    let entry = Decided c.args.found.now.request c.args.reply in
+    let its : c.as_slice.result.now ≡ text_of entry = c.as_slice.ensures.value ∙ c.write_decided.ensures.text in
+    let most = (length-text_of entry c.write_decided.ensures.record).1 in
+    absurd (no-failure (c.in_default.ensures.room spare
+    (room-less (MOST_RECORD_BYTES + spare) (length c.as_slice.result.now + spare) _ _ (omega (arith, ap length its, most)) has)))
+
+pub returns-clause-room : goal.returns-clause-room
+returns-clause-room g c spare has =
+    let entry = Decided c.args.found.now.request c.args.reply in
+    let its : c.as_slice.result.now ≡ text_of entry = c.as_slice.ensures.value ∙ c.write_decided.ensures.text in
+    let most = (length-text_of entry c.write_decided.ensures.record).1 in
+    let left = c.in-Ok.ensures.room spare
+    (room-less (MOST_RECORD_BYTES + spare) (length c.as_slice.result.now + spare) _ _ (omega (arith, ap length its, most)) has) in
+    (refl, left.1)

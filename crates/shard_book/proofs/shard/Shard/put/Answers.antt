@@ -1,7 +1,9 @@
 -- The text of a record is put.
-use Rattle.std.proofs.Common.{◌≡◌, length, ap, arith, ◌∙◌}
+use Rattle.std.proofs.Common.{◌≡◌, ◌+◌, length, ap, arith, ◌∙◌}
 use Rattle.journal_rec.specs.RecordText.{text_of}
 use Rattle.journal_rec.proofs.TextLaws.{length-text_of}
+use Rattle.shard_book.specs.Room.{most_of}
+use Rattle.shard_book.proofs.Rooms.{length-most, room-less}
 use Rattle.shard_book.proofs.shard.Shard.put.Goals as goal
 
 pub put_text-requires : goal.put_text-requires
@@ -26,3 +28,10 @@ returns-clause-tail g c history tail holds =
 pub returns-clause-crash : goal.returns-clause-crash
 returns-clause-crash g c issuer history stands legal =
     c.put_text.ensures.crash issuer history c.args.entry.now c.write_entry.ensures.record (c.as_slice.ensures.value ∙ c.write_entry.ensures.text) stands legal
+
+pub returns-clause-room : goal.returns-clause-room
+returns-clause-room g c spare has =
+    let its : c.as_slice.result.now ≡ text_of c.args.entry.now = c.as_slice.ensures.value ∙ c.write_entry.ensures.text in
+    let most = length-most c.args.entry.now c.write_entry.ensures.record in
+    c.put_text.ensures.room spare
+    (room-less (most_of c.args.entry.now + spare) (length c.as_slice.result.now + spare) _ _ (omega (arith, ap length its, most)) has)

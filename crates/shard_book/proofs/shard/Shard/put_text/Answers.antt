@@ -4,6 +4,8 @@ use Rattle.journal_rec.specs.RecordText.{texts_of}
 use Rattle.shard_book.specs.Answering.{told_after}
 use Rattle.shard_book.specs.Grounds.{grounds_now}
 use Rattle.shard_book.proofs.ShardSteps.{put-done, put-failed, put-tail, put-crash, put-undoubted}
+use Rattle.issuer_base.specs.Stores.{HasRoom}
+use Rattle.shard_book.proofs.Rooms.{ok-has}
 use Rattle.shard_book.proofs.shard.Shard.put_text.Goals as goal
 
 pub returns-clause-put : goal.returns-clause-put
@@ -38,3 +40,8 @@ pub returns-clause-undoubted : goal.returns-clause-undoubted
 returns-clause-undoubted g c none =
     put-undoubted c.args.self.now.told c.put-written.new.self c.put-written.result c.put-written.ensures.settled
     (ap (told_after c.args.self.now.told) (sym c.is_err.ensures.value) ∙ sym c.told_after-self.ensures ∙ none)
+
+pub returns-clause-room : goal.returns-clause-room
+returns-clause-room g c spare has =
+    let store = c.put-written.new.self.store in
+    ok-has c.put-written.result (HasRoom spare (g.S.Store.size store) (g.S.Store.room store)) (c.put-written.ensures.room spare has)

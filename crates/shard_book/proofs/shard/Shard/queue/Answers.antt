@@ -19,6 +19,7 @@ use Rattle.shard_book.proofs.LegalNext.{writable, card-found, legal-command}
 use Rattle.shard_book.proofs.ShardSteps.{crash-no_call, stands-with}
 use Rattle.shard_book.proofs.shard.Shard.queue.Given.{Over}
 use Rattle.shard_book.proofs.shard.Shard.queue.Goals.{After-put}
+use Rattle.shard_book.proofs.Rooms.{no-failure}
 use Rattle.shard_book.proofs.shard.Shard.queue.Goals as goal
 
 pub returns-then-not-takes_command-clause-answer : goal.returns-then-not-takes_command-clause-answer
@@ -105,3 +106,9 @@ returns-clause-answer g c history stands =
 pub returns-clause-crash : goal.returns-clause-crash
 returns-clause-crash g c history stands =
     c.put.ensures.crash c.args.issuer.now history stands (legal g (goal.at.returns-clause-crash g c).After-put history stands)
+
+pub returns-in_default-clause-room : goal.returns-in_default-clause-room
+returns-in_default-clause-room g c spare has = absurd (no-failure (c.in_default.ensures.room spare has))
+
+pub returns-clause-room : goal.returns-clause-room
+returns-clause-room g c spare has = (refl, (c.in-Ok.ensures.room spare has).1)

@@ -6,6 +6,7 @@ use Rattle.card_history.specs.Records.{CardName, named}
 use Rattle.shard_book.specs.ShardRows.{ShardRows, StandsFor as RowsStandFor}
 use Rattle.shard_book.proofs.LegalNext.{writable, card-found}
 use Rattle.shard_book.proofs.ShardSteps.{stands-with}
+use Rattle.shard_book.proofs.Rooms.{no-failure}
 use Rattle.shard_book.proofs.shard.Shard.set_status.Goals as goal
 
 pub put-requires : goal.put-requires
@@ -31,3 +32,9 @@ returns-clause-answer g c history stands =
           number_is c.set_status.ensures.same rows put.1,
       (c.shard.ensures ∙ c.set_status.ensures.same.shard_is ∙ number_is, put.0, refl),
     )
+
+pub returns-in_default-clause-room : goal.returns-in_default-clause-room
+returns-in_default-clause-room g c spare has = absurd (no-failure (c.in_default.ensures.room spare has))
+
+pub returns-clause-room : goal.returns-clause-room
+returns-clause-room g c spare has = (refl, (c.in-Ok.ensures.room spare has).1)
