@@ -1,11 +1,12 @@
 -- What is known of the fields of a request that the program holds.
-use Rattle.std.proofs.Common.{ℕ, zero, suc, List, [], ◌∷◌, ◌++◌, slice_index, slice_index_or, refl, ap, lit<}
+use Rattle.std.proofs.Common.{ℕ, zero, suc, List, [], ◌∷◌, ◌++◌, slice_index, slice_index_or, refl, ap, lit<, arith}
 use Rattle.std.specs.List.{concat}
 use Rattle.hex.specs.Hex.{IsBytes}
 use Rattle.issuer_base.specs.declared.request.Parts.{Parts}
 use Rattle.journal_rec.specs.RecordText.{request_fields}
 use Rattle.journal_rec.specs.Record.{IsRequest}
 use Rattle.journal_rec.proofs.Words.{IsField}
+use Rattle.terminal_kernel.specs.Held.{HasBytes, IsHeld}
 
 IsBytes-front : (bytes more : List ℕ) → IsBytes (bytes ++ more) → IsBytes bytes
 IsBytes-front [] more fits i = lit< tt
@@ -61,3 +62,29 @@ has_fields request held = record {
   where
     fields : List (List ℕ)
     fields = request_fields request
+
+has_bytes : (count : ℕ) (field : List ℕ) → IsField count field → HasBytes count field
+has_bytes count field right = record { size = right.size; bytes = right.bytes }
+
+-- a request that the program holds is one
+pub held_request : (request : Parts) → IsRequest request → IsHeld request
+held_request request held =
+    let f = has_fields request held in
+    record {
+      has_form = held.has_form;
+      pan = held.pan;
+      psn = omega (arith, f.psn.bytes 0);
+      aip = has_bytes 2 request.aip f.aip;
+      atc = held.atc;
+      tvr = has_bytes 5 request.tvr f.tvr;
+      date = has_bytes 3 request.date f.date;
+      kind = omega (arith, f.kind.bytes 0);
+      amount = has_bytes 6 request.amount f.amount;
+      other = has_bytes 6 request.other f.other;
+      country = has_bytes 2 request.country f.country;
+      currency = has_bytes 2 request.currency f.currency;
+      un = has_bytes 4 request.un f.un;
+      cid = omega (arith, f.cid.bytes 0);
+      iad = has_bytes 32 request.iad f.iad;
+      ac = has_bytes 8 request.ac f.ac;
+    }

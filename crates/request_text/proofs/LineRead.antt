@@ -8,7 +8,8 @@ use Rattle.chip_request.specs.LineParts.{line_of}
 use Rattle.chip_request.specs.declared.line.LineKind.TheVariants.{Ask}
 use Rattle.chip_request.proofs.LineLaws.{line_reads, reads_once}
 use Rattle.journal_rec.specs.Record.{IsRequest}
-use Rattle.request_text.specs.ChipText.{chip_data, request_line}
+use Rattle.terminal_kernel.specs.Requested.{chip_data}
+use Rattle.request_text.specs.ChipText.{request_line}
 use Rattle.request_text.proofs.RequestRead.{length-chip_data, IsBytes-chip_data}
 
 -- two digits in lower case spell a byte

@@ -6,7 +6,8 @@ ghost use Rattle.chip_request.specs.Reading.{request_of};
 ghost use Rattle.chip_request.specs.LineParts.{line_of};
 ghost use Rattle.chip_request.specs.declared.line.LineKind.TheVariants.{Ask};
 ghost use Rattle.journal_rec.specs.Record.{IsRequest};
-ghost use Rattle.request_text.specs.ChipText.{chip_data, request_line};
+ghost use Rattle.terminal_kernel.specs.Requested.{chip_data};
+ghost use Rattle.request_text.specs.ChipText.{request_line};
 
 /// The chip data of a request say just this request, and its line asks for the check of just these chip data.
 ///

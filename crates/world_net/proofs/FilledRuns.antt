@@ -21,7 +21,7 @@ use Rattle.key_derive.specs.declared.card.KeySet.{KeySet}
 use Rattle.card_model.specs.Application.{CardState}
 use Rattle.chip_request.specs.Reading.{request_of}
 use Rattle.journal_rec.specs.Record.{IsEntry}
-use Rattle.request_text.specs.ChipText.{chip_data}
+use Rattle.terminal_kernel.specs.Requested.{chip_data}
 use Rattle.request_text.proofs.RequestRead.{request_of-chip_data, length-chip_data}
 use Rattle.shard_book.specs.Grounds.{grounds_of}
 use Rattle.world_net.specs.declared.event.Event.{Event}

@@ -21,7 +21,7 @@ use Rattle.card_history.proofs.LongerHistories.{slice_get-push_cases, slice_get-
 use Rattle.issuer_setup.specs.CardList.{number_of}
 use Rattle.issuer_setup.specs.IssuerSetup.{Setup}
 use Rattle.line_checks.specs.Reading.{checked}
-use Rattle.request_text.specs.ChipText.{chip_data}
+use Rattle.terminal_kernel.specs.Requested.{chip_data}
 use Rattle.request_text.proofs.RequestRead.{request_of-chip_data}
 use Rattle.card_model.specs.declared.card.TheConstants.{LAST_COUNTER}
 use Rattle.card_model.specs.declared.terminal.Terminal.{Terminal}

@@ -7,9 +7,9 @@ use arrayvec::ArrayVec;
 use card_model::Card;
 use issuer_base::{Command, MAX_CHIP_BYTES, NoMemory, are_decimal};
 use key_derive::card_keys;
-use request_text::chip_data;
 use sample_issuer::{SampleCard, card, key_set};
 use std::alloc::Global;
+use terminal_kernel::request_objects;
 use world_net::Event;
 
 /// The source of the events: the state of a linear congruential generator, cards, and the chip data of the requests
@@ -103,9 +103,7 @@ impl Deck {
         if are_decimal(&terminal.amount) {
             if let Some(known) = self.cards.get_mut(card as usize) {
                 if let Some(request) = known.tap(&terminal) {
-                    let data = chip_data(&request);
-                    self.requests
-                        .push(ArrayVec::try_from(data.as_slice()).unwrap_or_default())?;
+                    self.requests.push(request_objects(&request))?;
                 }
             }
         }

@@ -1,6 +1,7 @@
 //! Account numbers in chip data.
-ghost use Rattle.std.specs.Prelude.{◌≡◌, ◌<◌, ◌≤◌, All, length};
-ghost use Rattle.request_text.specs.ChipText.{number_bytes};
+ghost use Rattle.std.specs.Prelude.{◌≡◌, ◌<◌, ◌≤◌, All, IsTrue, length};
+ghost use Rattle.issuer_base.specs.CardNumber.{is_pan};
+ghost use Rattle.terminal_kernel.specs.Requested.{number_bytes};
 
 use arrayvec::ArrayVec;
 use issuer_base::Pan;
@@ -8,13 +9,14 @@ use issuer_base::Pan;
 /// The most bytes of an account number, whose digits stand two a byte.
 pub(crate) const MAX_NUMBER_BYTES: usize = 10;
 
-/// What stands behind an odd last digit.
+/// The nibble after an odd last digit.
 const FILLING: u8 = 0xF;
 
 /// An account number in as few bytes as say it.
 pub(crate) fn number_bytes(pan: &Pan) -> ArrayVec<u8, MAX_NUMBER_BYTES>
     ensures bytes { result.items ≡ number_bytes pan.now }
     ensures size { length result.items ≤ MAX_NUMBER_BYTES }
+    ensures valid { IsTrue (is_pan pan.now) }
 {
     paired(pan.digits())
 }

@@ -10,8 +10,10 @@ use Rattle.tlv_objects.proofs.Texts.{nothing_in}
 use Rattle.tlv_objects.proofs.Written.{objects_behind_text}
 use Rattle.chip_request.specs.Fields.{Field}
 use Rattle.chip_request.specs.Reading.{values_of, first_wrong}
-use Rattle.journal_rec.proofs.Words.{IsField, IsBytes-one, IsBytes-two}
-use Rattle.request_text.specs.ChipText.{DataObject, data_object, objects_text}
+use Rattle.terminal_kernel.specs.Given.{DataObject, data_object}
+use Rattle.terminal_kernel.specs.Held.{HasBytes}
+use Rattle.terminal_kernel.specs.Requested.{objects_text}
+use Rattle.terminal_kernel.proofs.Bytes.{IsBytes-one, IsBytes-two}
 
 -- an object of a tag of one or two bytes, with a value of fewer than 128
 pub record IsShort (object : DataObject) : Type 0 where
@@ -20,7 +22,7 @@ pub record IsShort (object : DataObject) : Type 0 where
   pub size : length object.value < 128
   pub value : IsBytes object.value
 
-pub short_object : (tag size : ℕ) (value : List ℕ) → IsTrue (is_tag_number tag) → tag < 0x10000 → size < 128 → IsField size value
+pub short_object : (tag size : ℕ) (value : List ℕ) → IsTrue (is_tag_number tag) → tag < 0x10000 → size < 128 → HasBytes size value
     → IsShort (data_object tag value)
 short_object tag size value is_tag two few field = record {
   is_tag = is_tag;

@@ -1,7 +1,7 @@
 -- The bytes so far, and those of the digits that are left.
 use Rattle.std.proofs.Common.{◌≡◌, ◌*◌, ◌++◌, length, drop}
-use Rattle.request_text.specs.ChipText.{number_bytes}
-use Rattle.request_text.proofs.number.paired.Given as goal
+use Rattle.terminal_kernel.specs.Requested.{number_bytes}
+use Rattle.terminal_kernel.proofs.number.paired.Given as goal
 
 abbrev pub invariant-pairs : goal.invariant-pairs
 invariant-pairs l =

@@ -10,8 +10,8 @@ use Rattle.issuer_base.specs.CardNumber.{is_pan}
 use Rattle.issuer_base.specs.ChipData.{digits_of}
 use Rattle.issuer_base.proofs.CardNumberLemmas.{length-pan}
 use Rattle.chip_request.specs.Fields.{leading_digits, has_account_number}
-use Rattle.journal_rec.proofs.Words.{IsBytes-one}
-use Rattle.request_text.specs.ChipText.{number_bytes}
+use Rattle.terminal_kernel.specs.Requested.{number_bytes}
+use Rattle.terminal_kernel.proofs.Bytes.{IsBytes-one}
 
 -- each is a decimal digit
 abbrev pub are_digits : List ℕ → Type 0

@@ -2,7 +2,8 @@
 use Rattle.std.proofs.Common.{◌≡◌, ℕ, List, [], ◌∷◌, ◌++◌, fold, sym, ◌∙◌, append_assoc}
 use Rattle.std.proofs.lemmas.List.{append-nil}
 use Rattle.tlv_objects.specs.Writing.{object_text}
-use Rattle.request_text.specs.ChipText.{DataObject, objects_text}
+use Rattle.terminal_kernel.specs.Given.{DataObject}
+use Rattle.terminal_kernel.specs.Requested.{objects_text}
 
 -- objects put behind a front are the front and then their text
 pub fold-objects_text : (front : List ℕ) (objects : List DataObject)

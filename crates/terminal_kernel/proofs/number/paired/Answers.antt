@@ -1,8 +1,8 @@
 -- Each step writes the next pair, and the end the digit that is left.
 use Rattle.std.proofs.Common.{◌≡◌, ◌+◌, ◌-◌, ◌*◌, ◌++◌, ◌∷◌, [], List, ℕ, length, drop, get_or, ap, sym, ◌∙◌, append_assoc, append-nil, length-append, arith}
-use Rattle.request_text.specs.ChipText.{number_bytes}
-use Rattle.request_text.proofs.NumberBytes.{number_bytes-pair, number_bytes-even, number_bytes-odd}
-use Rattle.request_text.proofs.number.paired.Goals as goal
+use Rattle.terminal_kernel.specs.Requested.{number_bytes}
+use Rattle.terminal_kernel.proofs.NumberBytes.{number_bytes-pair, number_bytes-even, number_bytes-odd}
+use Rattle.terminal_kernel.proofs.number.paired.Goals as goal
 
 pub pairs-preserved : goal.pairs-preserved
 pairs-preserved c = (

@@ -1,7 +1,7 @@
 -- The bytes of an account number, pair by pair.
 use Rattle.std.proofs.Common.{◌≡◌, ℕ, suc, ◌+◌, ◌*◌, ◌<◌, List, [], ◌∷◌, length, drop, get_or, sym, ap, ◌∙◌, arith}
 use Rattle.std.proofs.Math.Seq.{drop-cons, drop-length}
-use Rattle.request_text.specs.ChipText.{number_bytes}
+use Rattle.terminal_kernel.specs.Requested.{number_bytes}
 
 -- the next pair of digits is the next byte
 pub number_bytes-pair : (digits : List ℕ) (i : ℕ) → 2 * i + 1 < length digits

@@ -3,7 +3,7 @@ use Rattle.std.proofs.Common.{length, ap, arith, IsTrue}
 use Rattle.std.proofs.lemmas.Grind.{get_or_default_zero}
 use Rattle.issuer_base.specs.CardNumber.{is_pan}
 use Rattle.issuer_base.proofs.CardNumberLemmas.{length-pan, digit-pan}
-use Rattle.request_text.proofs.number.number_bytes.Goals as goal
+use Rattle.terminal_kernel.proofs.number.number_bytes.Goals as goal
 
 pub paired-requires-clause-size : goal.paired-requires-clause-size
 paired-requires-clause-size c = omega (arith, ap length c.digits.ensures.same, (length-pan c.args.pan.now c.digits.ensures.valid).1)
