@@ -7,3 +7,4 @@ pub mod LongerHistories
 pub mod ScriptSteps
 pub mod Batches
 pub mod CommandsInOrder
+pub mod LegalDecisions

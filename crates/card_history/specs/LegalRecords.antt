@@ -1,41 +1,53 @@
 -- Which record is a valid successor of a shard's history, and which histories are legal.
-use Rattle.std.specs.Prelude.{◌≡◌, ◌≤◌, ℕ, List, take, slice_get, Some, IsTrue}
+use Rattle.std.specs.Prelude.{◌≡◌, ◌≢◌, ◌≤◌, ℕ, List, take, slice_get, Some, true, IsTrue, All}
 use Rattle.issuer_base.specs.declared.command.Command.{Command}
 use Rattle.issuer_base.specs.declared.limits.TheConstants.{MAX_STATUS}
 use Rattle.issuer_base.specs.declared.request.Request.{Request}
 use Rattle.issuer_base.specs.declared.answer.Reply.{Reply}
 use Rattle.issuer_base.specs.declared.entry.Entry.{Entry}
 use Rattle.issuer_base.specs.declared.entry.Entry.TheVariants.{Decided, Queued, Status}
+use Rattle.issuer_base.specs.ChipData.{is_arqc}
 use Rattle.issuer_base.specs.ScriptCommand.{is_command}
 use Rattle.script_queue.specs.CommandQueue.{TakesOneMore}
-use Rattle.card_history.specs.Records.{CardName, card_of, named}
+use Rattle.card_history.specs.Records.{CardName, card_of, named, greatest, IsBelow}
 use Rattle.card_history.specs.Scripts.{waiting, scripts_of}
-use Rattle.card_history.specs.Turns.{IsUnused, decided_for}
+use Rattle.card_history.specs.Turns.{decided_for}
 
--- what an issuer asks of the records of a shard: that the card is one of the shard's, that a request is for an ARQC with a known key set
--- and the card's cryptogram, and that a reply's bytes are those for its response code after these records
+-- what an issuer says of cards, keys and replies
 pub record Grounds : Type 1 where
-  pub IsHome : ℕ → CardName → Type 0
-  pub IsGenuine : Request → Type 0
+  -- the card is one of this shard's
+  pub IsCardOfShard : ℕ → CardName → Type 0
+  -- the request's card has keys under the key set that the request's derivation key index names
+  pub HasKeys : Request → Type 0
+  -- the request's application cryptogram is the one that these keys give: EMV 4.3 Book 2, section 8.1
+  pub HasValidCryptogram : Request → Type 0
+  -- the issuer gives this reply to the request after these records
   pub IsReply : List Entry → Request → Reply → Type 0
 
--- a decision may come next: it is of one of the shard's cards, the request is genuine, its counter is in the window and unused, and the
--- reply is the one that is made after these records
-pub record IsLegalDecision (grounds : Grounds) (shard : ℕ) (before : List Entry) (request : Request) (reply : Reply) : Type 0 where
-  pub home : grounds.IsHome shard (card_of request)
-  pub genuine : grounds.IsGenuine request
-  pub unused : IsUnused (decided_for request before) request
-  pub made : grounds.IsReply before request reply
+-- a decision is a valid successor of these records of the shard
+pub record IsLegalDecision (grounds : Grounds) (shard : ℕ) (before : List Entry) (request : Request) (reply : Reply)
+    : Type 0 where
+  -- its PAN and PSN name a card of this shard
+  pub of_a_card : grounds.IsCardOfShard shard (card_of request)
+  -- it asks the issuer to authorise online, by an ARQC
+  pub is_for_a_cryptogram_request : is_arqc request ≡ true
+  pub has_its_keys : grounds.HasKeys request
+  pub has_valid_ac : grounds.HasValidCryptogram request
+  -- no record decides this card and transaction counter
+  pub unrecorded : All (λ decision. decision.request.atc ≢ request.atc) (decided_for request before)
+  -- the transaction counter isn't below the card's window
+  pub in_window : IsBelow (greatest (decided_for request before)) request.atc → ⊥
+  pub is_the_issuers_reply : grounds.IsReply before request reply
 
 -- a command may come next: it is for one of the shard's cards, it is one that the host sends, and the card's queue takes it
 pub record IsLegalCommand (grounds : Grounds) (shard : ℕ) (before : List Entry) (card : CardName) (command : Command) : Type 0 where
-  pub home : grounds.IsHome shard card
+  pub of_a_card : grounds.IsCardOfShard shard card
   pub form : IsTrue (is_command command)
   pub room : TakesOneMore (waiting (scripts_of card before))
 
 -- a status may come next: it is for one of the shard's cards, and 0 to 9
 pub record IsLegalStatus (grounds : Grounds) (shard : ℕ) (card : CardName) (status : ℕ) : Type 0 where
-  pub home : grounds.IsHome shard card
+  pub of_a_card : grounds.IsCardOfShard shard card
   pub within : status ≤ MAX_STATUS
 
 -- a record may come next after these of this shard

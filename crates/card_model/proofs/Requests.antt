@@ -53,7 +53,7 @@ next_request-made card terminal fields unsigned request ac is first signed made 
     (signed ∙ ap (application_cryptogram card.keys.ac.0) (sym same ∙ is))
 
 -- the cryptogram of the request is that of the request
-pub next_request-genuine : (card : CardState) (terminal : Terminal)
+pub next_request-valid_ac : (card : CardState) (terminal : Terminal)
     → (next_request card terminal).ac ≡ application_cryptogram card.keys.ac.0 (next_request card terminal)
 unfolding next_request application_cryptogram cryptogram_under input
-next_request-genuine card terminal = refl
+next_request-valid_ac card terminal = refl

@@ -112,7 +112,7 @@ impl Card {
         ensures step { CardStep self.old (Tap terminal.now result) self.new }
         ensures last { IsNone result ↔ (self.old.atc ≡ LAST_COUNTER) }
         ensures unchanged { IfNone result (self.new ≡ self.old) }
-        ensures genuine { IfSome result (λ request. request.ac ≡ application_cryptogram self.old.keys.ac.0 request) }
+        ensures has_valid_ac { IfSome result (λ request. request.ac ≡ application_cryptogram self.old.keys.ac.0 request) }
     {
         if self.atc == LAST_COUNTER {
             return None;
@@ -187,7 +187,7 @@ impl Card {
         requires counted { self.now.atc < LAST_COUNTER }
         requires decimal { IsTrue (list_all is_bcd terminal.now.amount) }
         ensures exact { result ≡ next_request self.now terminal.now }
-        ensures genuine { result.ac ≡ application_cryptogram self.now.keys.ac.0 result }
+        ensures has_valid_ac { result.ac ≡ application_cryptogram self.now.keys.ac.0 result }
     {
         let key = self.keys.ac;
         let mut parts = self.next_fields(terminal);

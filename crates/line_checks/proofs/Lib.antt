@@ -1,3 +1,4 @@
 -- The laws of this crate.
 pub mod Numbers
 pub mod KeptLines
+pub mod CheckedRequests

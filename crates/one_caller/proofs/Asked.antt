@@ -38,7 +38,7 @@ card-home issuer name number known = record { number = number; number_is = known
 -- a request that may be recorded in the shard of its card
 pub record AsksRequest (issuer : Setup) (request : Request) : Type 0 where
   pub home : IsCardOfShard issuer (shard_of issuer (card_of request)) (card_of request)
-  pub genuine : checked issuer request ≡ Ok (Decide request)
+  pub passes : checked issuer request ≡ Ok (Decide request)
 
 home-of : (issuer : Setup) (request other : Request) (found : Option ℕ) → number_of (card_of request) issuer.cards ≡ found
     → of_card issuer found request ≡ Ok (Decide other) → IsCardOfShard issuer (shard_of issuer (card_of request)) (card_of request)
@@ -50,7 +50,7 @@ checked-asks issuer request other passes =
     let same = checked-own issuer request other passes in
     subst (AsksRequest issuer) (sym same) (record {
       home = home-of issuer request other (number_of (card_of request) issuer.cards) refl passes;
-      genuine = passes ∙ ap (λ (request : Request). Ok (Decide request)) same;
+      passes = passes ∙ ap (λ (request : Request). Ok (Decide request)) same;
     })
 
 data-asks : (issuer : Setup) (data_says : Result Request RequestFault) (request : Request) → checked_data issuer data_says ≡ Ok (Decide request)

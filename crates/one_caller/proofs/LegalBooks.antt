@@ -140,7 +140,7 @@ module _ (issuer : Setup) (shard : ℕ) (history : List Entry) (legal : IsLegalH
       let next = legal later (Decided other other_reply) other_is in
       let taken = earlier-taken history place later (Decided request reply) below is in
       let here = recorded-decided (card_of other) (take later history) place request reply taken (is_of-same other request (sym card)) in
-      All-contains (λ (decision : Decision). decision.request.atc ≡ other.atc → ⊥) _ _ next.unused.unrecorded here counter
+      All-contains (λ (decision : Decision). decision.request.atc ≡ other.atc → ⊥) _ _ next.unrecorded here counter
 
   pub once-in : (place other_place : ℕ) (request other : Request) (reply other_reply : Reply)
       → slice_get history place ≡ Some (Decided request reply) → slice_get history other_place ≡ Some (Decided other other_reply)
@@ -169,7 +169,7 @@ legal-once issuer books legal shard other_shard place other_place request other 
     let first = legal shard one.0 one.1 place (Decided request reply) one.2 in
     let second = legal other_shard two.0 two.1 other_place (Decided other other_reply) two.2 in
     let same : shard ≡ other_shard =
-    one-home issuer shard other_shard (card_of other) (subst (IsCardOfShard issuer shard) card first.home) second.home in
+    one-home issuer shard other_shard (card_of other) (subst (IsCardOfShard issuer shard) card first.of_a_card) second.of_a_card in
     let book : one.0 ≡ two.0 = same_Some one.0 two.0 (sym one.1 ∙ ap (slice_get books) same ∙ two.1) in
     let there = subst (λ (book : Book). slice_get book.history place ≡ Some (Decided request reply)) book one.2 in
     (same, once-in issuer other_shard two.0.history (legal other_shard two.0 two.1) place other_place request other reply other_reply there two.2 card counter)

@@ -26,6 +26,7 @@ use Rattle.line_checks.specs.Reading.{reading}
 use Rattle.row_core.specs.Replying.{reply_to}
 use Rattle.shard_book.specs.Answering.{is_store_fault, AnswersClaimed, AnswersQueueing, AnswersSetting}
 use Rattle.shard_book.specs.Grounds.{grounds_now}
+use Rattle.shard_book.proofs.LegalDecisions.{legal-own}
 use Rattle.one_caller.specs.Books.{Book, histories_of}
 use Rattle.one_caller.specs.OneHistory.{HasFailed}
 use Rattle.one_caller.specs.Turns.{AnswersIn, Turn}
@@ -43,7 +44,11 @@ claimed-adds : (issuer : Setup) (before : List Entry) (request : Request) (answe
     → AnswersClaimed (shard_of issuer (card_of request)) (reply_to issuer) true before request answer after
     → AddsAtMostOne issuer (shard_of issuer (card_of request)) before after
 claimed-adds issuer before request (Fresh at place reply) after asks (won, (unused, at_is, place_is, reply_is, after_is)) =
-    inr (Decided request reply, after_is, record { home = asks.home; genuine = asks.genuine; unused = unused; made = reply_is })
+    inr (
+      Decided request reply,
+      after_is,
+      legal-own issuer (shard_of issuer (card_of request)) before request reply asks.home asks.passes unused reply_is,
+    )
 claimed-adds issuer before request (Kept at place reply) after asks (used, at_is, after_is) = inl after_is
 claimed-adds issuer before request (Refused (Below top)) after asks (too_old, after_is) = inl after_is
 claimed-adds issuer before request (Refused (Taken at place)) after asks (taken, at_is, after_is) = inl after_is
@@ -55,7 +60,7 @@ queueing-adds : (issuer : Setup) (before : List Entry) (name : CardName) (comman
     → AsksCommand issuer name command → AnswersQueueing (shard_of issuer name) before name command answer after
     → AddsAtMostOne issuer (shard_of issuer name) before after
 queueing-adds issuer before name command (Queued at place) after asks (room, at_is, place_is, after_is) =
-    inr (IsQueued name.pan name.psn command, after_is, record { home = asks.home; form = asks.form; room = room })
+    inr (IsQueued name.pan name.psn command, after_is, record { of_a_card = asks.home; form = asks.form; room = room })
 queueing-adds issuer before name command (Refused QueueFull) after asks (full, after_is) = inl after_is
 queueing-adds issuer before name command (Refused StoreFault) after asks (room, after_is) = inl after_is
 queueing-adds issuer before name command _ after asks turn = absurd turn
@@ -64,7 +69,7 @@ setting-adds : (issuer : Setup) (before : List Entry) (name : CardName) (status 
     → AsksStatus issuer name status → AnswersSetting (shard_of issuer name) before name status answer after
     → AddsAtMostOne issuer (shard_of issuer name) before after
 setting-adds issuer before name status (Set at place) after asks (at_is, place_is, after_is) =
-    inr (IsStatus name.pan name.psn status, after_is, record { home = asks.home; within = asks.within })
+    inr (IsStatus name.pan name.psn status, after_is, record { of_a_card = asks.home; within = asks.within })
 setting-adds issuer before name status (Refused StoreFault) after asks after_is = inl after_is
 setting-adds issuer before name status _ after asks turn = absurd turn
 

@@ -141,7 +141,7 @@ impl<S: Store> Solo<S> {
     /// The answer to a request that was checked, in the shard of its card.
     fn decide(&mut self, found: &CheckedRequest) -> Answer
         requires at_hand { IsRequestAtHand self.old.issuer found.now }
-        requires genuine { checked self.old.issuer found.now.request ≡ Ok (Decide found.now.request) }
+        requires checked { checked self.old.issuer found.now.request ≡ Ok (Decide found.now.request) }
         ensures turn { (books : List Book) → Stand self.old.issuer self.old.shards.items books
             → (after : List Book) × Stand self.new.issuer self.new.shards.items after
             × Turn self.old.issuer books (Ok (Decide found.now.request)) result after }

@@ -38,12 +38,12 @@ follows-made card row keys history request reply unused made says_unused says_ma
     (λ yes. record { unused = is_unused; made = is_made.0 yes }, λ follows. is_made.1 follows.made)
 
 -- a cryptogram that holds under the session key of its transaction is the one by the master key
-is-genuine : (keys : CardKeys) (request : Request) (session : List ℕ) (holds : Bool)
+has-valid-ac : (keys : CardKeys) (request : Request) (session : List ℕ) (holds : Bool)
     → session ≡ session_ac keys.ac.0 request.atc
     → (IsTrue holds ↔ (request.ac ≡ cryptogram_under session request))
     → (IsTrue holds ↔ (request.ac ≡ application_cryptogram keys.ac.0 request))
 unfolding application_cryptogram
-is-genuine keys request session holds session_is says =
+has-valid-ac keys request session holds session_is says =
     subst (λ session. IsTrue holds ↔ (request.ac ≡ cryptogram_under session request)) session_is says
 
 -- where the cryptogram holds, a reply is accepted exactly where it may follow
@@ -55,8 +55,8 @@ pub accepts-following : (method : Method) (keys : CardKeys) (history : List Entr
     → (IsTrue follows ↔ MayFollow method keys history request reply)
     → (IsTrue follows ↔ IsAccepted method keys history request reply)
 accepts-following method keys history request reply session holds follows session_is says here may_follow =
-    let genuine = is-genuine keys request session holds session_is says in
-    (λ yes. record { genuine = genuine.0 here; follows = may_follow.0 yes }, λ accepted. may_follow.1 accepted.follows)
+    let valid = has-valid-ac keys request session holds session_is says in
+    (λ yes. record { has_valid_ac = valid.0 here; follows = may_follow.0 yes }, λ accepted. may_follow.1 accepted.follows)
 
 -- where it doesn't, none is
 pub accepts-none : (method : Method) (keys : CardKeys) (history : List Entry) (request : Request) (reply : Reply)
@@ -66,5 +66,5 @@ pub accepts-none : (method : Method) (keys : CardKeys) (history : List Entry) (r
     → holds ≡ false
     → (IsTrue holds ↔ IsAccepted method keys history request reply)
 accepts-none method keys history request reply session holds session_is says fails =
-    let genuine = is-genuine keys request session holds session_is says in
-    (λ yes. absurd (cc (yes, fails)), λ accepted. genuine.1 accepted.genuine)
+    let valid = has-valid-ac keys request session holds session_is says in
+    (λ yes. absurd (cc (yes, fails)), λ accepted. valid.1 accepted.has_valid_ac)

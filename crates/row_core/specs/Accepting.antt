@@ -33,5 +33,5 @@ pub record MayFollow (method : Method) (keys : CardKeys) (history : List Entry) 
 
 -- besides, the request's cryptogram is the card's
 pub record IsAccepted (method : Method) (keys : CardKeys) (history : List Entry) (request : Request) (reply : Reply) : Type 0 where
-  pub genuine : request.ac ≡ application_cryptogram keys.ac.0 request
+  pub has_valid_ac : request.ac ≡ application_cryptogram keys.ac.0 request
   pub follows : MayFollow method keys history request reply

@@ -24,6 +24,7 @@ use Rattle.line_checks.specs.Reading.{checked}
 use Rattle.shard_book.specs.ShardRows.{ShardRows, AreRowsOf, IsHome}
 use Rattle.shard_book.specs.Steps.{IsCardOf}
 use Rattle.shard_book.specs.Grounds.{IsCardOfShard, grounds_now}
+use Rattle.shard_book.proofs.LegalDecisions.{legal-own}
 
 module _ (issuer : Setup) (rows : ShardRows) (of_issuer : AreRowsOf issuer rows) (name : CardName) (number : ℕ) (at_hand : IsCardAtHand issuer name number)
     (home : IsHome rows number) where
@@ -38,15 +39,15 @@ module _ (issuer : Setup) (rows : ShardRows) (of_issuer : AreRowsOf issuer rows)
   pub legal-decision : (history : List Entry) (request : Request) (reply : Reply) → card_of request ≡ name → checked issuer request ≡ Ok (Decide request)
       → IsUnused (decided_for request history) request → reply ≡ reply_to issuer history request
       → IsLegalDecision (grounds_now issuer) rows.shard history request reply
-  legal-decision history request reply its genuine unused made =
-      record { home = subst (IsCardOfShard issuer rows.shard) (sym its) card-home; genuine = genuine; unused = unused; made = made }
+  legal-decision history request reply its passes unused made =
+      legal-own issuer rows.shard history request reply (subst (IsCardOfShard issuer rows.shard) (sym its) card-home) passes unused made
 
   pub legal-command : (history : List Entry) (command : Command) → IsTrue (is_command command) → TakesOneMore (waiting (scripts_of name history))
       → IsLegalCommand (grounds_now issuer) rows.shard history name command
-  legal-command history command form room = record { home = card-home; form = form; room = room }
+  legal-command history command form room = record { of_a_card = card-home; form = form; room = room }
 
   pub legal-status : (status : ℕ) → status ≤ MAX_STATUS → IsLegalStatus (grounds_now issuer) rows.shard name status
-  legal-status status within = record { home = card-home; within = within }
+  legal-status status within = record { of_a_card = card-home; within = within }
 
 -- the issuer's card of this name, whose sequence number is decimal
 pub record IsFound (issuer : Setup) (name : CardName) (number : ℕ) : Type 0 where

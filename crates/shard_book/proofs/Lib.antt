@@ -7,6 +7,7 @@ pub mod RowPlans
 pub mod Recorded
 pub mod Rooms
 pub mod ShardSteps
+pub mod LegalDecisions
 pub mod LegalNext
 pub mod Adopted
 pub mod Lines

@@ -1,6 +1,6 @@
 -- The issuer's own decision is a reply that it makes for its response code: what a run records, a later run takes over.
-use Rattle.std.proofs.Common.{◌≡◌, ◌≤◌, ℕ, Bool, true, false, List, [], ◌∷◌, ◌++◌, length, refl, sym, ap, subst, ◌∙◌, arith}
-use Rattle.std.proofs.Common.{Option, None, Some, All, Result, Ok, Err, if◌then◌else◌}
+use Rattle.std.proofs.Common.{◌≡◌, ◌≤◌, ℕ, true, List, [], ◌∷◌, ◌++◌, length, refl, sym, ap, subst, ◌∙◌, arith}
+use Rattle.std.proofs.Common.{Option, None, Some, All}
 use Rattle.std.proofs.lemmas.List.Sums.{AllPass-from_list_all}
 use Rattle.std.proofs.lemmas.Bool.{and_parts, leb-true}
 use Rattle.std.proofs.lemmas.Option.{slice_get_within, get_or_from_slice_get}
@@ -12,7 +12,6 @@ use Rattle.issuer_base.specs.declared.answer.Reply.{Reply}
 use Rattle.issuer_base.specs.declared.entry.Entry.{Entry}
 use Rattle.issuer_base.specs.declared.entry.Entry.TheVariants.{Decided, Queued, Status}
 use Rattle.issuer_base.specs.declared.request.Request.{Request}
-use Rattle.issuer_base.specs.ChipData.{is_arqc}
 use Rattle.tlv_objects.specs.Writing.{object_text}
 use Rattle.key_derive.specs.SessionKey.{session_ac}
 use Rattle.key_derive.specs.declared.card.CardKeys.{CardKeys}
@@ -22,18 +21,12 @@ use Rattle.decision_table.specs.declared.row.TableRow.{TableRow}
 use Rattle.decision_table.specs.Fitting.{decision}
 use Rattle.decision_table.specs.Tables.{is_table, tells_approval}
 use Rattle.decision_table.proofs.DecisionLemmas.{decides}
-use Rattle.card_history.specs.declared.decision.Asked.{Asked}
-use Rattle.issuer_base.specs.declared.answer.Refusal.{Refusal}
-use Rattle.issuer_base.specs.declared.answer.Refusal.TheVariants.{NotArqc}
-use Rattle.card_history.specs.declared.decision.Asked.TheVariants.{Decide}
 use Rattle.card_history.specs.LegalRecords.{IsLegal}
 use Rattle.card_history.specs.Records.{card_of, status_of}
 use Rattle.card_history.specs.Scripts.{Scripts, scripts_of, batch_of, first_of}
 use Rattle.issuer_setup.specs.declared.card.CardInfo.{CardInfo}
-use Rattle.issuer_setup.specs.CardList.{number_of}
 use Rattle.issuer_setup.specs.IssuerSetup.{Setup, keys_of}
 use Rattle.issuer_setup.proofs.CardListLemmas.{number_of-found}
-use Rattle.line_checks.specs.Reading.{checked, of_card, under_keys}
 use Rattle.row_core.specs.Accepting.{IsMade, told_update, says_approval}
 use Rattle.row_core.specs.Replying.{script_bytes, reply_bytes, reply_by, reply_by_row, reply_of_card, no_reply}
 use Rattle.journal_rec.specs.Record.{IsRecord}
@@ -137,37 +130,18 @@ decided-made issuer card keys before request reply (Some row) table is valid mad
     subst (IsMade card.method keys (scripts_of (card_of request) before) request) (sym made)
     (row-made keys (scripts_of (card_of request) before) request row arc whole tells card.method)
 
--- a request that was checked has keys
-record HasKeys (issuer : Setup) (number : ℕ) (request : Request) : Type 0 where
-  keys : CardKeys
-  keys_are : keys_of issuer number request ≡ Some keys
-
-keys-there : (issuer : Setup) (number : ℕ) (request : Request) (arqc : Bool) (found : Option CardKeys) → keys_of issuer number request ≡ found
-    → let refused : Result Asked Refusal = Err NotArqc in (if arqc then under_keys found request else refused) ≡ Ok (Decide request)
-    → HasKeys issuer number request
-keys-there issuer number request false found is genuine = absurd (cc)
-keys-there issuer number request true None is genuine = absurd (cc)
-keys-there issuer number request true (Some keys) is genuine = record { keys = keys; keys_are = is }
-
-keys-known : (issuer : Setup) (number : ℕ) (request : Request) → number_of (card_of request) issuer.cards ≡ Some number
-    → checked issuer request ≡ Ok (Decide request) → HasKeys issuer number request
-keys-known issuer number request number_is genuine =
-    keys-there issuer number request (is_arqc request) (keys_of issuer number request) refl
-    (sym (ap (λ (number : Option ℕ). of_card issuer number request) number_is) ∙ genuine)
-
 own-made : (issuer : Setup) → HasTable issuer → (shard : ℕ) (before : List Entry) (request : Request) (reply : Reply) → IsRecord (Decided request reply)
     → IsLegal (grounds_now issuer) shard before (Decided request reply) → IsMadeBy issuer before request reply
 own-made issuer table shard before request reply valid legal =
-    let number = legal.home.number in
-    let number_is = legal.home.number_is in
-    let known = number_of-found (card_of request) issuer.cards number number_is in
-    let keyed = keys-known issuer number request number_is legal.genuine in
-    let made = legal.made
+    let keyed = legal.has_its_keys in
+    let number_is = keyed.number_is in
+    let known = number_of-found (card_of request) issuer.cards keyed.number number_is in
+    let made = legal.is_the_issuers_reply
     ∙ ap (λ (number : Option ℕ). reply_of_card issuer number before request) number_is
-    ∙ ap (λ (card : Option CardInfo). reply_by card (keys_of issuer number request) issuer.table before request) known.1
+    ∙ ap (λ (card : Option CardInfo). reply_by card (keys_of issuer keyed.number request) issuer.table before request) known.1
     ∙ ap (λ (keys : Option CardKeys). reply_by (Some known.0) keys issuer.table before request) keyed.keys_are in
     record {
-      number = number;
+      number = keyed.number;
       card = known.0;
       keys = keyed.keys;
       number_is = number_is;
@@ -182,10 +156,14 @@ own-made issuer table shard before request reply valid legal =
 pub legal-then : (issuer : Setup) → HasTable issuer → (shard : ℕ) (before : List Entry) (entry : Entry) → IsRecord entry
     → IsLegal (grounds_now issuer) shard before entry → IsLegal (grounds_of issuer) shard before entry
 legal-then issuer table shard before (Decided request reply) valid legal = record {
-  home = legal.home;
-  genuine = legal.genuine;
-  unused = legal.unused;
-  made = own-made issuer table shard before request reply valid legal;
+  of_a_card = legal.of_a_card;
+  is_for_a_cryptogram_request = legal.is_for_a_cryptogram_request;
+  has_its_keys = legal.has_its_keys;
+  has_valid_ac = legal.has_valid_ac;
+  unrecorded = legal.unrecorded;
+  in_window = legal.in_window;
+  is_the_issuers_reply = own-made issuer table shard before request reply valid legal;
 }
-legal-then issuer table shard before (Queued pan psn command) valid legal = record { home = legal.home; form = legal.form; room = legal.room }
-legal-then issuer table shard before (Status pan psn status) valid legal = record { home = legal.home; within = legal.within }
+legal-then issuer table shard before (Queued pan psn command) valid legal =
+    record { of_a_card = legal.of_a_card; form = legal.form; room = legal.room }
+legal-then issuer table shard before (Status pan psn status) valid legal = record { of_a_card = legal.of_a_card; within = legal.within }

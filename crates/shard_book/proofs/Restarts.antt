@@ -1,6 +1,6 @@
 -- What a crash left of a journal is loaded again, whatever decision table the restart has.
 use Rattle.std.proofs.Common.{◌≡◌, ◌≢◌, ℕ, ◌+◌, ◌-◌, ◌<◌, ◌≤◌, List, [], ◌∷◌, ◌++◌, length, take, refl, sym, ap, ap₂, subst, ◌∙◌, inl, inr, ⊎_elim, arith}
-use Rattle.std.proofs.Common.{zero, suc, Option, None, Some, All, append_assoc, append-nil, length-append}
+use Rattle.std.proofs.Common.{zero, suc, Some, All, append_assoc, append-nil, length-append}
 use Rattle.std.proofs.lemmas.Bool.{cases_lt}
 use Rattle.std.proofs.lemmas.List.{length-take-le, take_all, take-append-le}
 use Rattle.std.proofs.lemmas.List.Elements.{All-nil, All-head, All-tail, All-take}
@@ -14,12 +14,11 @@ use Rattle.issuer_base.specs.declared.request.Request.{Request}
 use Rattle.card_history.specs.LegalRecords.{Grounds, IsLegal, IsLegalHistory}
 use Rattle.card_history.specs.Records.{CardName, card_of}
 use Rattle.decision_table.specs.declared.row.TableRow.{TableRow}
-use Rattle.issuer_setup.specs.CardList.{number_of}
 use Rattle.issuer_setup.specs.IssuerSetup.{Setup}
 use Rattle.journal_rec.specs.Record.{IsRecord}
 use Rattle.journal_rec.specs.RecordText.{newline, text_of, texts_of, IsUnbroken}
 use Rattle.journal_rec.proofs.TextLaws.{texts_of-one_reading}
-use Rattle.line_checks.specs.Reading.{of_card}
+use Rattle.line_checks.specs.RequestFacts.{HasItsKeys}
 use Rattle.record_store.specs.Images.{IsCutImage}
 use Rattle.shard_book.specs.Grounds.{HasTable, IsCardOfShard, IsMadeBy, IsImageOf, IsTail, grounds_now, grounds_of}
 use Rattle.shard_book.specs.Histories.{GoesOn, IsImageBetween}
@@ -56,9 +55,8 @@ module _ (issuer : Setup) (table : List TableRow) where
   same-card : (shard : ℕ) (name : CardName) → IsCardOfShard issuer shard name → IsCardOfShard (with_table issuer table) shard name
   same-card shard name its = record { number = its.number; number_is = its.number_is; home = its.home }
 
-  same-of_card : (request : Request) (number : Option ℕ) → of_card (with_table issuer table) number request ≡ of_card issuer number request
-  same-of_card request None = refl
-  same-of_card request (Some number) = refl
+  abbrev same-keys : (request : Request) → HasItsKeys issuer request → HasItsKeys (with_table issuer table) request
+  same-keys request its = record { number = its.number; keys = its.keys; number_is = its.number_is; keys_are = its.keys_are }
 
   same-made : (before : List Entry) (request : Request) (reply : Reply) → IsMadeBy issuer before request reply
       → IsMadeBy (with_table issuer table) before request reply
@@ -76,13 +74,18 @@ module _ (issuer : Setup) (table : List TableRow) where
   same-legal : (shard : ℕ) (before : List Entry) (entry : Entry) → IsLegal (grounds_of issuer) shard before entry
       → IsLegal (grounds_of (with_table issuer table)) shard before entry
   same-legal shard before (Decided request reply) legal = record {
-    home = same-card shard (card_of request) legal.home;
-    genuine = same-of_card request (number_of (card_of request) issuer.cards) ∙ legal.genuine;
-    unused = legal.unused;
-    made = same-made before request reply legal.made;
+    of_a_card = same-card shard (card_of request) legal.of_a_card;
+    is_for_a_cryptogram_request = legal.is_for_a_cryptogram_request;
+    has_its_keys = same-keys request legal.has_its_keys;
+    has_valid_ac = record { its = same-keys request legal.has_valid_ac.its; ac_is = legal.has_valid_ac.ac_is };
+    unrecorded = legal.unrecorded;
+    in_window = legal.in_window;
+    is_the_issuers_reply = same-made before request reply legal.is_the_issuers_reply;
   }
-  same-legal shard before (Queued pan psn command) legal = record { home = same-card shard _ legal.home; form = legal.form; room = legal.room }
-  same-legal shard before (Status pan psn status) legal = record { home = same-card shard _ legal.home; within = legal.within }
+  same-legal shard before (Queued pan psn command) legal =
+      record { of_a_card = same-card shard _ legal.of_a_card; form = legal.form; room = legal.room }
+  same-legal shard before (Status pan psn status) legal =
+      record { of_a_card = same-card shard _ legal.of_a_card; within = legal.within }
 
   same-history : (shard : ℕ) (history : List Entry) → IsLegalHistory (grounds_of issuer) shard history
       → IsLegalHistory (grounds_of (with_table issuer table)) shard history

@@ -1,9 +1,8 @@
--- What an issuer asks of the records of its shards, and what may stand behind the text of a history.
-use Rattle.std.specs.Prelude.{◌≡◌, ◌⊎◌, ℕ, ◌%◌, List, [], length, slice_get, Some, Ok, IsTrue, All}
+-- What an issuer says of the records of its shards, and what may stand behind the text of a history.
+use Rattle.std.specs.Prelude.{◌≡◌, ◌⊎◌, ℕ, ◌%◌, List, [], length, slice_get, Some, IsTrue, All}
 use Rattle.issuer_base.specs.declared.request.Request.{Request}
 use Rattle.issuer_base.specs.declared.answer.Reply.{Reply}
 use Rattle.issuer_base.specs.declared.entry.Entry.{Entry}
-use Rattle.card_history.specs.declared.decision.Asked.TheVariants.{Decide}
 use Rattle.card_history.specs.LegalRecords.{Grounds, IsLegal}
 use Rattle.card_history.specs.Records.{CardName, card_of}
 use Rattle.card_history.specs.Scripts.{scripts_of}
@@ -14,7 +13,7 @@ use Rattle.issuer_setup.specs.CardList.{number_of}
 use Rattle.issuer_setup.specs.IssuerSetup.{Setup, keys_of}
 use Rattle.row_core.specs.Accepting.{IsMade}
 use Rattle.row_core.specs.Replying.{reply_to}
-use Rattle.line_checks.specs.Reading.{checked}
+use Rattle.line_checks.specs.RequestFacts.{HasItsKeys, HasValidAc}
 use Rattle.journal_rec.specs.Record.{IsRecord}
 use Rattle.journal_rec.specs.RecordText.{text_of, texts_of}
 use Rattle.record_store.specs.Images.{IsImage}
@@ -35,19 +34,21 @@ pub record IsMadeBy (issuer : Setup) (before : List Entry) (request : Request) (
   pub keys_are : keys_of issuer number request ≡ Some keys
   pub made : IsMade card.method keys (scripts_of (card_of request) before) request reply
 
--- what an issuer asks of records, by what it asks of replies
+-- what an issuer says of its cards and their keys, with what it is to say of replies
 abbrev pub grounds_by : Setup → (List Entry → Request → Reply → Type 0) → Grounds
 grounds_by issuer IsReply = record {
-  IsHome = IsCardOfShard issuer;
-  IsGenuine = λ request. checked issuer request ≡ Ok (Decide request);
+  IsCardOfShard = IsCardOfShard issuer;
+  HasKeys = HasItsKeys issuer;
+  HasValidCryptogram = HasValidAc issuer;
   IsReply = IsReply;
 }
 
--- of the records of earlier runs: the table may have been another one
+-- of records of earlier runs: a reply is one that the issuer makes for its response code after these records (`IsMadeBy`),
+-- since the decision table may have been another one then
 abbrev pub grounds_of : Setup → Grounds
 grounds_of issuer = grounds_by issuer (IsMadeBy issuer)
 
--- of the records of this run: each reply is the issuer's own decision
+-- of records of this run: a reply is the issuer's own decision after these records (`reply_to`), by its decision table
 abbrev pub grounds_now : Setup → Grounds
 grounds_now issuer = grounds_by issuer (λ before request reply. reply ≡ reply_to issuer before request)
 

@@ -115,7 +115,7 @@ impl<S: Store> Shard<S> {
         requires under { IsUnder issuer.now self.old }
         requires home { HasCard self.old found.now.card }
         requires at_hand { IsRequestAtHand issuer.now found.now }
-        requires genuine { checked issuer.now found.now.request ≡ Ok (Decide found.now.request) }
+        requires checked { checked issuer.now found.now.request ≡ Ok (Decide found.now.request) }
         ensures answer { (history : List Entry) → StandsFor issuer.now self.old history
             → (after : List Entry) × StandsFor issuer.now self.new after
             × AnswersClaimed (number_in self.old) (reply_to issuer.now) won history found.now.request result after }

@@ -30,6 +30,7 @@ use Rattle.shard_book.specs.declared.shard.Shard.{Shard}
 use Rattle.shard_book.specs.Answering.{is_store_fault, told_after, AnswersClaimed, AnswersQueueing, AnswersSetting}
 use Rattle.shard_book.specs.Grounds.{IsCardOfShard, IsImageOf, grounds_of, grounds_now}
 use Rattle.shard_book.specs.Shards.{number_in, IsUnder, disk_in, faults_in, told_in, IsUndoubted, StandsFor}
+use Rattle.shard_book.proofs.LegalDecisions.{legal-own}
 use Rattle.shard_book.proofs.Lines.{legal-more}
 use Rattle.shard_book.proofs.OwnDecisions.{legal-then}
 use Rattle.shard_turns.specs.declared.logs.LogItem.{LogItem}
@@ -88,9 +89,9 @@ module _ (issuer : Setup) (shard : ℕ) (before after : List Entry) where
   pub claimed-answered : (won : Bool) (request : Request) (answer : Answer) → IsCardOfShard issuer shard (card_of request)
       → checked issuer request ≡ Ok (Decide request) → AnswersClaimed shard (reply_to issuer) won before request answer after
       → IsAnsweredBy issuer shard before after answer (decided_by request answer)
-  claimed-answered won request (Fresh at place reply) home genuine (win, (unused, at_is, place_is, reply_is, after_is)) =
+  claimed-answered won request (Fresh at place reply) home passes (win, (unused, at_is, place_is, reply_is, after_is)) =
       let legal : IsLegal (grounds_now issuer) shard before (Decided request reply) =
-      record { home = home; genuine = genuine; unused = unused; made = reply_is } in
+      legal-own issuer shard before request reply home passes unused reply_is in
       record {
         records = (after_is, legal);
         apart = λ given is. refl;
@@ -100,22 +101,22 @@ module _ (issuer : Setup) (shard : ℕ) (before after : List Entry) where
           subst (λ (before : List Entry). IsLegal (grounds_now issuer) shard before (Decided request reply)) (sym records) legal,
         );
       }
-  claimed-answered won request (Kept at place reply) home genuine (used, at_is, after_is) =
+  claimed-answered won request (Kept at place reply) home passes (used, at_is, after_is) =
       nothing-added (Kept at place reply) refl after_is (λ items told count told_is. refl)
-  claimed-answered won request (Refused (Below top)) home genuine (too_old, after_is) =
+  claimed-answered won request (Refused (Below top)) home passes (too_old, after_is) =
       nothing-added (Refused (Below top)) refl after_is (λ items told count told_is. refl)
-  claimed-answered won request (Refused (Taken at place)) home genuine (taken, at_is, after_is) =
+  claimed-answered won request (Refused (Taken at place)) home passes (taken, at_is, after_is) =
       nothing-added (Refused (Taken at place)) refl after_is (λ items told count told_is. refl)
-  claimed-answered won request (Refused Pending) home genuine (lost, unused, after_is) =
+  claimed-answered won request (Refused Pending) home passes (lost, unused, after_is) =
       nothing-added (Refused Pending) refl after_is (λ items told count told_is. refl)
-  claimed-answered won request (Refused StoreFault) home genuine (win, unused, after_is) = failed-added after_is
-  claimed-answered won request _ home genuine turn = absurd turn
+  claimed-answered won request (Refused StoreFault) home passes (win, unused, after_is) = failed-added after_is
+  claimed-answered won request _ home passes turn = absurd turn
 
   pub queueing-answered : (name : CardName) (command : Command) (answer : Answer) → IsCardOfShard issuer shard name → IsTrue (is_command command)
       → AnswersQueueing shard before name command answer after
       → IsAnsweredBy issuer shard before after answer (recorded_by (IsQueued name.pan name.psn command) answer)
   queueing-answered name command (Queued at place) home form (room, at_is, place_is, after_is) =
-      let legal : IsLegal (grounds_now issuer) shard before (IsQueued name.pan name.psn command) = record { home = home; form = form; room = room } in
+      let legal : IsLegal (grounds_now issuer) shard before (IsQueued name.pan name.psn command) = record { of_a_card = home; form = form; room = room } in
       record {
         records = (after_is, legal);
         apart = λ given is. refl;
@@ -134,7 +135,7 @@ module _ (issuer : Setup) (shard : ℕ) (before after : List Entry) where
       → AnswersSetting shard before name status answer after
       → IsAnsweredBy issuer shard before after answer (recorded_by (IsStatus name.pan name.psn status) answer)
   setting-answered name status (Set at place) home within (at_is, place_is, after_is) =
-      let legal : IsLegal (grounds_now issuer) shard before (IsStatus name.pan name.psn status) = record { home = home; within = within } in
+      let legal : IsLegal (grounds_now issuer) shard before (IsStatus name.pan name.psn status) = record { of_a_card = home; within = within } in
       record {
         records = (after_is, legal);
         apart = λ given is. refl;

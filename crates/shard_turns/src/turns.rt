@@ -94,7 +94,7 @@ impl<S: Store> ShardTurns<S> {
         requires turns { AreTurnsOf issuer.now self.now }
         requires seat { IsSeatOf self.now seat.old }
         requires at_hand { IsRequestAtHand issuer.now found.now }
-        requires genuine { checked issuer.now found.now.request ≡ Ok (Decide found.now.request) }
+        requires checked { checked issuer.now found.now.request ≡ Ok (Decide found.now.request) }
         ensures seat { IsSeatOf self.now seat.new }
         ensures turn { DecidesInTurn issuer.now won found.now.request (view_of seat.old) result (view_of seat.new) }
     {

@@ -24,6 +24,7 @@ use Rattle.journal_rec.specs.Record.{IsEntry}
 use Rattle.terminal_kernel.specs.Requested.{chip_data}
 use Rattle.request_text.proofs.RequestRead.{request_of-chip_data, length-chip_data}
 use Rattle.shard_book.specs.Grounds.{grounds_of}
+use Rattle.shard_book.proofs.LegalDecisions.{legal-checked}
 use Rattle.world_net.specs.declared.event.Event.{Event}
 use Rattle.world_net.specs.declared.event.Event.TheVariants.{Claim, Write, Queue, Status}
 use Rattle.world_net.specs.declared.parts.OpenClaim.{OpenClaim}
@@ -91,7 +92,7 @@ module _ (issuer : Setup) (cards : List CardState) (valid : IsIssuer issuer) whe
       let before = filled shards in
       let claim : OpenClaim = record { caller = 0; request = request } in
       let claimed : WorldState = record before { claims = claim ∷ [] } in
-      let home : home_of before request ≡ shard = home-shard before request shard legal.home in
+      let home : home_of before request ≡ shard = home-shard before request shard legal.of_a_card in
       let legal_home : IsLegalDecision (grounds_of issuer) (home_of before request) (history_for before request) request reply =
       subst (λ shard. IsLegalDecision (grounds_of issuer) shard (at shards shard).history request reply) (sym home) legal in
       record {
@@ -105,8 +106,8 @@ module _ (issuer : Setup) (cards : List CardState) (valid : IsIssuer issuer) whe
               request = request;
               idle = refl;
               read = said.read;
-              genuine = legal.genuine;
-              free = record { unrecorded = legal_home.unused.unrecorded; unclaimed = λ k claim below. absurd (omega arith) };
+              checked = legal-checked issuer legal;
+              free = record { unrecorded = legal_home.unrecorded; unclaimed = λ k claim below. absurd (omega arith) };
             };
             after_is = refl;
           },
@@ -130,9 +131,9 @@ module _ (issuer : Setup) (cards : List CardState) (valid : IsIssuer issuer) whe
       → IsLegal (grounds_of issuer) shard (at shards shard).history entry → Fills shards (recorded shards shard entry)
   fills-record shards shard (Decided request reply) said legal = fills-decision shards shard request reply (said request reply refl) legal
   fills-record shards shard (IsQueued pan psn command) said legal =
-      let number = legal.home.number in
-      let info = number_of-found (named pan psn) issuer.cards number legal.home.number_is in
-      let home : number % issuer.shards ≡ shard = legal.home.home in
+      let number = legal.of_a_card.number in
+      let info = number_of-found (named pan psn) issuer.cards number legal.of_a_card.number_is in
+      let home : number % issuer.shards ≡ shard = legal.of_a_card.home in
       record {
         events = Queue number command ∷ [];
         room = All-cons HasRoom (Queue number command) [] tt (All-nil HasRoom);
@@ -153,9 +154,9 @@ module _ (issuer : Setup) (cards : List CardState) (valid : IsIssuer issuer) whe
         );
       }
   fills-record shards shard (IsStatus pan psn status) said legal =
-      let number = legal.home.number in
-      let info = number_of-found (named pan psn) issuer.cards number legal.home.number_is in
-      let home : number % issuer.shards ≡ shard = legal.home.home in
+      let number = legal.of_a_card.number in
+      let info = number_of-found (named pan psn) issuer.cards number legal.of_a_card.number_is in
+      let home : number % issuer.shards ≡ shard = legal.of_a_card.home in
       record {
         events = Status number status ∷ [];
         room = All-cons HasRoom (Status number status) [] tt (All-nil HasRoom);

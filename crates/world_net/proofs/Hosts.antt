@@ -16,6 +16,7 @@ use Rattle.card_history.specs.LegalRecords.{IsLegal, IsLegalDecision, IsLegalHis
 use Rattle.card_history.specs.OneReply.{IsOncePerCounter}
 use Rattle.card_history.specs.Records.{CardName, card_of, card_in}
 use Rattle.card_history.specs.Turns.{IsUnused, decided_for}
+use Rattle.card_history.proofs.LegalDecisions.{legal-unused}
 use Rattle.card_history.proofs.CardNames.{is_of-same}
 use Rattle.card_history.proofs.LongerHistories.{Stays, stays-push}
 use Rattle.card_history.proofs.RecordPlaces.{recorded-decided}
@@ -63,9 +64,9 @@ home-within issuer shard name valid home =
 -- so is that of a legal record
 pub legal-home : (issuer : Setup) (shard : ℕ) (before : List Entry) (entry : Entry) → IsLegal (grounds_of issuer) shard before entry
     → IsCardOfShard issuer shard (card_in entry)
-legal-home issuer shard before (Decided request reply) legal = legal.home
-legal-home issuer shard before (Queued pan psn command) legal = legal.home
-legal-home issuer shard before (Status pan psn status) legal = legal.home
+legal-home issuer shard before (Decided request reply) legal = legal.of_a_card
+legal-home issuer shard before (Queued pan psn command) legal = legal.of_a_card
+legal-home issuer shard before (Status pan psn status) legal = legal.of_a_card
 
 -- what is so of a shard that is put, and of each other shard, is so of each
 pub each-shard : (Holds : ℕ → ShardState → Type 0) (shards : List ShardState) (place : ℕ) (new : ShardState) → place < length shards → Holds place new
@@ -187,19 +188,19 @@ lawful-once issuer shards lawful shard other_shard place other_place request oth
     subst (λ (history : List Entry). slice_get history other_place ≡ Some (Decided other other_reply)) (histories-at shards other_shard) other_is in
     let legal = lawful.legal shard place (Decided request reply) is_there in
     let other_legal = lawful.legal other_shard other_place (Decided other other_reply) other_there in
-    let number : legal.home.number ≡ other_legal.home.number = same_Some _ _
-    (sym legal.home.number_is ∙ ap (λ name. number_of name issuer.cards) card ∙ other_legal.home.number_is) in
-    let home : shard ≡ other_shard = sym legal.home.home ∙ ap (λ n. n % issuer.shards) number ∙ other_legal.home.home in
+    let number : legal.of_a_card.number ≡ other_legal.of_a_card.number = same_Some _ _
+    (sym legal.of_a_card.number_is ∙ ap (λ name. number_of name issuer.cards) card ∙ other_legal.of_a_card.number_is) in
+    let home : shard ≡ other_shard = sym legal.of_a_card.home ∙ ap (λ n. n % issuer.shards) number ∙ other_legal.of_a_card.home in
     let other_here : slice_get (at shards shard).history other_place ≡ Some (Decided other other_reply) =
     subst (λ shard. slice_get (at shards shard).history other_place ≡ Some (Decided other other_reply)) (sym home) other_there in
     let other_unused : IsUnused (decided_for other (take other_place (at shards shard).history)) other =
-    subst (λ shard. IsUnused (decided_for other (take other_place (at shards shard).history)) other) (sym home) other_legal.unused in (
+    subst (λ shard. IsUnused (decided_for other (take other_place (at shards shard).history)) other) (sym home) (legal-unused other_legal) in (
       home,
       elim (cases_eq place other_place) [
         | inl same ↦ same
         | inr apart ↦ elim (cases_lt place other_place) [
           | inl below ↦ absurd (never-again (at shards shard).history place other_place request other reply below is_there other_unused card counter)
-          | inr above ↦ absurd (never-again (at shards shard).history other_place place other request other_reply (omega arith) other_here legal.unused
+          | inr above ↦ absurd (never-again (at shards shard).history other_place place other request other_reply (omega arith) other_here (legal-unused legal)
               (sym card) (sym counter))
         ]
       ],

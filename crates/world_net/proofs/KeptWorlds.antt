@@ -14,6 +14,7 @@ use Rattle.issuer_base.specs.declared.entry.Entry.TheVariants.{Decided, Queued a
 use Rattle.card_history.specs.LegalRecords.{IsLegal, IsLegalDecision}
 use Rattle.card_history.specs.Records.{CardName, card_of, decided, is_of, has_numbers}
 use Rattle.card_history.specs.Turns.{IsUnused}
+use Rattle.card_history.proofs.LegalDecisions.{legal-unused}
 use Rattle.card_history.proofs.CardNames.{is_of-card_of, has_numbers-named}
 use Rattle.card_history.proofs.LongerHistories.{slice_get-push}
 use Rattle.issuer_setup.specs.declared.card.CardInfo.{CardInfo}
@@ -127,7 +128,7 @@ module _ (world : WorldState) (sound : IsSound world) where
               let name : name_of info ≡ card_of request =
               own-name made.number (card_of request) info made.number_is (ap (slice_get world.issuer.cards) (sym same) ∙ info_is) in
               let its = subst (λ (name : CardName). is_of name request ≡ true) (sym name) (is_of-card_of request) in
-              let unused = subst (λ (name : CardName). IsUnused (decided name (at world.shards shard).history) request) (sym name) legal.unused in
+              let unused = subst (λ (name : CardName). IsUnused (decided name (at world.shards shard).history) request) (sym name) (legal-unused legal) in
               let made_here : Made world.made number request = subst (λ n. Made world.made n request) (sym same) made.made in
               kept-decided (name_of info) card (Made world.made number) (at world.shards shard).history here request reply made_here its unused
           | inr apart ↦
@@ -236,7 +237,7 @@ module _ (world : WorldState) (sound : IsSound world) where
         let here = kept.each number info card info_is card_is in
         let name = (here.requests.opened told.exchange.request told.opened).0 in
         let home : place.0 ≡ number % world.issuer.shards =
-        sym legal.home.home ∙ ap (λ n. n % world.issuer.shards) (same_Some _ _ (sym legal.home.number_is ∙ ap (λ name. number_of name world.issuer.cards) name
+        sym legal.of_a_card.home ∙ ap (λ n. n % world.issuer.shards) (same_Some _ _ (sym legal.of_a_card.number_is ∙ ap (λ name. number_of name world.issuer.cards) name
         ∙ number_of-own world.issuer.cards number info sound.issuer.cards info_is)) in
         subst (λ (c : CardState). IsKept (name_of info) c (Made world.made number) (at world.shards (number % world.issuer.shards)).history)
         (ap (with_answer card) (sym same) ∙ sym it.moved_is)

@@ -155,7 +155,7 @@ queue-taken world number command info shards valid info_is form takes shards_are
       card = info;
       card_is = info_is;
       legal = record {
-        home = record { number = number; number_is = number_of-own world.issuer.cards number info valid info_is; home = refl };
+        of_a_card = record { number = number; number_is = number_of-own world.issuer.cards number info valid info_is; home = refl };
         form = form;
         room = takes;
       };
@@ -172,7 +172,7 @@ set-taken world number status info shards valid info_is within shards_are =
       card = info;
       card_is = info_is;
       legal = record {
-        home = record { number = number; number_is = number_of-own world.issuer.cards number info valid info_is; home = refl };
+        of_a_card = record { number = number; number_is = number_of-own world.issuer.cards number info valid info_is; home = refl };
         within = within;
       };
     } in

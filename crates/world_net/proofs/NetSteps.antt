@@ -58,8 +58,8 @@ module _ (world : WorldState) where
       → request_of bytes ≡ Ok request → checked world.issuer request ≡ Ok (Decide request) → IsFree world request
       → claims ≡ world.claims ++ record { caller = caller; request = request } ∷ []
       → CanClaim world caller bytes × Claims world caller bytes (record world { claims = claims })
-  claims_it caller bytes request claims idle read genuine free more =
-      let can : CanClaim world caller bytes = record { request = request; idle = idle; read = read; genuine = genuine; free = free } in
+  claims_it caller bytes request claims idle read passes free more =
+      let can : CanClaim world caller bytes = record { request = request; idle = idle; read = read; checked = passes; free = free } in
       (can, record { can = can; after_is = ap (λ (claims : List OpenClaim). record world { claims = claims }) more })
 
   -- what the two tests say of a request

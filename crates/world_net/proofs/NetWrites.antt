@@ -14,6 +14,7 @@ use Rattle.issuer_base.specs.declared.entry.Entry.TheVariants.{Decided}
 use Rattle.card_history.specs.declared.decision.Asked.TheVariants.{Decide}
 use Rattle.card_history.specs.LegalRecords.{IsLegalDecision}
 use Rattle.card_history.specs.Records.{card_of}
+use Rattle.card_history.proofs.LegalDecisions.{legal-unused}
 use Rattle.issuer_setup.specs.declared.card.CardInfo.{CardInfo}
 use Rattle.issuer_setup.specs.CardList.{name_of, number_of}
 use Rattle.issuer_setup.specs.IssuerSetup.{Setup, keys_of}
@@ -110,7 +111,7 @@ module _ (world : WorldState) (sound : IsSound world) where
   doubt-legal home exchange is =
       let legal = sound.shards.doubtful home exchange is in
       subst (λ shard. IsLegalDecision (grounds_of world.issuer) shard (at world.shards shard).history exchange.request exchange.reply)
-      (sym (home-shard world exchange.request home legal.home)) legal
+      (sym (home-shard world exchange.request home legal.of_a_card)) legal
 
   pub doubt-settled : (home : ℕ) (exchange : Exchange) (kept : Bool) → (shard_at world home).doubt ≡ Some exchange → kept ≡ true
       → with_record world (home_of world exchange.request) (Decided exchange.request exchange.reply)
@@ -118,7 +119,7 @@ module _ (world : WorldState) (sound : IsSound world) where
   doubt-settled home exchange kept is is_kept =
       let legal = sound.shards.doubtful home exchange is in
       let entry = Decided exchange.request exchange.reply in
-      ap (λ shard. with_record world shard entry) (home-shard world exchange.request home legal.home)
+      ap (λ shard. with_record world shard entry) (home-shard world exchange.request home legal.of_a_card)
       ∙ sym (ap (settled_at kept world home) is ∙ cond-true kept _ _ is_kept)
 
 -- what is found among elements that all have a property has it
@@ -142,9 +143,9 @@ claim-none None is = refl
 claim-none (Some claim) is = absurd (none-some claim.request is)
 
 -- a claim is on a request that the issuer decides
-pub claim-genuine : (world : WorldState) → IsSound world → (caller : ℕ) (claim : OpenClaim) → claim_of caller world.claims ≡ Some claim
+pub claim-checked : (world : WorldState) → IsSound world → (caller : ℕ) (claim : OpenClaim) → claim_of caller world.claims ≡ Some claim
     → checked world.issuer claim.request ≡ Ok (Decide claim.request)
-claim-genuine world sound caller claim is =
+claim-checked world sound caller claim is =
     found-all (λ claim. claim.caller == caller) (λ claim. checked world.issuer claim.request ≡ Ok (Decide claim.request)) world.claims claim is sound.claims
 
 -- the issuer's own decision of a request whose card is of this shard
@@ -197,7 +198,7 @@ pub writes-taken : (world after : WorldState) (caller : ℕ) (stored : Bool) (cl
 writes-taken world after caller stored claim request exchange claim_is same same_too legal after_is =
     let reply = exchange.reply in
     let legal_here = subst (λ (q : Request). IsLegalDecision (grounds_of world.issuer) (home_of world q) (history_for world q) q reply) (sym same) legal in (
-      record { claim = claim; claim_is = claim_is; unused = legal_here.unused },
+      record { claim = claim; claim_is = claim_is; unused = legal-unused legal_here },
       record {
         claim = claim;
         reply = reply;

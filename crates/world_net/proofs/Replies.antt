@@ -142,7 +142,7 @@ own-reply issuer history request number info keys number_is info_is keys_are =
 -- what a card's row plans for a request of the card, where it stands for the history of the card's shard
 pub record IsPlanned (issuer : Setup) (history : List Entry) (request : Request) (card : ℕ) (keys : CardKeys) (row : CardRow) (outcome : Outcome)
     : Type 0 where
-  pub genuine : checked issuer request ≡ Ok (Decide request)
+  pub passes : checked issuer request ≡ Ok (Decide request)
   pub number_is : number_of (card_of request) issuer.cards ≡ Some card
   pub keys_are : keys_of issuer card request ≡ Some keys
   pub info : CardInfo
@@ -165,7 +165,7 @@ module _ {issuer : Setup} {history : List Entry} {request : Request} {card : ℕ
       let reply_is : reply ≡ reply_by_row method keys scripts request table_row =
       planned.answers.3 ∙ ap (λ (found_row : Option TableRow). option_map_or (reply_by_row method keys scripts request) found_row no_reply) decided_here in
       decision-legal issuer (card % issuer.shards) history request reply card planned.info keys planned.number_is planned.info_is planned.keys_are
-      (record { number = card; number_is = planned.number_is; home = refl }) planned.genuine (record {
+      (record { number = card; number_is = planned.number_is; home = refl }) planned.passes (record {
         unused = planned.answers.0;
         made = subst (IsMade method keys scripts request) (sym reply_is)
             (made-by_row method keys scripts request table_row code_is update_is (row-tells issuer.table row.status request table_row valid decides));

@@ -39,8 +39,8 @@ pub record AreCardsOf (issuer : Setup) (cards : List CardState) : Type 0 where
       → named card.pan card.psn ≡ name_of info
 
 -- each claim is on a request that the issuer decides
-abbrev pub AreGenuine : Setup → List OpenClaim → Type 0
-AreGenuine issuer claims = All (λ claim. checked issuer claim.request ≡ Ok (Decide claim.request)) claims
+abbrev pub AreChecked : Setup → List OpenClaim → Type 0
+AreChecked issuer claims = All (λ claim. checked issuer claim.request ≡ Ok (Decide claim.request)) claims
 
 -- what is sure of a world
 pub record IsSound (world : WorldState) : Type 0 where
@@ -48,7 +48,7 @@ pub record IsSound (world : WorldState) : Type 0 where
   pub cards : AreCardsOf world.issuer world.cards
   pub shards : AreLawful world.issuer world.shards
   pub sent : AreRecorded world.shards world.sent
-  pub claims : AreGenuine world.issuer world.claims
+  pub claims : AreChecked world.issuer world.claims
 
 -- what was put at a place of a list is read there
 pub put-there : {X : Type 0} (xs : List X) (place : ℕ) (new x : X) → place < length xs → slice_get (set xs place new) place ≡ Some x → new ≡ x
@@ -82,9 +82,9 @@ cards-moved issuer cards number card moved all card_is same = record {
 }
 
 -- one more claim of a request that the issuer decides
-claims-more : (issuer : Setup) (claims : List OpenClaim) (claim : OpenClaim) → AreGenuine issuer claims
-    → checked issuer claim.request ≡ Ok (Decide claim.request) → AreGenuine issuer (claims ++ claim ∷ [])
-claims-more issuer claims claim all genuine = All-push (λ claim. checked issuer claim.request ≡ Ok (Decide claim.request)) claims claim all genuine
+claims-more : (issuer : Setup) (claims : List OpenClaim) (claim : OpenClaim) → AreChecked issuer claims
+    → checked issuer claim.request ≡ Ok (Decide claim.request) → AreChecked issuer (claims ++ claim ∷ [])
+claims-more issuer claims claim all passes = All-push (λ claim. checked issuer claim.request ≡ Ok (Decide claim.request)) claims claim all passes
 
 module _ (world : WorldState) (sound : IsSound world) where
   -- a shard of which a record may come next is one of the shards
@@ -121,7 +121,7 @@ module _ (world : WorldState) (sound : IsSound world) where
   }
 
   -- fewer claims
-  pub sound-claims : (claims : List OpenClaim) → AreGenuine world.issuer claims → IsSound (record world { claims = claims })
+  pub sound-claims : (claims : List OpenClaim) → AreChecked world.issuer claims → IsSound (record world { claims = claims })
   sound-claims claims all = record { issuer = sound.issuer; cards = sound.cards; shards = sound.shards; sent = sound.sent; claims = all }
 
   -- one more reply that was sent
@@ -154,12 +154,12 @@ module _ (world : WorldState) (sound : IsSound world) where
   }
 
 -- only fewer claims
-without-genuine : (issuer : Setup) (caller : ℕ) (claims : List OpenClaim) → AreGenuine issuer claims → AreGenuine issuer (without caller claims)
-without-genuine issuer caller claims all =
+without-checked : (issuer : Setup) (caller : ℕ) (claims : List OpenClaim) → AreChecked issuer claims → AreChecked issuer (without caller claims)
+without-checked issuer caller claims all =
     All-filter (λ claim. not (claim.caller == caller)) (λ claim. checked issuer claim.request ≡ Ok (Decide claim.request)) claims all
 
-none-genuine : (issuer : Setup) → AreGenuine issuer []
-none-genuine issuer k claim below = absurd (omega arith)
+none-checked : (issuer : Setup) → AreChecked issuer []
+none-checked issuer k claim below = absurd (omega arith)
 
 -- a write
 sound-written : (world : WorldState) → IsSound world → (stored : Bool) (caller shard : ℕ) (exchange : Exchange)
@@ -168,7 +168,7 @@ sound-written : (world : WorldState) → IsSound world → (stored : Bool) (call
 sound-written world sound true caller shard exchange legal =
     let entry = Decided exchange.request exchange.reply in
     sound-claims (with_record world shard entry) (sound-record world sound shard entry legal) (without caller world.claims)
-    (without-genuine world.issuer caller world.claims sound.claims)
+    (without-checked world.issuer caller world.claims sound.claims)
 sound-written world sound false caller shard exchange legal =
     sound-doubt world sound shard (Some exchange) (shard-within world sound shard (Decided exchange.request exchange.reply) legal)
     (λ other is. subst (λ (e : Exchange). IsLegalDecision (grounds_of world.issuer) shard (at world.shards shard).history e.request e.reply)
@@ -193,7 +193,7 @@ sound-settled_in world sound kept (Some shard) = sound-settled_at world sound ke
 sound-restarted : (world : WorldState) → IsSound world → (kept : Bool) → IsSound (restarted kept world)
 sound-restarted world sound kept =
     let settled = settled_in kept world (first_doubtful world.shards) in
-    sound-claims settled (sound-settled_in world sound kept (first_doubtful world.shards)) [] (none-genuine settled.issuer)
+    sound-claims settled (sound-settled_in world sound kept (first_doubtful world.shards)) [] (none-checked settled.issuer)
 
 -- every step keeps it
 pub sound-step : (world : WorldState) (event : Event) (after : WorldState) → IsSound world → IsStep world event after → IsSound after
@@ -204,10 +204,10 @@ sound-step world (Tap number terminal) after sound step =
 sound-step world (Claim caller bytes) after sound step =
     subst IsSound (sym step.after_is)
     (sound-claims world sound (world.claims ++ record { caller = caller; request = step.can.request } ∷ [])
-    (claims-more world.issuer world.claims (record { caller = caller; request = step.can.request }) sound.claims step.can.genuine))
+    (claims-more world.issuer world.claims (record { caller = caller; request = step.can.request }) sound.claims step.can.checked))
 sound-step world (Release caller) after sound step =
     subst IsSound (sym step.after_is)
-    (sound-claims world sound (without caller world.claims) (without-genuine world.issuer caller world.claims sound.claims))
+    (sound-claims world sound (without caller world.claims) (without-checked world.issuer caller world.claims sound.claims))
 sound-step world (Write caller stored) after sound step =
     subst IsSound (sym step.after_is)
     (sound-written world sound stored caller (home_of world step.claim.request) (record { request = step.claim.request; reply = step.reply }) step.legal)
@@ -279,7 +279,7 @@ sound-new issuer world valid new =
             let none : Contains [] exchange = subst (λ (sent : List Exchange). Contains sent exchange) new.sent here in
             absurd (omega (arith, none.1));
       };
-      claims = subst (AreGenuine world.issuer) (sym new.claims) (none-genuine world.issuer);
+      claims = subst (AreChecked world.issuer) (sym new.claims) (none-checked world.issuer);
     }
 
 pub sound-from : (before : WorldState) (events : List Event) (after : WorldState) → IsSound before → IsRunFrom before events after → IsSound after

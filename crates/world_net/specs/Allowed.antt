@@ -41,7 +41,7 @@ pub record CanClaim (world : WorldState) (caller : ℕ) (bytes : List ℕ) : Typ
   pub request : Request
   pub idle : claim_of caller world.claims ≡ None
   pub read : request_of bytes ≡ Ok request
-  pub genuine : checked world.issuer request ≡ Ok (Decide request)
+  pub checked : checked world.issuer request ≡ Ok (Decide request)
   pub free : IsFree world request
 
 -- a caller that has a claim may release it

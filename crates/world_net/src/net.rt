@@ -346,7 +346,7 @@ impl Net {
     fn planned(&self, request: &Request) -> Option<Exchange>
         requires shards { length self.now.shards.items ≡ self.now.issuer.shards }
         requires rows { Stands self.now }
-        requires genuine { checked self.now.issuer request.now ≡ Ok (Decide request.now) }
+        requires checked { checked self.now.issuer request.now ≡ Ok (Decide request.now) }
         ensures { MatchOption result
             (IsUnused (decided_for request.now (history_for (world_of self.now) request.now)) request.now → ⊥)
             (λ exchange. (exchange ≡ own_decision (world_of self.now) request.now)

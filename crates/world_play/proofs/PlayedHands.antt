@@ -144,11 +144,11 @@ reply-made cards number valid world played request reply right here =
     let shard = found.0 in
     let place = found.1 in
     let legal = sound.shards.legal shard place (Decided request reply) found.2 in
-    let home : home_of world request ≡ shard = home-shard world request shard legal.home in
+    let home : home_of world request ≡ shard = home-shard world request shard legal.of_a_card in
     let history = (shard_at world shard).history in
     let before = take place history in
     let name = card_of request in
-    let made = legal.made in
+    let made = legal.is_the_issuers_reply in
     let known : number_of name world.issuer.cards ≡ Some number =
     ap (λ (setup : Setup). number_of name setup.cards) played.issuer_is ∙ right-known cards number request right valid in
     let number_is : made.number ≡ number = same_Some _ _ (sym made.number_is ∙ known) in

@@ -307,9 +307,9 @@ module _ (cards : ℕ) (valid : IsIssuer (issuer cards)) (world : WorldState) (p
                   request = request;
                   idle = ap (λ (claims : List OpenClaim). claim_of 0 claims) played.claims;
                   read = request_of-chip_data request right.held;
-                  genuine = checks;
+                  checked = checks;
                   free = record {
-                    unrecorded = legal.unused.unrecorded;
+                    unrecorded = legal.unrecorded;
                     unclaimed = subst (λ (claims : List OpenClaim). All (λ claim. card_of claim.request ≡ card_of request → claim.request.atc ≢ request.atc) claims)
                         (sym played.claims) (λ place claim below. absurd (omega arith));
                   };

@@ -3,7 +3,7 @@ use Rattle.std.proofs.Common.{is_some, IsTrue, ap, sym, ◌∙◌}
 use Rattle.issuer_base.specs.ChipData.{is_bcd, request_from}
 use Rattle.cryptogram_in.specs.Cryptogram.{application_cryptogram}
 use Rattle.card_model.specs.Application.{CardState}
-use Rattle.card_model.proofs.Requests.{request_from-fields, next_request-made, next_request-genuine}
+use Rattle.card_model.proofs.Requests.{request_from-fields, next_request-made, next_request-valid_ac}
 use Rattle.card_model.proofs.card.Card.next_request.Goals as goal
 
 pub unwrap-unsigned-requires : goal.unwrap-unsigned-requires
@@ -23,5 +23,5 @@ returns-clause-exact c =
     let signed = c.expected-parts.ensures ∙ ap (λ (card : CardState). application_cryptogram card.keys.ac.0 c.unwrap-unsigned.result) c.self.view_is in
     next_request-made c.args.self.now c.args.terminal.now _ _ _ _ c.next_fields-parts.ensures first signed (sym c.new-2.ensures ∙ c.unwrap.ensures)
 
-pub returns-clause-genuine : goal.returns-clause-genuine
-returns-clause-genuine c = rw (returns-clause-exact c) (next_request-genuine c.args.self.now c.args.terminal.now)
+pub returns-clause-has_valid_ac : goal.returns-clause-has_valid_ac
+returns-clause-has_valid_ac c = rw (returns-clause-exact c) (next_request-valid_ac c.args.self.now c.args.terminal.now)

@@ -39,7 +39,7 @@ returns-clause-exact c history stands =
     let card = found (goal.at.returns-clause-exact c).After-takes_command in
     let takes = c.takes_command.ensures c.args.issuer.now card.card history stands card.known in (
       λ taken. record {
-        home = card-at_home c.args.issuer.now c.args.self.now c.requires.rows (named c.args.pan c.args.psn) c.in-Some.card (sym c.in-Some.ensures.number)
+        of_a_card = card-at_home c.args.issuer.now c.args.self.now c.requires.rows (named c.args.pan c.args.psn) c.in-Some.card (sym c.in-Some.ensures.number)
             (sym c.shard_of.ensures.number ∙ c.if-shard_of-shard.false ∙ c.shard.ensures);
         form = c.requires.form;
         room = subst (λ (name : CardName). TakesOneMore (waiting (scripts_of name history))) card.named (takes.0 c.if-not-takes_command.false);

@@ -21,7 +21,7 @@ returns-clause-exact c history stands =
     let at_hand = c.in-Ok.ensures.at_hand in
     let passes : checked issuer c.args.request ≡ Ok (Decide asked) = sym c.in-Ok.ensures.request in
     let own : asked ≡ c.args.request = checked-own issuer c.args.request asked passes in
-    let genuine : checked issuer asked ≡ Ok (Decide asked) = subst (λ (r : Request). checked issuer r ≡ Ok (Decide asked)) (sym own) passes in
+    let right : checked issuer asked ≡ Ok (Decide asked) = subst (λ (r : Request). checked issuer r ≡ Ok (Decide asked)) (sym own) passes in
     let card = card-found issuer (card_of asked) found.card at_hand.card_is in
     let its : found.card % issuer.shards ≡ shard = sym c.shard_of.ensures.number ∙ c.if-shard_of-shard.false ∙ c.shard.ensures in
     let home = card-at_home issuer c.args.self.now c.requires (card_of asked) found.card at_hand.card_is.number_is its in
@@ -29,7 +29,7 @@ returns-clause-exact c history stands =
     subst (λ (r : Request). IsTrue c.adopt_checked.result ↔ IsLegalDecision (grounds_of issuer) shard history r c.args.reply) own (
       λ taken.
           decision-legal issuer shard history asked c.args.reply found.card card.card found.keys at_hand.card_is.number_is card.known.card_is
-          at_hand.keys_are home genuine (accepted.0 taken),
+          at_hand.keys_are home right (accepted.0 taken),
       λ legal.
           accepted.1 (decision-follows issuer shard history asked c.args.reply found.card card.card found.keys at_hand.card_is.number_is
           card.known.card_is at_hand.keys_are legal),

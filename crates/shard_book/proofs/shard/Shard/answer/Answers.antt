@@ -1,15 +1,20 @@
 -- Each outcome of the plan is answered as the history says.
-use Rattle.std.proofs.Common.{◌≡◌, length, refl, sym, subst, ◌∙◌}
+use Rattle.std.proofs.Common.{◌≡◌, List, length, refl, sym, subst, ◌∙◌}
 use Rattle.issuer_base.specs.declared.answer.Reply.{Reply}
+use Rattle.issuer_base.specs.declared.entry.Entry.{Entry}
 use Rattle.issuer_base.specs.declared.entry.Entry.TheVariants.{Decided}
 use Rattle.issuer_base.specs.declared.request.Request.{Request}
+use Rattle.card_history.specs.LegalRecords.{IsLegalDecision}
 use Rattle.card_history.specs.Records.{CardName, card_of, decided}
 use Rattle.card_history.specs.Turns.{IsUnused}
 use Rattle.row_core.specs.Plan.{IsNext}
 use Rattle.shard_book.proofs.LegalNext.{card-found, legal-decision}
 use Rattle.shard_book.specs.Answering.{LeavesTail}
 use Rattle.shard_book.specs.Grounds.{grounds_now}
+use Rattle.shard_book.specs.Shards.{StandsFor}
 use Rattle.shard_book.proofs.ShardSteps.{crash-no_call, answer-added}
+use Rattle.shard_book.proofs.shard.Shard.answer.Given.{Over}
+use Rattle.shard_book.proofs.shard.Shard.answer.Goals.{After-decide}
 use Rattle.shard_book.proofs.shard.Shard.answer.Goals as goal
 
 pub returns-then-not-won-clause-crash : goal.returns-then-not-won-clause-crash
@@ -23,6 +28,18 @@ returns-in-Below-clause-crash g c history stands = crash-no_call (grounds_now c.
 
 pub returns-in-Taken-clause-crash : goal.returns-in-Taken-clause-crash
 returns-in-Taken-clause-crash g c history stands = crash-no_call (grounds_now c.args.issuer.now) _ c.args.self.now.journal history stands.journal_holds
+
+-- the planned decision may come next
+legal : (g : Over) (c : After-decide g) (history : List Entry) → StandsFor c.args.issuer.now c.args.self.now history
+    → IsLegalDecision (grounds_now c.args.issuer.now) c.args.self.now.rows.shard history c.args.found.now.request
+    c.in-Fresh.reply
+legal g c history stands =
+    let issuer = c.args.issuer.now in
+    let found = c.args.found.now in
+    let at_end : c.records.result ≡ length history = c.records.ensures ∙ stands.journal_holds.holds.count_is in
+    let plan = c.in-Fresh.ensures.plan history stands.rows_stand at_end in
+    legal-decision issuer c.args.self.now.rows c.requires.under (card_of found.request) found.card
+    c.requires.at_hand.card_is c.requires.home history found.request c.in-Fresh.reply refl c.requires.checked plan.0 plan.3
 
 pub returns-else-not-won-clause-answer : goal.returns-else-not-won-clause-answer
 returns-else-not-won-clause-answer g c history stands =
@@ -38,11 +55,14 @@ returns-else-not-won-clause-answer g c history stands =
       at_end = c.in-Fresh.ensures.some.0 ∙ at_end;
       unused = subst (λ (name : CardName). IsUnused (decided name history) request) (sym card.named) plan.0;
     } in
-    let legal =
-    legal-decision issuer c.args.self.now.rows c.requires.under (card_of request) found.card c.requires.at_hand.card_is c.requires.home history request reply
-    refl c.requires.genuine plan.0 plan.3 in
     answer-added issuer c.decide.new.self c.args.self.now.rows.shard c.args.won history request reply c.decide.result c.if-not-won.false plan.0 plan.3
-    (c.decide.ensures.added issuer card.card history stands card.known next legal)
+    (c.decide.ensures.added issuer card.card history stands card.known next
+    (legal g (goal.at.returns-else-not-won-clause-answer g c).After-decide history stands))
+
+pub returns-else-not-won-clause-crash : goal.returns-else-not-won-clause-crash
+returns-else-not-won-clause-crash g c history stands =
+    c.decide.ensures.crash c.args.issuer.now history stands
+    (legal g (goal.at.returns-else-not-won-clause-crash g c).After-decide history stands)
 
 pub returns-else-not-won-clause-tail : goal.returns-else-not-won-clause-tail
 returns-else-not-won-clause-tail g c history tail stands holds =

@@ -8,6 +8,7 @@ use Rattle.card_history.specs.LegalRecords.{IsLegalDecision}
 use Rattle.card_history.specs.Records.{card_of}
 use Rattle.issuer_setup.specs.CardList.{number_of}
 use Rattle.line_checks.specs.Reading.{checked}
+use Rattle.shard_book.proofs.LegalDecisions.{legal-checked}
 use Rattle.line_checks.proofs.Numbers.{number-within}
 use Rattle.shard_book.specs.Grounds.{grounds_of}
 use Rattle.world_net.specs.WorldState.{ShardState, home_of}
@@ -40,7 +41,7 @@ returns-clause-rows c =
     let legal = c.requires.legal in
     let place = found.card % world.issuer.shards in
     let passed : Ok (Decide found.request) ≡ Ok (Decide request) =
-    c.in-Ok.ensures.request ∙ ap (checked world.issuer) c.copy.ensures ∙ legal.genuine in
+    c.in-Ok.ensures.request ∙ ap (checked world.issuer) c.copy.ensures ∙ legal-checked world.issuer legal in
     let same : found.request ≡ request = cc in
     let at_home : c.from-home.result ≡ place = c.from-home.ensures ∙ c.shard_of.ensures.number in
     let within : c.from-home.result < length world.shards = omega (arith, c.from-home.ensures, c.shard_of.ensures.below, c.requires.shards) in

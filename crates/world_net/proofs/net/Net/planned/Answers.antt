@@ -47,7 +47,7 @@ planned c =
     let outcome = c.plan_under-outcome.result in
     let end : ℕ = length c.history.result.now in
     let passed : Ok (Decide found.request) ≡ Ok (Decide request) =
-    c.in-Ok.ensures.request ∙ ap (checked world.issuer) c.copy.ensures ∙ c.requires.genuine in
+    c.in-Ok.ensures.request ∙ ap (checked world.issuer) c.copy.ensures ∙ c.requires.checked in
     let same : found.request ≡ request = cc in
     let number_is : number_of (card_of request) world.issuer.cards ≡ Some found.card =
     ap (λ (q : Request). number_of (card_of q) world.issuer.cards) (sym same) ∙ at_hand.card_is.number_is in
@@ -62,7 +62,7 @@ planned c =
     (subst (λ (table : List TableRow). IsPlan row found.keys table found.request end outcome) c.table-table.ensures c.plan_under-outcome.ensures.plan) in (
       same,
       record {
-        genuine = c.requires.genuine;
+        passes = c.requires.checked;
         number_is = number_is;
         keys_are = ap (λ (q : Request). keys_of world.issuer found.card q) (sym same) ∙ at_hand.keys_are;
         info = info.0;

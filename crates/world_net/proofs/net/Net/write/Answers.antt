@@ -7,15 +7,15 @@ use Rattle.world_net.specs.declared.parts.Exchange.{Exchange}
 use Rattle.world_net.specs.WorldState.{claim_of}
 use Rattle.world_net.specs.Stepping.{world_of, RowsStand}
 use Rattle.world_net.proofs.NetRows.{rows-doubt}
-use Rattle.world_net.proofs.NetWrites.{reached-sound, claim-there, claim-genuine, writes-taken, writes-own, doubt-written, record-written, shards-doubt}
+use Rattle.world_net.proofs.NetWrites.{reached-sound, claim-there, claim-checked, writes-taken, writes-own, doubt-written, record-written, shards-doubt}
 use Rattle.world_net.proofs.net.Net.write.Goals as goal
 
-pub planned-requires-clause-genuine : goal.planned-requires-clause-genuine
-planned-requires-clause-genuine c =
+pub planned-requires-clause-checked : goal.planned-requires-clause-checked
+planned-requires-clause-checked c =
     let world = world_of c.args.self.now in
     let it = claim-there (claim_of c.args.caller world.claims) c.in-Some.request c.in-Some.ensures in
     subst (λ (q : Request). checked world.issuer q ≡ Ok (Decide q)) it.2
-    (claim-genuine world (reached-sound world c.requires.reached) c.args.caller it.0 it.1)
+    (claim-checked world (reached-sound world c.requires.reached) c.args.caller it.0 it.1)
 
 pub returns-then-not-stored-clause-taken : goal.returns-then-not-stored-clause-taken
 returns-then-not-stored-clause-taken c =
