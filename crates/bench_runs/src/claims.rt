@@ -1,7 +1,7 @@
 //! Callers in threads of their own that claim the same counters.
 ghost use Rattle.std.specs.Prelude.{◌≡◌, ℕ, ◌<◌, ◌≤◌, ◌++◌, [], All, length, vec_len, vec_capacity, slice_index_or};
 ghost use Rattle.std.specs.List.{flat_map};
-ghost use Rattle.seat_names.specs.SeatNames.{IsWhole};
+ghost use Rattle.shared_seats.specs.SeatNames.{IsWhole};
 ghost use Rattle.claim_words.specs.Seats.{cards_of, view_of, IsOf};
 
 use crate::counts::{Counts, one};

@@ -2,7 +2,7 @@
 ghost use Rattle.std.specs.Prelude.{◌≡◌, ℕ, ◌<◌, ◌≤◌, [], ◌++◌, All, length, IfOk, vec_len, vec_capacity, slice_index_or};
 ghost use Rattle.std.specs.List.{flat_map};
 ghost use Rattle.issuer_base.specs.declared.limits.TheConstants.{MAX_SHARDS};
-ghost use Rattle.seat_names.specs.SeatNames.{IsWhole};
+ghost use Rattle.shared_seats.specs.SeatNames.{IsWhole};
 ghost use Rattle.turn_book.specs.declared.view.Turn.TheVariants.{Free, Inside};
 ghost use Rattle.turn_book.specs.Logs.{StandsAt};
 ghost use Rattle.turn_book.specs.Seats.{shards_of, view_of, IsOf};

@@ -1,8 +1,8 @@
 -- How often a pair occurs in a view, after each change of the view.
 use Rattle.std.proofs.Common.{◌≡◌, ℕ, ◌+◌, ◌≤◌, ◌⊎◌, List, [], ◌∷◌, map, Bool, true, false, cond, eqb, ◌&&◌, inl, inr, refl, sym, ap, ◌∙◌, arith}
 use Rattle.std.proofs.lemmas.Bool.{cases_eq, and_from, and_left, and_right, eq-eqb, ne_eqb}
-use Rattle.seat_names.specs.Totals.{one_if}
-use Rattle.seat_names.proofs.Totals.{total-le}
+use Rattle.shared_seats.specs.Totals.{one_if}
+use Rattle.shared_seats.proofs.Totals.{total-le}
 use Rattle.claim_words.specs.declared.view.Standing.{Standing}
 use Rattle.claim_words.specs.declared.view.Standing.TheVariants.{Open, Kept, GivenBack}
 use Rattle.claim_words.specs.declared.view.Claimed.{Claimed}

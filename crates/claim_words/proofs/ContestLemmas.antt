@@ -2,9 +2,9 @@
 use Rattle.std.proofs.Common.{◌≡◌, ℕ, ◌+◌, ◌<◌, ◌≤◌, List, [], ◌∷◌, ◌++◌, Bool, true, false, eqb, ◌&&◌, refl, sym, length}
 use Rattle.std.proofs.Common.{ap, inl, inr, arith}
 use Rattle.std.proofs.lemmas.Bool.{cases_eq, cases_lt, eq-eqb}
-use Rattle.seat_names.specs.declared.seat_name.SeatName.{SeatName}
-use Rattle.seat_names.specs.Totals.{total, one_if}
-use Rattle.seat_names.proofs.Totals.{total-append, total-snoc}
+use Rattle.shared_seats.specs.declared.seat_name.SeatName.{SeatName}
+use Rattle.shared_seats.specs.Totals.{total, one_if}
+use Rattle.shared_seats.proofs.Totals.{total-append, total-snoc}
 use Rattle.claim_words.specs.declared.view.Standing.{Standing}
 use Rattle.claim_words.specs.declared.view.ClaimView.{ClaimView}
 use Rattle.claim_words.specs.declared.view.Claimed.{Claimed}

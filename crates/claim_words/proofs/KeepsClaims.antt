@@ -10,11 +10,11 @@ use mathlib.Core.Option.{none, some}
 use mathlib.Core.Option as maybe
 use lib.ListN.{get_elem?}
 use Rattle.atomic_table.specs.Table.{State, Me, step, keeps, Allows, Splits, Joins}
-use Rattle.seat_names.specs.Totals.{total, one_if}
-use Rattle.seat_names.specs.SeatNames.{after_split, split_off, AreNamed, IsWhole}
-use Rattle.seat_names.specs.declared.seat_name.SeatName.{SeatName}
-use Rattle.seat_names.proofs.Totals.{at_set, at_snoc, at_map, set_again, map-set, map-snoc, total-append, total-snoc, total-set, part_le, total-alone, total-le}
-use Rattle.seat_names.proofs.SeatNameLemmas.{named_split, named_join, whole_alone}
+use Rattle.shared_seats.specs.Totals.{total, one_if}
+use Rattle.shared_seats.specs.SeatNames.{after_split, split_off, AreNamed, IsWhole}
+use Rattle.shared_seats.specs.declared.seat_name.SeatName.{SeatName}
+use Rattle.shared_seats.proofs.Totals.{at_set, at_snoc, at_map, set_again, map-set, map-snoc, total-append, total-snoc, total-set, part_le, total-alone, total-le}
+use Rattle.shared_seats.proofs.SeatNameLemmas.{named_split, named_join, whole_alone}
 use Rattle.claim_words.specs.declared.layout.TheConstants.{COUNTERS}
 use Rattle.claim_words.specs.declared.view.Standing.{Standing}
 use Rattle.claim_words.specs.declared.view.Standing.TheVariants.{Kept, GivenBack}

@@ -4,8 +4,8 @@ use Rattle.std.proofs.Common.{subst, arith, length-set}
 use Rattle.std.proofs.lemmas.Bool.{cases_eq, cases_lt}
 use Rattle.std.proofs.lemmas.List.{take_more, take-append-drop}
 use Rattle.std.proofs.lemmas.Grind.{get_or_default_zero}
-use Rattle.seat_names.specs.Totals.{one_if}
-use Rattle.seat_names.proofs.Totals.{total-append}
+use Rattle.shared_seats.specs.Totals.{one_if}
+use Rattle.shared_seats.proofs.Totals.{total-append}
 use Rattle.claim_words.specs.declared.layout.TheConstants.{COUNTERS}
 use Rattle.claim_words.specs.Layout.{word_of, top_word_of, mask_of, bit_of, top_of}
 use Rattle.claim_words.specs.ClaimViews.{is_pair, times}

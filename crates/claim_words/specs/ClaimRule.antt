@@ -3,8 +3,8 @@ use Rattle.std.specs.Prelude.{◌≡◌, ℕ, ◌+◌, ◌<◌, ◌≤◌, List,
 use mathlib.Core.Option.{some}
 use lib.ListN.{get_elem?}
 use Rattle.atomic_table.specs.Table.{State}
-use Rattle.seat_names.specs.Totals.{total}
-use Rattle.seat_names.specs.SeatNames.{AreNamed}
+use Rattle.shared_seats.specs.Totals.{total}
+use Rattle.shared_seats.specs.SeatNames.{AreNamed}
 use Rattle.claim_words.specs.declared.layout.TheConstants.{COUNTERS}
 use Rattle.claim_words.specs.declared.view.Standing.{Standing}
 use Rattle.claim_words.specs.declared.view.ClaimView.{ClaimView}

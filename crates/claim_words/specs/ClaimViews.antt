@@ -1,8 +1,8 @@
 -- What a seat knows of claims, and how the calls change it.
 use Rattle.std.specs.Prelude.{◌≡◌, ℕ, ◌+◌, ◌<◌, List, [], ◌∷◌, ◌++◌, map, Bool, true, false, ◌==◌, ◌&&◌, if◌then◌else◌, Option, None, Some}
-use Rattle.seat_names.specs.Totals.{how_many}
-use Rattle.seat_names.specs.SeatNames.{after_split, split_off}
-use Rattle.seat_names.specs.declared.seat_name.SeatName.{SeatName}
+use Rattle.shared_seats.specs.Totals.{how_many}
+use Rattle.shared_seats.specs.SeatNames.{after_split, split_off}
+use Rattle.shared_seats.specs.declared.seat_name.SeatName.{SeatName}
 use Rattle.claim_words.specs.declared.view.Standing.{Standing}
 use Rattle.claim_words.specs.declared.view.Standing.TheVariants.{Open, Kept, GivenBack}
 use Rattle.claim_words.specs.declared.view.Claimed.{Claimed}

@@ -1,6 +1,6 @@
 -- What callers know that try to claim each counter of the card 0.
 use Rattle.std.specs.Prelude.{◌≡◌, ℕ, ◌+◌, ◌<◌, List, length, ◌==◌}
-use Rattle.seat_names.specs.Totals.{total, how_many}
+use Rattle.shared_seats.specs.Totals.{total, how_many}
 use Rattle.claim_words.specs.declared.layout.TheConstants.{COUNTERS}
 use Rattle.claim_words.specs.ClaimViews.{claims_on, times, is_live, is_any}
 use Rattle.claim_words.specs.declared.view.ClaimView.{ClaimView}

@@ -3,7 +3,7 @@ ghost use Rattle.std.specs.Prelude.{◌≡◌, ℕ, ◌+◌, ◌*◌, ◌<◌, �
 ghost use Rattle.claim_words.specs.ClaimViews.{times, claims_on, is_live, is_kept, is_any, HasOpen, IsNew};
 ghost use Rattle.claim_words.specs.ClaimViews.{newcomer, after_claim, after_top, settled, parent_view, child_view, joined};
 ghost use Rattle.claim_words.specs.declared.layout.TheConstants.{CARD_WORDS};
-ghost use Rattle.seat_names.specs.SeatNames.{first_names, IsWhole};
+ghost use Rattle.shared_seats.specs.SeatNames.{first_names, IsWhole};
 
 use crate::layout::{CARD_WORDS, COUNTERS, claim_mask, claim_word, other_claims, told, top_word};
 use crate::opening::opening_words;

@@ -1,5 +1,5 @@
 //! The invariant of the words, and the names of its steps.
-ghost use Rattle.seat_names.specs.SeatNames.{first_names};
+ghost use Rattle.shared_seats.specs.SeatNames.{first_names};
 ghost use Rattle.claim_words.specs.ClaimRule.{AreClaims};
 ghost use Rattle.claim_words.specs.ClaimSteps.{claimed, released, marked, topped};
 ghost use Rattle.claim_words.specs.ClaimViews.{newcomer, parent_view, child_view, joined};

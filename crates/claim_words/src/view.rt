@@ -1,5 +1,5 @@
 //! What a seat knows. It exists in proofs alone: the program has no value of these types.
-use seat_names::SeatName;
+use shared_seats::SeatName;
 use std::collections::LinkedList;
 
 /// The state of a claim that was won.

@@ -8,9 +8,9 @@ ghost use Rattle.desk_host.specs.Journals.{journal_name, IsOpened, AreOpened, Is
 ghost use Rattle.desk_host.specs.Loading.{ComesToNoHost, faults_seen, IsUnopened, is_log_fault, stop_of_load};
 
 use answer_text::Stop;
-use one_caller::{HostBack, LoadFault, Solo};
 use issuer_base::{Desk, DeskFault};
 use issuer_setup::Issuer;
+use one_caller::{HostBack, LoadFault, Solo};
 use std::alloc::{AllocError, Global};
 
 /// Why the journals gave no host, and the stores of those that were opened.

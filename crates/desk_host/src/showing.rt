@@ -7,8 +7,8 @@ ghost use Rattle.one_caller.specs.Hosts.{Stand};
 ghost use Rattle.desk_host.specs.Shown.{shown_text};
 
 use arrayvec::ArrayVec;
-use one_caller::Solo;
 use issuer_base::{Sink, Store, WriteFault, write_all};
+use one_caller::Solo;
 use show_text::write_card;
 
 /// Writes a line for each card of a host, in order.

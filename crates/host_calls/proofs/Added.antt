@@ -16,7 +16,7 @@ use Rattle.issuer_base.specs.declared.request.Request.{Request}
 use Rattle.card_history.specs.Records.{CardName, card_of}
 use Rattle.issuer_setup.specs.CardList.{number_of}
 use Rattle.issuer_setup.specs.IssuerSetup.{Setup}
-use Rattle.seat_names.specs.Totals.{one_if}
+use Rattle.shared_seats.specs.Totals.{one_if}
 use Rattle.claim_words.specs.declared.view.ClaimView.{ClaimView}
 use Rattle.claim_words.specs.ClaimViews.{is_pair, claims_on, is_kept}
 use Rattle.shard_book.specs.Answering.{AnswersClaimed, AnswersQueueing, AnswersSetting}
@@ -24,11 +24,11 @@ use Rattle.turn_book.specs.declared.logs.Log.{Log}
 use Rattle.turn_book.specs.declared.view.TurnView.{TurnView}
 use Rattle.turn_book.specs.Logs.{heads_of, items_at, with_items, IsFront}
 use Rattle.turn_book.proofs.LogLemmas.{front_refl, front_append, items-with_same, items-with_other, heads-with}
-use Rattle.shard_turns.specs.declared.logs.LogItem.{LogItem}
-use Rattle.shard_turns.specs.declared.logs.LogItem.TheVariants.{Record, Fault}
-use Rattle.shard_turns.specs.declared.logs.LogHead.{LogHead}
-use Rattle.shard_turns.specs.ShardLogs.{records_of}
-use Rattle.shard_turns.specs.Turned.{log_after, turned, AddsFault, IsAdded}
+use Rattle.shared_shards.specs.declared.logs.LogItem.{LogItem}
+use Rattle.shared_shards.specs.declared.logs.LogItem.TheVariants.{Record, Fault}
+use Rattle.shared_shards.specs.declared.logs.LogHead.{LogHead}
+use Rattle.shared_shards.specs.ShardLogs.{records_of}
+use Rattle.shared_shards.specs.Turned.{log_after, turned, AddsFault, IsAdded}
 use Rattle.host_calls.specs.Decisions.{is_number, decides, decides_at, AreTied}
 use Rattle.host_calls.specs.Finishes.{is_fresh}
 use Rattle.host_calls.proofs.Ties.{decisions-later, within-later}

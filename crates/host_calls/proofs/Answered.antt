@@ -19,10 +19,10 @@ use Rattle.shard_book.specs.Answering.{AnswersClaimed}
 use Rattle.turn_book.specs.declared.view.TurnView.{TurnView}
 use Rattle.turn_book.specs.Logs.{items_at}
 use Rattle.turn_book.proofs.LogLemmas.{items-with_same}
-use Rattle.shard_turns.specs.declared.logs.LogItem.{LogItem}
-use Rattle.shard_turns.specs.declared.logs.LogHead.{LogHead}
-use Rattle.shard_turns.specs.ShardLogs.{records_of}
-use Rattle.shard_turns.specs.Turned.{log_after, turned, DecidesInTurn}
+use Rattle.shared_shards.specs.declared.logs.LogItem.{LogItem}
+use Rattle.shared_shards.specs.declared.logs.LogHead.{LogHead}
+use Rattle.shared_shards.specs.ShardLogs.{records_of}
+use Rattle.shared_shards.specs.Turned.{log_after, turned, DecidesInTurn}
 use Rattle.host_calls.specs.Finishes.{seen_for, is_decided_or_fault, is_by_record, IsOwn, IsOpenTo, IsRecorded}
 use Rattle.host_calls.proofs.Added.{IsHeaded}
 use Rattle.host_calls.proofs.Closed.{records-go_on}

@@ -18,12 +18,12 @@ use Rattle.turn_book.specs.Logs.{heads_of, items_at, IsFront}
 use Rattle.shard_book.specs.declared.shard.Shard.{Shard}
 use Rattle.shard_book.specs.Grounds.{grounds_now, IsTail}
 use Rattle.shard_book.specs.Shards.{disk_in, store_in}
-use Rattle.shard_turns.specs.declared.logs.LogItem.{LogItem}
-use Rattle.shard_turns.specs.declared.logs.LogItem.TheVariants.{Record, Fault}
-use Rattle.shard_turns.specs.declared.logs.LogHead.{LogHead}
-use Rattle.shard_turns.specs.Opening.{head_with}
-use Rattle.shard_turns.specs.ShardLogs.{records_of, StandsForLog}
-use Rattle.shard_turns.specs.ShardSeats.{StandForLogs}
+use Rattle.shared_shards.specs.declared.logs.LogItem.{LogItem}
+use Rattle.shared_shards.specs.declared.logs.LogItem.TheVariants.{Record, Fault}
+use Rattle.shared_shards.specs.declared.logs.LogHead.{LogHead}
+use Rattle.shared_shards.specs.Opening.{head_with}
+use Rattle.shared_shards.specs.ShardLogs.{records_of, StandsForLog}
+use Rattle.shared_shards.specs.ShardSeats.{StandForLogs}
 use Rattle.shard_book.specs.Histories.{GoesOn, IsImageBetween}
 use Rattle.host_calls.specs.Closing.{book_of, IsClosed, AreClosed, AreSettled}
 use Rattle.host_calls.specs.OpeningLogs.{AreCounted, AreRecordedIn}

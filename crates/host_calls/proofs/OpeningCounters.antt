@@ -14,10 +14,10 @@ use Rattle.card_history.proofs.RecordPlaces.{decided-recorded, recorded-decided}
 use Rattle.issuer_setup.specs.CardList.{AreCards, name_of, number_of}
 use Rattle.issuer_setup.specs.IssuerSetup.{Setup}
 use Rattle.issuer_setup.proofs.CardListLemmas.{number_of-found}
-use Rattle.seat_names.specs.Totals.{one_if}
+use Rattle.shared_seats.specs.Totals.{one_if}
 use Rattle.shard_book.specs.Recorded.{IsRecorded}
-use Rattle.shard_turns.specs.declared.logs.LogItem.{LogItem}
-use Rattle.shard_turns.specs.declared.logs.LogItem.TheVariants.{Record}
+use Rattle.shared_shards.specs.declared.logs.LogItem.{LogItem}
+use Rattle.shared_shards.specs.declared.logs.LogItem.TheVariants.{Record}
 use Rattle.host_calls.specs.Decisions.{is_number, decides}
 use Rattle.host_calls.specs.OpeningLogs.{is_decided}
 use Rattle.one_caller.proofs.Shown.{number-known}

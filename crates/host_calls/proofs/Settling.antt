@@ -2,8 +2,8 @@
 use Rattle.std.proofs.Common.{◌≡◌, ℕ, ◌+◌, ◌≤◌, List, [], ◌∷◌, Bool, true, false, ◌&&◌, cond, refl, sym, ap, inl, inr, arith, map, subst}
 use Rattle.issuer_base.specs.declared.answer.Answer.{Answer}
 use Rattle.issuer_base.specs.declared.answer.Answer.TheVariants.{Fresh, Kept as AnsweredKept, Queued, Set, Refused}
-use Rattle.seat_names.specs.Totals.{one_if}
-use Rattle.seat_names.proofs.Totals.{total-le}
+use Rattle.shared_seats.specs.Totals.{one_if}
+use Rattle.shared_seats.proofs.Totals.{total-le}
 use Rattle.claim_words.specs.declared.view.Standing.{Standing}
 use Rattle.claim_words.specs.declared.view.Standing.TheVariants.{Open, Kept, GivenBack}
 use Rattle.claim_words.specs.declared.view.Claimed.{Claimed}

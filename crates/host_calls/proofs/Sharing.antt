@@ -16,18 +16,18 @@ use Rattle.issuer_base.specs.declared.entry.Entry.{Entry}
 use Rattle.issuer_base.specs.declared.outside.store.Store.{Ghosts}
 use Rattle.issuer_setup.specs.CardList.{AreCards}
 use Rattle.issuer_setup.specs.IssuerSetup.{Setup}
-use Rattle.seat_names.specs.Totals.{one_if}
+use Rattle.shared_seats.specs.Totals.{one_if}
 use Rattle.claim_words.specs.ClaimViews.{times as times_claimed}
 use Rattle.turn_book.specs.declared.logs.Log.{Log}
 use Rattle.turn_book.specs.Logs.{items_at}
 use Rattle.record_store.specs.Images.{IsCutImage}
 use Rattle.shard_book.specs.declared.shard.Shard.{Shard}
 use Rattle.shard_book.specs.Shards.{disk_in, faults_in, store_in, IsLoaded}
-use Rattle.shard_turns.specs.declared.logs.LogItem.{LogItem}
-use Rattle.shard_turns.specs.declared.logs.LogItem.TheVariants.{Record}
-use Rattle.shard_turns.specs.declared.logs.LogHead.{LogHead}
-use Rattle.shard_turns.specs.ShardLogs.{records_of}
-use Rattle.shard_turns.specs.Opening.{bytes_at, head_with, log_with, AreJustLoaded, IsOpeningLog, AreOpeningLogs}
+use Rattle.shared_shards.specs.declared.logs.LogItem.{LogItem}
+use Rattle.shared_shards.specs.declared.logs.LogItem.TheVariants.{Record}
+use Rattle.shared_shards.specs.declared.logs.LogHead.{LogHead}
+use Rattle.shared_shards.specs.ShardLogs.{records_of}
+use Rattle.shared_shards.specs.Opening.{bytes_at, head_with, log_with, AreJustLoaded, IsOpeningLog, AreOpeningLogs}
 use Rattle.shard_book.specs.declared.replay.LoadFault.TheVariants.{NoMemory}
 use Rattle.one_caller.specs.Loading.{IsLoadedFrom, AreLoaded, IsGivenBack}
 use Rattle.one_caller.proofs.Loads.{given-back}

@@ -12,7 +12,7 @@ use Rattle.card_history.specs.Records.{CardName, card_of}
 use Rattle.issuer_setup.specs.CardList.{number_of}
 use Rattle.issuer_setup.specs.IssuerSetup.{Setup, shard_of}
 use Rattle.row_core.specs.Replying.{reply_to}
-use Rattle.seat_names.specs.Totals.{one_if}
+use Rattle.shared_seats.specs.Totals.{one_if}
 use Rattle.claim_words.specs.declared.view.ClaimView.{ClaimView}
 use Rattle.claim_words.specs.ClaimViews.{HasOpen, settled}
 use Rattle.card_history.specs.declared.card_view.CardView.{CardView}
@@ -21,11 +21,11 @@ use Rattle.turn_book.specs.declared.seat.TurnSeat.{TurnSeat}
 use Rattle.turn_book.specs.declared.view.TurnView.{TurnView}
 use Rattle.turn_book.specs.Logs.{heads_of}
 use Rattle.turn_book.specs.Seats.{view_of}
-use Rattle.shard_turns.specs.declared.logs.LogItem.{LogItem}
-use Rattle.shard_turns.specs.declared.logs.LogHead.{LogHead}
-use Rattle.shard_turns.specs.declared.turns.ShardTurns.{ShardTurns}
-use Rattle.shard_turns.specs.ShardSeats.{opening_in, AreTurnsOf, IsSeatOf}
-use Rattle.shard_turns.specs.Turned.{DecidesInTurn, QueuesInTurn, SetsInTurn, ShowsInTurn}
+use Rattle.shared_shards.specs.declared.logs.LogItem.{LogItem}
+use Rattle.shared_shards.specs.declared.logs.LogHead.{LogHead}
+use Rattle.shared_shards.specs.declared.turns.ShardTurns.{ShardTurns}
+use Rattle.shared_shards.specs.ShardSeats.{opening_in, AreTurnsOf, IsSeatOf}
+use Rattle.shared_shards.specs.Turned.{DecidesInTurn, QueuesInTurn, SetsInTurn, ShowsInTurn}
 use Rattle.host_calls.specs.Decisions.{AreTied}
 use Rattle.host_calls.specs.Finishes.{standing_by}
 use Rattle.host_calls.specs.Passes.{open_in}

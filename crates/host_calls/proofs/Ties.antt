@@ -3,9 +3,9 @@ use Rattle.std.proofs.Common.{◌≡◌, ℕ, zero, suc, ◌<◌, List, [], ◌�
 use Rattle.std.proofs.Common.{◌&&◌, ◌≤◌, get_or, subst}
 use Rattle.std.proofs.lemmas.List.Elements.{All-append, All-head, All-tail}
 use Rattle.std.specs.List.{slice_get}
-use Rattle.seat_names.specs.Totals.{one_if}
-use Rattle.seat_names.proofs.Totals.{total-append}
-use Rattle.seat_names.specs.SeatNames.{after_split, split_off}
+use Rattle.shared_seats.specs.Totals.{one_if}
+use Rattle.shared_seats.proofs.Totals.{total-append}
+use Rattle.shared_seats.specs.SeatNames.{after_split, split_off}
 use Rattle.claim_words.specs.declared.view.Claimed.{Claimed}
 use Rattle.claim_words.specs.declared.view.ClaimView.{ClaimView}
 use Rattle.claim_words.specs.ClaimViews.{is_pair, claims_on, is_kept}
@@ -15,8 +15,8 @@ use Rattle.turn_book.specs.declared.view.TurnView.{TurnView}
 use Rattle.turn_book.specs.Logs.{heads_of, items_at, IsFront}
 use Rattle.turn_book.specs.TurnViews.{parent_view, child_view, joined, longer_logs}
 use Rattle.turn_book.proofs.LogLemmas.{front_length}
-use Rattle.shard_turns.specs.declared.logs.LogItem.{LogItem}
-use Rattle.shard_turns.specs.declared.logs.LogHead.{LogHead}
+use Rattle.shared_shards.specs.declared.logs.LogItem.{LogItem}
+use Rattle.shared_shards.specs.declared.logs.LogHead.{LogHead}
 use Rattle.host_calls.specs.Decisions.{decides, decides_at, decisions_at, AreWithin, AreTied}
 
 abbrev ShardLogs : Type 0

@@ -8,8 +8,8 @@ use Rattle.card_history.specs.declared.decision.Asked.TheVariants.{Decide as Ask
 use Rattle.issuer_setup.specs.IssuerSetup.{Setup}
 use Rattle.claim_words.specs.declared.view.ClaimView.{ClaimView}
 use Rattle.turn_book.specs.declared.view.TurnView.{TurnView}
-use Rattle.shard_turns.specs.declared.logs.LogItem.{LogItem}
-use Rattle.shard_turns.specs.declared.logs.LogHead.{LogHead}
+use Rattle.shared_shards.specs.declared.logs.LogItem.{LogItem}
+use Rattle.shared_shards.specs.declared.logs.LogHead.{LogHead}
 use Rattle.host_calls.specs.declared.pass.Checked.{Checked}
 use Rattle.host_calls.specs.Finishes.{claims_after, is_by_record, seen_for, FinishesInTurn, IsRecorded, WonIsDecided}
 use Rattle.host_calls.specs.PreChecks.{asked_of, PreChecks}

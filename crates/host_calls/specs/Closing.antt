@@ -11,9 +11,9 @@ use Rattle.turn_book.specs.declared.view.TurnView.{TurnView}
 use Rattle.turn_book.specs.Logs.{items_at}
 use Rattle.turn_book.specs.TurnRule.{between}
 use Rattle.turn_book.specs.TurnViews.{times as times_placed}
-use Rattle.shard_turns.specs.declared.logs.LogItem.{LogItem}
-use Rattle.shard_turns.specs.declared.logs.LogHead.{LogHead}
-use Rattle.shard_turns.specs.ShardLogs.{records_of, faults_of, RiseTo}
+use Rattle.shared_shards.specs.declared.logs.LogItem.{LogItem}
+use Rattle.shared_shards.specs.declared.logs.LogHead.{LogHead}
+use Rattle.shared_shards.specs.ShardLogs.{records_of, faults_of, RiseTo}
 use Rattle.shard_book.specs.Histories.{IsImageBetween}
 use Rattle.one_caller.specs.Books.{Book}
 use Rattle.one_caller.specs.OneHistory.{LegallyGoesOn}

@@ -4,15 +4,15 @@ use Rattle.issuer_base.specs.declared.entry.Entry.TheVariants.{Decided}
 use Rattle.card_history.specs.Records.{card_of}
 use Rattle.issuer_setup.specs.CardList.{number_of}
 use Rattle.issuer_setup.specs.IssuerSetup.{Setup}
-use Rattle.seat_names.specs.Totals.{how_many}
+use Rattle.shared_seats.specs.Totals.{how_many}
 use Rattle.claim_words.specs.declared.view.ClaimView.{ClaimView}
 use Rattle.claim_words.specs.ClaimViews.{claims_on, is_kept}
 use Rattle.turn_book.specs.declared.logs.Log.{Log}
 use Rattle.turn_book.specs.declared.view.TurnView.{TurnView}
 use Rattle.turn_book.specs.Logs.{items_at}
-use Rattle.shard_turns.specs.declared.logs.LogItem.{LogItem}
-use Rattle.shard_turns.specs.declared.logs.LogItem.TheVariants.{Record}
-use Rattle.shard_turns.specs.declared.logs.LogHead.{LogHead}
+use Rattle.shared_shards.specs.declared.logs.LogItem.{LogItem}
+use Rattle.shared_shards.specs.declared.logs.LogItem.TheVariants.{Record}
+use Rattle.shared_shards.specs.declared.logs.LogHead.{LogHead}
 
 -- whether a card was found, and has this number
 abbrev pub is_number : ℕ → Option ℕ → Bool

@@ -17,10 +17,10 @@ use Rattle.claim_words.specs.declared.claim_words.Claim.TheVariants.{Won, Lost}
 use Rattle.claim_words.specs.ClaimViews.{settled}
 use Rattle.turn_book.specs.declared.view.TurnView.{TurnView}
 use Rattle.turn_book.specs.Logs.{items_at}
-use Rattle.shard_turns.specs.declared.logs.LogItem.{LogItem}
-use Rattle.shard_turns.specs.declared.logs.LogHead.{LogHead}
-use Rattle.shard_turns.specs.ShardLogs.{records_of}
-use Rattle.shard_turns.specs.Turned.{DecidesInTurn, QueuesInTurn, SetsInTurn}
+use Rattle.shared_shards.specs.declared.logs.LogItem.{LogItem}
+use Rattle.shared_shards.specs.declared.logs.LogHead.{LogHead}
+use Rattle.shared_shards.specs.ShardLogs.{records_of}
+use Rattle.shared_shards.specs.Turned.{DecidesInTurn, QueuesInTurn, SetsInTurn}
 use Rattle.host_calls.specs.declared.pass.Checked.{Checked}
 use Rattle.host_calls.specs.declared.pass.Checked.TheVariants.{Decide, Queue, Status}
 

@@ -13,17 +13,17 @@ use Rattle.record_store.specs.Images.{IsCutImage}
 use Rattle.shard_book.specs.declared.replay.LoadFault.{LoadFault}
 use Rattle.shard_book.specs.declared.replay.LoadFault.TheVariants.{NoMemory}
 use Rattle.shard_book.specs.Grounds.{grounds_of}
-use Rattle.shard_turns.specs.ShardLogs.{records_of}
-use Rattle.shard_turns.specs.Opening.{head_with, log_with}
+use Rattle.shared_shards.specs.ShardLogs.{records_of}
+use Rattle.shared_shards.specs.Opening.{head_with, log_with}
 use Rattle.one_caller.specs.Loading.{IsGivenBack, ComeBack}
 use Rattle.claim_words.specs.declared.layout.TheConstants.{COUNTERS}
 use Rattle.claim_words.specs.declared.claim_words.ClaimWords.{ClaimWords}
 use Rattle.claim_words.specs.Seats.{recorded_in}
 use Rattle.turn_book.specs.declared.logs.Log.{Log}
 use Rattle.turn_book.specs.Logs.{items_at}
-use Rattle.seat_names.specs.Totals.{one_if}
-use Rattle.shard_turns.specs.declared.logs.LogItem.{LogItem}
-use Rattle.shard_turns.specs.declared.logs.LogHead.{LogHead}
+use Rattle.shared_seats.specs.Totals.{one_if}
+use Rattle.shared_shards.specs.declared.logs.LogItem.{LogItem}
+use Rattle.shared_shards.specs.declared.logs.LogHead.{LogHead}
 use Rattle.host_calls.specs.Decisions.{decides}
 
 -- whether the items have a decision on this counter of the issuer's card with this number

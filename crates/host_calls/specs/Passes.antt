@@ -1,7 +1,7 @@
 -- What contracts see of a pass, and what it holds.
 use Rattle.std.specs.Prelude.{◌≡◌, ℕ, ◌<◌, List}
 use Rattle.issuer_base.specs.declared.outside.store.Store.{Ghosts}
-use Rattle.seat_names.specs.Totals.{how_many}
+use Rattle.shared_seats.specs.Totals.{how_many}
 use Rattle.claim_words.specs.declared.view.Claimed.{Claimed}
 use Rattle.claim_words.specs.declared.view.ClaimView.{ClaimView}
 use Rattle.claim_words.specs.declared.claim_words.Claim.TheVariants.{Won, Lost}
@@ -9,9 +9,9 @@ use Rattle.claim_words.specs.ClaimViews.{is_open, HasOpen, times}
 use Rattle.claim_words.specs.Seats.{view_of as view_of_claims, IsOf as IsSeatOfWords}
 use Rattle.turn_book.specs.declared.view.TurnView.{TurnView}
 use Rattle.turn_book.specs.Seats.{view_of as view_of_turns}
-use Rattle.shard_turns.specs.ShardSeats.{IsSeatOf}
-use Rattle.shard_turns.specs.declared.logs.LogItem.{LogItem}
-use Rattle.shard_turns.specs.declared.logs.LogHead.{LogHead}
+use Rattle.shared_shards.specs.ShardSeats.{IsSeatOf}
+use Rattle.shared_shards.specs.declared.logs.LogItem.{LogItem}
+use Rattle.shared_shards.specs.declared.logs.LogHead.{LogHead}
 use Rattle.host_calls.specs.declared.host.Host.{Host}
 use Rattle.host_calls.specs.declared.pass.Pass.{Pass}
 use Rattle.host_calls.specs.declared.pass.Checked.{Checked}

@@ -1,7 +1,7 @@
 //! The answer to a line, and what is shown of a card.
 ghost use Rattle.std.specs.Prelude.{◌≡◌, ◌+◌, ◌-◌, ◌^◌, ◌<◌, min, length};
 ghost use Rattle.line_checks.specs.Reading.{reading};
-ghost use Rattle.shard_turns.specs.Turned.{ShowsInTurn};
+ghost use Rattle.shared_shards.specs.Turned.{ShowsInTurn};
 ghost use Rattle.host_calls.specs.Authorising.{Authorises, LineSeenIsAnswered};
 ghost use Rattle.host_calls.specs.Passes.{claims_of, logs_of, IsFree};
 

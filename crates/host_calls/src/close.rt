@@ -1,8 +1,8 @@
 //! The end of a host of several callers.
 ghost use Rattle.std.specs.Prelude.{◌≡◌, ℕ};
 ghost use Rattle.claim_words.specs.ClaimViews.{claims_on, is_kept};
-ghost use Rattle.seat_names.specs.SeatNames.{IsWhole};
-ghost use Rattle.shard_turns.specs.ShardSeats.{opening_in};
+ghost use Rattle.shared_seats.specs.SeatNames.{IsWhole};
+ghost use Rattle.shared_shards.specs.ShardSeats.{opening_in};
 ghost use Rattle.host_calls.specs.Closing.{AreClosed, AreItsOwn, AreSettled};
 ghost use Rattle.host_calls.specs.Decisions.{decisions_at};
 ghost use Rattle.host_calls.specs.Passes.{claims_of, logs_of, IsFree};

@@ -5,7 +5,7 @@ ghost use Rattle.claim_words.specs.Seats.{IsOf as IsSeatOfWords, cards_of, view_
 ghost use Rattle.claim_words.specs.declared.claim_words.Claim.TheVariants.{Won, Lost};
 ghost use Rattle.card_history.specs.Records.{named};
 ghost use Rattle.line_checks.specs.AtHand.{IsCommandAtHand, IsStatusAtHand};
-ghost use Rattle.shard_turns.specs.Turned.{DecidesInTurn, QueuesInTurn, SetsInTurn};
+ghost use Rattle.shared_shards.specs.Turned.{DecidesInTurn, QueuesInTurn, SetsInTurn};
 ghost use Rattle.host_calls.specs.declared.pass.Checked.TheVariants.{Decide};
 ghost use Rattle.host_calls.specs.Finishes.{claims_after, is_fresh, standing_by, FinishesInTurn, SeenIsAnswered, WonIsDecided};
 ghost use Rattle.host_calls.specs.Passes.{claims_of, logs_of, HasClaimed, Holds, IsFree};

@@ -2,13 +2,13 @@
 ghost use Rattle.std.specs.Prelude.{◌≡◌, ◌≤◌, [], length, vec_capacity};
 ghost use Rattle.issuer_base.specs.declared.limits.TheConstants.{MAX_SHARDS};
 ghost use Rattle.claim_words.specs.Seats.{cards_of};
-ghost use Rattle.shard_turns.specs.ShardSeats.{opening_in, AreTurnsOf};
+ghost use Rattle.shared_shards.specs.ShardSeats.{opening_in, AreTurnsOf};
 ghost use Rattle.host_calls.specs.OpeningLogs.{AreCounted, AreRecordedIn};
 
 use claim_words::ClaimWords;
 use issuer_base::Store;
 use issuer_setup::Issuer;
-use shard_turns::ShardTurns;
+use shared_shards::ShardTurns;
 use std::sync::Mutex;
 
 /// The host of several callers over stores: each of them answers its own lines with its own pass, and each record is safe in its

@@ -5,7 +5,7 @@ ghost use Rattle.host_calls.specs.Decisions.{AreTied};
 
 use claim_words::{Claim, ClaimSeat};
 use line_checks::{CheckedCommand, CheckedRequest, CheckedStatus};
-use shard_turns::ShardSeat;
+use shared_shards::ShardSeat;
 
 /// What a caller of a shared host goes with: its seat at the claims, and its seat at the shards. It ends by `join` or `close`.
 pub struct Pass {

@@ -3,9 +3,9 @@ use Rattle.std.proofs.Common.{◌≡◌, ◌+◌, ◌-◌, ◌<◌, ℕ, zero, s
 use Rattle.std.proofs.Common.{add-zero}
 use Rattle.std.specs.Prelude.{slice_get}
 use Rattle.issuer_base.specs.declared.answer.Answer.{Answer}
-use Rattle.many_callers.specs.Callers.{Caller}
-use Rattle.many_callers.specs.FaultCounts.{all_answers}
-use Rattle.caller_lanes.specs.Dealing.{every, AreDealt}
+use Rattle.shared_laws.specs.Callers.{Caller}
+use Rattle.shared_laws.specs.FaultCounts.{all_answers}
+use Rattle.shared_callers.specs.Dealing.{every, AreDealt}
 
 -- how many items are dealt to so many lanes, from the one with this number on
 abbrev dealt_from : {A : Type 0} → ℕ → ℕ → ℕ → List A → ℕ

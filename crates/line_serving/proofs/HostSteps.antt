@@ -5,8 +5,8 @@ use Rattle.line_reader.specs.declared.limits.TheConstants.{MAX_LINES}
 use Rattle.line_reader.specs.Reading.{kept}
 use Rattle.issuer_setup.specs.IssuerSetup.{Setup}
 use Rattle.one_caller.specs.declared.solo.Solo.{Solo}
-use Rattle.caller_lanes.specs.declared.lanes.Lanes.{Lanes}
-use Rattle.caller_lanes.specs.Lanes.{callers_in}
+use Rattle.shared_callers.specs.declared.lanes.Lanes.{Lanes}
+use Rattle.shared_callers.specs.Lanes.{callers_in}
 use Rattle.line_serving.specs.declared.hosts.LineHost.{LineHost}
 use Rattle.line_serving.specs.declared.hosts.LineHost.TheVariants.{Alone, Together}
 use Rattle.desk_host.specs.Journals.{IsReadySolo}

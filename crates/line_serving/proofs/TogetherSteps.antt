@@ -21,7 +21,7 @@ use Rattle.line_reader.specs.declared.limits.TheConstants.{MAX_LINES}
 use Rattle.line_reader.specs.Reading.{kept}
 use Rattle.line_checks.proofs.KeptLines.{reading-kept}
 use Rattle.answer_text.specs.AnswerText.{printed}
-use Rattle.seat_names.specs.Totals.{total}
+use Rattle.shared_seats.specs.Totals.{total}
 use Rattle.claim_words.specs.declared.view.ClaimView.{ClaimView}
 use Rattle.claim_words.specs.ClaimViews.{claims_on, times, is_live, is_kept, is_any}
 use Rattle.turn_book.specs.declared.logs.Log.{Log}
@@ -30,24 +30,24 @@ use Rattle.turn_book.specs.Logs.{items_at}
 use Rattle.turn_book.specs.TurnRule.{between}
 use Rattle.turn_book.specs.TurnViews.{times as times_placed}
 use Rattle.shard_book.specs.Grounds.{grounds_of}
-use Rattle.shard_turns.specs.declared.logs.LogItem.{LogItem}
-use Rattle.shard_turns.specs.declared.logs.LogItem.TheVariants.{Record}
-use Rattle.shard_turns.specs.declared.logs.LogHead.{LogHead}
-use Rattle.shard_turns.specs.ShardLogs.{records_of, faults_of, RiseTo}
+use Rattle.shared_shards.specs.declared.logs.LogItem.{LogItem}
+use Rattle.shared_shards.specs.declared.logs.LogItem.TheVariants.{Record}
+use Rattle.shared_shards.specs.declared.logs.LogHead.{LogHead}
+use Rattle.shared_shards.specs.ShardLogs.{records_of, faults_of, RiseTo}
 use Rattle.host_calls.specs.Authorising.{Authorises}
 use Rattle.one_caller.specs.Books.{Book, histories_of}
 use Rattle.host_calls.specs.Closing.{book_of, IsClosed, AreClosed}
 use Rattle.one_caller.specs.OneHistory.{AreRecorded, GoOnLegally, HasFailed, LegallyGoesOn}
 use Rattle.host_calls.specs.OpeningLogs.{opened_on, IsOpenedFrom, AreOpenedFrom}
-use Rattle.many_callers.specs.Callers.{Calls, Caller, IsCaller, AreCallers}
-use Rattle.many_callers.specs.Explained.{AreExplained}
-use Rattle.many_callers.specs.FaultCounts.{all_answers, AreFaultsCounted}
-use Rattle.many_callers.specs.OwnPlaces.{AreOwnPlaces, all_faults_told}
-use Rattle.many_callers.specs.Settled.{TellNoFault, AreSettled}
-use Rattle.caller_lanes.specs.Dealing.{every, AreDealt}
-use Rattle.caller_lanes.specs.declared.lanes.Lanes.{Lanes}
-use Rattle.caller_lanes.specs.Lanes.{issuer_in, opening_logs, callers_in, HasSameHost, HasClosed}
-use Rattle.caller_lanes.specs.Lanes.{HasServed as LanesServe}
+use Rattle.shared_laws.specs.Callers.{Calls, Caller, IsCaller, AreCallers}
+use Rattle.shared_laws.specs.Explained.{AreExplained}
+use Rattle.shared_laws.specs.FaultCounts.{all_answers, AreFaultsCounted}
+use Rattle.shared_laws.specs.OwnPlaces.{AreOwnPlaces, all_faults_told}
+use Rattle.shared_laws.specs.Settled.{TellNoFault, AreSettled}
+use Rattle.shared_callers.specs.Dealing.{every, AreDealt}
+use Rattle.shared_callers.specs.declared.lanes.Lanes.{Lanes}
+use Rattle.shared_callers.specs.Lanes.{issuer_in, opening_logs, callers_in, HasSameHost, HasClosed}
+use Rattle.shared_callers.specs.Lanes.{HasServed as LanesServe}
 use Rattle.line_serving.specs.Answers.{AreAnsweredTogether, AreBooksOf, ByCallers}
 use Rattle.desk_host.specs.Configuration.{HasSoundParts}
 use Rattle.line_serving.specs.Hosts.{TakesLine, Settles, LeavesAnswered, LeavesLoaded, IsReadyTogether, HaveAnswered}

@@ -3,17 +3,17 @@ use Rattle.std.specs.Prelude.{◌≡◌, ℕ, ◌+◌, ◌-◌, ◌^◌, ◌<◌
 use Rattle.issuer_base.specs.declared.answer.Answer.{Answer}
 use Rattle.issuer_setup.specs.IssuerSetup.{Setup}
 use Rattle.turn_book.specs.declared.logs.Log.{Log}
-use Rattle.shard_turns.specs.declared.logs.LogItem.{LogItem}
-use Rattle.shard_turns.specs.declared.logs.LogHead.{LogHead}
+use Rattle.shared_shards.specs.declared.logs.LogItem.{LogItem}
+use Rattle.shared_shards.specs.declared.logs.LogHead.{LogHead}
 use Rattle.one_caller.specs.Books.{Book, histories_of}
 use Rattle.host_calls.specs.Closing.{book_of}
 use Rattle.one_caller.specs.Turns.{Run}
 use Rattle.one_caller.specs.OneHistory.{HasFailed, IsOneHistory}
-use Rattle.many_callers.specs.Callers.{Caller}
-use Rattle.many_callers.specs.Explained.{AreExplained}
-use Rattle.many_callers.specs.OwnPlaces.{AreOwnPlaces, all_faults_told}
-use Rattle.many_callers.specs.Settled.{AreSettled}
-use Rattle.caller_lanes.specs.Dealing.{AreDealt}
+use Rattle.shared_laws.specs.Callers.{Caller}
+use Rattle.shared_laws.specs.Explained.{AreExplained}
+use Rattle.shared_laws.specs.OwnPlaces.{AreOwnPlaces, all_faults_told}
+use Rattle.shared_laws.specs.Settled.{AreSettled}
+use Rattle.shared_callers.specs.Dealing.{AreDealt}
 
 -- one caller's answers to these lines, one turn after another from the first books to the last: each shard's history is
 -- one legal history, no counter of a card was decided twice, and each request has one reply

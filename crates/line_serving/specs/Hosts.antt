@@ -8,12 +8,12 @@ use Rattle.answer_text.specs.AnswerText.{printed}
 use Rattle.one_caller.specs.declared.solo.Solo.{Solo}
 use Rattle.one_caller.specs.Books.{Book}
 use Rattle.one_caller.specs.Runs.{HasRun}
-use Rattle.caller_lanes.specs.declared.lanes.Lanes.{Lanes}
-use Rattle.caller_lanes.specs.declared.lanes.TheConstants.{BLOCK_LINES}
+use Rattle.shared_callers.specs.declared.lanes.Lanes.{Lanes}
+use Rattle.shared_callers.specs.declared.lanes.TheConstants.{BLOCK_LINES}
 use Rattle.line_serving.specs.declared.hosts.LineHost.{LineHost}
 use Rattle.line_serving.specs.declared.hosts.LineHost.TheVariants.{Alone, Together}
-use Rattle.caller_lanes.specs.Lanes.{issuer_in, opening_logs, callers_in, waiting_in, due_in, is_full_in, HasSameHost}
-use Rattle.caller_lanes.specs.Lanes.{HasServed as LanesServe}
+use Rattle.shared_callers.specs.Lanes.{issuer_in, opening_logs, callers_in, waiting_in, due_in, is_full_in, HasSameHost}
+use Rattle.shared_callers.specs.Lanes.{HasServed as LanesServe}
 use Rattle.line_serving.specs.Answers.{AreAnsweredBy, AnswersNone}
 use Rattle.host_calls.specs.OpeningLogs.{AreOpenedFrom}
 use Rattle.desk_host.specs.Journals.{AreOpened, IsReadySolo}

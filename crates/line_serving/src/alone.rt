@@ -2,15 +2,15 @@
 ghost use Rattle.std.specs.Prelude.{◌≡◌, ◌+◌, ◌<◌, ℕ, List, [], map};
 ghost use Rattle.issuer_setup.specs.IssuerSetup.{Setup};
 ghost use Rattle.line_reader.specs.Reading.{kept};
-ghost use Rattle.caller_lanes.specs.declared.lanes.TheConstants.{BLOCK_LINES};
+ghost use Rattle.shared_callers.specs.declared.lanes.TheConstants.{BLOCK_LINES};
 ghost use Rattle.desk_host.specs.Configuration.{HasSoundParts};
 ghost use Rattle.desk_host.specs.Journals.{IsReadySolo};
 ghost use Rattle.line_serving.specs.Hosts.{TakesLine, LeavesAnswered, LeavesLoaded, HasAnswered};
 ghost use Rattle.desk_host.specs.SeenStores.{Logged, store_seen};
 
 use crate::block::Block;
-use one_caller::Solo;
 use issuer_base::{Gate, Store};
+use one_caller::Solo;
 use std::sync::Wait;
 
 /// Answers the line with this number, of which the gate is told before it and behind it. The answer goes into the

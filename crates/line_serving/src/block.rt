@@ -9,8 +9,8 @@ ghost use Rattle.line_serving.specs.declared.block.TheConstants.{BLOCK_ROOM};
 
 use answer_text::{LINE_ROOM, write_answer};
 use arrayvec::ArrayVec;
-use caller_lanes::BLOCK_LINES;
 use issuer_base::{Answer, NoMemory, Sink, WriteFault, write_all};
+use shared_callers::BLOCK_LINES;
 use std::alloc::Global;
 
 /// How many bytes their answers have, at most.

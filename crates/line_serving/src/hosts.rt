@@ -10,9 +10,9 @@ ghost use Rattle.desk_host.specs.SeenStores.{Logged, store_seen};
 use crate::alone::{answer_at_once, close_alone};
 use crate::block::Block;
 use crate::together::{close_together, settle_together};
-use caller_lanes::Lanes;
-use one_caller::Solo;
 use issuer_base::{Gate, Store};
+use one_caller::Solo;
+use shared_callers::Lanes;
 use std::sync::Wait;
 use std::thread::Threads;
 

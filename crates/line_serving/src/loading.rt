@@ -6,10 +6,10 @@ ghost use Rattle.desk_host.specs.Loading.{ComesToNoHost, faults_seen};
 ghost use Rattle.line_serving.specs.Hosts.{IsReadyTogether, IsFreshTogether, IsReady, IsFresh};
 
 use crate::hosts::LineHost;
-use caller_lanes::Lanes;
 use desk_host::{NoHost, load_alone, no_host, open_journals};
 use issuer_base::Desk;
 use issuer_setup::Issuer;
+use shared_callers::Lanes;
 use std::alloc::Global;
 
 /// The host of an issuer with so many callers, 1 to 16, over the journals under these names: they are opened at the

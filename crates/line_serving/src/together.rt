@@ -3,16 +3,16 @@ ghost use Rattle.std.specs.Prelude.{◌≡◌, ◌≤◌, ℕ, List, [], length,
 ghost use Rattle.issuer_setup.specs.IssuerSetup.{Setup};
 ghost use Rattle.line_reader.specs.declared.limits.TheConstants.{MAX_LINES};
 ghost use Rattle.line_reader.specs.Reading.{kept};
-ghost use Rattle.caller_lanes.specs.Lanes.{callers_in, waiting_in};
+ghost use Rattle.shared_callers.specs.Lanes.{callers_in, waiting_in};
 ghost use Rattle.desk_host.specs.Configuration.{HasSoundParts};
 ghost use Rattle.line_serving.specs.Hosts.{Settles, LeavesAnswered, LeavesLoaded, IsReadyTogether, HaveAnswered};
 ghost use Rattle.line_serving.specs.Hosts.{OwesNone, TakesMore};
 ghost use Rattle.desk_host.specs.SeenStores.{Logged, store_seen};
 
 use crate::block::Block;
-use caller_lanes::Lanes;
 use issuer_base::{Gate, Store};
-use many_callers::{
+use shared_callers::Lanes;
+use shared_laws::{
     every_answer_is_explained, every_counter_is_settled, every_record_is_one_answers,
     faults_are_counted,
 };

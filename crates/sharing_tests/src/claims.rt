@@ -1,8 +1,8 @@
 //! Callers in threads of their own claim all counters of a card concurrently.
 ghost use Rattle.std.specs.Prelude.{◌≡◌, ℕ, ◌+◌, ◌<◌, ◌≤◌, [], ◌∷◌, ◌++◌, All, length, map, IfOk, vec_len, vec_capacity, slice_index_or};
 ghost use Rattle.std.specs.List.{flat_map};
-ghost use Rattle.seat_names.specs.Totals.{total};
-ghost use Rattle.seat_names.specs.SeatNames.{IsWhole, after_split, split_off};
+ghost use Rattle.shared_seats.specs.Totals.{total};
+ghost use Rattle.shared_seats.specs.SeatNames.{IsWhole, after_split, split_off};
 ghost use Rattle.claim_words.specs.ClaimViews.{newcomer};
 ghost use Rattle.claim_words.specs.Contest.{wins_of, HasTried, HaveTried};
 ghost use Rattle.claim_words.specs.Seats.{cards_of, recorded_in, view_of, IsOf};

@@ -1,13 +1,13 @@
 //! Lines that are dealt to several callers in threads of their own, over stores in memory, and their answers in order.
 ghost use Rattle.std.specs.Prelude.{◌≡◌, ◌<◌, ◌≤◌, IfOk};
 ghost use Rattle.issuer_base.specs.declared.limits.TheConstants.{MAX_CALLERS};
-ghost use Rattle.caller_lanes.specs.Lanes.{waiting_in, due_in};
+ghost use Rattle.shared_callers.specs.Lanes.{waiting_in, due_in};
 
 use crate::hosts::{sample, store};
 use crate::passes::{NINTH, SIXTH};
-use caller_lanes::{BLOCK_LINES, HostBack, Lanes};
 use issuer_base::{Answer, KEPT_BYTES, OpenGate, Refusal};
 use sample_issuer::REQUEST;
+use shared_callers::{BLOCK_LINES, HostBack, Lanes};
 use std::alloc::Global;
 use std::sync::Wait;
 use std::test::Fail;

@@ -1,6 +1,6 @@
 //! Two passes of one host over a store in memory: which one wins a request's claim, and the answers to each.
 ghost use Rattle.std.specs.Prelude.{◌≡◌, IfOk, MatchResult};
-ghost use Rattle.seat_names.specs.SeatNames.{first_names, after_split, split_off};
+ghost use Rattle.shared_seats.specs.SeatNames.{first_names, after_split, split_off};
 ghost use Rattle.host_calls.specs.Passes.{claims_of, IsFree, Holds};
 ghost use Rattle.host_calls.specs.PreChecks.{HasPassed};
 

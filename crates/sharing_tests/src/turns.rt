@@ -1,8 +1,8 @@
 //! Callers in threads of their own take turns at shards whose values count the items.
 ghost use Rattle.std.specs.Prelude.{◌≡◌, ℕ, ◌+◌, ◌<◌, ◌≤◌, [], ◌∷◌, ◌++◌, All, length, map, IfOk, vec_len, vec_capacity, slice_index_or};
 ghost use Rattle.std.specs.List.{flat_map};
-ghost use Rattle.seat_names.specs.Totals.{total};
-ghost use Rattle.seat_names.specs.SeatNames.{IsWhole};
+ghost use Rattle.shared_seats.specs.Totals.{total};
+ghost use Rattle.shared_seats.specs.SeatNames.{IsWhole};
 ghost use Rattle.turn_book.specs.declared.view.Turn.TheVariants.{Free, Inside};
 ghost use Rattle.turn_book.specs.Logs.{items_at, StandsAt, StandFor};
 ghost use Rattle.turn_book.specs.TurnViews.{times, first_view};

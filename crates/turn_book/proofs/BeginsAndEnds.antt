@@ -6,10 +6,10 @@ use Rattle.std.proofs.lemmas.Bool.Decides.{nat_tests}
 use mathlib.Core.Option.{some, some-injective, some-ne-none}
 use lib.ListN.{get_elem?}
 use Rattle.atomic_table.specs.Table.{State, opening}
-use Rattle.seat_names.specs.Totals.{total, one_if}
-use Rattle.seat_names.specs.SeatNames.{IsWhole}
-use Rattle.seat_names.proofs.Totals.{at_one, at_map, total-alone}
-use Rattle.seat_names.proofs.SeatNameLemmas.{named_first, whole_alone}
+use Rattle.shared_seats.specs.Totals.{total, one_if}
+use Rattle.shared_seats.specs.SeatNames.{IsWhole}
+use Rattle.shared_seats.proofs.Totals.{at_one, at_map, total-alone}
+use Rattle.shared_seats.proofs.SeatNameLemmas.{named_first, whole_alone}
 use Rattle.turn_book.specs.declared.layout.TheConstants.{SHARD_WORDS}
 use Rattle.turn_book.specs.declared.logs.Log.{Log}
 use Rattle.turn_book.specs.declared.view.Turn.{Turn}

@@ -1,7 +1,7 @@
 -- What the callers know after each turn, and once their seats are joined.
 use Rattle.std.proofs.Common.{◌≡◌, ℕ, zero, suc, List, [], ◌∷◌, ◌++◌, map, length, replicate, All, eqb, ◌&&◌, refl, ap, ◌∙◌, arith}
-use Rattle.seat_names.specs.Totals.{one_if}
-use Rattle.seat_names.proofs.Totals.{total-append, total-snoc}
+use Rattle.shared_seats.specs.Totals.{one_if}
+use Rattle.shared_seats.proofs.Totals.{total-append, total-snoc}
 use Rattle.turn_book.specs.declared.logs.Log.{Log}
 use Rattle.turn_book.specs.declared.view.TurnView.{TurnView}
 use Rattle.turn_book.specs.Logs.{items_at, with_items, StandsAt, StandFor}

@@ -6,10 +6,10 @@ use mathlib.Core.Option.{some, some-injective, some-ne-none}
 use mathlib.Core.Option as maybe
 use lib.ListN.{get_elem?}
 use Rattle.atomic_table.specs.Table.{State}
-use Rattle.seat_names.specs.Totals.{total, one_if}
-use Rattle.seat_names.specs.SeatNames.{AreNamed}
-use Rattle.seat_names.specs.declared.seat_name.SeatName.{SeatName}
-use Rattle.seat_names.proofs.Totals.{at_set, at_map, set_again, map-set, total-set, total-le, part_le, parts_le}
+use Rattle.shared_seats.specs.Totals.{total, one_if}
+use Rattle.shared_seats.specs.SeatNames.{AreNamed}
+use Rattle.shared_seats.specs.declared.seat_name.SeatName.{SeatName}
+use Rattle.shared_seats.proofs.Totals.{at_set, at_map, set_again, map-set, total-set, total-le, part_le, parts_le}
 use Rattle.turn_book.specs.declared.logs.Log.{Log}
 use Rattle.turn_book.specs.declared.view.TurnView.{TurnView}
 use Rattle.turn_book.specs.Layout.{turn_in, count_in}

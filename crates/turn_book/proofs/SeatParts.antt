@@ -5,11 +5,11 @@ use Rattle.std.proofs.lemmas.Bool.{cases_eq, cases_lt, eq-eqb, ne_eqb}
 use mathlib.Core.Option.{some, some-injective, some-ne-none}
 use lib.ListN.{get_elem?}
 use Rattle.atomic_table.specs.Table.{Splits, Joins}
-use Rattle.seat_names.specs.Totals.{total, one_if}
-use Rattle.seat_names.specs.SeatNames.{after_split, split_off, AreNamed}
-use Rattle.seat_names.specs.declared.seat_name.SeatName.{SeatName}
-use Rattle.seat_names.proofs.Totals.{at_set, at_snoc, at_map, map-set, map-snoc, total-append, total-snoc, total-set, part_le, parts_le}
-use Rattle.seat_names.proofs.SeatNameLemmas.{named_split, named_join}
+use Rattle.shared_seats.specs.Totals.{total, one_if}
+use Rattle.shared_seats.specs.SeatNames.{after_split, split_off, AreNamed}
+use Rattle.shared_seats.specs.declared.seat_name.SeatName.{SeatName}
+use Rattle.shared_seats.proofs.Totals.{at_set, at_snoc, at_map, map-set, map-snoc, total-append, total-snoc, total-set, part_le, parts_le}
+use Rattle.shared_seats.proofs.SeatNameLemmas.{named_split, named_join}
 use Rattle.turn_book.specs.declared.logs.Log.{Log}
 use Rattle.turn_book.specs.declared.view.Turn.{Turn}
 use Rattle.turn_book.specs.declared.view.Turn.TheVariants.{Free}

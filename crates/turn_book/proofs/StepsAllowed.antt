@@ -11,10 +11,10 @@ use lib.ListN.{get_elem?}
 use prog.Atomic.{either}
 use Rattle.atomic_table.specs.Table.{State, Me, Act, step, keeps, takes, gives, Valid, Allows, stepped, carried_after}
 use Rattle.atomic_table.proofs.Lists.{exchanged, set_here}
-use Rattle.seat_names.specs.Totals.{one_if}
-use Rattle.seat_names.specs.Totals.{total}
-use Rattle.seat_names.specs.SeatNames.{AreNamed}
-use Rattle.seat_names.proofs.Totals.{at_set, at_map, set_again, map-set, total-set, get_set_other, part_le}
+use Rattle.shared_seats.specs.Totals.{one_if}
+use Rattle.shared_seats.specs.Totals.{total}
+use Rattle.shared_seats.specs.SeatNames.{AreNamed}
+use Rattle.shared_seats.proofs.Totals.{at_set, at_map, set_again, map-set, total-set, get_set_other, part_le}
 use Rattle.turn_book.specs.declared.logs.Log.{Log}
 use Rattle.turn_book.specs.declared.view.Turn.{Turn}
 use Rattle.turn_book.specs.declared.view.Turn.TheVariants.{Free, Moving, Inside}

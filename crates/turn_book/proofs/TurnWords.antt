@@ -3,7 +3,7 @@ use Rattle.std.proofs.Common.{◌≡◌, ◌≢◌, ℕ, ◌+◌, ◌<◌, ◌�
 use Rattle.std.proofs.Common.{arith, get_or-set_same, get_or-set_other}
 use Rattle.std.proofs.lemmas.Bool.{cases_eq, cases_lt, eq-eqb, ne_eqb, le-leb}
 use Rattle.std.proofs.lemmas.Bool.Decides.{nat_tests}
-use Rattle.seat_names.specs.Totals.{one_if}
+use Rattle.shared_seats.specs.Totals.{one_if}
 use Rattle.turn_book.specs.declared.view.Turn.{Turn}
 use Rattle.turn_book.specs.declared.view.Turn.TheVariants.{Free, Moving, Inside}
 use Rattle.turn_book.specs.Layout.{turn_word_of, count_word_of, turn_in, count_in}

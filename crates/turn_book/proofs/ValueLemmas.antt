@@ -4,7 +4,7 @@ use Rattle.std.proofs.Common.{refl, sym, ap, ◌∙◌, subst, arith}
 use Rattle.std.proofs.lemmas.List.{take_more}
 use mathlib.Core.Option.{some, some-injective, some-ne-none}
 use lib.ListN.{get_elem?}
-use Rattle.seat_names.proofs.Totals.{map-snoc}
+use Rattle.shared_seats.proofs.Totals.{map-snoc}
 
 pub at_get : {A : Type 0} (xs : List A) (i : ℕ) (x d : A) → get_elem? xs i ≡ some x → get_or xs i d ≡ x
 at_get [] i x d e = absurd (some-ne-none x (sym e))

@@ -1,6 +1,6 @@
 -- What callers know that take turns at shards whose values count the items.
 use Rattle.std.specs.Prelude.{◌≡◌, ℕ, zero, suc, List, [], ◌∷◌, length}
-use Rattle.seat_names.specs.Totals.{total}
+use Rattle.shared_seats.specs.Totals.{total}
 use Rattle.turn_book.specs.declared.view.Turn.TheVariants.{Free}
 use Rattle.turn_book.specs.declared.view.TurnView.{TurnView}
 use Rattle.turn_book.specs.declared.seat.TurnSeat.{TurnSeat}

@@ -4,8 +4,8 @@ use mathlib.Core.Option.{some}
 use mathlib.Core.Option as maybe
 use lib.ListN.{get_elem?}
 use Rattle.atomic_table.specs.Table.{State}
-use Rattle.seat_names.specs.Totals.{total, one_if}
-use Rattle.seat_names.specs.SeatNames.{AreNamed}
+use Rattle.shared_seats.specs.Totals.{total, one_if}
+use Rattle.shared_seats.specs.SeatNames.{AreNamed}
 use Rattle.turn_book.specs.declared.layout.TheConstants.{SHARD_WORDS}
 use Rattle.turn_book.specs.declared.logs.Log.{Log}
 use Rattle.turn_book.specs.declared.view.TurnView.{TurnView}

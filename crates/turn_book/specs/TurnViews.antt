@@ -1,8 +1,8 @@
 -- What a seat knows of the shards, and how the calls change it.
 use Rattle.std.specs.Prelude.{ℕ, List, [], ◌∷◌, ◌++◌, length, Bool, false, ◌==◌, ◌&&◌, if◌then◌else◌, nat_lt}
-use Rattle.seat_names.specs.Totals.{how_many}
-use Rattle.seat_names.specs.SeatNames.{first_names, after_split, split_off}
-use Rattle.seat_names.specs.declared.seat_name.SeatName.{SeatName}
+use Rattle.shared_seats.specs.Totals.{how_many}
+use Rattle.shared_seats.specs.SeatNames.{first_names, after_split, split_off}
+use Rattle.shared_seats.specs.declared.seat_name.SeatName.{SeatName}
 use Rattle.turn_book.specs.declared.logs.Log.{Log}
 use Rattle.turn_book.specs.declared.view.Turn.{Turn}
 use Rattle.turn_book.specs.declared.view.Turn.TheVariants.{Free, Moving, Inside}

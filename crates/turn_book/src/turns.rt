@@ -43,7 +43,7 @@ pub struct Turns<V: Logged<I, B>, I, B> {
 }
 
 impl<V: Logged<I, B>, I, B> Turns<V, I, B> {
-    ghost use Rattle.seat_names.specs.SeatNames.{IsWhole};
+    ghost use Rattle.shared_seats.specs.SeatNames.{IsWhole};
     ghost use Rattle.turn_book.specs.Logs.{items_at, IsFront, StandsAt, StandFor};
     ghost use Rattle.turn_book.specs.TurnRule.{between};
     ghost use Rattle.turn_book.specs.TurnViews.{times, first_view, entered, counted, free, parent_view, child_view, joined};

@@ -1,6 +1,6 @@
 //! What a seat knows. It exists in proofs alone: the program has no value of these types.
 use crate::logs::Log;
-use seat_names::SeatName;
+use shared_seats::SeatName;
 use std::collections::LinkedList;
 
 /// Whether a seat has the turn of a shard.

@@ -8,8 +8,8 @@ ghost use Rattle.one_caller.specs.Turns.{Turn};
 ghost use Rattle.world_play.specs.Play.{with_answer, with_tap};
 
 use crate::summary::Summary;
-use one_caller::Solo;
 use issuer_base::{Answer, NoMemory, Refusal, Request};
+use one_caller::Solo;
 use store_edge::RoomStore;
 
 /// The host of the run's issuer, and the counts so far: what isn't known before the end is 0.

@@ -11,10 +11,10 @@ use crate::player::Player;
 use crate::setting::{KEY_SET, SHARDS, card_info, issuer};
 use crate::summary::Summary;
 use card_model::Card;
-use one_caller::{HostBack, Solo};
 use issuer_base::NoMemory;
 use issuer_setup::{CardInfo, Issuer};
 use key_derive::MasterCiphers;
+use one_caller::{HostBack, Solo};
 use std::alloc::Global;
 use store_edge::RoomStore;
 

@@ -8,8 +8,8 @@ ghost use Rattle.world_play.specs.Reaching.{IsAt};
 use crate::house::House;
 use crate::player::Player;
 use crate::summary::Summary;
-use one_caller::Solo;
 use issuer_base::NoMemory;
+use one_caller::Solo;
 use store_edge::RoomStore;
 
 /// The counts at the end: those so far, and what host and cards tell then.

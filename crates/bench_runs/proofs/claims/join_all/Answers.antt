@@ -1,7 +1,7 @@
 -- A seat into which the last caller's is joined is whole with the callers that are left.
 use Rattle.std.proofs.Common.{rules, ◌≡◌, ◌++◌, ◌∷◌, []}
 use Rattle.std.proofs.lemmas.List.Elements.{All-pop}
-use Rattle.seat_names.proofs.ManySeats.{whole_popped}
+use Rattle.shared_seats.proofs.ManySeats.{whole_popped}
 use Rattle.claim_words.specs.Seats.{view_of, IsOf}
 use Rattle.bench_runs.specs.declared.claims.Caller.{Caller}
 use Rattle.bench_runs.proofs.claims.join_all.Goals as goal

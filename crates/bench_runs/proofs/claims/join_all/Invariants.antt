@@ -1,7 +1,7 @@
 -- The seat so far is whole with those of the callers that are still to join.
 use Rattle.std.proofs.Common.{◌++◌, All}
 use Rattle.std.specs.List.{flat_map}
-use Rattle.seat_names.specs.SeatNames.{IsWhole}
+use Rattle.shared_seats.specs.SeatNames.{IsWhole}
 use Rattle.claim_words.specs.Seats.{view_of, IsOf}
 use Rattle.bench_runs.proofs.claims.join_all.Given as goal
 

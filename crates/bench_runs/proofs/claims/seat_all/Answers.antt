@@ -1,7 +1,7 @@
 -- A seat that splits one off for a new caller is whole with all that were split off.
 use Rattle.std.proofs.Common.{rules}
 use Rattle.std.proofs.lemmas.List.Elements.{All-push}
-use Rattle.seat_names.proofs.ManySeats.{flat_map-snoc, whole_seated}
+use Rattle.shared_seats.proofs.ManySeats.{flat_map-snoc, whole_seated}
 use Rattle.claim_words.specs.Seats.{view_of, IsOf}
 use Rattle.bench_runs.specs.declared.claims.Caller.{Caller}
 use Rattle.bench_runs.proofs.claims.seat_all.Goals as goal

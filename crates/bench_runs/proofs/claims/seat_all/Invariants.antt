@@ -1,7 +1,7 @@
 -- The callers so far are seated, and the seat is whole with all of theirs.
 use Rattle.std.proofs.Common.{◌≡◌, ◌≤◌, ◌++◌, All, vec_len, vec_capacity}
 use Rattle.std.specs.List.{flat_map}
-use Rattle.seat_names.specs.SeatNames.{IsWhole}
+use Rattle.shared_seats.specs.SeatNames.{IsWhole}
 use Rattle.claim_words.specs.Seats.{view_of, IsOf}
 use Rattle.bench_runs.proofs.claims.seat_all.Given as goal
 

@@ -1,6 +1,6 @@
 -- Concurrent claims leave each seat its names, so all seats together are still whole.
 use Rattle.std.proofs.Common.{ap, length, arith}
-use Rattle.seat_names.proofs.ManySeats.{whole_lent}
+use Rattle.shared_seats.proofs.ManySeats.{whole_lent}
 use Rattle.claim_words.specs.Seats.{view_of}
 use Rattle.bench_runs.specs.declared.claims.Caller.{Caller}
 use Rattle.bench_runs.proofs.claims.wins.Goals as goal

@@ -1,9 +1,9 @@
 -- The callers keep their names while they take turns.
 use Rattle.std.proofs.Common.{◌≡◌, ◌<◌, ◌++◌, ◌∙◌, sym, ap, subst, List, length, get_or, drop, take, arith}
 use Rattle.std.specs.List.{flat_map}
-use Rattle.seat_names.specs.SeatNames.{IsWhole}
-use Rattle.seat_names.specs.declared.seat_name.SeatName.{SeatName}
-use Rattle.seat_names.proofs.ManySeats.{flat_map-kept, lent_whole}
+use Rattle.shared_seats.specs.SeatNames.{IsWhole}
+use Rattle.shared_seats.specs.declared.seat_name.SeatName.{SeatName}
+use Rattle.shared_seats.proofs.ManySeats.{flat_map-kept, lent_whole}
 use Rattle.turn_book.specs.Seats.{view_of}
 use Rattle.bench_runs.specs.declared.turns.Caller.{Caller}
 use Rattle.bench_runs.proofs.turns.counted_by.Goals as goal

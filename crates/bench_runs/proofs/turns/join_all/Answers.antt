@@ -2,9 +2,9 @@
 use Rattle.std.proofs.Common.{◌≡◌, ◌++◌, ◌∷◌, [], List, ap, subst, ◌∙◌}
 use Rattle.std.proofs.lemmas.List.Elements.{All-pop}
 use Rattle.std.specs.List.{flat_map}
-use Rattle.seat_names.specs.SeatNames.{IsWhole}
-use Rattle.seat_names.specs.declared.seat_name.SeatName.{SeatName}
-use Rattle.seat_names.proofs.ManySeats.{flat_map-snoc, whole_joined}
+use Rattle.shared_seats.specs.SeatNames.{IsWhole}
+use Rattle.shared_seats.specs.declared.seat_name.SeatName.{SeatName}
+use Rattle.shared_seats.proofs.ManySeats.{flat_map-snoc, whole_joined}
 use Rattle.turn_book.specs.Seats.{view_of}
 use Rattle.bench_runs.specs.declared.turns.Caller.{Caller}
 use Rattle.bench_runs.specs.Ready.{IsReady}

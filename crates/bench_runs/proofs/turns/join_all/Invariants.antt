@@ -1,7 +1,7 @@
 -- The seat is ready, and all seats are whole together.
 use Rattle.std.proofs.Common.{◌++◌, All}
 use Rattle.std.specs.List.{flat_map}
-use Rattle.seat_names.specs.SeatNames.{IsWhole}
+use Rattle.shared_seats.specs.SeatNames.{IsWhole}
 use Rattle.turn_book.specs.Seats.{view_of}
 use Rattle.bench_runs.specs.Ready.{IsReady}
 use Rattle.bench_runs.proofs.turns.join_all.Given as goal

@@ -2,7 +2,7 @@
 use Rattle.std.proofs.Common.{rules, arith, ◌%◌, ◌<◌, ap, ◌∙◌}
 use Rattle.std.proofs.Math.Nat.{mod-lt}
 use Rattle.std.proofs.lemmas.List.Elements.{All-push}
-use Rattle.seat_names.proofs.ManySeats.{flat_map-snoc, whole_seated}
+use Rattle.shared_seats.proofs.ManySeats.{flat_map-snoc, whole_seated}
 use Rattle.turn_book.specs.Seats.{view_of, shards_of}
 use Rattle.bench_runs.specs.declared.turns.Caller.{Caller}
 use Rattle.bench_runs.specs.Ready.{IsReady}

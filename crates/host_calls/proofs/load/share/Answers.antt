@@ -1,7 +1,7 @@
 -- The claim words have the recorded counters, and the turns the logs, of the shards that were loaded.
 use Rattle.std.proofs.Common.{List, length, subst, sym, ap, ◌∙◌}
-use Rattle.seat_names.specs.SeatNames.{IsWhole}
-use Rattle.seat_names.proofs.SeatNameLemmas.{whole_first}
+use Rattle.shared_seats.specs.SeatNames.{IsWhole}
+use Rattle.shared_seats.proofs.SeatNameLemmas.{whole_first}
 use Rattle.claim_words.specs.ClaimViews.{times}
 use Rattle.host_calls.specs.RecordedCounters.{AreRecordedOf}
 use Rattle.host_calls.proofs.Sharing.{loaded-standing, loaded-just, logs-opened, list-once, list-known, list-decided}

@@ -1,7 +1,7 @@
 -- The answers are taken one at a time, until none is left.
 use Rattle.std.proofs.Common.{◌++◌, ◌∙◌, [], sym, subst, arith}
 use Rattle.std.proofs.lemmas.List.{append-nil}
-use Rattle.caller_lanes.specs.declared.lanes.Lanes.{Lanes}
+use Rattle.shared_callers.specs.declared.lanes.Lanes.{Lanes}
 use Rattle.line_serving.specs.Hosts.{HaveAnswered, Settles}
 use Rattle.line_serving.proofs.TogetherSteps.{takes-answer, settles-together}
 use Rattle.line_serving.proofs.together.settle_together.Goals as goal

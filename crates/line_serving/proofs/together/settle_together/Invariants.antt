@@ -1,10 +1,10 @@
 -- Taking the answers, one at a time.
 use Rattle.std.proofs.Common.{◌≡◌, ◌+◌, ◌≤◌, List, ℕ}
-use Rattle.caller_lanes.specs.declared.lanes.TheConstants.{BLOCK_LINES}
-use Rattle.caller_lanes.specs.Lanes.{waiting_in, due_in}
+use Rattle.shared_callers.specs.declared.lanes.TheConstants.{BLOCK_LINES}
+use Rattle.shared_callers.specs.Lanes.{waiting_in, due_in}
 use Rattle.line_serving.specs.Hosts.{HaveAnswered}
 use Rattle.line_serving.proofs.TogetherSteps.{AreBeingTaken}
-use Rattle.caller_lanes.specs.declared.lanes.Lanes.{Lanes}
+use Rattle.shared_callers.specs.declared.lanes.Lanes.{Lanes}
 use Rattle.line_serving.proofs.together.settle_together.Given as goal
 
 abbrev pub invariant-loop-answer : goal.invariant-loop-answer

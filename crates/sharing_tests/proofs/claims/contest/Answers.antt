@@ -1,7 +1,7 @@
 -- Concurrent claims leave all seats together whole, so each counter was won exactly once.
 use Rattle.std.proofs.Common.{ℕ, ◌<◌, ap, List, length, map, Vec, Global, arith}
 use Rattle.std.proofs.lemmas.List.{length-map}
-use Rattle.seat_names.proofs.ManySeats.{whole_lent}
+use Rattle.shared_seats.proofs.ManySeats.{whole_lent}
 use Rattle.sharing_tests.specs.declared.claims.Caller.{Caller}
 use Rattle.claim_words.specs.Seats.{view_of, recorded_in}
 use Rattle.claim_words.proofs.ContestLemmas.{each_won_once}

@@ -1,13 +1,13 @@
 -- A seat into which the last caller's is joined has tried what that caller tried, and is whole with those left.
 use Rattle.std.proofs.Common.{rules, ◌≡◌, ◌++◌, ◌∷◌, []}
-use Rattle.seat_names.proofs.Totals.{map-snoc}
+use Rattle.shared_seats.proofs.Totals.{map-snoc}
 use Rattle.std.proofs.lemmas.List.Elements.{All-pop}
 use Rattle.claim_words.specs.declared.layout.TheConstants.{COUNTERS}
 use Rattle.sharing_tests.specs.declared.claims.Caller.{Caller}
 use Rattle.claim_words.specs.Seats.{view_of, IsOf}
 use Rattle.claim_words.specs.Contest.{HasTried}
 use Rattle.claim_words.proofs.ContestLemmas.{have_tried_joined}
-use Rattle.seat_names.proofs.ManySeats.{whole_popped}
+use Rattle.shared_seats.proofs.ManySeats.{whole_popped}
 use Rattle.sharing_tests.proofs.claims.join_all.Goals as goal
 
 pub loop-caller-preserved : goal.loop-caller-preserved

@@ -1,7 +1,7 @@
 -- The lists so far are what the joined callers won, and the seat is whole with those still to join.
 use Rattle.std.proofs.Common.{◌≡◌, ◌+◌, ◌≤◌, ◌++◌, All, map, vec_len, vec_capacity}
 use Rattle.std.specs.List.{flat_map}
-use Rattle.seat_names.specs.SeatNames.{IsWhole}
+use Rattle.shared_seats.specs.SeatNames.{IsWhole}
 use Rattle.claim_words.specs.declared.layout.TheConstants.{COUNTERS}
 use Rattle.claim_words.specs.Contest.{HasTried, HaveTried}
 use Rattle.claim_words.specs.Seats.{view_of, IsOf}

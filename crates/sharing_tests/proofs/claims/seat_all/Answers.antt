@@ -7,7 +7,7 @@ use Rattle.sharing_tests.specs.declared.claims.Caller.{Caller}
 use Rattle.claim_words.specs.Seats.{view_of, IsOf}
 use Rattle.claim_words.specs.Contest.{HasTried}
 use Rattle.claim_words.proofs.ContestLemmas.{tried_none, have_tried_parent}
-use Rattle.seat_names.proofs.ManySeats.{flat_map-snoc, whole_seated}
+use Rattle.shared_seats.proofs.ManySeats.{flat_map-snoc, whole_seated}
 use Rattle.sharing_tests.proofs.claims.seat_all.Goals as goal
 
 pub loop-won-preserved : goal.loop-won-preserved

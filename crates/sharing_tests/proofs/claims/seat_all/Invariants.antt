@@ -1,7 +1,7 @@
 -- Each list so far has its caller, which has tried nothing, and all seats together are whole.
 use Rattle.std.proofs.Common.{◌≡◌, ◌+◌, ◌≤◌, [], ◌++◌, All, vec_len, vec_capacity}
 use Rattle.std.specs.List.{flat_map}
-use Rattle.seat_names.specs.SeatNames.{IsWhole}
+use Rattle.shared_seats.specs.SeatNames.{IsWhole}
 use Rattle.claim_words.specs.declared.layout.TheConstants.{COUNTERS}
 use Rattle.claim_words.specs.Contest.{HasTried, HaveTried}
 use Rattle.claim_words.specs.Seats.{view_of, IsOf}

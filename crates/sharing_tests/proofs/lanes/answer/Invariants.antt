@@ -1,6 +1,6 @@
 -- While lines are dealt, no answer can be taken. Then each step takes one, and no line waits.
 use Rattle.std.proofs.Common.{◌≡◌, ℕ}
-use Rattle.caller_lanes.specs.Lanes.{waiting_in, due_in}
+use Rattle.shared_callers.specs.Lanes.{waiting_in, due_in}
 use Rattle.sharing_tests.proofs.lanes.answer.Given as goal
 
 abbrev pub invariant-loop-line : goal.invariant-loop-line

@@ -1,8 +1,8 @@
 -- Two passes that were split from the first one are whole after they are joined.
 use Rattle.std.proofs.Common.{[], arith}
-use Rattle.seat_names.specs.SeatNames.{first_names}
-use Rattle.seat_names.proofs.ManySeats.{whole_seated}
-use Rattle.seat_names.proofs.SeatNameLemmas.{whole_first}
+use Rattle.shared_seats.specs.SeatNames.{first_names}
+use Rattle.shared_seats.proofs.ManySeats.{whole_seated}
+use Rattle.shared_seats.proofs.SeatNameLemmas.{whole_first}
 use Rattle.sharing_tests.proofs.passes.close.Goals as goal
 
 pub close-requires-clause-whole : goal.close-requires-clause-whole

@@ -1,9 +1,9 @@
 -- The indices of all lists are those that the whole seat has.
 use Rattle.std.proofs.Common.{◌≡◌, ℕ, ◌<◌, ◌++◌, ◌∙◌, sym, ap, subst, List, length, get_or, drop, take, arith}
 use Rattle.std.specs.List.{flat_map}
-use Rattle.seat_names.specs.SeatNames.{IsWhole}
-use Rattle.seat_names.specs.declared.seat_name.SeatName.{SeatName}
-use Rattle.seat_names.proofs.ManySeats.{flat_map-kept, lent_whole}
+use Rattle.shared_seats.specs.SeatNames.{IsWhole}
+use Rattle.shared_seats.specs.declared.seat_name.SeatName.{SeatName}
+use Rattle.shared_seats.proofs.ManySeats.{flat_map-kept, lent_whole}
 use Rattle.sharing_tests.specs.declared.turns.Caller.{Caller}
 use Rattle.sharing_tests.specs.declared.turns.Tally.{Tally}
 use Rattle.turn_book.specs.Logs.{items_at}

@@ -1,7 +1,7 @@
 -- The seat has the indices of the lists so far, and all seats are whole together.
 use Rattle.std.proofs.Common.{◌≡◌, ◌+◌, ◌≤◌, ◌++◌, All, map, vec_len, vec_capacity}
 use Rattle.std.specs.List.{flat_map}
-use Rattle.seat_names.specs.SeatNames.{IsWhole}
+use Rattle.shared_seats.specs.SeatNames.{IsWhole}
 use Rattle.turn_book.specs.Seats.{view_of}
 use Rattle.turn_book.specs.Counting.{IsReady, IsDone}
 use Rattle.sharing_tests.proofs.turns.join_all.Given as goal

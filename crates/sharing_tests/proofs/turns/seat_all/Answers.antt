@@ -1,7 +1,7 @@
 -- One more seat is split off.
 use Rattle.std.proofs.Common.{rules, ◌≡◌, ◌≤◌, ℕ, [], Vec, vec_capacity, Global, sym, refl, ap, ◌∙◌, subst}
 use Rattle.std.proofs.lemmas.List.Elements.{All-pop, All-push}
-use Rattle.seat_names.proofs.ManySeats.{flat_map-snoc, whole_seated}
+use Rattle.shared_seats.proofs.ManySeats.{flat_map-snoc, whole_seated}
 use Rattle.sharing_tests.specs.declared.turns.TheConstants.{ITEMS}
 use Rattle.sharing_tests.specs.declared.turns.Caller.{Caller}
 use Rattle.turn_book.specs.Seats.{view_of}

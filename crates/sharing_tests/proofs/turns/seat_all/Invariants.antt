@@ -1,7 +1,7 @@
 -- The callers so far are ready, and all seats are whole together.
 use Rattle.std.proofs.Common.{◌≡◌, ◌+◌, ◌≤◌, [], ◌++◌, All, vec_len, vec_capacity}
 use Rattle.std.specs.List.{flat_map}
-use Rattle.seat_names.specs.SeatNames.{IsWhole}
+use Rattle.shared_seats.specs.SeatNames.{IsWhole}
 use Rattle.sharing_tests.specs.declared.turns.TheConstants.{ITEMS}
 use Rattle.turn_book.specs.Seats.{view_of}
 use Rattle.turn_book.specs.Counting.{IsReady}

@@ -1,7 +1,7 @@
 -- The last pass knows all, and the stores hold their journals.
 use Rattle.std.proofs.Common.{◌<◌, length, subst, arith}
-use Rattle.seat_names.specs.SeatNames.{IsWhole}
-use Rattle.shard_turns.specs.ShardSeats.{opening_in}
+use Rattle.shared_seats.specs.SeatNames.{IsWhole}
+use Rattle.shared_shards.specs.ShardSeats.{opening_in}
 use Rattle.host_calls.specs.Passes.{claims_of, logs_of}
 use Rattle.host_calls.proofs.Closed.{closed-all, settled-all}
 use Rattle.host_calls.proofs.host.Host.close.Goals as goal

@@ -3,8 +3,8 @@ use Rattle.std.proofs.Common.{sym, ap, ◌∙◌, arith, ◌≡◌}
 use Rattle.turn_book.specs.Logs.{heads_of}
 use Rattle.claim_words.specs.declared.view.Claimed.{Claimed}
 use Rattle.claim_words.specs.ClaimViews.{is_open}
-use Rattle.seat_names.specs.Totals.{one_if}
-use Rattle.seat_names.proofs.Totals.{total-append}
+use Rattle.shared_seats.specs.Totals.{one_if}
+use Rattle.shared_seats.proofs.Totals.{total-append}
 use Rattle.turn_book.specs.TurnViews.{joined}
 use Rattle.host_calls.specs.Passes.{claims_of, logs_of, open_in}
 use Rattle.host_calls.proofs.Ties.{tied-joined}

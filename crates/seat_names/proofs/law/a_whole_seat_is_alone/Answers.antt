@@ -1,6 +1,0 @@
--- All names are in the whole seat, so none are left for another.
-use Rattle.seat_names.proofs.SeatNameLemmas.{whole_alone}
-use Rattle.seat_names.proofs.law.a_whole_seat_is_alone.Goals as goal
-
-pub returns : goal.returns
-returns c = whole_alone

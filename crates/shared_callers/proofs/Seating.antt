@@ -1,0 +1,127 @@
+-- The passes of lanes as they are split off, and the initial state of the lanes.
+use Rattle.std.proofs.Common.{◌≡◌, ℕ, ◌*◌, ◌/◌, ◌<◌, ◌≤◌, List, [], ◌∷◌, ◌++◌, length, All, refl, sym, ap, subst, ◌∙◌, append-nil, arith}
+use Rattle.std.proofs.lemmas.List.Elements.{All-push}
+use Rattle.std.proofs.Math.Nat.{zero-mod, mul-div-le, le-div_iff_mul-le, one-le-mul}
+use Rattle.std.specs.List.{flat_map}
+use Rattle.issuer_base.specs.declared.outside.store.Store.{Ghosts}
+use Rattle.issuer_setup.specs.IssuerSetup.{Setup}
+use Rattle.shared_seats.specs.SeatNames.{first_names, after_split, split_off, IsWhole}
+use Rattle.shared_seats.specs.declared.seat_name.SeatName.{SeatName}
+use Rattle.shared_seats.proofs.ManySeats.{flat_map-snoc, whole_seated}
+use Rattle.shared_seats.proofs.SeatNameLemmas.{whole_first}
+use Rattle.claim_words.specs.declared.view.ClaimView.{ClaimView}
+use Rattle.claim_words.specs.ClaimViews.{newcomer, parent_view as parent_claims, child_view as child_claims}
+use Rattle.turn_book.specs.declared.logs.Log.{Log}
+use Rattle.turn_book.specs.declared.view.TurnView.{TurnView}
+use Rattle.turn_book.specs.TurnViews.{first_view, parent_view, child_view}
+use Rattle.shared_shards.specs.declared.logs.LogItem.{LogItem}
+use Rattle.shared_shards.specs.declared.logs.LogHead.{LogHead}
+use Rattle.shared_shards.specs.ShardSeats.{opening_in}
+use Rattle.host_calls.specs.Passes.{claims_of, logs_of, IsFree}
+use Rattle.host_calls.specs.declared.host.Host.{Host}
+use Rattle.host_calls.specs.declared.pass.Pass.{Pass}
+use Rattle.shared_callers.specs.OneLane.{waiting_lines, due_answers, IsNew, IsServed}
+use Rattle.shared_callers.specs.Seated.{AreSeated}
+use Rattle.shared_callers.specs.Turns.{AreInTurns}
+use Rattle.shared_callers.specs.declared.lane.Lane.{Lane}
+use Rattle.shared_callers.specs.declared.dealer.Progress.{Progress}
+use Rattle.shared_callers.proofs.HavingTurns.{turns-nothing}
+use Rattle.shared_callers.proofs.Serving.{AreServed, at-all}
+
+-- a pass that was split off was asked nothing
+pub new-served : (issuer : Setup) (opening : List (Log LogItem LogHead)) (first pass : Pass) → claims_of pass ≡ child_claims (claims_of first)
+    → logs_of pass ≡ child_view (logs_of first) → (logs_of first).seen ≡ opening → IsServed issuer opening pass [] []
+new-served issuer opening first pass claims logs opened = record {
+  caller = record {
+    lines = [];
+    answers = [];
+    claims = claims_of pass;
+    claims_now = claims_of pass;
+    logs = logs_of pass;
+    logs_now = logs_of pass;
+  };
+  caller_is = record {
+    no_claims = ap (λ (view : ClaimView). view.claims) claims;
+    no_found = ap (λ (view : ClaimView). view.found) claims;
+    no_tops = ap (λ (view : ClaimView). view.tops) claims;
+    no_places = ap (λ (view : TurnView LogItem LogHead). view.mine) logs;
+    opened = ap (λ (view : TurnView LogItem LogHead). view.seen) logs ∙ opened;
+    calls = (refl, refl);
+  };
+  lines_are = refl;
+  answers_are = refl;
+  claims_are = refl;
+  logs_are = refl;
+}
+
+module _ {S : Type 0} {G : Ghosts S} (host : Host S G) where
+  -- the first pass alone
+  pub seated-none : (first : Pass) → IsFree host first → claims_of first ≡ newcomer first_names → logs_of first ≡ first_view (opening_in host.turns)
+      → AreSeated host first []
+  seated-none first free claims logs = record {
+    first_free = free;
+    untouched = record {
+      no_claims = ap (λ (view : ClaimView). view.claims) claims;
+      no_found = ap (λ (view : ClaimView). view.found) claims;
+      no_tops = ap (λ (view : ClaimView). view.tops) claims;
+      no_places = ap (λ (view : TurnView LogItem LogHead). view.mine) logs;
+    };
+    opened = ap (λ (view : TurnView LogItem LogHead). view.seen) logs;
+    free = λ k d below. absurd (omega arith);
+    whole = subst IsWhole (sym (append-nil (claims_of first).names ∙ ap (λ (view : ClaimView). view.names) claims)) whole_first;
+  }
+
+  -- one lane more
+  pub seated-more : (first after : Pass) (lanes : List Lane) (lane : Lane) → 0 < length (claims_of first).names → IsFree host after
+      → claims_of after ≡ parent_claims (claims_of first) → logs_of after ≡ parent_view (logs_of first) → IsFree host lane.pass
+      → claims_of lane.pass ≡ child_claims (claims_of first) → AreSeated host first lanes → AreSeated host after (lanes ++ lane ∷ [])
+  seated-more first after lanes lane named free claims logs lane_free lane_claims seated =
+      let names : Lane → List SeatName = λ lane. (claims_of lane.pass).names in
+      let all_names : (claims_of after).names ++ flat_map names (lanes ++ lane ∷ [])
+      ≡ after_split (claims_of first).names ++ (flat_map names lanes ++ split_off (claims_of first).names) =
+      ap (λ (view : ClaimView). view.names ++ flat_map names (lanes ++ lane ∷ [])) claims
+      ∙ ap (λ (others : List SeatName). after_split (claims_of first).names ++ others)
+      (flat_map-snoc names lanes lane ∙ ap (λ (view : ClaimView). flat_map names lanes ++ view.names) lane_claims) in
+      record {
+        first_free = free;
+        untouched = record {
+          no_claims = ap (λ (view : ClaimView). view.claims) claims ∙ seated.untouched.no_claims;
+          no_found = ap (λ (view : ClaimView). view.found) claims ∙ seated.untouched.no_found;
+          no_tops = ap (λ (view : ClaimView). view.tops) claims ∙ seated.untouched.no_tops;
+          no_places = ap (λ (view : TurnView LogItem LogHead). view.mine) logs ∙ seated.untouched.no_places;
+        };
+        opened = ap (λ (view : TurnView LogItem LogHead). view.seen) logs ∙ seated.opened;
+        free = All-push (λ (lane : Lane). IsFree host lane.pass) lanes lane seated.free lane_free;
+        whole = subst IsWhole (sym all_names) (whole_seated (claims_of first).names (flat_map names lanes) named seated.whole);
+      }
+
+-- lanes that were asked nothing are in turn
+pub new-in-turns : (issuer : Setup) (opening : List (Log LogItem LogHead)) (lanes : List Lane) (progress : Progress) → All (IsNew issuer opening) lanes
+    → progress.next ≡ 0 → progress.from ≡ 0 → progress.waiting ≡ 0 → progress.due ≡ 0 → AreInTurns lanes progress [] [] [] []
+new-in-turns issuer opening lanes progress new next from waiting due = record {
+  answered = refl;
+  waiting_is = waiting;
+  due_is = due;
+  next_is = next ∙ sym (zero-mod (length lanes));
+  from_is = from ∙ sym (zero-mod (length lanes));
+  waits = turns-nothing waiting_lines lanes [] (λ number lane is. (at-all (IsNew issuer opening) lanes number lane new is).none_wait);
+  dues = turns-nothing due_answers lanes [] (λ number lane is. (at-all (IsNew issuer opening) lanes number lane new is).none_due);
+}
+
+-- and their callers were answered nothing
+pub new-all-served : (issuer : Setup) (opening : List (Log LogItem LogHead)) (lanes : List Lane) → All (IsNew issuer opening) lanes
+    → AreServed issuer opening lanes [] []
+new-all-served issuer opening lanes new number lane is = (at-all (IsNew issuer opening) lanes number lane new is).served
+
+-- so many lanes with room for their part of so many lines
+pub room-some : (lines count : ℕ) → 0 < count → count ≤ lines → 0 < count * (lines / count)
+room-some lines count some fits =
+    let each : 1 ≤ lines / count = (le-div_iff_mul-le some).1 (omega (arith, fits)) in
+    one-le-mul some each
+
+pub room-most : (lines count : ℕ) → count * (lines / count) ≤ lines
+room-most lines count = mul-div-le lines count
+
+pub rooms-all : (lanes : List Lane) (count each whole : ℕ) → whole ≡ count * each → All (λ (lane : Lane). lane.room ≡ each) lanes
+    → All (λ (lane : Lane). count * lane.room ≡ whole) lanes
+rooms-all lanes count each whole is all = λ number d below. ap (λ room. count * room) (all number d below) ∙ sym is

@@ -1,0 +1,23 @@
+-- All others are joined into the first pass, and the close of the host with it says what all callers shared.
+use Rattle.std.proofs.Common.{ap, ◌∙◌, List, length}
+use Rattle.issuer_base.specs.declared.answer.Answer.{Answer}
+use Rattle.shared_shards.specs.ShardSeats.{opening_in}
+use Rattle.shared_callers.proofs.Joining.{closed-lanes}
+use Rattle.shared_callers.proofs.lanes.Lanes.close.Goals as goal
+
+pub returns : goal.returns
+returns g c =
+    λ lines answers due has.
+    let lanes = c.args.self in
+    closed-lanes g.S.Store.bytes g.S.Store.disk g.S.Store.faults lanes.host.issuer (opening_in lanes.host.turns) lanes.first c.join_all.new.first
+    lanes.dealer.lanes.items lines answers c.close.result.items (record {
+      some = lanes.shards;
+      count_is = lanes.host.shards.count_is;
+      heads = c.join_all.ensures.free.of.turns_are.of.heads;
+      plain = lanes.plain;
+      untouched = lanes.seated.untouched;
+      opened = lanes.seated.opened;
+      joined = c.join_all.ensures.joined;
+      own = c.close.ensures.places;
+      settled = c.close.ensures.claims;
+    }) c.close.ensures.stores (ap (λ (answers : List Answer). length answers) has.answers_are ∙ has.turns.answered) has.served

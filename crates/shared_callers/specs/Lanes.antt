@@ -1,0 +1,69 @@
+-- The lines and answers of one host's callers, and the lines that wait.
+use Rattle.std.specs.Prelude.{◌≡◌, ℕ, ◌==◌, Bool, List, ◌++◌, length, slice_get, Option, Some}
+use Rattle.issuer_base.specs.Stores.{Disk}
+use Rattle.issuer_base.specs.declared.answer.Answer.{Answer}
+use Rattle.issuer_base.specs.declared.outside.store.Store.{Ghosts}
+use Rattle.issuer_setup.specs.IssuerSetup.{Setup}
+use Rattle.turn_book.specs.declared.logs.Log.{Log}
+use Rattle.shared_shards.specs.ShardSeats.{opening_in}
+use Rattle.shared_shards.specs.declared.logs.LogItem.{LogItem}
+use Rattle.shared_shards.specs.declared.logs.LogHead.{LogHead}
+use Rattle.host_calls.specs.Closing.{AreClosed}
+use Rattle.shared_laws.specs.Callers.{Caller, AreCallers}
+use Rattle.shared_callers.specs.Dealing.{every, AreDealt}
+use Rattle.shared_callers.specs.OneLane.{IsServed}
+use Rattle.shared_callers.specs.Turns.{AreInTurns}
+use Rattle.shared_callers.specs.declared.lane.Lane.{Lane}
+use Rattle.shared_callers.specs.declared.lanes.Lanes.{Lanes}
+
+module _ {S : Type 0} {G : Ghosts S} where
+  -- the issuer of the host
+  abbrev pub issuer_in : Lanes S G → Setup
+  issuer_in lanes = lanes.host.issuer
+
+  -- the logs that the host was loaded with
+  abbrev pub opening_logs : Lanes S G → List (Log LogItem LogHead)
+  opening_logs lanes = opening_in lanes.host.turns
+
+  -- how many callers there are
+  abbrev pub callers_in : Lanes S G → ℕ
+  callers_in lanes = length lanes.dealer.lanes.items
+
+  -- how many lines wait
+  abbrev pub waiting_in : Lanes S G → ℕ
+  waiting_in lanes = lanes.dealer.progress.waiting
+
+  -- how many answers weren't taken yet
+  abbrev pub due_in : Lanes S G → ℕ
+  due_in lanes = lanes.dealer.progress.due
+
+  -- whether no more line fits
+  abbrev pub is_full_in : Lanes S G → Bool
+  is_full_in lanes = waiting_in lanes == lanes.dealer.room
+
+  -- the issuer, the opening logs and the callers are the same
+  pub record HasSameHost (old new : Lanes S G) : Type 0 where
+    pub same_issuer : issuer_in new ≡ issuer_in old
+    pub same_opening : opening_logs new ≡ opening_logs old
+    pub same_callers : callers_in new ≡ callers_in old
+
+  -- since the host was loaded, its callers gave these answers to these lines; the answers `due`, which are the last,
+  -- weren't taken yet; these lines wait
+  pub record HasServed (lanes : Lanes S G) (lines : List (List ℕ)) (answers due : List Answer) (waiting : List (List ℕ)) : Type 0 where
+    pub taken : List Answer
+    pub answers_are : answers ≡ taken ++ due
+    pub turns : AreInTurns lanes.dealer.lanes.items lanes.dealer.progress lines taken due waiting
+    pub served : (number : ℕ) (lane : Lane) → slice_get lanes.dealer.lanes.items number ≡ Some lane
+        → IsServed (issuer_in lanes) (opening_logs lanes) lane.pass (every (callers_in lanes) number lines) (every (callers_in lanes) number answers)
+
+-- by the stores' observable bytes and disks, and their fault counters
+module _ {S : Type 0} (bytes : S → Option (List ℕ)) (disk : S → Option Disk) (faults : S → ℕ) where
+  -- a host with these opening logs was closed: its `count` callers were dealt these lines in turns, gave these answers
+  -- and shared the host, whose stores hold the journals of the logs at close
+  pub record HasClosed (issuer : Setup) (opening : List (Log LogItem LogHead)) (count : ℕ) (lines : List (List ℕ)) (answers : List Answer)
+      (stores : List S) : Type 0 where
+    pub logs : List (Log LogItem LogHead)
+    pub callers : List Caller
+    pub dealt : AreDealt count lines answers callers
+    pub shared : AreCallers issuer opening logs callers
+    pub closed : AreClosed bytes disk faults issuer opening logs stores

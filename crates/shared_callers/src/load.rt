@@ -1,0 +1,119 @@
+//! The loading of a host for several callers.
+ghost use Rattle.std.specs.Prelude.{◌≡◌, ℕ, ◌<◌, ◌≤◌, ◌*◌, ◌/◌, [], length, vec_len, vec_capacity, All, IfOk, IfErr};
+ghost use Rattle.issuer_base.specs.declared.limits.TheConstants.{MAX_CALLERS};
+ghost use Rattle.host_calls.specs.OpeningLogs.{AreOpenedFrom, HostComesBack};
+ghost use Rattle.shared_shards.specs.ShardSeats.{opening_in};
+ghost use Rattle.shared_callers.specs.OneLane.{IsNew};
+ghost use Rattle.shared_callers.specs.Seated.{AreSeated};
+ghost use Rattle.shared_callers.specs.declared.lanes.TheConstants.{BLOCK_LINES};
+
+use crate::dealer::{Dealer, Progress};
+use crate::lane::{Lane, LaneRoom};
+use crate::lanes::{BLOCK_LINES, Lanes};
+use host_calls::{Host, HostBack, LoadFault, Pass};
+use issuer_base::{NoMemory, Store};
+use issuer_setup::Issuer;
+use std::alloc::Global;
+
+/// The memory of all lanes.
+struct AllRoom {
+    lanes: Vec<Lane>,
+    rooms: Vec<LaneRoom>,
+}
+
+impl<S: Store> Lanes<S> {
+    ghost use Rattle.shared_callers.specs.Lanes.{issuer_in, opening_logs, callers_in, waiting_in, due_in, HasServed};
+
+    /// Loads the host as `Host::load` does, for 1 to [`MAX_CALLERS`](issuer_base::MAX_CALLERS) callers. No later call
+    /// allocates. If an allocation for the lanes fails, the stores come back as they were, and the error names shard 0.
+    pub fn load(
+        alloc: Global,
+        stores: Vec<S>,
+        issuer: Issuer,
+        callers: u8,
+    ) -> Result<Lanes<S>, HostBack<S>>
+        requires count { length stores.items ≡ issuer.shards }
+        requires callers { (0 < callers) × (callers ≤ MAX_CALLERS) }
+        ensures issuer { IfOk result (λ lanes. issuer_in lanes ≡ issuer) }
+        ensures callers { IfOk result (λ lanes. callers_in lanes ≡ callers) }
+        ensures opening { IfOk result (λ lanes. AreOpenedFrom S.bytes S.disk S.faults issuer stores.items (opening_logs lanes)) }
+
+        // No line was answered, and none waits.
+        ensures served { IfOk result (λ lanes. HasServed lanes [] [] [] []) }
+        ensures counts { IfOk result (λ lanes. (waiting_in lanes ≡ 0) × (due_in lanes ≡ 0)) }
+        ensures stopped { IfErr result (λ back. HostComesBack S.bytes S.disk S.faults issuer stores.items back.shard back.fault back.stores.items) }
+    {
+        let Ok(AllRoom { lanes, rooms }) = take_room(alloc, callers) else {
+            return Err(HostBack {
+                fault: LoadFault::NoMemory,
+                shard: 0,
+                stores,
+            });
+        };
+        let (host, mut first) = match Host::load(alloc, stores, issuer) {
+            Ok(made) => made,
+            Err(back) => {
+                lanes.destroy_empty();
+                return Err(back);
+            }
+        };
+        let lanes = seat_all(&host, &mut first, lanes, rooms);
+        let room = lanes.len() * (BLOCK_LINES / lanes.len());
+        let dealer = Dealer {
+            lanes,
+            progress: Progress {
+                next: 0,
+                from: 0,
+                waiting: 0,
+                due: 0,
+            },
+            room,
+        };
+        Ok(Lanes {
+            host,
+            first,
+            dealer,
+        })
+    }
+}
+
+/// Allocates the memory of all lanes, one for each caller.
+fn take_room(alloc: Global, callers: u8) -> Result<AllRoom, NoMemory>
+    requires { 0 < callers }
+    ensures lanes { IfOk result (λ room. (room.lanes.items ≡ []) × (callers ≤ vec_capacity room.lanes)) }
+    ensures rooms { IfOk result (λ room. vec_len room.rooms ≡ callers) }
+    ensures count { IfOk result (λ room. All (λ lane. lane.count ≡ BLOCK_LINES / callers) room.rooms.items) }
+{
+    let count = usize::from(callers);
+    let mut rooms = Vec::with_capacity(alloc, count)?;
+    for _ in 0..count {
+        rooms.push_reserved(LaneRoom::new(alloc, BLOCK_LINES / count)?);
+    }
+    let lanes = Vec::with_capacity(alloc, count)?;
+    Ok(AllRoom { lanes, rooms })
+}
+
+/// Splits off a pass for each lane.
+fn seat_all<S: Store>(
+    host: &Host<S>,
+    first: &mut Pass,
+    mut lanes: Vec<Lane>,
+    mut rooms: Vec<LaneRoom>,
+) -> Vec<Lane>
+    requires first { AreSeated host.now first.old [] }
+    requires room { (lanes.items ≡ []) × (vec_len rooms ≤ vec_capacity lanes) }
+    ensures seated { AreSeated host.now first.new result.items }
+    ensures new { All (IsNew host.now.issuer (opening_in host.now.turns)) result.items }
+    ensures count { vec_len result ≡ vec_len rooms }
+    ensures room { (count : ℕ) → All (λ room. room.count ≡ count) rooms.items → All (λ lane. lane.room ≡ count) result.items }
+{
+    let step = rooms.len() as u64;
+    let mut number = 0u64;
+    while let Some(room) = rooms.pop() {
+        number += 1;
+        let pass = host.split(first);
+        let lane = Lane::new(pass, room, number, step);
+        lanes.push_reserved(lane);
+    }
+    lanes
+}

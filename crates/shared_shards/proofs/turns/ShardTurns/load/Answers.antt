@@ -1,0 +1,20 @@
+-- The shards stand for the logs that they open with.
+use Rattle.std.proofs.Common.{List, sym, subst}
+use Rattle.turn_book.specs.declared.logs.Log.{Log}
+use Rattle.shared_shards.specs.declared.logs.LogHead.{LogHead}
+use Rattle.shared_shards.specs.declared.logs.LogItem.{LogItem}
+use Rattle.shared_shards.specs.Opening.{AreOpeningLogs}
+use Rattle.shared_shards.proofs.ListLemmas.{held-stand, are-turns_of}
+use Rattle.shared_shards.proofs.turns.ShardTurns.load.Goals as goal
+
+pub start-requires-clause-stand : goal.start-requires-clause-stand
+start-requires-clause-stand g c =
+    held-stand c.args.issuer.now c.args.stores.now.value.items c.args.shards.items c.in-Ok.logs.view
+    c.hold_all.new.lists.held.items c.has_parts.ensures.table c.requires c.in-Ok.ensures
+    c.hold_all.ensures.shards
+
+pub returns-in-Ok-start-clause-turns : goal.returns-in-Ok-start-clause-turns
+returns-in-Ok-start-clause-turns g c =
+    are-turns_of c.args.issuer.now c.args.stores.now.value.items c.args.shards.items _ c.requires
+    (subst (λ (logs : List (Log LogItem LogHead)). AreOpeningLogs c.args.issuer.now c.args.stores.now.value.items c.args.shards.items logs)
+    (sym c.in-Ok-start.ensures.opening) c.in-Ok.ensures)
