@@ -1,7 +1,8 @@
-//! The host of several callers over stores: each caller has a pass of its own, claims a counter, and takes its turn at the shard.
+//! The host of several callers over stores: each caller has a pass of its own, claims a counter, and takes its turn at
+//! the shard.
 //!
-//! `specs/Authorising.antt` says what a line may be answered, `specs/Closing.antt` what is known once all passes are joined and the host is
-//! closed. [`Solo`] is the host of one caller, of the crate `one_caller`.
+//! `specs/Authorising.antt` says what a line may be answered, `specs/Closing.antt` what is known once all passes are
+//! joined and the host is closed. [`Solo`] is the host of one caller, of the crate `one_caller`.
 #![tactic(auto)]
 
 mod answering;

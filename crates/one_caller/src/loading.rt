@@ -29,7 +29,7 @@ pub struct Lists<S: Store> {
     pub back: Vec<S>,
 }
 
-/// Takes the memory of a host's lists for so many shards. Both lists are empty. Where memory is wanting, nothing stays taken.
+/// Allocates a host's lists for so many shards. Both lists are empty. If memory runs out, nothing stays allocated.
 pub fn take_lists<S: Store>(alloc: Global, count: usize) -> Result<Lists<S>, NoMemory>
     ensures shards { IfOk result (λ lists. (lists.shards.items ≡ []) × (count ≤ vec_capacity lists.shards)) }
     ensures back { IfOk result (λ lists. (lists.back.items ≡ []) × (count ≤ vec_capacity lists.back)) }
@@ -42,9 +42,9 @@ pub fn take_lists<S: Store>(alloc: Global, count: usize) -> Result<Lists<S>, NoM
     Ok(Lists { shards, back })
 }
 
-/// Loads a shard from each store, in order, into empty lists with room for all: takes over the records of the store's whole lines, truncates
-/// what comes after them, and makes them durable. The first shard that can't be loaded stops it, and the stores come back in order. The lists
-/// allocate nothing more; the shards do.
+/// Loads a shard from each store, in order, into empty lists with room for all: takes over the records of the store's
+/// whole lines, truncates what comes after them, and makes them durable. The first shard that can't be loaded stops it,
+/// and the stores come back in order. The lists allocate nothing more; the shards do.
 pub fn load_all<S: Store>(
     alloc: Global,
     issuer: &Issuer,

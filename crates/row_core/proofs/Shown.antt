@@ -34,6 +34,7 @@ pub row_view : (card : CardInfo) (row : CardRow) (history : List Entry) → Stan
     ≡ card_shown (name_of card) history
 row_view card row history stands =
     let scripts = stands.scripts_are in
-    view-alike (name_of card) history row.hi row.status row.scripts.commands.queued row.scripts.done row.scripts.flight row.scripts.halted
-    stands.hi_is stands.status_is (ap (λ (kept : KeptScripts). kept.commands.queued) scripts) (ap (λ (kept : KeptScripts). kept.done) scripts)
+    view-alike (name_of card) history row.hi row.status row.scripts.commands.queued row.scripts.done
+    row.scripts.flight row.scripts.halted stands.hi_is stands.status_is
+    (ap (λ (kept : KeptScripts). kept.commands.queued) scripts) (ap (λ (kept : KeptScripts). kept.done) scripts)
     (ap (λ (kept : KeptScripts). kept.flight) scripts) (ap (λ (kept : KeptScripts). kept.halted) scripts)

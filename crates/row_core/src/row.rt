@@ -145,7 +145,8 @@ impl Row {
     /// The card's view: what the histories that the row stands for state of it.
     #[tactic(auto, using(crate::proofs::Shown::row_view))]
     pub fn view(&self) -> CardView
-        ensures { (card : CardInfo) (history : List Entry) → StandsFor card self.now history → result ≡ card_shown (name_of card) history }
+        ensures { (card : CardInfo) (history : List Entry) → StandsFor card self.now history
+            → result ≡ card_shown (name_of card) history }
     {
         CardView {
             hi: self.hi,

@@ -105,7 +105,8 @@ module _ {S : Type 0} {G : Ghosts S} where
   pub turn-shows : (issuer : Setup) (logs : List (Log LogItem LogHead)) (number : ℕ) (shard : Shard S G) → HasFound issuer logs number shard
       → (card : ℕ) → number ≡ card % issuer.shards → card < length issuer.cards → (row : CardRow)
       → slice_get shard.rows.rows (card / shard.rows.shards) ≡ Some row
-      → (view : CardView) → ((info : CardInfo) (history : List Entry) → RowStandsFor info row history → view ≡ card_shown (name_of info) history)
+      → (view : CardView)
+      → ((info : CardInfo) (history : List Entry) → RowStandsFor info row history → view ≡ card_shown (name_of info) history)
       → (before after : TurnView LogItem LogHead) → IsFront (items_at before.seen number) (items_at logs number)
       → after ≡ free (entered number (items_at logs number) before) → ShowsInTurn issuer card before view after
   turn-shows issuer logs number shard found card number_is within row row_is view shown before after front after_is =

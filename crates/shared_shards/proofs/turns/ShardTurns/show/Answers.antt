@@ -19,5 +19,6 @@ row-requires g c =
 pub returns-clause-turn : goal.returns-clause-turn
 returns-clause-turn g c =
     turn-shows _ _ _ _ (standing g (goal.at.returns-clause-turn g c).After-enter-held) c.args.card c.shard_of-number.ensures.number c.requires.card
-    c.row.result.now c.row.ensures c.view-shown.result c.view-shown.ensures (view_of c.args.seat.now) (view_of c.leave.new.seat)
+    c.row.result.now c.row.ensures c.view-shown.result c.view-shown.ensures
+    (view_of c.args.seat.now) (view_of c.leave.new.seat)
     c.enter-held.ensures.front (c.leave.ensures.view ∙ ap (λ view. free view) c.enter-held.ensures.view)
