@@ -1,5 +1,6 @@
 -- Why opened journals gave no host.
-use Rattle.std.proofs.Common.{◌≡◌, ℕ, ◌<◌, List, ◌++◌, length, Option, None, Some, Err, refl, sym, ap, ◌∙◌, subst, arith}
+use Rattle.std.proofs.Common.{◌≡◌, ℕ, ◌<◌, List, ◌++◌, length, Option, None, Some, Err, refl, sym, ap, ◌∙◌, subst}
+use Rattle.std.proofs.Common.{arith}
 use Rattle.std.proofs.Common.{inl, inr, ⊎_elim}
 use Rattle.std.specs.Prelude.{slice_get, map, IfSome}
 use Rattle.std.specs.Option.{option_map}
@@ -10,7 +11,8 @@ use Rattle.issuer_base.specs.declared.outside.DeskCall.TheVariants.{Log}
 use Rattle.issuer_base.specs.declared.outside.store.Store.{Ghosts}
 use Rattle.issuer_base.proofs.ManyCalls.{Rose-from_none}
 use Rattle.answer_text.specs.declared.stop_line.Stop.{Stop}
-use Rattle.answer_text.specs.declared.stop_line.Stop.TheVariants.{StoreFault as StopStoreFault, NoMemory as StopNoMemory}
+use Rattle.answer_text.specs.declared.stop_line.Stop.TheVariants.{StoreFault as StopStoreFault}
+use Rattle.answer_text.specs.declared.stop_line.Stop.TheVariants.{NoMemory as StopNoMemory}
 use Rattle.issuer_setup.specs.IssuerSetup.{Setup}
 use Rattle.journal_rec.specs.RecordText.{texts_of}
 use Rattle.shard_book.specs.declared.replay.LoadFault.{LoadFault}
@@ -18,7 +20,8 @@ use Rattle.shard_book.specs.declared.replay.LoadFault.TheVariants.{BadLine, BadR
 use Rattle.one_caller.specs.Loading.{IsGivenBack, ComeBack, IsNotLoaded}
 use Rattle.desk_host.specs.SeenStores.{Logged, SeenStore, store_seen}
 use Rattle.desk_host.specs.Journals.{journal_name, IsOpened, AreOpened}
-use Rattle.desk_host.specs.Loading.{DeskFaults, HasOpenedAll, HasLoaded, HaveLoadedBelow, GivesNoHost, IsUnopened, is_log_fault, stop_of_load}
+use Rattle.desk_host.specs.Loading.{DeskFaults, HasOpenedAll, HasLoaded, HaveLoadedBelow, GivesNoHost, IsUnopened}
+use Rattle.desk_host.specs.Loading.{is_log_fault, stop_of_load}
 use Rattle.desk_host.proofs.KeptSteps.{at-place, mapped, held-told}
 use Rattle.desk_host.proofs.LeftSteps.{seen-store}
 

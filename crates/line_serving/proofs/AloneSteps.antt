@@ -11,7 +11,6 @@ use Rattle.line_checks.specs.Reading.{reading}
 use Rattle.line_checks.proofs.KeptLines.{reading-kept}
 use Rattle.issuer_setup.specs.IssuerSetup.{Setup}
 use Rattle.answer_text.specs.AnswerText.{printed}
-use Rattle.shard_book.specs.declared.shard.Shard.{Shard}
 use Rattle.shard_book.specs.Shards.{store_in}
 use Rattle.shard_book.proofs.OwnDecisions.{legal-then}
 use Rattle.one_caller.specs.declared.solo.Solo.{Solo}
@@ -24,8 +23,6 @@ use Rattle.one_caller.proofs.Running.{begins-legal, run-on}
 use Rattle.desk_host.specs.Configuration.{HasSoundParts}
 use Rattle.desk_host.specs.Journals.{IsReadySolo}
 use Rattle.line_serving.specs.Hosts.{TakesLine, Settles, LeavesAnswered, LeavesLoaded, HasAnswered}
-use Rattle.desk_host.specs.Journals.{IsReady}
-use Rattle.desk_host.specs.Lawful.{IsLawful}
 use Rattle.desk_host.specs.Left.{LeaveJournals}
 use Rattle.desk_host.specs.SeenStores.{Logged, store_seen}
 use Rattle.desk_host.proofs.HostRuns.{run-line, recorded}
