@@ -43,7 +43,7 @@ impl Reply {
 }
 
 /// How the ARPC is computed: EMV 4.3 Book 2, section 8.2.
-#[derive(Clone, Copy, PartialEq, Eq, Debug)]
+#[derive(Clone, Copy)]
 pub enum Method {
     /// Method 1: the application cryptogram and the response code, enciphered.
     One,
@@ -53,7 +53,7 @@ pub enum Method {
 }
 
 /// How a card's master key is derived: EMV 4.3 Book 2, Annex A1.4.
-#[derive(Clone, Copy, PartialEq, Eq, Debug)]
+#[derive(Clone, Copy)]
 pub enum MasterOption {
     /// Option A: from the rightmost sixteen digits.
     A,
@@ -82,7 +82,7 @@ pub enum Answer {
 }
 
 /// Why a line was refused, and who is to blame.
-#[derive(Clone, Copy, PartialEq, Eq, Debug)]
+#[derive(Clone, Copy, PartialEq, Eq)]
 pub enum Refusal {
     /// The line has none of the forms of a line, from this column on: whoever wrote the line is to blame.
     BadLine(u32),

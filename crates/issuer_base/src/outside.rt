@@ -83,7 +83,7 @@ impl From<AllocError> for DeskFault {
 }
 
 /// The two calls of a desk.
-#[derive(Clone, Copy, PartialEq, Eq, Debug)]
+#[derive(Clone, Copy)]
 pub enum DeskCall {
     /// To open an input.
     Read,

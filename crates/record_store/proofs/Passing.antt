@@ -124,6 +124,38 @@ module _ (text tail : List ℕ) where
   told-append_bytes failed (Some old) (Some new) c is told same =
       subst (λ (c : Option (List ℕ)). IfSome c (IsImage text tail)) (sym same) (append-bytes text tail failed old new is told)
 
+-- a record that is put ends the text, and nothing stands behind it
+put-image : (text piece old new : List ℕ) → IsImage text [] old → new ≡ old ++ piece → IsImage (text ++ piece) [] new
+put-image text piece old new is put = image-text (text ++ piece) [] new (put ∙ ap (λ l. l ++ piece) (image-alone text old is))
+
+pub told-put_bytes : (text piece : List ℕ) (failed : Bool) (a b c : Option (List ℕ)) → failed ≡ false → IfSome a (IsImage text [])
+    → BothTold (AppendsToBytes piece failed) a b → c ≡ b → IfSome c (IsImage (text ++ piece) [])
+told-put_bytes text piece failed None None c done is told same = subst (λ (c : Option (List ℕ)). IfSome c (IsImage (text ++ piece) [])) (sym same) tt
+told-put_bytes text piece failed None (Some new) c done is told same = absurd told
+told-put_bytes text piece failed (Some old) None c done is told same = absurd told
+told-put_bytes text piece failed (Some old) (Some new) c done is told same =
+    subst (λ (c : Option (List ℕ)). IfSome c (IsImage (text ++ piece) [])) (sym same)
+    (put-image text piece old new is (subst (λ (failed : Bool). AppendsToBytes piece failed old new) done told))
+
+put-safe : (text piece : List ℕ) (failed second : Bool) (old mid new : Disk) → failed ≡ false → second ≡ false → HasSafeText text [] old.now
+    → AppendsToDisk piece failed old mid → SyncsDisk second mid new → HasSafeText (text ++ piece) [] new.now
+put-safe text piece failed second old mid new done synced is appends syncs =
+    let image = put-image text piece old.now.bytes new.now.bytes is.image (syncs.passes.last.holds ∙ appends.done done) in
+    let long = ap length (image-alone (text ++ piece) new.now.bytes image) in
+    let safe = syncs.done synced in
+    record { image = image; safe = omega arith }
+
+pub told-put : (text piece : List ℕ) (failed second : Bool) (a b c : Option Disk) → failed ≡ false → second ≡ false
+    → IfSome a (λ disk. HasSafeText text [] disk.now) → BothTold (AppendsToDisk piece failed) a b → BothTold (SyncsDisk second) b c
+    → IfSome c (λ disk. HasSafeText (text ++ piece) [] disk.now)
+told-put text piece failed second None None None done synced is appends syncs = tt
+told-put text piece failed second None None (Some new) done synced is appends syncs = absurd syncs
+told-put text piece failed second None (Some mid) c done synced is appends syncs = absurd appends
+told-put text piece failed second (Some old) None c done synced is appends syncs = absurd appends
+told-put text piece failed second (Some old) (Some mid) None done synced is appends syncs = absurd syncs
+told-put text piece failed second (Some old) (Some mid) (Some new) done synced is appends syncs =
+    put-safe text piece failed second old mid new done synced is appends syncs
+
 -- bytes that stay, or that were cut and then stay, are those from before or cut ones
 pub told-kept : (sure : ℕ) (a b : Option (List ℕ)) → b ≡ a → BothTold (CutsBytes sure true) a b
 told-kept sure None None same = tt

@@ -1,5 +1,5 @@
 -- What a crash leaves while a record is appended: first what is in doubt is truncated, then the record is written.
-use Rattle.std.proofs.Common.{None}
+use Rattle.std.proofs.Common.{None, inr}
 use Rattle.record_store.proofs.Passing.{crash-clear, crash-put}
 use Rattle.record_store.proofs.journal.Journal.put.Goals as goal
 
@@ -14,3 +14,9 @@ returns-clause-crash g c count text tail holds =
 
 pub returns-in_err-clear-clause-room : goal.returns-in_err-clear-clause-room
 returns-in_err-clear-clause-room g c spare has = absurd (c.in_err-clear.ensures.room _ has)
+
+pub returns-clause-put : goal.returns-clause-put
+returns-clause-put g c count text tail holds = c.write.ensures.put count text (c.in_ok-clear.ensures.holds count text tail holds)
+
+pub returns-clause-failed : goal.returns-clause-failed
+returns-clause-failed g c count text tail holds failed = inr (c.write.ensures.failed count text (c.in_ok-clear.ensures.holds count text tail holds) failed)

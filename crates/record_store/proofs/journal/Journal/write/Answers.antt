@@ -1,7 +1,8 @@
 -- The moments of an append and a sync.
-use Rattle.std.proofs.Common.{refl, sym}
+use Rattle.std.proofs.Common.{◌++◌, ◌+◌, length, length-append, arith, refl, sym, ap}
+use Rattle.std.specs.Prelude.{is_err}
 use Rattle.std.proofs.lemmas.Bool.{false≢true}
-use Rattle.record_store.proofs.Passing.{told-append, told-append_bytes, told-sync, told-last}
+use Rattle.record_store.proofs.Passing.{told-append, told-append_bytes, told-put, told-put_bytes, told-sync, told-last}
 use Rattle.record_store.proofs.journal.Journal.write.Goals as goal
 
 pub returns-in_err-append-clause-failed : goal.returns-in_err-append-clause-failed
@@ -36,3 +37,19 @@ returns-in_err-sync-clause-passes g c count text holds =
 pub returns-clause-passes : goal.returns-clause-passes
 returns-clause-passes g c count text holds =
     told-sync text c.args.piece.now _ _ _ _ (told-append text c.args.piece.now _ _ _ holds.disk_is c.append.ensures.disk) c.sync.ensures.disk
+
+pub returns-clause-put : goal.returns-clause-put
+returns-clause-put g c count text holds =
+    let piece = c.args.piece.now in
+    let appended = ap is_err c.in_ok-append.was in
+    let synced = ap is_err c.in_ok-sync.was in
+    let long = length-append text piece in (
+      holds.count_is,
+      record {
+        count_is = ap (λ n. n + 1) holds.count_is;
+        sure_is = omega (arith, holds.sure_is);
+        tail_is = λ settled. refl;
+        bytes_are = told-put_bytes text piece _ _ _ _ appended holds.bytes_are c.append.ensures.bytes c.sync.ensures.bytes;
+        disk_is = told-put text piece _ _ _ _ _ appended synced holds.disk_is c.append.ensures.disk c.sync.ensures.disk;
+      },
+    )
