@@ -6,5 +6,6 @@ pub mod TurnSteps
 pub mod LegalBooks
 pub mod OneRun
 pub mod Loads
+pub mod Rooms
 pub mod Shown
 pub mod Running

@@ -3,5 +3,6 @@ pub mod Books
 pub mod Turns
 pub mod OneHistory
 pub mod Hosts
+pub mod Room
 pub mod Loading
 pub mod Runs

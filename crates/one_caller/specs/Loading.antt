@@ -1,7 +1,7 @@
 -- What loading the shards of a host makes of their stores.
 use Rattle.std.specs.Prelude.{◌≡◌, ℕ, ◌<◌, false, List, ◌++◌, length, slice_get, Option, Some, All}
 use Rattle.issuer_base.specs.OutsideFaults.{CountsFaults}
-use Rattle.issuer_base.specs.Stores.{BothTold, Disk, LeavesOnly}
+use Rattle.issuer_base.specs.Stores.{BothTold, Disk, HasRoom, LeavesOnly}
 use Rattle.issuer_base.specs.Tells.{Tells}
 use Rattle.issuer_base.specs.declared.entry.Entry.{Entry}
 use Rattle.issuer_base.specs.declared.outside.store.Store.{Ghosts}
@@ -15,11 +15,12 @@ use Rattle.shard_book.specs.declared.replay.LoadFault.TheVariants.{NoMemory}
 use Rattle.shard_book.specs.declared.shard.Shard.{Shard}
 use Rattle.shard_book.specs.Loading.{StopsText, is_store_failure}
 use Rattle.shard_book.specs.Grounds.{grounds_of}
+use Rattle.shard_book.specs.Room.{Spares}
 use Rattle.shard_book.specs.Shards.{IsUnder, sure_in, disk_in, faults_in, told_in, IsUndoubted, IsLoaded, IsLoadImage, LeavesBytes, LeavesDisk}
 
 module _ {S : Type 0} {G : Ghosts S} where
   -- the shard with this number was loaded from the store: it stands for the history that the store held, and meanwhile a crash leaves what
-  -- it might leave before, or the history's text
+  -- it might leave before, or the history's text; room that the store tells is left
   pub record IsLoadedFrom (issuer : Setup) (number : ℕ) (store : S) (shard : Shard S G) : Type 0 where
     pub loaded : IsLoaded issuer number (G.bytes store) shard
     pub under : IsUnder issuer shard
@@ -27,6 +28,7 @@ module _ {S : Type 0} {G : Ghosts S} where
     pub undoubted : IsUndoubted shard
     pub leaves : BothTold (λ old new. LeavesOnly (IsCutImage (sure_in shard) old.now) old new) (G.disk store) (disk_in shard)
     pub counts : CountsFaults (G.faults store) (faults_in shard) false
+    pub room : (spare : ℕ) → HasRoom spare (G.size store) (G.room store) → Spares spare shard
 
   -- each shard was loaded from the store at its place
   pub record AreLoaded (issuer : Setup) (stores : List S) (shards : List (Shard S G)) : Type 0 where

@@ -1,7 +1,9 @@
 //! The shards of a host as they are loaded from their stores, and the stores as they are given back.
-ghost use Rattle.std.specs.Prelude.{◌≡◌, ◌+◌, ◌≤◌, [], ◌∷◌, ◌++◌, length, map, reverse, vec_capacity, IfOk, IfErr};
+ghost use Rattle.std.specs.Prelude.{◌≡◌, ◌+◌, ◌≤◌, [], ◌∷◌, ◌++◌, length, map, reverse, vec_capacity, IfOk, IfErr, false};
+ghost use Rattle.shard_book.specs.Loading.{is_store_failure};
 ghost use Rattle.shard_book.specs.Shards.{store_in};
 ghost use Rattle.one_caller.specs.Loading.{AreLoaded, ComeBack};
+ghost use Rattle.one_caller.specs.Room.{StoresHaveRoom};
 
 use issuer_base::{NoMemory, Store};
 use issuer_setup::Issuer;
@@ -55,6 +57,7 @@ pub fn load_all<S: Store>(
     requires shards { (lists.shards.items ≡ []) × (length stores.items ≤ vec_capacity lists.shards) }
     requires back { (lists.back.items ≡ []) × (length stores.items ≤ vec_capacity lists.back) }
     ensures loaded { IfOk result (λ loaded. AreLoaded issuer.now stores.items loaded.shards.items) }
+    ensures room { IfErr result (λ back. StoresHaveRoom S.size S.room (λ _. 0) stores.items → is_store_failure back.fault ≡ false) }
     ensures back { IfOk result (λ loaded. (loaded.back.items ≡ []) × (vec_capacity loaded.back ≡ vec_capacity lists.back)) }
     ensures stopped { IfErr result (λ back. ComeBack S.bytes S.disk S.faults issuer.now stores.items back.shard back.fault back.stores.items) }
 {

@@ -1,5 +1,5 @@
 //! The host of one caller.
-ghost use Rattle.std.specs.Prelude.{◌≡◌, ◌<◌, ◌≤◌, ◌%◌, ℕ, List, [], ◌∷◌, ◌++◌, length, map, reverse, vec_capacity, slice_get, Some, Ok, IfOk, IfErr, false};
+ghost use Rattle.std.specs.Prelude.{◌≡◌, ◌<◌, ◌≤◌, ◌%◌, ℕ, List, [], ◌∷◌, ◌++◌, length, map, reverse, vec_capacity, slice_get, Some, Ok, IfOk, IfErr, MatchResult, false};
 ghost use Rattle.card_history.specs.declared.decision.Asked.TheVariants.{Decide, Queue, Status};
 ghost use Rattle.card_history.specs.Records.{CardName};
 ghost use Rattle.issuer_setup.specs.CardList.{name_of, number_of};
@@ -8,10 +8,12 @@ ghost use Rattle.issuer_setup.specs.declared.card.CardInfo.{CardInfo};
 ghost use Rattle.line_checks.specs.AtHand.{IsRequestAtHand, IsCommandAtHand, IsStatusAtHand};
 ghost use Rattle.line_checks.specs.Reading.{checked, reading};
 ghost use Rattle.shard_book.specs.Answering.{tells_change};
+ghost use Rattle.shard_book.specs.Loading.{is_store_failure};
 ghost use Rattle.shard_book.specs.Shards.{store_in};
 ghost use Rattle.one_caller.specs.Books.{Book};
 ghost use Rattle.one_caller.specs.Hosts.{AreShards, Stand};
 ghost use Rattle.one_caller.specs.Loading.{AreLoaded, ComeBack};
+ghost use Rattle.one_caller.specs.Room.{AnswersWithin, HaveRoom, StoresHaveRoom};
 ghost use Rattle.one_caller.specs.Runs.{HoldJournals, LeaveBetween};
 ghost use Rattle.one_caller.specs.Turns.{Turn};
 ghost use Rattle.card_history.specs.CardViews.{card_shown};
@@ -51,6 +53,10 @@ impl<S: Store> Solo<S> {
         ensures issuer { IfOk result (λ host. host.issuer ≡ issuer) }
         ensures loaded { IfOk result (λ host. AreLoaded issuer stores.items host.shards.items) }
         ensures stopped { IfErr result (λ back. ComeBack S.bytes S.disk S.faults issuer stores.items back.shard back.fault back.stores.items) }
+
+        // Stores that work at the sizes that they have don't fail, and have the same room when they are loaded.
+        ensures room { MatchResult result (λ host. (spare : ℕ → ℕ) → StoresHaveRoom S.size S.room spare stores.items → HaveRoom spare host.shards.items)
+            (λ back. StoresHaveRoom S.size S.room (λ _. 0) stores.items → is_store_failure back.fault ≡ false) }
     {
         let Ok(lists) = take_lists(alloc, stores.len()) else {
             return Err(HostBack {
@@ -81,6 +87,9 @@ impl<S: Store> Solo<S> {
 
         // An answer that tells neither a new record nor that a store failed leaves all shards as they were.
         ensures unchanged { tells_change result ≡ false → self.new.shards.items ≡ self.old.shards.items }
+
+        // With room for what the line adds and more no store fails, and the room for the more is left.
+        ensures room { AnswersWithin self.old.issuer (reading self.old.issuer line.now) result self.old.shards.items self.new.shards.items }
 
         // Whatever a crash since the start of the call may leave of a store is the text of its shard's history before it, and a torn record behind it.
         ensures crash { (books : List Book) → Stand self.old.issuer self.old.shards.items books
@@ -145,6 +154,7 @@ impl<S: Store> Solo<S> {
         ensures turn { (books : List Book) → Stand self.old.issuer self.old.shards.items books
             → (after : List Book) × Stand self.new.issuer self.new.shards.items after
             × Turn self.old.issuer books (Ok (Decide found.now.request)) result after }
+        ensures room { AnswersWithin self.old.issuer (Ok (Decide found.now.request)) result self.old.shards.items self.new.shards.items }
         ensures crash { (books : List Book) → Stand self.old.issuer self.old.shards.items books
             → LeaveBetween self.old.issuer books books self.old.shards.items self.new.shards.items }
         ensures unchanged { tells_change result ≡ false → self.new.shards.items ≡ self.old.shards.items }
@@ -160,6 +170,7 @@ impl<S: Store> Solo<S> {
         ensures turn { (books : List Book) → Stand self.old.issuer self.old.shards.items books
             → (after : List Book) × Stand self.new.issuer self.new.shards.items after
             × Turn self.old.issuer books (Ok (Queue found.pan found.psn found.command)) result after }
+        ensures room { AnswersWithin self.old.issuer (Ok (Queue found.pan found.psn found.command)) result self.old.shards.items self.new.shards.items }
         ensures crash { (books : List Book) → Stand self.old.issuer self.old.shards.items books
             → LeaveBetween self.old.issuer books books self.old.shards.items self.new.shards.items }
         ensures unchanged { tells_change result ≡ false → self.new.shards.items ≡ self.old.shards.items }
@@ -175,6 +186,7 @@ impl<S: Store> Solo<S> {
         ensures turn { (books : List Book) → Stand self.old.issuer self.old.shards.items books
             → (after : List Book) × Stand self.new.issuer self.new.shards.items after
             × Turn self.old.issuer books (Ok (Status found.pan found.psn found.status)) result after }
+        ensures room { AnswersWithin self.old.issuer (Ok (Status found.pan found.psn found.status)) result self.old.shards.items self.new.shards.items }
         ensures crash { (books : List Book) → Stand self.old.issuer self.old.shards.items books
             → LeaveBetween self.old.issuer books books self.old.shards.items self.new.shards.items }
         ensures unchanged { tells_change result ≡ false → self.new.shards.items ≡ self.old.shards.items }

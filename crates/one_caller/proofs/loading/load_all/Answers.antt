@@ -4,6 +4,7 @@ use Rattle.shard_book.specs.declared.shard.Shard.{Shard}
 use Rattle.shard_book.specs.Shards.{store_in}
 use Rattle.one_caller.specs.Loading.{IsLoadedFrom, IsNotLoaded, ComeBack}
 use Rattle.one_caller.proofs.Loads.{IsLoading, loading-more, come-back, next-ahead}
+use Rattle.one_caller.proofs.Rooms.{room-next}
 use Rattle.one_caller.proofs.loading.load_all.Goals as goal
 
 pub returns-in-Err-clause-stopped : goal.returns-in-Err-clause-stopped
@@ -35,6 +36,15 @@ returns-in-Err-clause-stopped g c =
     (subst (λ number. ComeBack g.S.Store.bytes g.S.Store.disk g.S.Store.faults issuer stores number fault
     (map (λ (shard : Shard _ g.S.Store). store_in shard) shards ++ after ∷ left)) number_is back)
 
+pub returns-in-Err-clause-room : goal.returns-in-Err-clause-room
+returns-in-Err-clause-room g c have =
+    let issuer = c.args.issuer.now in
+    let stores = c.args.stores.items in
+    let shards = c.loop-number.shards.items in
+    let next = next-ahead c.loop-number.ahead.items c.pop.new.self.items c.pop.result c.unwrap-store.result c.pop.ensures.items c.unwrap-store.ensures in
+    let loading = subst (λ ahead. IsLoading {G = g.S.Store} issuer stores shards ahead) next c.loop-number.invariant.loading in
+    c.in-Err.ensures.room 0 (room-next issuer stores shards c.unwrap-store.result (reverse c.pop.new.self.items) loading have)
+
 pub loop-number-preserved : goal.loop-number-preserved
 loop-number-preserved g c =
     let issuer = c.args.issuer.now in
@@ -49,6 +59,7 @@ loop-number-preserved g c =
       undoubted = c.in-Ok.ensures.undoubted;
       leaves = c.in-Ok.ensures.opened;
       counts = c.in-Ok.ensures.count;
+      room = c.in-Ok.ensures.room;
     } in
     let number_is : c.loop-number.number ≡ length shards = sym c.loop-number.invariant.count in
     record {

@@ -1,11 +1,15 @@
 -- A status is answered in the shard of its card.
-use Rattle.std.proofs.Common.{◌≤◌, length-set, vec_capacity, refl, sym, subst}
+use Rattle.std.proofs.Common.{ℕ, ◌+◌, ◌≤◌, length-set, vec_capacity, refl, sym, subst}
 use Rattle.std.proofs.lemmas.Option.{slice_get_read}
 use Rattle.card_history.specs.Records.{named}
 use Rattle.line_checks.proofs.Numbers.{number-within}
 use Rattle.shard_book.specs.Answering.{AnswersSetting}
+use Rattle.journal_rec.specs.declared.limits.TheConstants.{MOST_RECORD_BYTES}
+use Rattle.shard_book.specs.Answering.{is_store_fault}
+use Rattle.one_caller.specs.Room.{added_at, HaveRoom}
 use Rattle.one_caller.proofs.OneShard.{IsCalled, card-at_home, shards-after, turn-after, crash-after}
 use Rattle.one_caller.proofs.Places.{write-same}
+use Rattle.one_caller.proofs.Rooms.{room-after}
 use Rattle.one_caller.proofs.solo.Solo.set_status.Given.{Over}
 use Rattle.one_caller.proofs.solo.Solo.set_status.Goals.{After-set_status}
 use Rattle.one_caller.proofs.solo.Solo.set_status.Goals as goal
@@ -50,3 +54,12 @@ returns-clause-crash g c = crash-after c.args.self.now.are_shards (call g (goal.
 pub returns-clause-unchanged : goal.returns-clause-unchanged
 returns-clause-unchanged g c idle =
     write-same _ _ _ _ (call g (goal.at.returns-clause-unchanged g c).After-set_status).old_is (c.set_status.ensures.unchanged idle)
+
+pub returns-clause-room : goal.returns-clause-room
+returns-clause-room g c =
+    let called = call g (goal.at.returns-clause-room g c).After-set_status in
+    let host = c.args.self.now in
+    λ spare have.
+    room-after host.shards.items c.home-shard.result MOST_RECORD_BYTES (is_store_fault c.set_status.result) c.index_mut.result.now c.set_status.new.self called.old_is
+    c.set_status.ensures.room spare
+    (subst (λ (home : ℕ). HaveRoom (λ number. added_at home MOST_RECORD_BYTES number + spare number) host.shards.items) (sym called.home_is) have)

@@ -1,0 +1,39 @@
+-- The room of a host's stores, and how much of it a line uses.
+use Rattle.std.specs.Prelude.{◌≡◌, ℕ, ◌+◌, ◌==◌, if◌then◌else◌, false, List, Option, Some, Result, Ok, Err, slice_get}
+use Rattle.issuer_base.specs.Stores.{HasRoom}
+use Rattle.issuer_base.specs.declared.answer.Answer.{Answer}
+use Rattle.issuer_base.specs.declared.answer.Refusal.{Refusal}
+use Rattle.issuer_base.specs.declared.outside.store.Store.{Ghosts}
+use Rattle.card_history.specs.declared.decision.Asked.{Asked}
+use Rattle.card_history.specs.declared.decision.Asked.TheVariants.{Decide, Queue, Status}
+use Rattle.card_history.specs.Records.{named, card_of}
+use Rattle.issuer_setup.specs.IssuerSetup.{Setup, shard_of}
+use Rattle.journal_rec.specs.declared.limits.TheConstants.{MOST_QUEUED_BYTES, MOST_RECORD_BYTES}
+use Rattle.shard_book.specs.declared.shard.Shard.{Shard}
+use Rattle.shard_book.specs.Answering.{is_store_fault}
+use Rattle.shard_book.specs.Room.{Spares}
+
+-- how many bytes a record of the shard home adds to the shard with this number at most
+abbrev pub added_at : ℕ → ℕ → ℕ → ℕ
+added_at home most number = if number == home then most else 0
+
+-- how many bytes a line adds to the shard with this number at most, by what it asks
+abbrev pub added_by : Setup → Result Asked Refusal → ℕ → ℕ
+added_by issuer (Err refusal) number = 0
+added_by issuer (Ok (Decide request)) number = added_at (shard_of issuer (card_of request)) MOST_RECORD_BYTES number
+added_by issuer (Ok (Queue pan psn command)) number = added_at (shard_of issuer (named pan psn)) MOST_QUEUED_BYTES number
+added_by issuer (Ok (Status pan psn status)) number = added_at (shard_of issuer (named pan psn)) MOST_RECORD_BYTES number
+
+-- each store tells its room, and so many more bytes, by its place, are within it
+pub record StoresHaveRoom {S : Type 0} (size : S → ℕ) (room : S → Option ℕ) (spare : ℕ → ℕ) (stores : List S) : Type 0 where
+  pub each : (number : ℕ) (store : S) → slice_get stores number ≡ Some store → HasRoom (spare number) (size store) (room store)
+
+module _ {S : Type 0} {G : Ghosts S} where
+  -- the store of each shard tells its room, and so many more bytes, by the shard's number, are within it
+  pub record HaveRoom (spare : ℕ → ℕ) (shards : List (Shard S G)) : Type 0 where
+    pub each : (number : ℕ) (shard : Shard S G) → slice_get shards number ≡ Some shard → Spares (spare number) shard
+
+  -- with room for what a line adds and more no store fails, and the room for the more is left
+  abbrev pub AnswersWithin : Setup → Result Asked Refusal → Answer → List (Shard S G) → List (Shard S G) → Type 0
+  AnswersWithin issuer asked answer old new = (spare : ℕ → ℕ) → HaveRoom (λ number. added_by issuer asked number + spare number) old
+      → (is_store_fault answer ≡ false) × HaveRoom spare new
