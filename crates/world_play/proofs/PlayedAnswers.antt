@@ -40,6 +40,7 @@ use Rattle.row_core.specs.Replying.{reply_to, reply_of_card, reply_by, reply_by_
 use Rattle.request_text.proofs.FieldsOf.{has_fields}
 use Rattle.shard_book.specs.Answering.{is_store_fault, AnswersClaimed}
 use Rattle.shard_book.specs.Grounds.{IsMadeBy, grounds_of}
+use Rattle.shard_book.proofs.LegalDecisions.{legal-by}
 use Rattle.shard_book.proofs.OwnDecisions.{row-made}
 use Rattle.one_caller.specs.Books.{Book, histories_of as book_histories}
 use Rattle.one_caller.specs.Turns.{AnswersIn}
@@ -195,13 +196,14 @@ module _ (cards number : ℕ) (valid : IsIssuer (issuer cards)) (world : WorldSt
       let told = it.changes.1 in
       let history = book-history world books same shard it.old it.old_is in
       let known = right-known cards number request right valid in
-      let legal : IsLegalDecision (grounds_of (issuer cards)) shard (shard_at world shard).history request reply = record {
-        home = record { number = number; number_is = known; home = sym (shard_of-known (issuer cards) (card_of request) number known) };
-        genuine = right.checks;
-        unused = subst (λ (history : List Entry). IsUnused (decided_for request history) request) (sym history) told.0;
-        made = subst (λ (history : List Entry). IsMadeBy (issuer cards) history request reply) (sym history)
-            (subst (IsMadeBy (issuer cards) it.old.history request) (sym told.3) (own-made cards number request right valid it.old.history));
-      } in
+      let legal : IsLegalDecision (grounds_of (issuer cards)) shard (shard_at world shard).history request reply =
+      legal-by (issuer cards) (IsMadeBy (issuer cards)) shard (shard_at world shard).history request reply
+      (record { number = number; number_is = known; home = sym (shard_of-known (issuer cards) (card_of request) number known) })
+      right.checks
+      (subst (λ (history : List Entry). IsUnused (decided_for request history) request) (sym history) told.0)
+      (subst (λ (history : List Entry). IsMadeBy (issuer cards) history request reply) (sym history)
+      (subst (IsMadeBy (issuer cards) it.old.history request) (sym told.3)
+      (own-made cards number request right valid it.old.history))) in
       let here : IsLegalDecision (grounds_of world.issuer) (shard_of world.issuer (card_of request))
       (shard_at world (shard_of world.issuer (card_of request))).history request reply =
       subst (λ (setup : Setup). IsLegalDecision (grounds_of setup) (shard_of setup (card_of request)) (shard_at world (shard_of setup (card_of request))).history request reply)

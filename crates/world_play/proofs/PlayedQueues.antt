@@ -138,7 +138,7 @@ module _ (cards number : ℕ) (valid : IsIssuer (issuer cards)) (below : number 
       subst (λ shard. TakesOneMore (waiting (scripts_of name (shard_at world shard).history))) home
       (subst (λ (history : List Entry). TakesOneMore (waiting (scripts_of name history))) (sym (book-history world books same shard it.old it.old_is)) told.0) in
       let at_issuer : CanAt (issuer cards) =
-      (card-at cards number below, record { home = record { number = number; number_is = known; home = refl }; form = sendable.form; room = room }) in
+      (card-at cards number below, record { of_a_card = record { number = number; number_is = known; home = refl }; form = sendable.form; room = room }) in
       let here = subst CanAt (sym played.issuer_is) at_issuer in
       let can : CanQueue world number command = record { card = card_info number; card_is = here.0; legal = here.1 } in
       let entry = Queued (card_info number).pan (card_info number).psn command in (
