@@ -1,10 +1,10 @@
 //! A list of data objects (DOL), read: EMV 4.3 Book 3, section 5.4.
 ghost use Rattle.std.specs.Prelude.{◌≡◌, ◌≤◌, IfOk, option_map};
-ghost use Rattle.tlv_objects.specs.Tlv.{tag_at};
 ghost use Rattle.terminal_kernel.specs.Dol.{dol_of, front_entry, is_within, total_length};
 
 use crate::limits::{MAX_ENTRIES, MAX_FILLED_BYTES};
 use arrayvec::ArrayVec;
+use tlv_objects::read_tag;
 
 /// An entry of a DOL: a data object that a card asks the terminal for, and in how many bytes.
 #[derive(Clone, Copy, Debug, Default, PartialEq, Eq)]
@@ -66,28 +66,4 @@ fn read_entry(bytes: &[u8]) -> Option<(u32, u8, &[u8])>
         return None;
     };
     Some((tag, *length, rest))
-}
-
-/// The tag at the start as a number, and the bytes after it.
-#[tactic(auto, unfolding(tlv_objects::specs::Tlv::tag_at))]
-fn read_tag(bytes: &[u8]) -> Option<(u32, &[u8])>
-    ensures { option_map (λ found. (found.0, found.1.now)) result ≡ tag_at bytes.now }
-{
-    let [first, rest @ ..] = bytes else {
-        return None;
-    };
-    if first & 0x1F != 0x1F {
-        return Some((u32::from(*first), rest));
-    }
-    let [second, rest @ ..] = rest else {
-        return None;
-    };
-    let front = u32::from(*first) * 0x100 + u32::from(*second);
-    if *second <= 0x7F {
-        return Some((front, rest));
-    }
-    match rest {
-        [third @ 0x00..=0x7F, rest @ ..] => Some((front * 0x100 + u32::from(*third), rest)),
-        _ => None,
-    }
 }

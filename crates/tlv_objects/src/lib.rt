@@ -8,4 +8,5 @@ mod reading;
 mod writing;
 
 pub use cursor::{Object, Objects, TlvFault, objects_cover_the_text};
+pub use reading::read_tag;
 pub use writing::{Full, ROOM, put, tag_bytes};

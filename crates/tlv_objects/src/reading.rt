@@ -9,10 +9,11 @@ pub(crate) fn zeros_in_front(bytes: &[u8]) -> usize
     bytes.iter().take_while(|byte| **byte == 0).count()
 }
 
-/// The tag at the start, and the bytes after it.
+/// The tag at the start of a text as a number, as 0x9F02, and the bytes after it. `None` where the tag ends early or has
+/// more than three bytes.
 #[tactic(auto, unfolding(crate::specs::Tlv::tag_at))]
 #[inline(always)]
-fn read_tag(bytes: &[u8]) -> Option<(u32, &[u8])>
+pub fn read_tag(bytes: &[u8]) -> Option<(u32, &[u8])>
     ensures { option_map (λ found. (found.0, found.1.now)) result ≡ tag_at bytes.now }
 {
     let [first, rest @ ..] = bytes else {
