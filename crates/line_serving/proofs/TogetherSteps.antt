@@ -2,7 +2,8 @@
 use Rattle.std.proofs.Common.{◌≡◌, ℕ, ◌+◌, ◌-◌, ◌^◌, ◌<◌, ◌≤◌, zero, suc, List, [], ◌∷◌, ◌++◌, length, take, map}
 use Rattle.std.proofs.Common.{None, Some}
 use Rattle.std.proofs.Common.{refl, sym, ap, subst, ◌∙◌, arith, append-nil, append_assoc}
-use Rattle.std.specs.Prelude.{slice_get, IfSome, All}
+use Rattle.std.specs.Prelude.{slice_get, slice_index_or, IfSome, All}
+use Rattle.std.proofs.Math.Path.{fun_ext}
 use Rattle.std.proofs.lemmas.List.{length-map, take_all, flat_map_more}
 use Rattle.std.proofs.lemmas.Grind.{flat_map-append}
 use Rattle.std.proofs.lemmas.Option.{slice_get_within}
@@ -40,15 +41,22 @@ use Rattle.host_calls.specs.Closing.{book_of, IsClosed, AreClosed}
 use Rattle.one_caller.specs.OneHistory.{AreRecorded, GoOnLegally, HasFailed, LegallyGoesOn}
 use Rattle.host_calls.specs.OpeningLogs.{opened_on, IsOpenedFrom, AreOpenedFrom}
 use Rattle.shared_laws.specs.Callers.{Calls, Caller, IsCaller, AreCallers}
-use Rattle.shared_laws.specs.Explained.{AreExplained}
+use Rattle.shared_laws.specs.Explained.{history_at, histories_in}
+use Rattle.shared_laws.specs.Explained.{AreExplained as AreCallersExplained}
 use Rattle.shared_laws.specs.FaultCounts.{all_answers, AreFaultsCounted}
-use Rattle.shared_laws.specs.OwnPlaces.{AreOwnPlaces, all_faults_told}
-use Rattle.shared_laws.specs.Settled.{TellNoFault, AreSettled}
-use Rattle.shared_callers.specs.Dealing.{every, AreDealt}
+use Rattle.shared_laws.specs.OwnPlaces.{AreOwnPlaces as AreCallersOwnPlaces}
+use Rattle.shared_laws.specs.Settled.{TellNoFault}
+use Rattle.shared_laws.specs.Settled.{AreSettled as AreCallersSettled}
+use Rattle.shared_callers.specs.Dealing.{every}
+use Rattle.shared_callers.specs.Dealing.{AreDealt as AreDealtToCallers}
 use Rattle.shared_callers.specs.declared.lanes.Lanes.{Lanes}
 use Rattle.shared_callers.specs.Lanes.{issuer_in, opening_logs, callers_in, HasSameHost, HasClosed}
 use Rattle.shared_callers.specs.Lanes.{HasServed as LanesServe}
-use Rattle.line_serving.specs.Answers.{AreAnsweredTogether, AreBooksOf, ByCallers}
+use Rattle.line_serving.specs.Answers.{AreAnsweredTogether, ByCallers}
+use Rattle.line_serving.specs.Explained.{AreExplained}
+use Rattle.line_serving.specs.OwnPlaces.{AreOwnPlaces, all_faults_told}
+use Rattle.line_serving.specs.Settled.{AreSettled}
+use Rattle.line_serving.specs.Shares.{Share, history_in, told_in}
 use Rattle.desk_host.specs.Configuration.{HasSoundParts}
 use Rattle.line_serving.specs.Hosts.{TakesLine, Settles, LeavesAnswered, LeavesLoaded, IsReadyTogether, HaveAnswered}
 use Rattle.desk_host.specs.Journals.{journal_name, IsOpened, AreOpened}
@@ -57,6 +65,8 @@ use Rattle.desk_host.specs.Kept.{WasJournal, KeepsJournal, KeepJournals}
 use Rattle.desk_host.specs.SeenStores.{Logged, SeenStore, store_seen}
 use Rattle.desk_host.proofs.CrashSteps.{crash-leaves, leaves-now}
 use Rattle.line_serving.proofs.DealtAnswers.{answers-dealt}
+use Rattle.line_serving.proofs.SharesOfCallers.{shares_of, faults_at, mapped-at, dealt-shares, explained-shares}
+use Rattle.line_serving.proofs.SharesOfCallers.{own-shares, faults-shares, settled-shares}
 use Rattle.desk_host.proofs.KeptSteps.{at-place, mapped, held-told}
 use Rattle.desk_host.proofs.WorldLaws.{is-lawful}
 
@@ -140,11 +150,11 @@ total-turns f same count number asked (caller ∷ callers) =
     ∙ ap (λ (n : ℕ). f caller + n) (total-turns f same count (suc number) asked callers)
 
 module _ (count : ℕ) (asked : List (List ℕ)) (answers : List Answer) (callers : List Caller)
-    (dealt : AreDealt count (map kept asked) answers callers) where
+    (dealt : AreDealtToCallers count (map kept asked) answers callers) where
   abbrev askers : List Caller
   askers = with_turns count 0 asked callers
 
-  pub dealt-kept : AreDealt count asked answers askers
+  pub dealt-kept : AreDealtToCallers count asked answers askers
   dealt-kept = record {
     count_is = length-turns count 0 asked callers ∙ dealt.count_is;
     answered = dealt.answered ∙ length-map asked kept;
@@ -248,16 +258,30 @@ items-of (first ∷ logs) zero log is =
     (let e : Some first ≡ Some log = is in (let same : first ≡ log = cc in same))
 items-of (first ∷ logs) (suc shard) log is = items-of logs shard log is
 
--- what a mapped list has at a place
-mapped-at : {X Y : Type 0} (f : X → Y) (xs : List X) (k : ℕ) (y : Y) → slice_get (map f xs) k ≡ Some y
-    → (x : X) × (slice_get xs k ≡ Some x) × (y ≡ f x)
-mapped-at f [] k y is = absurd (let e : None ≡ Some y = is in cc)
-mapped-at f (x ∷ xs) zero y is = (x, refl, (let e : Some (f x) ≡ Some y = is in (let same : f x ≡ y = cc in sym same)))
-mapped-at f (x ∷ xs) (suc k) y is = mapped-at f xs k y is
-
 -- the book of a log as it was opened
 abbrev opening_book : Log LogItem LogHead → Book
 opening_book log = book_of log log.head.faults
+
+-- a shard's history in its log is the one in the list of all, and so is its count of faults
+history-listed : (logs : List (Log LogItem LogHead)) (shard : ℕ)
+    → history_at logs shard ≡ slice_index_or (histories_in logs) shard []
+history-listed [] shard = refl
+history-listed (log ∷ logs) zero = refl
+history-listed (log ∷ logs) (suc shard) = history-listed logs shard
+
+abbrev counts_in : List (Log LogItem LogHead) → List ℕ
+counts_in logs = map (λ log. length (faults_of log.items)) logs
+
+count-listed : (logs : List (Log LogItem LogHead)) (shard : ℕ)
+    → faults_at logs shard ≡ slice_index_or (counts_in logs) shard 0
+count-listed [] shard = refl
+count-listed (log ∷ logs) zero = refl
+count-listed (log ∷ logs) (suc shard) = count-listed logs shard
+
+-- the histories of logs as they were opened are those of their books
+opening-histories : (logs : List (Log LogItem LogHead)) → histories_in logs ≡ histories_of (map opening_book logs)
+opening-histories [] = refl
+opening-histories (log ∷ logs) = ap (λ (hs : List (List Entry)). records_of log.items ∷ hs) (opening-histories logs)
 
 module _ {S : Type 0} (faults : S → ℕ) where
   -- the books of logs at close, with the counts of their stores
@@ -287,6 +311,23 @@ module _ {S : Type 0} (faults : S → ℕ) where
         sym same ∙ ap (λ (s : S). book_of log (faults s)) one),
   )
   closing-at (log ∷ logs) (here ∷ stores) (suc k) book store is at = closing-at logs stores k book store is at
+
+  -- their histories and counts are those of the logs
+  closing-histories : (logs : List (Log LogItem LogHead)) (stores : List S)
+      → histories_in logs ≡ histories_of (closing_books logs stores)
+  closing-histories [] stores = refl
+  closing-histories (log ∷ logs) [] =
+      ap (λ (hs : List (List Entry)). records_of log.items ∷ hs) (closing-histories logs [])
+  closing-histories (log ∷ logs) (store ∷ stores) =
+      ap (λ (hs : List (List Entry)). records_of log.items ∷ hs) (closing-histories logs stores)
+
+  closing-counts : (logs : List (Log LogItem LogHead)) (stores : List S)
+      → counts_in logs ≡ map (λ (book : Book). book.told) (closing_books logs stores)
+  closing-counts [] stores = refl
+  closing-counts (log ∷ logs) [] =
+      ap (λ (ns : List ℕ). length (faults_of log.items) ∷ ns) (closing-counts logs [])
+  closing-counts (log ∷ logs) (store ∷ stores) =
+      ap (λ (ns : List ℕ). length (faults_of log.items) ∷ ns) (closing-counts logs stores)
 
 -- what holds of several callers
 several : (count : ℕ) (Alone Together : Type 0) → 1 < count → Together → ByCallers count Alone Together
@@ -472,31 +513,47 @@ module _ {S : Type 0} {G : Ghosts S} (count : ℕ) (issuer : Setup) (prefix : Li
       let at = kept-at shard first.0 book first.1 is in
       subst (λ (b : Book). All IsRecord b.history) (sym at.is_is) at.closes.records
 
-  books-opened : AreBooksOf opening first_books
-  books-opened = record {
-    count_is = length-map opening opening_book;
-    each = λ shard log book log_at book_at.
-        let here = mapped-at opening_book opening shard book book_at in
-        let same : here.0 ≡ log = (let both : Some here.0 ≡ Some log = sym here.1 ∙ log_at in cc) in
-        let is : book ≡ opening_book log = here.2 ∙ ap opening_book same in
-        is ∙ ap (book_of log) (sym (ap (λ (b : Book). b.faults) is));
-  }
+  -- the histories and counts of the logs are those of the books
+  first-history : history_at opening ≡ history_in first_books
+  first-history = fun_ext (λ shard. history-listed opening shard
+      ∙ ap (λ (hs : List (List Entry)). slice_index_or hs shard []) (opening-histories opening))
 
-  books-closed : AreBooksOf logs last_books
-  books-closed = record {
-    count_is = length-closing G.faults logs back;
-    each = λ shard log book log_at book_at.
-        let within : shard < length back =
-        (let inside = slice_get_within last_books shard book book_at in let long = count-last in
-        let many = closed.count_is in
-        omega (arith, inside, long, many)) in
-        let store = at-place back shard within in
-        let here = closing-at G.faults logs back shard book store.0 book_at store.1 in
-        let same : here.0 ≡ log = (let both : Some here.0 ≡ Some log = sym here.1 ∙ log_at in cc) in
-        let is : book ≡ book_of log (G.faults store.0) = here.2
-        ∙ ap (λ (l : Log LogItem LogHead). book_of l (G.faults store.0)) same in
-        is ∙ ap (book_of log) (sym (ap (λ (b : Book). b.faults) is));
-  }
+  last-histories : histories_in logs ≡ histories_of last_books
+  last-histories = closing-histories G.faults logs back
+
+  last-history : history_at logs ≡ history_in last_books
+  last-history = fun_ext (λ shard. history-listed logs shard
+      ∙ ap (λ (hs : List (List Entry)). slice_index_or hs shard []) last-histories)
+
+  last-counts : faults_at logs ≡ told_in last_books
+  last-counts = fun_ext (λ shard. count-listed logs shard
+      ∙ ap (λ (ns : List ℕ). slice_index_or ns shard 0) (closing-counts G.faults logs back))
+
+  -- what holds by the logs holds by the books
+  module _ (shares : List Share) where
+    explained-books : AreExplained issuer (history_at opening) (history_at logs) (histories_in logs) shares
+        → AreExplained issuer (history_in first_books) (history_in last_books) (histories_of last_books) shares
+    explained-books explained =
+        subst (λ (f : ℕ → List Entry).
+        AreExplained issuer f (history_in last_books) (histories_of last_books) shares) first-history
+        (subst (λ (l : ℕ → List Entry). AreExplained issuer (history_at opening) l (histories_of last_books) shares)
+        last-history
+        (subst (λ (hs : List (List Entry)). AreExplained issuer (history_at opening) (history_at logs) hs shares)
+        last-histories explained))
+
+    own-books : AreOwnPlaces issuer (history_at opening) (history_at logs) (faults_at logs) shares
+        → AreOwnPlaces issuer (history_in first_books) (history_in last_books) (told_in last_books) shares
+    own-books own =
+        subst (λ (f : ℕ → List Entry). AreOwnPlaces issuer f (history_in last_books) (told_in last_books) shares)
+        first-history
+        (subst (λ (l : ℕ → List Entry). AreOwnPlaces issuer (history_at opening) l (told_in last_books) shares)
+        last-history
+        (subst (λ (counts : ℕ → ℕ). AreOwnPlaces issuer (history_at opening) (history_at logs) counts shares)
+        last-counts own))
+
+    settled-books : AreSettled issuer (history_at opening) shares
+        → AreSettled issuer (history_in first_books) shares
+    settled-books settled = subst (λ (f : ℕ → List Entry). AreSettled issuer f shares) first-history settled
 
   lawful-together : HasSoundParts issuer → IsLawful issuer first_books last_books
   lawful-together sound =
@@ -504,9 +561,10 @@ module _ {S : Type 0} {G : Ghosts S} (count : ℕ) (issuer : Setup) (prefix : Li
 
   module _ (more : 1 < count) (sound : HasSoundParts issuer) (asked : List (List ℕ)) (answers : List Answer)
       (callers : List Caller)
-      (dealt : AreDealt count asked answers callers) (shared : AreCallers issuer opening logs callers)
-      (explained : AreExplained issuer opening logs callers) (own : AreOwnPlaces issuer opening logs callers)
-      (settled : TellNoFault issuer logs → AreSettled issuer opening callers)
+      (dealt : AreDealtToCallers count asked answers callers) (shared : AreCallers issuer opening logs callers)
+      (explained : AreCallersExplained issuer opening logs callers)
+      (own : AreCallersOwnPlaces issuer opening logs callers)
+      (settled : TellNoFault issuer logs → AreCallersSettled issuer opening callers)
       (counted : AreFaultsCounted issuer logs callers)
       (within : length asked ≤ MAX_LINES) where
     -- there are fewer answers than a log may have faults
@@ -534,24 +592,25 @@ module _ {S : Type 0} {G : Ghosts S} (count : ℕ) (issuer : Setup) (prefix : Li
 
     answered-together : AreAnsweredTogether count issuer first_books last_books asked answers
     answered-together = record {
-      callers = callers;
-      dealt = dealt;
-      opening = opening;
-      opening_are = books-opened;
-      logs = logs;
-      logs_are = books-closed;
-      explained = explained;
-      each_record_is_one_answers = own;
+      shares = shares_of callers;
+      dealt = dealt-shares count asked answers callers dealt;
+      explained = explained-books (shares_of callers) (explained-shares issuer callers opening logs explained);
+      each_record_is_one_answers = own-books (shares_of callers) (own-shares issuer callers opening logs own);
       faults_are_counted = λ shard was is was_at is_at below.
           let at = kept-at shard was is was_at is_at in
           let rises = subst (λ (items : List LogItem).
           RiseTo at.first.head.faults (faults_of items) (G.faults at.after))
           (sym (items-of logs shard at.last at.last_at)) at.closes.rise in
-          subst (λ (w : Book). w.faults + all_faults_told issuer shard callers ≤ is.faults) (sym at.was_is)
-          (subst (λ (i : Book). at.first.head.faults + all_faults_told issuer shard callers ≤ i.faults) (sym at.is_is)
+          subst (λ (w : Book). w.faults + all_faults_told issuer shard (shares_of callers) ≤ is.faults)
+          (sym at.was_is)
+          (subst (λ (i : Book). at.first.head.faults + all_faults_told issuer shard (shares_of callers) ≤ i.faults)
+          (sym at.is_is)
+          (subst (λ (n : ℕ). at.first.head.faults + n ≤ G.faults at.after)
+          (sym (faults-shares issuer callers shard))
           (counted shard at.first.head.faults (G.faults at.after) at.within rises
-          (subst (λ (i : Book). i.faults < 2 ^ 64 - 1) at.is_is below) few-answers));
-      settled = λ stood. settled (none-told stood);
+          (subst (λ (i : Book). i.faults < 2 ^ 64 - 1) at.is_is below) few-answers)));
+      settled = λ stood.
+          settled-books (shares_of callers) (settled-shares issuer callers opening (settled (none-told stood)));
     }
 
     pub leaves-together : (text : List ℕ) → text ≡ flat_map printed answers
@@ -571,7 +630,7 @@ module _ {S : Type 0} {G : Ghosts S} (count : ℕ) (issuer : Setup) (prefix : Li
   -- ---- where no line was answered
 
   module _ (more : 1 < count) (sound : HasSoundParts issuer) (callers : List Caller)
-      (dealt : AreDealt count [] [] callers)
+      (dealt : AreDealtToCallers count [] [] callers)
       (shared : AreCallers issuer opening logs callers) where
     no-places : (shard place : ℕ) (caller : Caller) → (number : ℕ) → slice_get callers number ≡ Some caller
         → times_placed shard place caller.logs_now.mine ≡ 0
@@ -667,13 +726,13 @@ module _ {S : Type 0} {G : Ghosts S} (told_bytes : (store : S)
       → HaveAnswered first (map kept asked) text [] now
       → ((issuer : Setup) (opening logs : List (Log LogItem LogHead)) (callers : List Caller)
       → AreCallers issuer opening logs callers
-      → AreExplained issuer opening logs callers)
+      → AreCallersExplained issuer opening logs callers)
       → ((issuer : Setup) (opening logs : List (Log LogItem LogHead)) (callers : List Caller)
       → AreCallers issuer opening logs callers
-      → AreOwnPlaces issuer opening logs callers)
+      → AreCallersOwnPlaces issuer opening logs callers)
       → ((issuer : Setup) (opening logs : List (Log LogItem LogHead)) (callers : List Caller)
       → AreCallers issuer opening logs callers
-      → TellNoFault issuer logs → AreSettled issuer opening callers)
+      → TellNoFault issuer logs → AreCallersSettled issuer opening callers)
       → ((issuer : Setup) (opening logs : List (Log LogItem LogHead)) (callers : List Caller)
       → AreCallers issuer opening logs callers
       → AreFaultsCounted issuer logs callers)

@@ -1,19 +1,14 @@
 -- What is sure of the answers to lines: those of one caller, and those of several.
-use Rattle.std.specs.Prelude.{◌≡◌, ℕ, ◌+◌, ◌-◌, ◌^◌, ◌<◌, ◌≤◌, suc, zero, List, length, slice_get, Some}
+use Rattle.std.specs.Prelude.{◌≡◌, ℕ, ◌+◌, ◌-◌, ◌^◌, ◌<◌, ◌≤◌, suc, zero, List, slice_get, Some}
 use Rattle.issuer_base.specs.declared.answer.Answer.{Answer}
 use Rattle.issuer_setup.specs.IssuerSetup.{Setup}
-use Rattle.turn_book.specs.declared.logs.Log.{Log}
-use Rattle.shared_shards.specs.declared.logs.LogItem.{LogItem}
-use Rattle.shared_shards.specs.declared.logs.LogHead.{LogHead}
 use Rattle.one_caller.specs.Books.{Book, histories_of}
-use Rattle.host_calls.specs.Closing.{book_of}
 use Rattle.one_caller.specs.Turns.{Run}
 use Rattle.one_caller.specs.OneHistory.{HasFailed, IsOneHistory}
-use Rattle.shared_laws.specs.Callers.{Caller}
-use Rattle.shared_laws.specs.Explained.{AreExplained}
-use Rattle.shared_laws.specs.OwnPlaces.{AreOwnPlaces, all_faults_told}
-use Rattle.shared_laws.specs.Settled.{AreSettled}
-use Rattle.shared_callers.specs.Dealing.{AreDealt}
+use Rattle.line_serving.specs.Shares.{Share, AreDealt, history_in, told_in}
+use Rattle.line_serving.specs.Explained.{AreExplained}
+use Rattle.line_serving.specs.OwnPlaces.{AreOwnPlaces, all_faults_told}
+use Rattle.line_serving.specs.Settled.{AreSettled}
 
 -- one caller's answers to these lines, one turn after another from the first books to the last: each shard's history is
 -- one legal history, no counter of a card was decided twice, and each request has one reply
@@ -22,33 +17,22 @@ pub record AreAnswered (issuer : Setup) (first last : List Book) (asked : List (
   pub run : Run issuer first asked answers last
   pub law : IsOneHistory issuer asked answers first last
 
--- these are the books of the logs of all shards
-pub record AreBooksOf (logs : List (Log LogItem LogHead)) (books : List Book) : Type 0 where
-  pub count_is : length books ≡ length logs
-  pub each : (shard : ℕ) (log : Log LogItem LogHead) (book : Book) → slice_get logs shard ≡ Some log
-      → slice_get books shard ≡ Some book
-      → book ≡ book_of log book.faults
-
 -- the answers to these lines, which were dealt in turns to so many callers of one host: each is explained by the
 -- histories at opening and at close, and each record between them is one answer's; no counter of a card was decided
 -- twice, and each request has one reply
 pub record AreAnsweredTogether (count : ℕ) (issuer : Setup) (first last : List Book) (asked : List (List ℕ))
     (answers : List Answer) : Type 0 where
-  pub callers : List Caller
-  pub dealt : AreDealt count asked answers callers
-  pub opening : List (Log LogItem LogHead)
-  pub opening_are : AreBooksOf opening first
-  pub logs : List (Log LogItem LogHead)
-  pub logs_are : AreBooksOf logs last
-  pub explained : AreExplained issuer opening logs callers
-  pub each_record_is_one_answers : AreOwnPlaces issuer opening logs callers
+  pub shares : List Share
+  pub dealt : AreDealt count asked answers shares
+  pub explained : AreExplained issuer (history_in first) (history_in last) (histories_of last) shares
+  pub each_record_is_one_answers : AreOwnPlaces issuer (history_in first) (history_in last) (told_in last) shares
   -- at most as many answers are that a shard's store failed as its fault counter increased, unless that is saturated
   pub faults_are_counted : (shard : ℕ) (was is : Book) → slice_get first shard ≡ Some was
       → slice_get last shard ≡ Some is → is.faults < 2 ^ 64 - 1
-      → was.faults + all_faults_told issuer shard callers ≤ is.faults
+      → was.faults + all_faults_told issuer shard shares ≤ is.faults
   -- where no store's fault counter increased, no answer is that one failed, and each counter that a request names is
   -- settled
-  pub settled : (HasFailed first last → ⊥) → AreSettled issuer opening callers
+  pub settled : (HasFailed first last → ⊥) → AreSettled issuer (history_in first) shares
 
 -- with one caller the one holds, and with more the other
 abbrev pub ByCallers : ℕ → Type 0 → Type 0 → Type 0
