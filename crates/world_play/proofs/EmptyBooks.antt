@@ -1,19 +1,25 @@
 -- A host over empty stores stands for books without records.
-use Rattle.std.proofs.Common.{◌≡◌, ℕ, zero, suc, List, [], ◌++◌, length, replicate, All, Option, None, Some, sym, ap, subst, ◌∙◌, arith}
-use Rattle.std.specs.Prelude.{slice_get}
+use Rattle.std.proofs.Common.{◌≡◌, refl, false, ℕ, zero, suc, List, [], ◌∷◌, ◌++◌, length, replicate, Option, None, Some, sym, ap, subst, ◌∙◌, arith}
+use Rattle.std.specs.Prelude.{slice_get, IfSome}
+use Rattle.std.proofs.lemmas.Bool.{true≢false}
 use Rattle.std.proofs.lemmas.List.{length-replicate}
-use Rattle.std.proofs.lemmas.Option.{slice_get_within, get_or_from_slice_get}
+use Rattle.std.proofs.lemmas.Option.{slice_get_within}
 use Rattle.issuer_base.specs.Tells.{Tells}
 use Rattle.issuer_base.specs.declared.entry.Entry.{Entry}
 use Rattle.issuer_base.specs.declared.outside.store.Store.{Ghosts}
 use Rattle.issuer_setup.specs.IssuerSetup.{Setup}
 use Rattle.journal_rec.specs.RecordText.{texts_of}
 use Rattle.journal_rec.proofs.TextLaws.{texts_of-one_reading}
+use Rattle.issuer_base.specs.Stores.{Disk}
+use Rattle.journal_rec.specs.RecordText.{newline}
+use Rattle.shard_book.specs.declared.replay.LoadFault.{LoadFault}
+use Rattle.shard_book.specs.declared.replay.LoadFault.TheVariants.{StoreFault, BadLine, BadRecord, NoMemory}
 use Rattle.shard_book.specs.declared.shard.Shard.{Shard}
+use Rattle.shard_book.specs.Loading.{StopsAt, StopsText, is_store_failure}
 use Rattle.shard_book.specs.Shards.{faults_in}
 use Rattle.one_caller.specs.Books.{Book}
 use Rattle.one_caller.specs.Hosts.{Stand, StandsForBook}
-use Rattle.one_caller.specs.Loading.{IsLoadedFrom, AreLoaded}
+use Rattle.one_caller.specs.Loading.{IsLoadedFrom, AreLoaded, ComeBack}
 use Rattle.one_caller.proofs.Places.{read-within}
 use Rattle.one_caller.proofs.Running.{stands-loaded}
 use Rattle.world_play.specs.Play.{empty_book}
@@ -57,6 +63,31 @@ module _ {S : Type 0} {G : Ghosts S} (setup : Setup) where
         (stands-empty number found.0 shard (loaded.each number found.0 shard found.1 shard_is) none.0 none.1);
   }
 
--- what holds of each of a list holds of what stands at a place
-pub all_at : {X : Type 0} (P : X → Type 0) (xs : List X) → All P xs → (place : ℕ) (x : X) → slice_get xs place ≡ Some x → P x
-all_at P xs all place x is = subst P (get_or_from_slice_get xs place x x is) (all place x (slice_get_within xs place x is))
+-- an empty text has no line
+no-line : (front line : List ℕ) (byte : ℕ) (ahead : List ℕ) → [] ≡ front ++ line ++ byte ∷ ahead → ⊥
+no-line [] [] byte ahead is = cc
+no-line [] (next ∷ line) byte ahead is = cc
+no-line (next ∷ front) line byte ahead is = cc
+
+-- the text of an empty store stops nowhere
+memory-alone : (setup : Setup) (number : ℕ) (bytes : Option (List ℕ)) (fault : LoadFault) → bytes ≡ Some [] → is_store_failure fault ≡ false
+    → StopsText setup number bytes fault → fault ≡ NoMemory
+memory-alone setup number bytes StoreFault empty works stops = absurd (true≢false works)
+memory-alone setup number bytes (BadLine line) empty works stops =
+    let it = subst (λ (bytes : Option (List ℕ)). IfSome bytes (λ text. StopsAt setup number [] text (BadLine line))) empty stops in
+    absurd (no-line (texts_of it.entries) it.line newline it.ahead it.text_is)
+memory-alone setup number bytes (BadRecord line) empty works stops =
+    let it = subst (λ (bytes : Option (List ℕ)). IfSome bytes (λ text. StopsAt setup number [] text (BadRecord line))) empty stops in
+    absurd (no-line (texts_of it.entries) it.line newline it.ahead it.text_is)
+memory-alone setup number bytes NoMemory empty works stops = refl
+
+-- empty stores that work are loaded but for want of memory
+pub lacks_memory : {S : Type 0} (bytes : S → Option (List ℕ)) (disk : S → Option Disk) (faults : S → ℕ) (setup : Setup) (stores : List S) (failed : ℕ)
+    (fault : LoadFault) (back : List S) → ((number : ℕ) (store : S) → slice_get stores number ≡ Some store → bytes store ≡ Some [])
+    → is_store_failure fault ≡ false → ComeBack bytes disk faults setup stores failed fault back → fault ≡ NoMemory
+lacks_memory bytes disk faults setup stores failed fault back empty works come =
+    let within = come.within in
+    let count = come.count_is in
+    let store = read-within stores failed within in
+    let after = read-within back failed (omega (arith, within, count)) in
+    memory-alone setup failed (bytes store.0) fault (empty failed store.0 store.1) works (come.at store.0 after.0 store.1 after.1).stops

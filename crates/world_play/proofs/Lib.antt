@@ -17,3 +17,6 @@ pub mod PlayedMoves
 pub mod PlayedFates
 pub mod PlayedStates
 pub mod PlayedCounts
+pub mod Rooms
+pub mod Using
+pub mod Turns

@@ -53,7 +53,7 @@ use Rattle.world_net.proofs.Hosts.{histories-at}
 use Rattle.world_net.proofs.Worlds.{shard-within}
 use Rattle.world_play.specs.Setting.{key_set, table, row_from, card_info, issuer}
 use Rattle.world_play.proofs.PlayedCards.{card-at, number-known}
-use Rattle.world_play.proofs.PlayedRequests.{IsRight}
+use Rattle.world_play.specs.Cards.{IsRight}
 use Rattle.world_play.proofs.PlayedWorlds.{IsPlayed, played-sound, played-written, played-sent, after_written, after_sent, record-there}
 
 -- ---- the issuer's own decision

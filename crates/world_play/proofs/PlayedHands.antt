@@ -41,7 +41,8 @@ use Rattle.world_play.specs.Handing.{answer_in, commands_in, spoil_first, after_
 use Rattle.world_play.specs.Setting.{key_set, card_info, issuer}
 use Rattle.world_play.proofs.PlayedCards.{card-at}
 use Rattle.world_play.proofs.PlayedReplies.{reply_text, answer-found, commands-found, answer_to, answer-accepted, spoiled-wrong}
-use Rattle.world_play.proofs.PlayedRequests.{IsIssued, IsRight, issued-answer}
+use Rattle.world_play.specs.Cards.{IsIssued, IsRight}
+use Rattle.world_play.proofs.PlayedRequests.{issued-answer}
 use Rattle.world_play.proofs.PlayedWorlds.{IsPlayed, IsSendable, played-sound}
 use Rattle.world_play.proofs.PlayedAnswers.{right-known}
 use Rattle.world_play.proofs.PlayedRuns.{IsMoved, HasMoved, moved-once, moved-then, IsRunning, AreSendable, CanRun, run-all}

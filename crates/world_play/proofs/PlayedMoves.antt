@@ -47,7 +47,8 @@ use Rattle.world_play.specs.Handing.{answer_in, commands_in, spoil_first, after_
 use Rattle.world_play.specs.Play.{Stage, IsAnswered, IsAsked, Makes, answered, given_card, given_tally, handed, spoiled, with_tap}
 use Rattle.world_play.specs.Setting.{card_info, issuer, terminal_of}
 use Rattle.world_play.proofs.PlayedCards.{card-at}
-use Rattle.world_play.proofs.PlayedRequests.{IsRight, issued-open, right-next, amount-decimal}
+use Rattle.world_play.specs.Cards.{IsRight}
+use Rattle.world_play.proofs.PlayedRequests.{issued-open, right-next, amount-decimal}
 use Rattle.world_play.proofs.PlayedWorlds.{IsPlayed, IsLater, later-same, later-then, played-kept, played-tapped, after_tapped}
 use Rattle.world_play.proofs.PlayedAnswers.{book-history, right-known, IsAfterAnswer, answered-world}
 use Rattle.world_play.proofs.PlayedQueues.{line-queues, queued_command, command-sendable, queued-world}

@@ -43,21 +43,15 @@ use Rattle.issuer_base.specs.declared.command.Command.{Command}
 use Rattle.world_net.specs.WorldRuns.{IsIssuer}
 use Rattle.world_play.specs.declared.setting.Step.{Step}
 use Rattle.world_play.specs.Play.{spoiled}
+use Rattle.world_play.specs.Cards.{IsIssued, IsRight}
 use Rattle.world_play.specs.Setting.{key_set, card_info, issuer, terminal_of}
 use Rattle.world_play.proofs.Numbers.{number_pan}
 use Rattle.world_play.proofs.PlayedCards.{card-at, number-known}
 use Rattle.world_play.proofs.PlayedReplies.{changed-bit}
 
--- the card is the one with this number: it has what it was issued with, and its count is one that it can say
-pub record IsIssued (number : ℕ) (card : CardState) : Type 0 where
-  pub pan_is : card.pan ≡ (card_info number).pan
-  pub psn_is : card.psn ≡ 0
-  pub dki_is : card.dki ≡ 1
-  pub method_is : card.method ≡ (card_info number).method
-  pub keys_are : card.keys ≡ card_keys key_set (card_info number).pan 0
-  pub few : card.count ≤ 15
+-- ---- a card of a run
 
--- so it is at first, and stays
+-- it is issued at first, and stays so
 pub issued-new : (number : ℕ)
     → IsIssued number (new_card (card_info number).pan 0 1 (card_info number).method (card_keys key_set (card_info number).pan 0))
 unfolding new_card
@@ -311,15 +305,6 @@ line-read setup request held =
     ap (said_by setup) (line_of-request_line request held) ∙ ap (checked_data setup) (request_of-chip_data request held)
 
 -- ---- what is sure of a request that was made
-
-pub record IsRight (cards number : ℕ) (request : Parts) : Type 0 where
-  pub below : number < cards
-  pub its : card_of request ≡ name_of (card_info number)
-  pub held : IsRequest request
-  pub checks : checked (issuer cards) request ≡ Ok (Decide request)
-  pub keys_are : keys_of (issuer cards) number request ≡ Some (card_keys key_set (card_info number).pan 0)
-  pub read : reading (issuer cards) (request_line request) ≡ Ok (Decide request)
-  pub spoils : reading (issuer cards) (request_line (spoiled request)) ≡ Err BadCryptogram
 
 -- the first bytes of eight, with the last bit of the last one changed
 abbrev changed : List ℕ → List ℕ

@@ -23,7 +23,8 @@ use Rattle.world_net.specs.WorldState.{WorldState, history_for, with_card}
 use Rattle.world_net.specs.WorldRuns.{IsIssuer, IsGenuineStep}
 use Rattle.world_play.specs.Handing.{after_commands}
 use Rattle.world_play.specs.Setting.{issuer}
-use Rattle.world_play.proofs.PlayedRequests.{IsIssued, issued-command, issued-failure}
+use Rattle.world_play.specs.Cards.{IsIssued}
+use Rattle.world_play.proofs.PlayedRequests.{issued-command, issued-failure}
 use Rattle.world_play.proofs.PlayedWorlds.{IsPlayed, IsSendable, IsLater, later-then, later-same, played-moved}
 
 -- ---- the worlds of one card that moves

@@ -26,7 +26,8 @@ use Rattle.world_play.specs.Genuine.{CanBePlayed, EndsGenuineRun}
 use Rattle.world_play.specs.Play.{State, Stage, IsStep, IsAfter, first_state, new_player}
 use Rattle.world_play.specs.Setting.{key_set, issuer, step_of}
 use Rattle.world_play.proofs.PlayedCards.{issuer-valid, card-at, cards-count}
-use Rattle.world_play.proofs.PlayedRequests.{IsIssued, issued-new}
+use Rattle.world_play.specs.Cards.{IsIssued}
+use Rattle.world_play.proofs.PlayedRequests.{issued-new}
 use Rattle.world_play.proofs.PlayedWorlds.{IsPlayed, played-sound}
 use Rattle.world_play.proofs.PlayedMoves.{IsIdle, MadeBy}
 use Rattle.world_play.proofs.PlayedFates.{fated}

@@ -40,7 +40,7 @@ use Rattle.world_net.specs.Allowed.{CanQueue}
 use Rattle.world_net.proofs.Worlds.{IsSound, sound-run, shard-within, put-there, put-elsewhere}
 use Rattle.world_net.proofs.KeptWorlds.{WorldKept, kept-run_end}
 use Rattle.world_play.specs.Setting.{issuer}
-use Rattle.world_play.proofs.PlayedRequests.{IsIssued, IsRight}
+use Rattle.world_play.specs.Cards.{IsIssued, IsRight}
 
 -- a command that a card can open when it is sealed
 pub record IsSendable (command : Command) : Type 0 where

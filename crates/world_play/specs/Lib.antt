@@ -6,3 +6,5 @@ pub mod Moves
 pub mod Play
 pub mod Reaching
 pub mod Genuine
+pub mod Cards
+pub mod Room

@@ -3,8 +3,8 @@ ghost use Rattle.std.specs.Prelude.{◌≡◌, take, IfOk};
 ghost use Rattle.card_model.specs.CardSteps.{authenticated};
 ghost use Rattle.world_play.specs.Handing.{answer_in, spoil_first};
 ghost use Rattle.world_play.specs.Play.{given_card, given_tally, with_finding};
+ghost use Rattle.world_play.specs.Room.{CountsWithin, most_counted};
 
-use crate::house::count;
 use crate::reply::{answer_in, run_all, run_first, spoiled};
 use crate::summary::Summary;
 use card_model::Card;
@@ -12,6 +12,7 @@ use issuer_base::{NoMemory, Reply};
 
 /// The card is given the issuer's answer in the reply and, where it found that right, all commands.
 pub(crate) fn hand(card: &mut Card, tally: &mut Summary, reply: &Reply) -> Result<(), NoMemory>
+    requires { CountsWithin most_counted tally.old }
     ensures card { IfOk result (λ _. card.new ≡ given_card (λ answer. answer) (λ commands. commands) reply.now (answer_in reply.now.bytes.items) card.old) }
     ensures tally { IfOk result (λ _. tally.new ≡ given_tally (λ answer. answer) reply.now (answer_in reply.now.bytes.items) card.old tally.old) }
 {
@@ -19,7 +20,7 @@ pub(crate) fn hand(card: &mut Card, tally: &mut Summary, reply: &Reply) -> Resul
     let Some(answer) = answer_in(bytes) else {
         return Ok(());
     };
-    if !is_right(card, tally, answer, reply.arc)? {
+    if !is_right(card, tally, answer, reply.arc) {
         return Ok(());
     }
     run_all(card, bytes)
@@ -31,6 +32,7 @@ pub(crate) fn hand_first(
     tally: &mut Summary,
     reply: &Reply,
 ) -> Result<(), NoMemory>
+    requires { CountsWithin most_counted tally.old }
     ensures card { IfOk result (λ _. card.new ≡ given_card (λ answer. answer) (take 1) reply.now (answer_in reply.now.bytes.items) card.old) }
     ensures tally { IfOk result (λ _. tally.new ≡ given_tally (λ answer. answer) reply.now (answer_in reply.now.bytes.items) card.old tally.old) }
 {
@@ -38,7 +40,7 @@ pub(crate) fn hand_first(
     let Some(answer) = answer_in(bytes) else {
         return Ok(());
     };
-    if !is_right(card, tally, answer, reply.arc)? {
+    if !is_right(card, tally, answer, reply.arc) {
         return Ok(());
     }
     run_first(card, bytes)
@@ -50,6 +52,7 @@ pub(crate) fn hand_spoiled(
     tally: &mut Summary,
     reply: &Reply,
 ) -> Result<(), NoMemory>
+    requires { CountsWithin most_counted tally.old }
     ensures card { IfOk result (λ _. card.new ≡ given_card spoil_first (λ commands. commands) reply.now (answer_in reply.now.bytes.items) card.old) }
     ensures tally { IfOk result (λ _. tally.new ≡ given_tally spoil_first reply.now (answer_in reply.now.bytes.items) card.old tally.old) }
 {
@@ -57,7 +60,7 @@ pub(crate) fn hand_spoiled(
     let Some(answer) = answer_in(bytes) else {
         return Ok(());
     };
-    if !is_right(card, tally, spoiled(answer)?.as_slice(), reply.arc)? {
+    if !is_right(card, tally, spoiled(answer)?.as_slice(), reply.arc) {
         return Ok(());
     }
     run_all(card, bytes)
@@ -65,20 +68,16 @@ pub(crate) fn hand_spoiled(
 
 /// Whether the card found the issuer's answer right, which is counted.
 #[tactic(auto, unfolding(card_model::specs::CardSteps::CardStep))]
-fn is_right(
-    card: &mut Card,
-    tally: &mut Summary,
-    answer: &[u8],
-    arc: [u8; 2],
-) -> Result<bool, NoMemory>
-    ensures card { IfOk result (λ right. (right, card.new) ≡ authenticated card.old answer.now arc) }
-    ensures tally { IfOk result (λ right. tally.new ≡ with_finding tally.old right) }
+fn is_right(card: &mut Card, tally: &mut Summary, answer: &[u8], arc: [u8; 2]) -> bool
+    requires { CountsWithin most_counted tally.old }
+    ensures card { (result, card.new) ≡ authenticated card.old answer.now arc }
+    ensures tally { tally.new ≡ with_finding tally.old result }
 {
     let right = card.authenticate(answer, arc);
     if right {
-        count(&mut tally.authenticated)?;
+        tally.authenticated += 1;
     } else {
-        count(&mut tally.unauthenticated)?;
+        tally.unauthenticated += 1;
     }
-    Ok(right)
+    right
 }

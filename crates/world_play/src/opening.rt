@@ -1,8 +1,12 @@
 //! What a run begins with: its cards, and its host over empty stores.
-ghost use Rattle.std.specs.Prelude.{◌≡◌, ◌<◌, ◌≤◌, [], length, map, replicate, All, IfOk};
+ghost use Rattle.std.specs.Prelude.{◌≡◌, ◌*◌, ◌<◌, ◌≤◌, ℕ, [], length, map, replicate, slice_get, Some, IfOk};
 ghost use Rattle.std.specs.List.{range_with_len};
 ghost use Rattle.one_caller.specs.Hosts.{Stand};
 ghost use Rattle.one_caller.specs.Loading.{AreLoaded};
+ghost use Rattle.one_caller.specs.Room.{HaveRoom, StoresHaveRoom};
+ghost use Rattle.shard_book.specs.declared.replay.LoadFault.TheVariants.{NoMemory as LacksMemory};
+ghost use Rattle.store_edge.specs.MemoryStores.{RoomState};
+ghost use Rattle.world_play.specs.Room.{IsOpened, step_room, steps_of};
 ghost use Rattle.world_play.specs.Play.{empty_book, new_player, no_counts};
 ghost use Rattle.world_play.specs.Setting.{issuer, key_set};
 
@@ -14,7 +18,7 @@ use card_model::Card;
 use issuer_base::NoMemory;
 use issuer_setup::{CardInfo, Issuer};
 use key_derive::MasterCiphers;
-use one_caller::{HostBack, Solo};
+use one_caller::{HostBack, LoadFault, Solo};
 use std::alloc::Global;
 use store_edge::RoomStore;
 
@@ -59,6 +63,7 @@ pub(crate) fn new_house(alloc: Global, cards: u32, steps: u32) -> Result<House, 
     ensures issuer { IfOk result (λ house. house.host.issuer ≡ issuer cards) }
     ensures books { IfOk result (λ house. Stand house.host.issuer house.host.shards.items (replicate 4 empty_book)) }
     ensures tally { IfOk result (λ house. house.tally ≡ no_counts) }
+    ensures room { IfOk result (λ house. HaveRoom (λ shard. step_room * steps_of cards shard steps) house.host.shards.items) }
 {
     let stores = stores(alloc, cards, steps)?;
     let issuer = issuer(alloc, cards)?;
@@ -68,21 +73,35 @@ pub(crate) fn new_house(alloc: Global, cards: u32, steps: u32) -> Result<House, 
     })
 }
 
-/// The host of an issuer over these stores.
+/// The host of an issuer over empty stores: they work at their size, so only memory can be wanting.
 fn load(alloc: Global, stores: Vec<RoomStore>, issuer: Issuer) -> Result<Solo<RoomStore>, NoMemory>
-    requires { length stores.items ≡ issuer.shards }
+    requires count { length stores.items ≡ issuer.shards }
+    requires empty { (shard : ℕ) (store : RoomState) → slice_get stores.items shard ≡ Some store → store.held ≡ [] }
+    requires works { StoresHaveRoom (λ store. length store.held) (λ store. Some store.room) (λ _. 0) stores.items }
     ensures issuer { IfOk result (λ host. host.issuer ≡ issuer) }
     ensures loaded { IfOk result (λ host. AreLoaded issuer stores.items host.shards.items) }
+    ensures room { IfOk result (λ host. (spare : ℕ → ℕ) → StoresHaveRoom (λ store. length store.held) (λ store. Some store.room) spare stores.items
+        → HaveRoom spare host.shards.items) }
 {
     match Solo::load(alloc, stores, issuer) {
         Ok(host) => Ok(host),
         Err(
             HostBack {
-                fault: _,
+                fault,
                 shard: _,
                 stores: _,
             },
-        ) => Err(NoMemory),
+        ) => Err(want_of_memory(fault)),
+    }
+}
+
+/// The error for stores that can't be loaded for want of memory.
+fn want_of_memory(fault: LoadFault) -> NoMemory
+    requires { fault ≡ LacksMemory }
+{
+    match fault {
+        LoadFault::NoMemory => NoMemory,
+        _ => unreachable!(),
     }
 }
 
@@ -90,30 +109,26 @@ fn load(alloc: Global, stores: Vec<RoomStore>, issuer: Issuer) -> Result<Solo<Ro
 fn stores(alloc: Global, cards: u32, steps: u32) -> Result<Vec<RoomStore>, NoMemory>
     requires { 1 ≤ cards }
     ensures count { IfOk result (λ made. length made.items ≡ 4) }
-    ensures empty { IfOk result (λ made. All (λ store. (store.held ≡ []) × (store.faults ≡ 0)) made.items) }
+    ensures opened { IfOk result (λ made. (shard : ℕ) (store : RoomState) → slice_get made.items shard ≡ Some store → IsOpened cards steps shard store) }
 {
     let mut stores = Vec::with_capacity(alloc, usize::from(SHARDS))?;
     for shard in 0..SHARDS {
-        let room = room_of(cards, steps, shard);
+        let room = LEAST_ROOM + STEP_ROOM * u64::from(steps_of(cards, steps, shard));
         stores.push_reserved(RoomStore::new(alloc, room as usize)?);
     }
     Ok(stores)
 }
 
-/// The room of a shard's store.
-fn room_of(cards: u32, steps: u32, shard: u8) -> u64
-    requires some { 1 ≤ cards }
-    requires shard { shard < 4 }
+/// How many of so many steps are those of cards of this shard.
+fn steps_of(cards: u32, steps: u32, shard: u8) -> u32
+    requires { 1 ≤ cards }
+    ensures { result ≡ steps_of cards shard steps }
 {
-    let rounds = u64::from(steps / cards);
-    let steps = rounds * cards_of(cards, shard) + cards_of(steps % cards, shard);
-    LEAST_ROOM + STEP_ROOM * steps
-}
-
-/// How many of the first cards are of this shard.
-fn cards_of(cards: u32, shard: u8) -> u64
-    requires { shard < 4 }
-    ensures { result ≤ cards }
-{
-    (u64::from(cards) + u64::from(SHARDS - 1 - shard)) / u64::from(SHARDS)
+    let mut count = 0;
+    for index in 0..steps {
+        if u32::from(shard) == index % cards % u32::from(SHARDS) {
+            count += 1;
+        }
+    }
+    count
 }

@@ -1,5 +1,6 @@
 //! A run: its steps, one after another, and what it comes to.
 ghost use Rattle.std.specs.Prelude.{◌≡◌, ◌*◌, ◌≤◌, length, IfOk};
+ghost use Rattle.world_play.specs.Room.{RoomFor, step_room, steps_of};
 ghost use Rattle.issuer_base.specs.declared.limits.TheConstants.{MAX_CARDS};
 ghost use Rattle.world_play.specs.Genuine.{CountsInOrder};
 ghost use Rattle.world_play.specs.Play.{ComesTo};
@@ -22,8 +23,8 @@ pub const MAX_STEPS: u32 = 200_000;
 /// Plays so many steps of so many cards: what it comes to, and that its counts are in order. The seed turns the fates of
 /// the steps, and stands in their unpredictable numbers.
 ///
-/// Where no memory is left nothing is told. All of the stores' memory is taken at first; later only what the cards
-/// run takes any.
+/// Where memory is refused nothing is told. All of the stores' memory is taken at first, and is enough for every step: no store
+/// fails, and each count has a place. Later only what the cards run takes any.
 pub fn play(alloc: Global, cards: u32, steps: u32, seed: u32) -> Result<Summary, NoMemory>
     requires cards { (1 ≤ cards) × (cards ≤ MAX_CARDS) }
     requires steps { steps ≤ MAX_STEPS }
@@ -47,9 +48,11 @@ fn play_on(
     steps: u32,
     seed: u32,
 ) -> Result<Summary, NoMemory>
-    requires some { 1 ≤ cards }
+    requires cards { (1 ≤ cards) × (cards ≤ MAX_CARDS) }
+    requires steps { steps ≤ MAX_STEPS }
     requires players { length players.old.items ≡ cards }
     requires first { IsAt cards seed 0 house.old players.old.items }
+    requires room { RoomFor (λ shard. step_room * steps_of cards shard steps) house.old }
     ensures { IfOk result (ComesTo cards steps seed) }
 {
     play_steps(house, players, cards, steps, seed)?;
@@ -64,9 +67,11 @@ fn play_steps(
     steps: u32,
     seed: u32,
 ) -> Result<(), NoMemory>
-    requires some { 1 ≤ cards }
+    requires cards { (1 ≤ cards) × (cards ≤ MAX_CARDS) }
+    requires steps { steps ≤ MAX_STEPS }
     requires players { length players.old.items ≡ cards }
     requires first { IsAt cards seed 0 house.old players.old.items }
+    requires room { RoomFor (λ shard. step_room * steps_of cards shard steps) house.old }
     ensures { IfOk result (λ _. IsAt cards seed steps house.new players.new.items) }
 {
     for index in 0..steps {
