@@ -1,5 +1,5 @@
 -- The room of a run's stores at its start.
-use Rattle.std.proofs.Common.{◌≡◌, ◌⊎◌, ℕ, zero, suc, ◌+◌, ◌*◌, ◌≤◌, List, [], ◌∷◌, ◌++◌, length, Option, Some, refl, sym, ap, subst, inl, inr, arith, ◌∙◌}
+use Rattle.std.proofs.Common.{◌≡◌, ◌⊎◌, ℕ, zero, suc, ◌+◌, ◌*◌, List, [], ◌∷◌, ◌++◌, length, Some, refl, sym, ap, subst, inl, inr, arith, ◌∙◌}
 use Rattle.std.specs.List.{slice_get}
 use Rattle.store_edge.specs.MemoryStores.{RoomState}
 use Rattle.one_caller.specs.Room.{StoresHaveRoom}

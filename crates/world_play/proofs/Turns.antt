@@ -1,29 +1,25 @@
 -- The turns of a run: each step finds the room of its moves, and place for its counts.
-use Rattle.std.proofs.Common.{◌≡◌, ℕ, zero, suc, ◌+◌, ◌*◌, ◌-◌, ◌%◌, ◌<◌, ◌≤◌, ◌==◌, Bool, true, false, List, [], ◌∷◌, length, map, take, Option, None, Some, refl, sym, ap, subst, ◌∙◌, inl, inr, arith}
+use Rattle.std.proofs.Common.{◌≡◌, ℕ, zero, suc, ◌+◌, ◌*◌, ◌-◌, ◌%◌, ◌<◌, ◌≤◌, ◌==◌, Bool, true, false, List, [], ◌∷◌, length, map, take, None, Some, refl, sym, ap, subst, ◌∙◌, inl, inr, arith}
 use Rattle.std.specs.Prelude.{if◌then◌else◌, sum_by, slice_get, slice_set}
 use Rattle.std.specs.List.{range_with_len}
 use Rattle.std.proofs.lemmas.List.Sums.{sum_by-cons}
 use Rattle.std.proofs.lemmas.Bool.{cases_eq, cases_lt}
 use Rattle.std.proofs.lemmas.Option.{same_Some, slice_get_within, get_or_from_slice_get}
 use Rattle.std.proofs.lemmas.List.FromFn.{length-map-range_with_len, get_or-map-range_with_len}
-use Rattle.card_history.specs.Records.{named, card_of}
 use Rattle.card_model.specs.CardSteps.{new_card}
-use Rattle.issuer_base.specs.declared.request.Parts.{Parts}
-use Rattle.issuer_setup.specs.CardList.{name_of}
 use Rattle.issuer_base.specs.declared.limits.TheConstants.{MAX_CARDS}
 use Rattle.one_caller.specs.Room.{added_at}
 use Rattle.one_caller.proofs.Places.{read-written, read-other}
-use Rattle.world_net.specs.WorldRuns.{IsIssuer}
 use Rattle.world_play.specs.declared.house.House.{House}
 use Rattle.world_play.specs.declared.moves.Move.{Move}
 use Rattle.world_play.specs.declared.player.Player.{Player}
 use Rattle.world_play.specs.declared.setting.Step.{Step}
 use Rattle.world_play.specs.declared.summary.Summary.{Summary}
 use Rattle.world_play.specs.Moves.{moves_of}
-use Rattle.world_play.specs.Play.{State, new_player, no_counts}
+use Rattle.world_play.specs.Play.{State, new_player}
 use Rattle.world_play.specs.Reaching.{IsAt}
-use Rattle.world_play.specs.Room.{RoomFor, UsesAtMost, CountsWithin, CountsAtMost, CanCount, moved_bytes, most_counted, step_room, one_of, steps_of, IsOwn, IsOf, StaysOf, IsTurn}
-use Rattle.world_play.specs.Setting.{card_info, issuer, step_of}
+use Rattle.world_play.specs.Room.{RoomFor, UsesAtMost, CountsWithin, CountsAtMost, CanCount, moved_bytes, most_counted, step_room, one_of, steps_of, IsOf, StaysOf, IsTurn}
+use Rattle.world_play.specs.Setting.{step_of}
 use Rattle.world_play.proofs.PlayedCards.{issuer-valid}
 use Rattle.world_play.proofs.PlayedRequests.{issued-new}
 use Rattle.world_play.proofs.Steps.{sum_next}

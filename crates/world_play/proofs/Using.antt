@@ -1,5 +1,5 @@
 -- The room and the counts that a move uses.
-use Rattle.std.proofs.Common.{◌≡◌, ℕ, zero, suc, ◌+◌, ◌*◌, ◌%◌, ◌<◌, ◌≤◌, ◌==◌, Bool, true, false, List, [], ◌∷◌, ◌++◌, length, Option, None, Some, Result, Ok, Err, refl, sym, ap, ap₂, subst, ◌∙◌, arith}
+use Rattle.std.proofs.Common.{◌≡◌, ℕ, ◌+◌, ◌%◌, ◌<◌, ◌≤◌, ◌==◌, Bool, true, false, List, [], ◌∷◌, Option, None, Some, Result, Ok, Err, refl, sym, ap, ap₂, subst, ◌∙◌, arith}
 use Rattle.std.specs.Prelude.{if◌then◌else◌, IfOk, nat_lt}
 use Rattle.std.proofs.lemmas.Bool.{ltb-true, eqb-false}
 use Rattle.card_model.specs.declared.card.TheConstants.{MOST_COUNTED}
@@ -7,24 +7,20 @@ use Rattle.secure_msg.specs.Sealing.{opened_command}
 use Rattle.issuer_base.specs.declared.answer.Answer.{Answer}
 use Rattle.issuer_base.specs.declared.answer.Answer.TheVariants.{Fresh, Kept, Queued, Set, Refused}
 use Rattle.issuer_base.specs.declared.answer.Refusal.{Refusal}
-use Rattle.issuer_base.specs.declared.answer.Refusal.TheVariants.{NotArqc, BadCryptogram}
 use Rattle.issuer_base.specs.declared.answer.Reply.{Reply}
 use Rattle.issuer_base.specs.declared.request.Parts.{Parts}
 use Rattle.journal_rec.specs.declared.limits.TheConstants.{MOST_QUEUED_BYTES, MOST_RECORD_BYTES}
 use Rattle.card_history.specs.declared.decision.Asked.{Asked}
-use Rattle.card_history.specs.declared.decision.Asked.TheVariants.{Decide}
 use Rattle.card_history.specs.Records.{CardName, named, card_of}
-use Rattle.card_model.specs.Application.{CardState, next_request, next_fields, is_answer}
+use Rattle.card_model.specs.Application.{CardState, next_request, is_answer}
 use Rattle.card_model.specs.CardSteps.{CardStep, Tap as TapEvent, tapped, authenticated, answered_at, after_command, command_at, after_opening, opened_within, with_open, with_answer, with_command, with_failure}
 use Rattle.card_model.specs.declared.terminal.Terminal.{Terminal}
 use Rattle.issuer_base.specs.declared.command.Command.{Command}
 use Rattle.key_derive.specs.SessionKey.{session_sm}
-use Rattle.issuer_setup.specs.CardList.{name_of, number_of}
-use Rattle.issuer_setup.specs.IssuerSetup.{Setup, shard_of, keys_of}
+use Rattle.issuer_setup.specs.CardList.{name_of}
+use Rattle.issuer_setup.specs.IssuerSetup.{Setup, shard_of}
 use Rattle.issuer_setup.proofs.Shards.{shard_of-known}
-use Rattle.key_derive.specs.declared.card.CardKeys.{CardKeys}
-use Rattle.line_checks.specs.Reading.{reading, checked, of_card, under_keys, is_right}
-use Rattle.issuer_base.specs.ChipData.{is_arqc}
+use Rattle.line_checks.specs.Reading.{reading}
 use Rattle.shard_book.proofs.Rooms.{room-less}
 use Rattle.one_caller.specs.Room.{added_at, added_by, HaveRoom}
 use Rattle.request_text.specs.ChipText.{request_line}
@@ -33,16 +29,16 @@ use Rattle.world_play.specs.declared.house.House.{House}
 use Rattle.world_play.specs.declared.player.Player.{Player}
 use Rattle.world_play.specs.declared.setting.Step.{Step}
 use Rattle.world_play.specs.declared.summary.Summary.{Summary}
-use Rattle.world_play.specs.Handing.{commands_in, after_commands, where_right, after_answer}
+use Rattle.world_play.specs.Handing.{commands_in, after_commands, where_right}
 use Rattle.world_play.specs.Play.{Makes, spoiled, given_card, given_tally, with_answer as with_answered, with_finding, with_tap}
 use Rattle.world_play.specs.Reaching.{Reaches}
 use Rattle.world_play.specs.declared.moves.Move.{Move}
 use Rattle.world_play.specs.declared.moves.Move.TheVariants.{Queue, Ask, AskSpoiled, Hold, TakeHeld}
-use Rattle.world_play.specs.Room.{RoomFor, UsesAtMost, CountsWithin, CountsAtMost, asked_bytes, moved_bytes, IsOwn, IsOf, StaysOf, IsTurn, IsMade}
+use Rattle.world_play.specs.Room.{RoomFor, UsesAtMost, CountsWithin, CountsAtMost, asked_bytes, moved_bytes, IsOwn, StaysOf, IsTurn, IsMade}
 use Rattle.world_play.specs.Cards.{IsIssued, IsRight}
 use Rattle.world_play.specs.Setting.{card_info, issuer, queue_line, terminal_of}
 use Rattle.world_play.proofs.PlayedCards.{number-known}
-use Rattle.world_play.proofs.PlayedQueues.{line-queues, queued_command}
+use Rattle.world_play.proofs.PlayedQueues.{line-queues}
 use Rattle.world_play.proofs.PlayedRequests.{issued-open, issued-answer, issued-command, issued-failure, right-next}
 
 -- ---- room

@@ -1,5 +1,5 @@
 -- The room of a run's stores and the place for its counts: what each move and each step may use of them.
-use Rattle.std.specs.Prelude.{◌≡◌, ℕ, zero, suc, ◌+◌, ◌*◌, ◌%◌, ◌<◌, ◌≤◌, ◌==◌, if◌then◌else◌, List, [], Option, None, Some}
+use Rattle.std.specs.Prelude.{◌≡◌, ℕ, zero, suc, ◌+◌, ◌*◌, ◌%◌, ◌<◌, ◌≤◌, ◌==◌, if◌then◌else◌, [], Option, None, Some}
 use Rattle.store_edge.specs.MemoryStores.{RoomState}
 use Rattle.issuer_base.specs.declared.request.Parts.{Parts}
 use Rattle.issuer_setup.specs.IssuerSetup.{Setup}

@@ -23,8 +23,9 @@ pub const MAX_STEPS: u32 = 200_000;
 /// Plays so many steps of so many cards: what it comes to, and that its counts are in order. The seed turns the fates of
 /// the steps, and stands in their unpredictable numbers.
 ///
-/// Where memory is refused nothing is told. All of the stores' memory is taken at first, and is enough for every step: no store
-/// fails, and each count has a place. Later only what the cards run takes any.
+/// Returns nothing of a run if an allocation is refused. The stores' memory is allocated at first and suffices for every
+/// step, so no store fails, and each count of the steps has a place. Later only what the cards run allocates. Two more
+/// causes stand in the code: an answer longer than a reply, and more than 2^64 commands that were run.
 pub fn play(alloc: Global, cards: u32, steps: u32, seed: u32) -> Result<Summary, NoMemory>
     requires cards { (1 ≤ cards) × (cards ≤ MAX_CARDS) }
     requires steps { steps ≤ MAX_STEPS }

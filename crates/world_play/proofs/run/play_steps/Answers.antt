@@ -1,16 +1,13 @@
 -- One step more.
-use Rattle.std.proofs.Common.{◌≡◌, ◌<◌, ◌+◌, ◌%◌, ◌*◌, ◌∙◌, length, ap, sym, subst, arith, length-set, refl}
-use Rattle.std.specs.Prelude.{slice_get, slice_set, Some, sum_by}
+use Rattle.std.proofs.Common.{◌≡◌, ◌<◌, ◌+◌, ◌%◌, ◌∙◌, length, ap, sym, subst, arith, length-set, refl}
+use Rattle.std.specs.Prelude.{slice_get, slice_set, Some}
 use Rattle.std.proofs.lemmas.Option.{slice_get_read}
-use Rattle.one_caller.specs.Room.{added_at}
 use Rattle.world_net.specs.Fate.{fate_of}
-use Rattle.world_play.specs.declared.player.Player.{Player}
 use Rattle.world_play.specs.declared.setting.Step.{Step}
 use Rattle.world_play.specs.Moves.{moves_of}
 use Rattle.world_play.specs.Reaching.{IsAt}
-use Rattle.world_play.specs.Room.{moved_bytes}
 use Rattle.world_play.proofs.Steps.{step_goes}
-use Rattle.world_play.proofs.Turns.{left_from, AreOwn, turn-begins, room-begins, room-turn, counts-begin, counts-next, own-next, own-start, room-start, counts-start}
+use Rattle.world_play.proofs.Turns.{left_from, turn-begins, room-begins, room-turn, counts-begin, counts-next, own-next, own-start, room-start, counts-start}
 use Rattle.world_play.proofs.run.play_steps.Goals as goal
 
 pub play-requires-clause-turn : goal.play-requires-clause-turn

@@ -1,10 +1,7 @@
 -- What the line of the request in hand adds is what was said of it.
-use Rattle.std.proofs.Common.{◌∙◌, refl, ap}
-use Rattle.issuer_base.specs.declared.request.Parts.{Parts}
+use Rattle.std.proofs.Common.{◌∙◌, refl}
 use Rattle.one_caller.specs.Room.{added_by}
 use Rattle.line_checks.specs.Reading.{reading}
-use Rattle.request_text.specs.ChipText.{request_line}
-use Rattle.world_play.specs.Play.{spoiled}
 use Rattle.world_play.specs.Room.{asked_bytes}
 use Rattle.world_play.proofs.Using.{less-room, uses-less, uses-none, asked-line}
 use Rattle.world_play.proofs.player.Player.ask.Goals as goal

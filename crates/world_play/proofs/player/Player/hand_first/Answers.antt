@@ -1,6 +1,6 @@
 -- The card stays the one that it was.
 use Rattle.std.proofs.Common.{take}
-use Rattle.world_play.specs.Handing.{answer_in, spoil_first}
+use Rattle.world_play.specs.Handing.{answer_in}
 use Rattle.world_play.proofs.Using.{stays-handed}
 use Rattle.world_play.proofs.player.Player.hand_first.Goals as goal
 

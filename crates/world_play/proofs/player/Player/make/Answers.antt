@@ -1,5 +1,5 @@
 -- Each move is made within its bytes, and each count is at most one greater.
-use Rattle.std.proofs.Common.{◌≡◌, ℕ, ◌%◌, ◌<◌, List, ◌∙◌, ap, refl, subst, arith}
+use Rattle.std.proofs.Common.{ℕ, ◌%◌, ◌<◌, List, ◌∙◌, subst, arith}
 use Rattle.one_caller.specs.Room.{added_at, added_by}
 use Rattle.line_checks.specs.Reading.{reading}
 use Rattle.world_play.specs.declared.moves.Move.TheVariants.{Queue, Tap, Ask, AskSpoiled, Hand, HandFirst, HandSpoiled}

@@ -1,5 +1,5 @@
 -- One move more is made, and all are made at the end.
-use Rattle.std.proofs.Common.{◌≡◌, length, subst, arith, refl}
+use Rattle.std.proofs.Common.{◌≡◌, length, subst, arith}
 use Rattle.std.proofs.lemmas.Option.{slice_get-get_or}
 use Rattle.world_play.proofs.Moving.{IsOnTheWay, way_begins, way_goes, way_ends}
 use Rattle.world_play.proofs.Turns.{within-begins, turn-goes, room-goes, counts-go, within-goes, within-ends}
