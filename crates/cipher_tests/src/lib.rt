@@ -14,4 +14,6 @@ mod response_cryptograms;
 #[cfg(test)]
 mod sealed_commands;
 #[cfg(test)]
+mod suite_macs;
+#[cfg(test)]
 mod text_macs;

@@ -3,6 +3,8 @@ use Rattle.std.specs.Prelude.{ℕ, ◌+◌, ◌*◌, ◌/◌, ◌%◌, Bool, ◌
 use Rattle.std.specs.Prelude.{List, [], ◌∷◌, take, drop, slice_index, fold, bit_and, Option, Some, None}
 use Rattle.std.specs.List.{list_all, flat_map}
 use Rattle.issuer_base.specs.declared.request.Parts.{Parts}
+use Rattle.issuer_base.specs.declared.request.Suite.{Suite}
+use Rattle.issuer_base.specs.declared.request.Suite.TheVariants.{TripleDes, Aes}
 
 -- both nibbles of the byte are decimal digits: EMV 4.3 Book 3, section 4.3, format n
 unfoldable pub is_bcd : ℕ → Bool
@@ -23,6 +25,10 @@ request_from parts = if is_request parts then Some parts else None
 -- the card verification results: bytes 4 to 8 of the issuer application data
 unfoldable pub cvr : Parts → List ℕ
 cvr parts = take 5 (drop 3 parts.iad)
+
+-- the suite of the request's card: byte 2 of the issuer application data, the common core identifier, is A6 for AES
+unfoldable pub suite_of : Parts → Suite
+suite_of parts = if slice_index parts.iad 1 == 0xA6 then Aes else TripleDes
 
 -- the derivation key index: byte 3 of the issuer application data
 unfoldable pub dki : Parts → ℕ

@@ -30,5 +30,5 @@ pub use outside::{
     Source, Store, write_all,
 };
 pub use pan::Pan;
-pub use request::{Parts, Request};
+pub use request::{Parts, Request, Suite};
 pub use words::Words;

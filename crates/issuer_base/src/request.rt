@@ -1,11 +1,22 @@
 //! The fields of a request, and a request whose fields have their forms.
 ghost use Rattle.std.specs.Prelude.{◌≡◌, ◌<◌, ◌↔◌, IsTrue, true};
 ghost use Rattle.std.specs.List.{list_all, flat_map};
-ghost use Rattle.issuer_base.specs.ChipData.{is_request, request_from, is_arqc, cvr, dki, script_count, last_online, amount_value, is_bcd, decimal, digits_of};
+ghost use Rattle.issuer_base.specs.ChipData.{is_request, request_from, is_arqc, cvr, suite_of, dki, script_count, last_online, amount_value, is_bcd, decimal, digits_of};
 
 use crate::chip_data::{are_decimal, has_profile, is_decimal};
 use crate::pan::Pan;
 use std::marker::Model;
+
+/// The algorithms of a card's keys, cryptograms and secure messaging. The common core identifier of a request's issuer
+/// application data names it.
+#[derive(Clone, Copy)]
+pub enum Suite {
+    /// Triple DES and the retail MAC, EMV 4.3 Book 2, Annexes A1 and B1: the identifier A5.
+    TripleDes,
+
+    /// AES-128 and CMAC, by this project's profile: the identifier A6.
+    Aes,
+}
 
 /// The fields of one request for a cryptogram's check, as the terminal sends them: EMV 4.3 Book 3, Annex A.
 #[derive(PartialEq, Eq, Drop)]
@@ -166,6 +177,18 @@ impl Request {
         let mut results = [0; 5];
         results.copy_from_slice(&self.fields.iad[3..8]);
         results
+    }
+
+    /// The suite of the request's card.
+    #[tactic(auto, unfolding(crate::specs::ChipData::suite_of))]
+    pub fn suite(&self) -> Suite
+        ensures { result ≡ suite_of self.now }
+    {
+        if self.fields.iad[1] == 0xA6 {
+            Suite::Aes
+        } else {
+            Suite::TripleDes
+        }
     }
 
     /// The derivation key index, which names the issuer's key set.

@@ -1,0 +1,10 @@
+//! The MAC of a card's suite: the retail MAC for triple DES, the first eight bytes of a CMAC for AES.
+//!
+//! A key's schedules are computed once. No call allocates.
+#![tactic(auto)]
+
+mod key;
+mod run;
+
+pub use key::MacKey;
+pub use run::SuiteRun;
