@@ -19,7 +19,8 @@ use Rattle.shard_book.specs.declared.replay.LoadFault.TheVariants.{BadLine, BadR
 use Rattle.shard_book.specs.declared.shard.Shard.{Shard}
 use Rattle.shard_book.specs.Shards.{store_in, IsCutToText, IsLoadImage}
 use Rattle.shard_book.proofs.LoadCrash.{crash-read, load-image}
-use Rattle.one_caller.specs.Loading.{ComeBack, IsGivenBack, IsNotLoaded}
+use Rattle.shard_book.specs.Loads.{IsNotLoaded}
+use Rattle.one_caller.specs.Loading.{ComeBack, IsGivenBack}
 use Rattle.one_caller.proofs.Loads.{given-back}
 use Rattle.desk_host.specs.SeenStores.{Logged, SeenStore, store_seen}
 use Rattle.desk_host.specs.Journals.{journal_name, IsOpened, AreOpened, IsReady}

@@ -17,7 +17,8 @@ use Rattle.issuer_setup.specs.IssuerSetup.{Setup}
 use Rattle.journal_rec.specs.RecordText.{texts_of}
 use Rattle.shard_book.specs.declared.replay.LoadFault.{LoadFault}
 use Rattle.shard_book.specs.declared.replay.LoadFault.TheVariants.{BadLine, BadRecord, StoreFault, NoMemory}
-use Rattle.one_caller.specs.Loading.{IsGivenBack, ComeBack, IsNotLoaded}
+use Rattle.shard_book.specs.Loads.{IsNotLoaded}
+use Rattle.one_caller.specs.Loading.{IsGivenBack, ComeBack}
 use Rattle.desk_host.specs.SeenStores.{Logged, SeenStore, store_seen}
 use Rattle.desk_host.specs.Journals.{journal_name, IsOpened, AreOpened}
 use Rattle.desk_host.specs.Loading.{DeskFaults, HasOpenedAll, HasLoaded, HaveLoadedBelow, GivesNoHost, IsUnopened}

@@ -29,7 +29,8 @@ use Rattle.shared_shards.specs.declared.logs.LogHead.{LogHead}
 use Rattle.shared_shards.specs.ShardLogs.{records_of}
 use Rattle.shared_shards.specs.Opening.{bytes_at, head_with, log_with, AreJustLoaded, IsOpeningLog, AreOpeningLogs}
 use Rattle.shard_book.specs.declared.replay.LoadFault.TheVariants.{NoMemory}
-use Rattle.one_caller.specs.Loading.{IsLoadedFrom, AreLoaded, IsGivenBack}
+use Rattle.shard_book.specs.Loads.{IsLoadedFrom}
+use Rattle.one_caller.specs.Loading.{AreLoaded, IsGivenBack}
 use Rattle.one_caller.proofs.Loads.{given-back}
 use Rattle.host_calls.specs.OpeningLogs.{IsOpenedFrom, AreOpenedFrom, AreCounted, AllComeBack, is_decided}
 use Rattle.host_calls.specs.RecordedCounters.{AreStanding, AreRecordedOf}

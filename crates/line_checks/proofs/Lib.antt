@@ -2,3 +2,4 @@
 pub mod Numbers
 pub mod KeptLines
 pub mod CheckedRequests
+pub mod Orders

@@ -4,24 +4,46 @@ use Rattle.issuer_base.specs.declared.limits.TheConstants.{MAX_STATUS}
 use Rattle.issuer_base.specs.declared.request.Request.{Request}
 use Rattle.issuer_base.specs.ChipData.{is_arqc}
 use Rattle.issuer_base.specs.ScriptCommand.{is_command}
+use Rattle.issuer_base.specs.declared.entry.Entry.{Entry}
+use Rattle.issuer_base.specs.declared.entry.Entry.TheVariants.{Queued, Status as IsStatus}
 use Rattle.card_history.specs.declared.decision.Asked.{Asked}
 use Rattle.card_history.specs.declared.decision.Asked.TheVariants.{Decide as AsksDecision, Queue as AsksQueue, Status as AsksStatus}
-use Rattle.card_history.specs.Records.{CardName, named, card_of}
+use Rattle.card_history.specs.Records.{CardName, named, card_of, card_in}
 use Rattle.key_derive.specs.SessionKey.{session_ac}
 use Rattle.issuer_setup.specs.CardList.{number_of, AreCards}
 use Rattle.issuer_setup.specs.IssuerSetup.{Setup, keys_of}
 use Rattle.line_checks.specs.declared.checked.Checked.{Checked}
-use Rattle.line_checks.specs.declared.checked.Checked.TheVariants.{Decide, Queue, Status}
+use Rattle.line_checks.specs.declared.checked.Checked.TheVariants.{Decide, Order}
+use Rattle.line_checks.specs.declared.checked.CheckedOrder.{CheckedOrder}
+use Rattle.line_checks.specs.declared.checked.CheckedOrder.TheVariants.{Command, Status}
 use Rattle.line_checks.specs.declared.checked.CheckedRequest.{CheckedRequest}
 use Rattle.line_checks.specs.declared.request.KnownCard.{KnownCard}
 use Rattle.line_checks.specs.declared.checked.CheckedCommand.{CheckedCommand}
 use Rattle.line_checks.specs.declared.checked.CheckedStatus.{CheckedStatus}
 
+-- what an order asks
+abbrev pub order_asked : CheckedOrder → Asked
+order_asked (Command found) = AsksQueue found.pan found.psn found.command
+order_asked (Status found) = AsksStatus found.pan found.psn found.status
+
 -- what the line asks
 abbrev pub asked_of : Checked → Asked
 asked_of (Decide found) = AsksDecision found.request
-asked_of (Queue found) = AsksQueue found.pan found.psn found.command
-asked_of (Status found) = AsksStatus found.pan found.psn found.status
+asked_of (Order found) = order_asked found
+
+-- the record that an order asks for
+abbrev pub record_of : CheckedOrder → Entry
+record_of (Command found) = Queued found.pan found.psn found.command
+record_of (Status found) = IsStatus found.pan found.psn found.status
+
+-- the card that an order is for
+abbrev pub card_of_order : CheckedOrder → CardName
+card_of_order order = card_in (record_of order)
+
+-- and the card's number
+abbrev pub number_of_order : CheckedOrder → ℕ
+number_of_order (Command found) = found.card
+number_of_order (Status found) = found.card
 
 -- the number is that of the issuer's card with this name
 pub record IsCardAtHand (issuer : Setup) (name : CardName) (number : ℕ) : Type 0 where
@@ -51,8 +73,12 @@ pub record IsStatusAtHand (issuer : Setup) (found : CheckedStatus) : Type 0 wher
   pub card_is : IsCardAtHand issuer (named found.pan found.psn) found.card
   pub within : found.status ≤ MAX_STATUS
 
+-- the order's card is known, and what the order asks may be recorded
+abbrev pub IsOrderAtHand : Setup → CheckedOrder → Type 0
+IsOrderAtHand issuer (Command found) = IsCommandAtHand issuer found
+IsOrderAtHand issuer (Status found) = IsStatusAtHand issuer found
+
 -- what a line asks comes with its card's number, and a request also with its keys
 abbrev pub IsAtHand : Setup → Checked → Type 0
 IsAtHand issuer (Decide found) = IsRequestAtHand issuer found
-IsAtHand issuer (Queue found) = IsCommandAtHand issuer found
-IsAtHand issuer (Status found) = IsStatusAtHand issuer found
+IsAtHand issuer (Order found) = IsOrderAtHand issuer found

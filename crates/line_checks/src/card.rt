@@ -7,7 +7,7 @@ ghost use Rattle.issuer_setup.specs.CardList.{number_of};
 ghost use Rattle.line_checks.specs.Reading.{command_for, status_for};
 ghost use Rattle.line_checks.specs.AtHand.{asked_of, IsAtHand};
 
-use crate::checked::{Checked, CheckedCommand, CheckedStatus};
+use crate::checked::{Checked, CheckedCommand, CheckedOrder, CheckedStatus};
 use issuer_base::{MAX_STATUS, Pan, Refusal};
 use issuer_setup::Issuer;
 use secure_msg::read_command;
@@ -27,12 +27,12 @@ pub(crate) fn check_command(
     let Ok(command) = read_command(bytes) else {
         return Err(Refusal::BadCommand);
     };
-    Ok(Checked::Queue(CheckedCommand {
+    Ok(Checked::Order(CheckedOrder::Command(CheckedCommand {
         pan,
         psn,
         command,
         card,
-    }))
+    })))
 }
 
 /// Checks a status for the card with this account and sequence number.
@@ -48,10 +48,10 @@ pub(crate) fn check_status(
     ensures at_hand { IfOk result (IsAtHand issuer.now) }
 {
     let card = issuer.card(&pan, psn).ok_or(Refusal::UnknownCard)?;
-    Ok(Checked::Status(CheckedStatus {
+    Ok(Checked::Order(CheckedOrder::Status(CheckedStatus {
         pan,
         psn,
         status,
         card,
-    }))
+    })))
 }

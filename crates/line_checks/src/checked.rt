@@ -1,6 +1,9 @@
 //! What a line that passed every check asks, with the card's number and the keys that the checks derived.
+ghost use Rattle.std.specs.Prelude.{◌≡◌};
+ghost use Rattle.issuer_base.specs.declared.entry.Entry.{Entry};
+ghost use Rattle.line_checks.specs.AtHand.{number_of_order, record_of};
 
-use issuer_base::{Command, Pan, Request};
+use issuer_base::{Command, Entry, Pan, Request};
 use key_derive::{LazyKeys, SessionKey};
 
 /// What a line asks of a card that the issuer has.
@@ -9,10 +12,17 @@ pub enum Checked {
     /// A request is to be decided.
     Decide(CheckedRequest),
 
-    /// A command is to be queued for its card.
-    Queue(CheckedCommand),
+    /// An order for a card is to be recorded.
+    Order(CheckedOrder),
+}
 
-    /// A card is to have a status.
+/// An order for a card. The journal records it as it is.
+#[derive(Drop)]
+pub enum CheckedOrder {
+    /// A command is to be queued for the card.
+    Command(CheckedCommand),
+
+    /// The card is to have a status.
     Status(CheckedStatus),
 }
 
@@ -62,4 +72,52 @@ pub struct CheckedStatus {
 
     /// The number of the card.
     pub card: u32,
+}
+
+impl CheckedOrder {
+    /// The number of the card.
+    pub fn card(&self) -> u32
+        ensures { result ≡ number_of_order self.now }
+    {
+        match self {
+            CheckedOrder::Command(found) => found.card,
+            CheckedOrder::Status(found) => found.card,
+        }
+    }
+
+    /// The record that the order asks for.
+    pub fn to_entry(&self) -> Entry
+        ensures { result ≡ record_of self.now }
+    {
+        match self {
+            CheckedOrder::Command(found) => found.to_entry(),
+            CheckedOrder::Status(found) => found.to_entry(),
+        }
+    }
+}
+
+impl CheckedCommand {
+    /// The record of the command, once it is queued.
+    pub fn to_entry(&self) -> Entry
+        ensures { result ≡ Entry.Queued self.now.pan self.now.psn self.now.command }
+    {
+        Entry::Queued {
+            pan: self.pan.copy(),
+            psn: self.psn,
+            command: self.command.copy(),
+        }
+    }
+}
+
+impl CheckedStatus {
+    /// The record of the status, once it is set.
+    pub fn to_entry(&self) -> Entry
+        ensures { result ≡ Entry.Status self.now.pan self.now.psn self.now.status }
+    {
+        Entry::Status {
+            pan: self.pan.copy(),
+            psn: self.psn,
+            status: self.status,
+        }
+    }
 }

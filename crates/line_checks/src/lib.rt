@@ -7,6 +7,6 @@ mod checked;
 mod line;
 mod request;
 
-pub use checked::{Checked, CheckedCommand, CheckedRequest, CheckedStatus};
+pub use checked::{Checked, CheckedCommand, CheckedOrder, CheckedRequest, CheckedStatus};
 pub use line::{check_line, check_line_in};
 pub use request::check_request;

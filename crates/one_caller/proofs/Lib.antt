@@ -9,3 +9,4 @@ pub mod Loads
 pub mod Rooms
 pub mod Shown
 pub mod Running
+pub mod Orders

@@ -18,7 +18,8 @@ use Rattle.shard_book.specs.declared.shard.Shard.{Shard}
 use Rattle.shard_book.specs.Shards.{store_in}
 use Rattle.shard_book.proofs.LoadCrash.{crash-read}
 use Rattle.one_caller.specs.Hosts.{AreShards}
-use Rattle.one_caller.specs.Loading.{IsLoadedFrom, AreLoaded, IsGivenBack, IsNotLoaded, ComeBack}
+use Rattle.shard_book.specs.Loads.{IsLoadedFrom, IsNotLoaded}
+use Rattle.one_caller.specs.Loading.{AreLoaded, IsGivenBack, ComeBack}
 use Rattle.one_caller.proofs.Places.{read-within, read-front, read-behind, read-map}
 
 -- ---- stores that come back

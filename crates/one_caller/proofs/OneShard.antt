@@ -16,6 +16,7 @@ use Rattle.journal_rec.specs.RecordText.{texts_of}
 use Rattle.record_store.specs.Holding.{Holds}
 use Rattle.shard_book.specs.declared.shard.Shard.{Shard}
 use Rattle.shard_book.specs.Answering.{is_store_fault, told_after}
+use Rattle.shard_book.specs.Calls.{AnswersBy, LeavesImages, KeepsShard}
 use Rattle.shard_book.specs.Grounds.{grounds_now, IsImageOf}
 use Rattle.shard_book.specs.Shards.{number_in, IsUnder, HasCard, disk_in, faults_in, told_in, IsUndoubted, HoldsHistory, StandsFor}
 use Rattle.shard_book.proofs.ShardSteps.{crash-no_call}
@@ -42,15 +43,9 @@ module _ {S : Type 0} {G : Ghosts S} where
       (Changes : ℕ → List Entry → List Entry → Type 0) : Type 0 where
     pub home_is : home ≡ shard_of issuer name
     pub old_is : slice_get shards home ≡ Some old
-    pub answers : (history : List Entry) → StandsFor issuer old history
-        → (after : List Entry) × StandsFor issuer new after × Changes (number_in old) history after
-    pub leaves : (history : List Entry) → StandsFor issuer old history
-        → BothTold (LeavesOnly (IsImageOf (grounds_now issuer) (number_in old) history)) (disk_in old) (disk_in new)
-    pub counts : CountsFaults (faults_in old) (faults_in new) (is_store_fault answer)
-    pub told_is : told_in new ≡ told_after (told_in old) (is_store_fault answer)
-    pub undoubted : IsUndoubted old → IsUndoubted new
-    pub under : IsUnder issuer new
-    pub number_is : number_in new ≡ number_in old
+    pub answers : AnswersBy issuer old Changes new
+    pub leaves : LeavesImages issuer old new
+    pub keeps : KeepsShard issuer old answer new
 
   -- a card's number is that of a card of its shard
   pub card-at_home : (issuer : Setup) (shards : List (Shard S G)) → AreShards issuer shards → (number home : ℕ) (shard : Shard S G)
@@ -121,21 +116,21 @@ module _ {S : Type 0} {G : Ghosts S} where
           elim (cases_eq number home) [
             | inl same ↦
                 let its = there shard (subst (λ number. slice_get (set shards home new) number ≡ Some shard) same is) in
-                ap number_in (sym its) ∙ called.number_is ∙ are.numbers_are home old called.old_is ∙ sym same
+                ap number_in (sym its) ∙ called.keeps.number_is ∙ are.numbers_are home old called.old_is ∙ sym same
             | inr apart ↦ are.numbers_are number shard (there-other number shard apart is)
           ];
       under = λ number shard is.
           elim (cases_eq number home) [
             | inl same ↦
                 let its = there shard (subst (λ number. slice_get (set shards home new) number ≡ Some shard) same is) in
-                subst (IsUnder issuer) its called.under
+                subst (IsUnder issuer) its called.keeps.under
             | inr apart ↦ are.under number shard (there-other number shard apart is)
           ];
       undoubted = λ number shard is.
           elim (cases_eq number home) [
             | inl same ↦
                 let its = there shard (subst (λ number. slice_get (set shards home new) number ≡ Some shard) same is) in
-                subst IsUndoubted its (called.undoubted (are.undoubted home old called.old_is))
+                subst IsUndoubted its (called.keeps.undoubted (are.undoubted home old called.old_is))
             | inr apart ↦ are.undoubted number shard (there-other number shard apart is)
           ];
     }
@@ -163,7 +158,7 @@ module _ {S : Type 0} {G : Ghosts S} where
                         ∙ subst (λ number. slice_get (set books home after) number ≡ Some other) same other_is) in
                         subst (λ (other : Book). StandsForBook issuer shard other) book_at
                         (subst (λ (shard : Shard S G). StandsForBook issuer shard after) shard_at
-                        (stands-for_book issuer new answered.0 answered.1 (called.undoubted (are.undoubted home old called.old_is))))
+                        (stands-for_book issuer new answered.0 answered.1 (called.keeps.undoubted (are.undoubted home old called.old_is))))
                     | inr apart ↦
                         stand.each number shard other (there-other number shard apart shard_is) (sym (read-other books home after number apart) ∙ other_is)
                   ];
@@ -173,8 +168,8 @@ module _ {S : Type 0} {G : Ghosts S} where
               new = after;
               old_is = subst (λ number. slice_get books number ≡ Some book) called.home_is found.1;
               changes = subst (λ number. Changes number book.history answered.0) number_is answered.2;
-              counts = subst (λ faults. CountsFaults faults (faults_in new) (is_store_fault answer)) its.faults_are called.counts;
-              told_is = called.told_is ∙ ap (λ told. told_after told (is_store_fault answer)) its.told_are;
+              counts = subst (λ faults. CountsFaults faults (faults_in new) (is_store_fault answer)) its.faults_are called.keeps.counts;
+              told_is = called.keeps.told_is ∙ ap (λ told. told_after told (is_store_fault answer)) its.told_are;
               after_is = ap (λ number. set books number after) called.home_is;
             },
           )

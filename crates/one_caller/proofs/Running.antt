@@ -27,7 +27,8 @@ use Rattle.shard_book.specs.Histories.{GoesOn, IsImageBetween}
 use Rattle.shard_book.proofs.Histories.{goes-none, goes-then}
 use Rattle.one_caller.specs.Books.{Book}
 use Rattle.one_caller.specs.Hosts.{AreShards, StandsForBook, Stand}
-use Rattle.one_caller.specs.Loading.{IsLoadedFrom, AreLoaded}
+use Rattle.shard_book.specs.Loads.{IsLoadedFrom}
+use Rattle.one_caller.specs.Loading.{AreLoaded}
 use Rattle.one_caller.specs.OneHistory.{AreLegalBooks}
 use Rattle.one_caller.specs.Runs.{HoldsJournal, HoldJournals, LeaveBetween, HasRun}
 use Rattle.one_caller.specs.Turns.{Turn, Run}

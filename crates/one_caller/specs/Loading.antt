@@ -1,7 +1,7 @@
 -- What loading the shards of a host makes of their stores.
 use Rattle.std.specs.Prelude.{◌≡◌, ℕ, ◌<◌, false, List, ◌++◌, length, slice_get, Option, Some, All}
 use Rattle.issuer_base.specs.OutsideFaults.{CountsFaults}
-use Rattle.issuer_base.specs.Stores.{BothTold, Disk, HasRoom, LeavesOnly}
+use Rattle.issuer_base.specs.Stores.{BothTold, Disk, LeavesOnly}
 use Rattle.issuer_base.specs.Tells.{Tells}
 use Rattle.issuer_base.specs.declared.entry.Entry.{Entry}
 use Rattle.issuer_base.specs.declared.outside.store.Store.{Ghosts}
@@ -11,25 +11,11 @@ use Rattle.journal_rec.specs.Record.{IsRecord}
 use Rattle.journal_rec.specs.RecordText.{texts_of, IsUnbroken}
 use Rattle.record_store.specs.Images.{IsCutImage}
 use Rattle.shard_book.specs.declared.replay.LoadFault.{LoadFault}
-use Rattle.shard_book.specs.declared.replay.LoadFault.TheVariants.{NoMemory}
 use Rattle.shard_book.specs.declared.shard.Shard.{Shard}
-use Rattle.shard_book.specs.Loading.{StopsText, is_store_failure}
 use Rattle.shard_book.specs.Grounds.{grounds_of}
-use Rattle.shard_book.specs.Room.{Spares}
-use Rattle.shard_book.specs.Shards.{IsUnder, sure_in, disk_in, faults_in, told_in, IsUndoubted, IsLoaded, IsLoadImage, LeavesBytes, LeavesDisk}
+use Rattle.shard_book.specs.Loads.{IsLoadedFrom, IsNotLoaded}
 
 module _ {S : Type 0} {G : Ghosts S} where
-  -- the shard with this number was loaded from the store: it stands for the history that the store held, and meanwhile a crash leaves what
-  -- it might leave before, or the history's text; room that the store tells is left
-  pub record IsLoadedFrom (issuer : Setup) (number : ℕ) (store : S) (shard : Shard S G) : Type 0 where
-    pub loaded : IsLoaded issuer number (G.bytes store) shard
-    pub under : IsUnder issuer shard
-    pub untold : told_in shard ≡ 0
-    pub undoubted : IsUndoubted shard
-    pub leaves : BothTold (λ old new. LeavesOnly (IsCutImage (sure_in shard) old.now) old new) (G.disk store) (disk_in shard)
-    pub counts : CountsFaults (G.faults store) (faults_in shard) false
-    pub room : (spare : ℕ) → HasRoom spare (G.size store) (G.room store) → Spares spare shard
-
   -- each shard was loaded from the store at its place
   pub record AreLoaded (issuer : Setup) (stores : List S) (shards : List (Shard S G)) : Type 0 where
     pub count_is : length shards ≡ length stores
@@ -51,16 +37,6 @@ module _ {S : Type 0} (bytes : S → Option (List ℕ)) (disk : S → Option Dis
     pub leaves : BothTold (λ old new. LeavesOnly (IsCutImage (length (texts_of history)) old.now) old new) (disk store) (disk back)
     pub counts : CountsFaults (faults store) (faults back) false
 
-  -- the shard with this number can't be loaded from the store for this reason, and this is the store afterwards: it has the bytes that it had,
-  -- or where it failed maybe those of the records alone; so does what a crash meanwhile leaves, or it is what it might leave before
-  pub record IsNotLoaded (issuer : Setup) (number : ℕ) (store : S) (fault : LoadFault) (back : S) : Type 0 where
-    pub stops : StopsText issuer number (bytes store) fault
-    pub kept : LeavesBytes fault (bytes store) (bytes back)
-    pub still : LeavesDisk fault (disk store) (disk back)
-    pub leaves : BothTold (λ old new. LeavesOnly (IsLoadImage old.now) old new) (disk store) (disk back)
-    pub counts : CountsFaults (faults store) (faults back) (is_store_failure fault)
-    pub untouched : fault ≡ NoMemory → back ≡ store
-
   -- the stores come back in order: those before the one that failed as they were loaded, those behind it as they were
   pub record ComeBack (issuer : Setup) (stores : List S) (failed : ℕ) (fault : LoadFault) (back : List S) : Type 0 where
     pub count_is : length back ≡ length stores
@@ -68,5 +44,5 @@ module _ {S : Type 0} (bytes : S → Option (List ℕ)) (disk : S → Option Dis
     pub before : (number : ℕ) (store after : S) → number < failed → slice_get stores number ≡ Some store → slice_get back number ≡ Some after
         → IsGivenBack issuer number store after
     pub at : (store after : S) → slice_get stores failed ≡ Some store → slice_get back failed ≡ Some after
-        → IsNotLoaded issuer failed store fault after
+        → IsNotLoaded bytes disk faults issuer failed store fault after
     pub behind : (number : ℕ) → failed < number → slice_get back number ≡ slice_get stores number

@@ -5,24 +5,27 @@ use Rattle.issuer_base.specs.declared.answer.Answer.{Answer}
 use Rattle.issuer_base.specs.declared.answer.Refusal.{Refusal}
 use Rattle.issuer_base.specs.declared.outside.store.Store.{Ghosts}
 use Rattle.card_history.specs.declared.decision.Asked.{Asked}
-use Rattle.card_history.specs.declared.decision.Asked.TheVariants.{Decide, Queue, Status}
-use Rattle.card_history.specs.Records.{named, card_of}
+use Rattle.card_history.specs.declared.decision.Asked.TheVariants.{Queue}
 use Rattle.issuer_setup.specs.IssuerSetup.{Setup, shard_of}
 use Rattle.journal_rec.specs.declared.limits.TheConstants.{MOST_QUEUED_BYTES, MOST_RECORD_BYTES}
 use Rattle.shard_book.specs.declared.shard.Shard.{Shard}
 use Rattle.shard_book.specs.Answering.{is_store_fault}
 use Rattle.shard_book.specs.Room.{Spares}
+use Rattle.one_caller.specs.Turns.{card_asked}
 
 -- how many bytes a record of the shard home adds to the shard with this number at most
 abbrev pub added_at : ℕ → ℕ → ℕ → ℕ
 added_at home most number = if number == home then most else 0
 
+-- how many bytes the record has at most that a line asks for
+abbrev pub most_asked : Asked → ℕ
+most_asked (Queue pan psn command) = MOST_QUEUED_BYTES
+most_asked _ = MOST_RECORD_BYTES
+
 -- how many bytes a line adds to the shard with this number at most, by what it asks
 abbrev pub added_by : Setup → Result Asked Refusal → ℕ → ℕ
 added_by issuer (Err refusal) number = 0
-added_by issuer (Ok (Decide request)) number = added_at (shard_of issuer (card_of request)) MOST_RECORD_BYTES number
-added_by issuer (Ok (Queue pan psn command)) number = added_at (shard_of issuer (named pan psn)) MOST_QUEUED_BYTES number
-added_by issuer (Ok (Status pan psn status)) number = added_at (shard_of issuer (named pan psn)) MOST_RECORD_BYTES number
+added_by issuer (Ok asked) number = added_at (shard_of issuer (card_asked asked)) (most_asked asked) number
 
 -- each store tells its room, and so many more bytes, by its place, are within it
 pub record StoresHaveRoom {S : Type 0} (size : S → ℕ) (room : S → Option ℕ) (spare : ℕ → ℕ) (stores : List S) : Type 0 where

@@ -11,7 +11,7 @@ use Rattle.card_history.specs.Records.{CardName, named, card_of}
 use Rattle.issuer_setup.specs.IssuerSetup.{Setup, shard_of}
 use Rattle.row_core.specs.Replying.{reply_to}
 use Rattle.line_checks.specs.Reading.{reading}
-use Rattle.shard_book.specs.Answering.{is_store_fault, told_after, AnswersClaimed, AnswersQueueing, AnswersSetting}
+use Rattle.shard_book.specs.Answering.{is_store_fault, told_after, AnswersClaimed, AnswersOrder}
 use Rattle.one_caller.specs.Books.{Book}
 
 -- a line is answered in the shard of its card, on that shard's history; the store's count rises just where the answer tells that the
@@ -30,17 +30,24 @@ pub record AnswersIn (issuer : Setup) (before : List Book) (card : CardName) (an
 abbrev pub IsRefused : List Book → Refusal → Answer → List Book → Type 0
 IsRefused before refusal answer after = (answer ≡ Refused refusal) × (after ≡ before)
 
--- one turn: a line that is refused as it is read leaves all books; a request, a command and a status are answered in the shard of
--- their card, and in place of an answer that adds a record it may be told that the store failed
+-- the card that a line asks of
+abbrev pub card_asked : Asked → CardName
+card_asked (Decide request) = card_of request
+card_asked (Queue pan psn command) = named pan psn
+card_asked (Status pan psn status) = named pan psn
+
+-- what that card's shard may answer: a request is decided for the only caller, and an order is recorded
+abbrev pub AnswersAsked : Setup → Asked → Answer → ℕ → List Entry → List Entry → Type 0
+AnswersAsked issuer (Decide request) answer shard old new =
+    AnswersClaimed shard (reply_to issuer) true old request answer new
+AnswersAsked issuer order answer shard old new = AnswersOrder shard old order answer new
+
+-- one turn: a line that is refused as it is read leaves all books; any other is answered in the shard of its card, and in
+-- place of an answer that adds a record the answer may be that the store failed
 abbrev pub Turn : Setup → List Book → Result Asked Refusal → Answer → List Book → Type 0
 Turn issuer before (Err refusal) answer after = IsRefused before refusal answer after
-Turn issuer before (Ok (Decide request)) answer after =
-    AnswersIn issuer before (card_of request) answer
-    (λ shard old new. AnswersClaimed shard (reply_to issuer) true old request answer new) after
-Turn issuer before (Ok (Queue pan psn command)) answer after =
-    AnswersIn issuer before (named pan psn) answer (λ shard old new. AnswersQueueing shard old (named pan psn) command answer new) after
-Turn issuer before (Ok (Status pan psn status)) answer after =
-    AnswersIn issuer before (named pan psn) answer (λ shard old new. AnswersSetting shard old (named pan psn) status answer new) after
+Turn issuer before (Ok asked) answer after =
+    AnswersIn issuer before (card_asked asked) answer (AnswersAsked issuer asked answer) after
 
 -- a run of turns: these answers to these lines, one after another
 abbrev pub Run : Setup → List Book → List (List ℕ) → List Answer → List Book → Type 0

@@ -1,11 +1,11 @@
 //! The host of one caller.
 ghost use Rattle.std.specs.Prelude.{◌≡◌, ◌<◌, ◌≤◌, ◌%◌, ℕ, List, [], ◌∷◌, ◌++◌, length, map, reverse, vec_capacity, slice_get, Some, Ok, IfOk, IfErr, MatchResult, false};
-ghost use Rattle.card_history.specs.declared.decision.Asked.TheVariants.{Decide, Queue, Status};
+ghost use Rattle.card_history.specs.declared.decision.Asked.TheVariants.{Decide};
 ghost use Rattle.card_history.specs.Records.{CardName};
 ghost use Rattle.issuer_setup.specs.CardList.{name_of, number_of};
 ghost use Rattle.issuer_setup.specs.IssuerSetup.{shard_of};
 ghost use Rattle.issuer_setup.specs.declared.card.CardInfo.{CardInfo};
-ghost use Rattle.line_checks.specs.AtHand.{IsRequestAtHand, IsCommandAtHand, IsStatusAtHand};
+ghost use Rattle.line_checks.specs.AtHand.{IsRequestAtHand, IsOrderAtHand, order_asked};
 ghost use Rattle.line_checks.specs.Reading.{checked, reading};
 ghost use Rattle.shard_book.specs.Answering.{tells_change};
 ghost use Rattle.shard_book.specs.Loading.{is_store_failure};
@@ -22,7 +22,7 @@ use crate::loading::{HostBack, Lists, load_all, take_lists, take_stores};
 use card_history::CardView;
 use issuer_base::{Answer, MAX_CHIP_BYTES, Store};
 use issuer_setup::Issuer;
-use line_checks::{Checked, CheckedCommand, CheckedRequest, CheckedStatus, check_line_in};
+use line_checks::{Checked, CheckedOrder, CheckedRequest, check_line_in};
 use shard_book::{LoadFault, Shard};
 use std::alloc::Global;
 
@@ -98,8 +98,7 @@ impl<S: Store> Solo<S> {
     {
         match check_line_in(&mut self.issuer, line, &mut self.data) {
             Ok(Checked::Decide(found)) => self.decide(&found),
-            Ok(Checked::Queue(found)) => self.queue(found),
-            Ok(Checked::Status(found)) => self.set_status(found),
+            Ok(Checked::Order(found)) => self.order(&found),
             Err(refusal) => Answer::Refused(refusal),
         }
     }
@@ -164,36 +163,21 @@ impl<S: Store> Solo<S> {
         self.shards[shard].answer(&self.issuer, found, true)
     }
 
-    /// The answer to a command that was checked, in the shard of its card.
-    fn queue(&mut self, found: CheckedCommand) -> Answer
-        requires { IsCommandAtHand self.old.issuer found }
+    /// The answer to an order that was checked, in the shard of its card.
+    fn order(&mut self, found: &CheckedOrder) -> Answer
+        requires { IsOrderAtHand self.old.issuer found.now }
         ensures turn { (books : List Book) → Stand self.old.issuer self.old.shards.items books
             → (after : List Book) × Stand self.new.issuer self.new.shards.items after
-            × Turn self.old.issuer books (Ok (Queue found.pan found.psn found.command)) result after }
-        ensures room { AnswersWithin self.old.issuer (Ok (Queue found.pan found.psn found.command)) result self.old.shards.items self.new.shards.items }
+            × Turn self.old.issuer books (Ok (order_asked found.now)) result after }
+        ensures room { AnswersWithin self.old.issuer (Ok (order_asked found.now)) result
+            self.old.shards.items self.new.shards.items }
         ensures crash { (books : List Book) → Stand self.old.issuer self.old.shards.items books
             → LeaveBetween self.old.issuer books books self.old.shards.items self.new.shards.items }
         ensures unchanged { tells_change result ≡ false → self.new.shards.items ≡ self.old.shards.items }
         ensures issuer { self.new.issuer ≡ self.old.issuer }
     {
-        let shard = self.home(found.card);
-        self.shards[shard].queue(&self.issuer, found)
-    }
-
-    /// The answer to a status that was checked, in the shard of its card.
-    fn set_status(&mut self, found: CheckedStatus) -> Answer
-        requires { IsStatusAtHand self.old.issuer found }
-        ensures turn { (books : List Book) → Stand self.old.issuer self.old.shards.items books
-            → (after : List Book) × Stand self.new.issuer self.new.shards.items after
-            × Turn self.old.issuer books (Ok (Status found.pan found.psn found.status)) result after }
-        ensures room { AnswersWithin self.old.issuer (Ok (Status found.pan found.psn found.status)) result self.old.shards.items self.new.shards.items }
-        ensures crash { (books : List Book) → Stand self.old.issuer self.old.shards.items books
-            → LeaveBetween self.old.issuer books books self.old.shards.items self.new.shards.items }
-        ensures unchanged { tells_change result ≡ false → self.new.shards.items ≡ self.old.shards.items }
-        ensures issuer { self.new.issuer ≡ self.old.issuer }
-    {
-        let shard = self.home(found.card);
-        self.shards[shard].set_status(&self.issuer, found)
+        let shard = self.home(found.card());
+        self.shards[shard].order(&self.issuer, found)
     }
 }
 

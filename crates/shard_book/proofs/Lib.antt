@@ -13,6 +13,7 @@ pub mod Adopted
 pub mod Lines
 pub mod Loaded
 pub mod LoadCrash
+pub mod LoadResults
 pub mod OwnDecisions
 pub mod Exactly
 pub mod Restarts

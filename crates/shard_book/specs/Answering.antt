@@ -9,7 +9,9 @@ use Rattle.issuer_base.specs.declared.answer.Refusal.TheVariants.{Pending, Store
 use Rattle.issuer_base.specs.declared.entry.Entry.{Entry}
 use Rattle.issuer_base.specs.declared.limits.TheConstants.{MAX_FAULTS_TOLD}
 use Rattle.issuer_base.specs.declared.outside.store.Store.{Ghosts}
-use Rattle.card_history.specs.Records.{CardName}
+use Rattle.card_history.specs.declared.decision.Asked.{Asked}
+use Rattle.card_history.specs.declared.decision.Asked.TheVariants.{Decide, Queue, Status}
+use Rattle.card_history.specs.Records.{CardName, named}
 use Rattle.card_history.specs.Scripts.{waiting, scripts_of}
 use Rattle.card_history.specs.Turns.{IsUnused, decided_for, Answers, AnswersCommand, AnswersStatus}
 use Rattle.script_queue.specs.CommandQueue.{TakesOneMore}
@@ -57,6 +59,14 @@ AnswersQueueing shard before card command answer after = AnswersCommand shard be
 abbrev pub AnswersSetting : ℕ → List Entry → CardName → ℕ → Answer → List Entry → Type 0
 AnswersSetting shard before card status (Refused StoreFault) after = after ≡ before
 AnswersSetting shard before card status answer after = AnswersStatus shard before card status answer after
+
+-- what may be answered to an order: a command to be queued, or a status to be set
+abbrev pub AnswersOrder : ℕ → List Entry → Asked → Answer → List Entry → Type 0
+AnswersOrder shard before (Queue pan psn command) answer after =
+    AnswersQueueing shard before (named pan psn) command answer after
+AnswersOrder shard before (Status pan psn status) answer after =
+    AnswersSetting shard before (named pan psn) status answer after
+AnswersOrder shard before (Decide request) answer after = ⊥
 
 -- what stands behind the text after an answer: nothing where the record that was asked for is added; where the store failed what stood there
 -- before, or a front of the text of this record

@@ -5,8 +5,10 @@ pub mod Grounds
 pub mod Shards
 pub mod Recorded
 pub mod Answering
+pub mod Calls
 pub mod LineAhead
 pub mod Loading
+pub mod Loads
 pub mod Room
 pub mod Histories
 pub mod Restarts

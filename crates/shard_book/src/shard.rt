@@ -1,7 +1,7 @@
 //! A shard over a store: what it answers, and what it writes before that.
 ghost use Rattle.std.specs.Prelude.{◌≡◌, ◌⊎◌, ℕ, ◌^◌, ◌≤◌, ◌/◌, slice_get, Some, min, if◌then◌else◌, List, [], ◌∷◌, ◌++◌, length, ◌<◌, Ok, IfOk, IfErr, IsErr, MatchResult, All, false, true, IsTrue, is_err};
 ghost use Rattle.issuer_base.specs.OutsideFaults.{CountsFaults};
-ghost use Rattle.issuer_base.specs.Stores.{BothTold, CutsBytes, LeavesOnly};
+ghost use Rattle.issuer_base.specs.Stores.{BothTold, CutsBytes, HasRoom, LeavesOnly};
 ghost use Rattle.issuer_base.specs.declared.entry.Entry.{Entry};
 ghost use Rattle.card_history.specs.declared.decision.Asked.TheVariants.{Decide};
 ghost use Rattle.card_history.specs.LegalRecords.{IsLegal};
@@ -10,7 +10,7 @@ ghost use Rattle.issuer_setup.specs.declared.card.CardInfo.{CardInfo};
 ghost use Rattle.issuer_setup.specs.IssuerSetup.{Setup};
 ghost use Rattle.row_core.specs.Plan.{IsNext};
 ghost use Rattle.row_core.specs.Replying.{reply_to};
-ghost use Rattle.line_checks.specs.AtHand.{IsRequestAtHand, IsCommandAtHand, IsStatusAtHand};
+ghost use Rattle.line_checks.specs.AtHand.{IsRequestAtHand, IsCommandAtHand, IsStatusAtHand, IsOrderAtHand, order_asked, record_of, number_of_order};
 ghost use Rattle.line_checks.specs.Reading.{checked};
 ghost use Rattle.journal_rec.specs.Record.{is_record, IsRecord};
 ghost use Rattle.journal_rec.specs.RecordText.{text_of};
@@ -18,13 +18,15 @@ ghost use Rattle.journal_rec.specs.declared.limits.TheConstants.{LEAST_RECORD_BY
 ghost use Rattle.issuer_base.specs.Tells.{Tells};
 ghost use Rattle.record_store.specs.Holding.{Holds};
 ghost use Rattle.record_store.specs.Images.{IsCutImage};
-ghost use Rattle.shard_book.specs.Loading.{StopsText, IsOutside, is_store_failure};
+ghost use Rattle.shard_book.specs.Loading.{IsOutside, is_store_failure};
 ghost use Rattle.shard_book.specs.Grounds.{grounds_now, grounds_of, HasTable, IsImageOf};
 ghost use Rattle.shard_book.specs.Steps.{IsCardOf};
-ghost use Rattle.shard_book.specs.Shards.{number_in, IsUnder, HasCard, store_in, sure_in, disk_in, faults_in, places_in, told_in, IsUndoubted, HoldsHistory, StandsFor, HasTail, Adds, IsLoaded, IsLoadImage, IsTextOf, IsImageLeft, IsSettled, StandsForLeft, LeavesBytes, LeavesDisk};
+ghost use Rattle.shard_book.specs.Shards.{number_in, IsUnder, HasCard, store_in, sure_in, disk_in, faults_in, places_in, told_in, IsUndoubted, HoldsHistory, StandsFor, HasTail, Adds, IsTextOf, IsImageLeft, IsSettled, StandsForLeft};
 ghost use Rattle.shard_book.specs.Recorded.{AddsRecorded};
 ghost use Rattle.shard_book.specs.Room.{most_of, UsesRoom, LoadsWithin};
-ghost use Rattle.shard_book.specs.Answering.{is_store_fault, tells_change, LeavesTail, told_after, AnswersClaimed, AnswersQueueing, AnswersSetting};
+ghost use Rattle.shard_book.specs.Answering.{is_store_fault, tells_change, LeavesTail, told_after, AnswersClaimed, AnswersQueueing, AnswersSetting, AnswersOrder};
+ghost use Rattle.shard_book.specs.Calls.{AnswersBy, LeavesImages, KeepsShard};
+ghost use Rattle.shard_book.specs.Loads.{IsLoadedFrom, IsNotLoaded};
 
 use crate::reading::take_over;
 use crate::replay::{LoadFault, Taken, TakenOver};
@@ -36,7 +38,7 @@ use issuer_base::{
 };
 use issuer_setup::Issuer;
 use journal_rec::{write_decided, write_entry};
-use line_checks::{CheckedCommand, CheckedRequest, CheckedStatus};
+use line_checks::{CheckedCommand, CheckedOrder, CheckedRequest, CheckedStatus};
 use record_store::Journal;
 use row_core::{Outcome, Row};
 use std::alloc::Global;
@@ -57,10 +59,10 @@ pub struct LoadBack<S> {
 }
 
 impl<S: Store> Shard<S> {
-    /// Loads the shard with this number of an issuer from its store: takes over the records of the store's whole lines, cuts away
-    /// what stands behind them, and makes them safe. The first bad line stops it, and then the store is as it was.
+    /// Loads the shard with this number of an issuer from its store: replays the records of the store's whole lines,
+    /// truncates a torn last line, and syncs the store. The first bad line stops it, and then the store is unchanged.
     ///
-    /// All memory, that for a part of the store's bytes among it, is taken before the store is read, and no later call takes any.
+    /// It allocates all memory before it reads the store. No later call allocates.
     pub fn load(
         alloc: Global,
         store: S,
@@ -68,37 +70,25 @@ impl<S: Store> Shard<S> {
         issuer: &Issuer,
     ) -> Result<Shard<S>, LoadBack<S>>
         requires { shard < issuer.now.shards }
-        ensures loaded { IfOk result (IsLoaded issuer.now shard (S.bytes store)) }
-        ensures under { IfOk result (IsUnder issuer.now) }
-        ensures number { IfOk result (λ loaded. number_in loaded ≡ shard) }
-        ensures few { IfOk result (λ loaded. places_in loaded ≤ S.size store) }
-        ensures untold { IfOk result (λ loaded. told_in loaded ≡ 0) }
-        ensures undoubted { IfOk result IsUndoubted }
-        ensures stopped { IfErr result (λ back. StopsText issuer.now shard (S.bytes store) back.fault) }
+        ensures loaded { IfOk result (IsLoadedFrom issuer.now shard store) }
 
-        // The text of a legal history is loaded, and to just this history; only what is outside stops it.
+        // The text of a legal history is loaded, and as just this history. Only memory or the store itself can stop it.
         ensures exact { (history : List Entry) → IsTextOf (grounds_of issuer.now) shard (S.bytes store) history
             → MatchResult result (λ loaded. IsSettled issuer.now loaded history) (λ back. IsOutside back.fault) }
 
-        // So is what a crash left of a history, under whatever decision table: to the history, or to it and the one record whose text is whole.
+        // So is what a crash left of a history, under whatever decision table: as that history, or as it and the one
+        // record whose text is whole.
         ensures image { (history : List Entry) → IsImageLeft issuer.now shard (S.bytes store) history
             → MatchResult result (StandsForLeft issuer.now shard (S.bytes store) history) (λ back. IsOutside back.fault) }
+        ensures stopped { IfErr result
+            (λ back. IsNotLoaded S.bytes S.disk S.faults issuer.now shard store back.fault back.store) }
+        ensures size { IfErr result
+            (λ back. is_store_failure back.fault ≡ false → S.size back.store ≡ S.size store) }
+
+        // A store that works at its size doesn't fail.
+        ensures room { (spare : ℕ) → HasRoom spare (S.size store) (S.room store)
+            → IfErr result (λ back. is_store_failure back.fault ≡ false) }
         ensures table { HasTable issuer.now }
-
-        // A load that failed leaves the bytes, or where the store failed maybe those of the records alone.
-        ensures kept { IfErr result (λ back. LeavesBytes back.fault (S.bytes store) (S.bytes back.store)) }
-        ensures still { IfErr result (λ back. LeavesDisk back.fault (S.disk store) (S.disk back.store)) }
-        ensures size { IfErr result (λ back. is_store_failure back.fault ≡ false → S.size back.store ≡ S.size store) }
-        ensures untouched { IfErr result (λ back. back.fault ≡ LoadFault.NoMemory → back.store ≡ store) }
-
-        // While it is loaded a crash leaves what it might leave before, or the text of the records alone.
-        ensures opened { IfOk result (λ loaded. BothTold (λ old new. LeavesOnly (IsCutImage (sure_in loaded) old.now) old new) (S.disk store) (disk_in loaded)) }
-        ensures crash { IfErr result (λ back. BothTold (λ old new. LeavesOnly (IsLoadImage old.now) old new) (S.disk store) (S.disk back.store)) }
-
-        // A store that works at the size that it has doesn't fail, and has the same room when it is loaded.
-        ensures room { LoadsWithin (S.size store) (S.room store) result }
-        ensures count { IfOk result (λ loaded. CountsFaults (S.faults store) (faults_in loaded) false) }
-        ensures failed { IfErr result (λ back. CountsFaults (S.faults store) (S.faults back.store) (is_store_failure back.fault)) }
     {
         has_table(issuer);
         let mut store = store;
@@ -108,34 +98,28 @@ impl<S: Store> Shard<S> {
         }
     }
 
-    /// The answer to a request of a card of this shard that was checked. `won` says whether the caller may decide it.
+    /// The answer to a checked request of a card of this shard. `won` says whether the caller may decide it.
     ///
-    /// A new decision is safe in the store before it is answered.
+    /// A new decision is durable before it is answered.
     pub fn answer(&mut self, issuer: &Issuer, found: &CheckedRequest, won: bool) -> Answer
         requires under { IsUnder issuer.now self.old }
         requires home { HasCard self.old found.now.card }
         requires at_hand { IsRequestAtHand issuer.now found.now }
         requires checked { checked issuer.now found.now.request ≡ Ok (Decide found.now.request) }
-        ensures answer { (history : List Entry) → StandsFor issuer.now self.old history
-            → (after : List Entry) × StandsFor issuer.now self.new after
-            × AnswersClaimed (number_in self.old) (reply_to issuer.now) won history found.now.request result after }
+        ensures answer { AnswersBy issuer.now self.old (λ shard history after.
+            AnswersClaimed shard (reply_to issuer.now) won history found.now.request result after) self.new }
 
-        // Nothing is in doubt behind a new record; after a fault this very record may be, or what was before. Else all is as it was.
-        ensures tail { (history : List Entry) (tail : List ℕ) → StandsFor issuer.now self.old history → HasTail self.old history tail
-            → LeavesTail (Entry.Decided found.now.request (reply_to issuer.now history found.now.request)) history tail result self.new }
+        // After a new record nothing is in doubt. After a fault this very record may be, or what was in doubt before.
+        ensures tail { (history : List Entry) (tail : List ℕ) → StandsFor issuer.now self.old history
+            → HasTail self.old history tail
+            → LeavesTail (Entry.Decided found.now.request (reply_to issuer.now history found.now.request))
+            history tail result self.new }
         ensures unchanged { tells_change result ≡ false → self.new ≡ self.old }
-
-        // Whatever a crash since the start of the call may leave is the text of the history before it, and a torn record behind it.
-        ensures crash { (history : List Entry) → StandsFor issuer.now self.old history
-            → BothTold (LeavesOnly (IsImageOf (grounds_now issuer.now) (number_in self.old) history)) (disk_in self.old) (disk_in self.new) }
+        ensures crash { LeavesImages issuer.now self.old self.new }
 
         // With room for so many bytes and more the store doesn't fail, and the room for the more is left.
         ensures room { UsesRoom MOST_RECORD_BYTES (is_store_fault result) self.old self.new }
-        ensures count { CountsFaults (faults_in self.old) (faults_in self.new) (is_store_fault result) }
-        ensures told { told_in self.new ≡ told_after (told_in self.old) (is_store_fault result) }
-        ensures undoubted { IsUndoubted self.old → IsUndoubted self.new }
-        ensures under { IsUnder issuer.now self.new }
-        ensures number { number_in self.new ≡ number_in self.old }
+        ensures kept { KeepsShard issuer.now self.old result self.new }
     {
         let shard = self.rows.shard();
         match self.rows.plan(issuer, found, self.journal.records()) {
@@ -155,84 +139,25 @@ impl<S: Store> Shard<S> {
         }
     }
 
-    /// The answer to a command for a card of this shard that was checked.
-    pub fn queue(&mut self, issuer: &Issuer, found: CheckedCommand) -> Answer
+    /// The answer to a checked order for a card of this shard. Its record is durable before it is answered.
+    pub fn order(&mut self, issuer: &Issuer, found: &CheckedOrder) -> Answer
         requires under { IsUnder issuer.now self.old }
-        requires home { HasCard self.old found.card }
-        requires at_hand { IsCommandAtHand issuer.now found }
-        ensures answer { (history : List Entry) → StandsFor issuer.now self.old history
-            → (after : List Entry) × StandsFor issuer.now self.new after
-            × AnswersQueueing (number_in self.old) history (named found.pan found.psn) found.command result after }
-        ensures tail { (history : List Entry) (tail : List ℕ) → HasTail self.old history tail
-            → LeavesTail (Entry.Queued found.pan found.psn found.command) history tail result self.new }
-        ensures unchanged { tells_change result ≡ false → self.new ≡ self.old }
-        ensures crash { (history : List Entry) → StandsFor issuer.now self.old history
-            → BothTold (LeavesOnly (IsImageOf (grounds_now issuer.now) (number_in self.old) history)) (disk_in self.old) (disk_in self.new) }
-        ensures room { UsesRoom MOST_QUEUED_BYTES (is_store_fault result) self.old self.new }
-        ensures count { CountsFaults (faults_in self.old) (faults_in self.new) (is_store_fault result) }
-        ensures told { told_in self.new ≡ told_after (told_in self.old) (is_store_fault result) }
-        ensures undoubted { IsUndoubted self.old → IsUndoubted self.new }
-        ensures under { IsUnder issuer.now self.new }
-        ensures number { number_in self.new ≡ number_in self.old }
-    {
-        if !self.rows.takes_command(found.card) {
-            return Answer::Refused(Refusal::QueueFull);
-        }
-        let CheckedCommand {
-            pan,
-            psn,
-            command,
-            card,
-        } = found;
-        let entry = Entry::Queued {
-            pan,
-            psn,
-            command: command.copy(),
-        };
-        let Ok(place) = self.put(&entry) else {
-            return Answer::Refused(Refusal::StoreFault);
-        };
-        self.rows.push(card, command);
-        Answer::Queued {
-            shard: self.rows.shard(),
-            place,
-        }
-    }
+        requires home { HasCard self.old (number_of_order found.now) }
+        requires at_hand { IsOrderAtHand issuer.now found.now }
+        ensures answer { AnswersBy issuer.now self.old (λ shard history after.
+            AnswersOrder shard history (order_asked found.now) result after) self.new }
 
-    /// The answer to a status for a card of this shard that was checked.
-    pub fn set_status(&mut self, issuer: &Issuer, found: CheckedStatus) -> Answer
-        requires under { IsUnder issuer.now self.old }
-        requires home { HasCard self.old found.card }
-        requires at_hand { IsStatusAtHand issuer.now found }
-        ensures answer { (history : List Entry) → StandsFor issuer.now self.old history
-            → (after : List Entry) × StandsFor issuer.now self.new after
-            × AnswersSetting (number_in self.old) history (named found.pan found.psn) found.status result after }
+        // As for a request: nothing is in doubt after the record, and after a fault this very record may be.
         ensures tail { (history : List Entry) (tail : List ℕ) → HasTail self.old history tail
-            → LeavesTail (Entry.Status found.pan found.psn found.status) history tail result self.new }
+            → LeavesTail (record_of found.now) history tail result self.new }
         ensures unchanged { tells_change result ≡ false → self.new ≡ self.old }
-        ensures crash { (history : List Entry) → StandsFor issuer.now self.old history
-            → BothTold (LeavesOnly (IsImageOf (grounds_now issuer.now) (number_in self.old) history)) (disk_in self.old) (disk_in self.new) }
-        ensures room { UsesRoom MOST_RECORD_BYTES (is_store_fault result) self.old self.new }
-        ensures count { CountsFaults (faults_in self.old) (faults_in self.new) (is_store_fault result) }
-        ensures told { told_in self.new ≡ told_after (told_in self.old) (is_store_fault result) }
-        ensures undoubted { IsUndoubted self.old → IsUndoubted self.new }
-        ensures under { IsUnder issuer.now self.new }
-        ensures number { number_in self.new ≡ number_in self.old }
+        ensures crash { LeavesImages issuer.now self.old self.new }
+        ensures room { UsesRoom (most_of (record_of found.now)) (is_store_fault result) self.old self.new }
+        ensures kept { KeepsShard issuer.now self.old result self.new }
     {
-        let CheckedStatus {
-            pan,
-            psn,
-            status,
-            card,
-        } = found;
-        let entry = Entry::Status { pan, psn, status };
-        let Ok(place) = self.put(&entry) else {
-            return Answer::Refused(Refusal::StoreFault);
-        };
-        self.rows.set_status(card, status);
-        Answer::Set {
-            shard: self.rows.shard(),
-            place,
+        match found {
+            CheckedOrder::Command(found) => self.queue(issuer, found),
+            CheckedOrder::Status(found) => self.set_status(issuer, found),
         }
     }
 
@@ -284,6 +209,57 @@ impl<S: Store> Shard<S> {
             told: _,
         } = self;
         journal.into_store()
+    }
+
+    /// The answer to a command.
+    fn queue(&mut self, issuer: &Issuer, found: &CheckedCommand) -> Answer
+        requires under { IsUnder issuer.now self.old }
+        requires home { HasCard self.old found.now.card }
+        requires at_hand { IsCommandAtHand issuer.now found.now }
+        ensures answer { AnswersBy issuer.now self.old (λ shard history after.
+            AnswersQueueing shard history (named found.now.pan found.now.psn) found.now.command result after) self.new }
+        ensures tail { (history : List Entry) (tail : List ℕ) → HasTail self.old history tail
+            → LeavesTail (Entry.Queued found.now.pan found.now.psn found.now.command) history tail result self.new }
+        ensures unchanged { tells_change result ≡ false → self.new ≡ self.old }
+        ensures crash { LeavesImages issuer.now self.old self.new }
+        ensures room { UsesRoom MOST_QUEUED_BYTES (is_store_fault result) self.old self.new }
+        ensures kept { KeepsShard issuer.now self.old result self.new }
+    {
+        if !self.rows.takes_command(found.card) {
+            return Answer::Refused(Refusal::QueueFull);
+        }
+        let Ok(place) = self.put(&found.to_entry()) else {
+            return Answer::Refused(Refusal::StoreFault);
+        };
+        self.rows.push(found.card, found.command.copy());
+        Answer::Queued {
+            shard: self.rows.shard(),
+            place,
+        }
+    }
+
+    /// The answer to a status.
+    fn set_status(&mut self, issuer: &Issuer, found: &CheckedStatus) -> Answer
+        requires under { IsUnder issuer.now self.old }
+        requires home { HasCard self.old found.now.card }
+        requires at_hand { IsStatusAtHand issuer.now found.now }
+        ensures answer { AnswersBy issuer.now self.old (λ shard history after.
+            AnswersSetting shard history (named found.now.pan found.now.psn) found.now.status result after) self.new }
+        ensures tail { (history : List Entry) (tail : List ℕ) → HasTail self.old history tail
+            → LeavesTail (Entry.Status found.now.pan found.now.psn found.now.status) history tail result self.new }
+        ensures unchanged { tells_change result ≡ false → self.new ≡ self.old }
+        ensures crash { LeavesImages issuer.now self.old self.new }
+        ensures room { UsesRoom MOST_RECORD_BYTES (is_store_fault result) self.old self.new }
+        ensures kept { KeepsShard issuer.now self.old result self.new }
+    {
+        let Ok(place) = self.put(&found.to_entry()) else {
+            return Answer::Refused(Refusal::StoreFault);
+        };
+        self.rows.set_status(found.card, found.status);
+        Answer::Set {
+            shard: self.rows.shard(),
+            place,
+        }
     }
 
     /// Decides a request by its plan.

@@ -19,7 +19,8 @@ use Rattle.shard_book.specs.Loading.{StopsAt, StopsText, is_store_failure}
 use Rattle.shard_book.specs.Shards.{faults_in}
 use Rattle.one_caller.specs.Books.{Book}
 use Rattle.one_caller.specs.Hosts.{Stand, StandsForBook}
-use Rattle.one_caller.specs.Loading.{IsLoadedFrom, AreLoaded, ComeBack}
+use Rattle.shard_book.specs.Loads.{IsLoadedFrom}
+use Rattle.one_caller.specs.Loading.{AreLoaded, ComeBack}
 use Rattle.one_caller.proofs.Places.{read-within}
 use Rattle.one_caller.proofs.Running.{stands-loaded}
 use Rattle.world_play.specs.Play.{empty_book}

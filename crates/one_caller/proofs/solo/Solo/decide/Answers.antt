@@ -25,11 +25,7 @@ call g c =
       old_is = slice_get_read _ _ c.home-shard.result _ refl c.home-shard.ensures.within c.index_mut.ensures.value;
       answers = its.answer;
       leaves = its.crash;
-      counts = its.count;
-      told_is = its.told;
-      undoubted = its.undoubted;
-      under = its.under;
-      number_is = its.number;
+      keeps = its.kept;
     }
 
 pub invariant_of-self-clause-are_shards : goal.invariant_of-self-clause-are_shards

@@ -1,5 +1,5 @@
--- A command that the queue takes is put and queued.
-use Rattle.std.proofs.Common.{◌≡◌, ℕ, List, [], ◌∷◌, ◌++◌, refl, ap, sym, subst, ◌∙◌, IsTrue}
+-- A command that the queue takes is recorded and queued.
+use Rattle.std.proofs.Common.{◌≡◌, ◌+◌, ℕ, List, [], ◌∷◌, ◌++◌, refl, ap, sym, subst, ◌∙◌, IsTrue}
 use Rattle.std.proofs.lemmas.Bool.{false≢true}
 use Rattle.issuer_base.specs.ScriptCommand.{is_command}
 use Rattle.issuer_base.specs.declared.command.Command.{Command}
@@ -7,12 +7,14 @@ use Rattle.issuer_base.specs.declared.answer.Answer.TheVariants.{Refused}
 use Rattle.issuer_base.specs.declared.answer.Refusal.TheVariants.{StoreFault}
 use Rattle.issuer_base.specs.declared.entry.Entry.{Entry}
 use Rattle.issuer_base.specs.declared.entry.Entry.TheVariants.{Queued}
-use Rattle.card_history.specs.LegalRecords.{IsLegalCommand}
+use Rattle.card_history.specs.LegalRecords.{IsLegal}
 use Rattle.card_history.specs.Records.{CardName, named}
 use Rattle.card_history.specs.Scripts.{waiting, scripts_of}
+use Rattle.journal_rec.specs.Record.{is_record}
 use Rattle.script_queue.specs.CommandQueue.{TakesOneMore}
 use Rattle.shard_book.specs.Answering.{LeavesTail}
 use Rattle.shard_book.specs.Grounds.{grounds_now}
+use Rattle.shard_book.specs.Room.{most_of, Spares}
 use Rattle.shard_book.specs.ShardRows.{ShardRows, StandsFor as RowsStandFor}
 use Rattle.shard_book.specs.Shards.{HoldsHistory, HasTail, StandsFor}
 use Rattle.shard_book.proofs.LegalNext.{writable, card-found, legal-command}
@@ -24,7 +26,6 @@ use Rattle.shard_book.proofs.shard.Shard.queue.Goals as goal
 
 pub returns-then-not-takes_command-clause-answer : goal.returns-then-not-takes_command-clause-answer
 returns-then-not-takes_command-clause-answer g c history stands =
-    let found = c.args.found in
     let card = card-found _ _ _ c.requires.at_hand.card_is in
     let takes = c.takes_command.ensures c.args.issuer.now card.card history stands.rows_stand card.known in (
       history,
@@ -42,25 +43,26 @@ returns-then-not-takes_command-clause-crash g c history stands =
 
 pub put-requires : goal.put-requires
 put-requires g c =
-    let found = c.args.found in
+    let found = c.args.found.now in
     let card = card-found _ _ _ c.requires.at_hand.card_is in
-    writable found.psn (is_command c.copy.result) card.decimal
-    (subst (λ (command : Command). IsTrue (is_command command)) (sym c.copy.ensures) c.requires.at_hand.form_is)
+    subst (λ (entry : Entry). IsTrue (is_record entry)) (sym c.to_entry.ensures)
+    (writable found.psn (is_command found.command) card.decimal c.requires.at_hand.form_is)
 
 -- the card's queue has room for the command
 room : (g : Over) (c : After-put g) (history : List Entry) → StandsFor c.args.issuer.now c.args.self.now history
-    → TakesOneMore (waiting (scripts_of (named c.args.found.pan c.args.found.psn) history))
+    → TakesOneMore (waiting (scripts_of (named c.args.found.now.pan c.args.found.now.psn) history))
 room g c history stands =
     let card = card-found _ _ _ c.requires.at_hand.card_is in
     subst (λ (name : CardName). TakesOneMore (waiting (scripts_of name history))) card.named
     ((c.takes_command.ensures c.args.issuer.now card.card history stands.rows_stand card.known).0 c.if-not-takes_command.false)
 
--- so it may come next
+-- so its record is a valid successor
 legal : (g : Over) (c : After-put g) (history : List Entry) → StandsFor c.args.issuer.now c.args.self.now history
-    → IsLegalCommand (grounds_now c.args.issuer.now) c.args.self.now.rows.shard history (named c.args.found.pan c.args.found.psn) c.copy.result
+    → IsLegal (grounds_now c.args.issuer.now) c.args.self.now.rows.shard history c.to_entry.result
 legal g c history stands =
-    legal-command _ _ c.requires.under _ _ c.requires.at_hand.card_is c.requires.home history c.copy.result
-    (subst (λ (command : Command). IsTrue (is_command command)) (sym c.copy.ensures) c.requires.at_hand.form_is) (room g c history stands)
+    subst (IsLegal (grounds_now c.args.issuer.now) c.args.self.now.rows.shard history) (sym c.to_entry.ensures)
+    (legal-command _ _ c.requires.under _ _ c.requires.at_hand.card_is c.requires.home history c.args.found.now.command
+    c.requires.at_hand.form_is (room g c history stands))
 
 pub returns-in_default-clause-answer : goal.returns-in_default-clause-answer
 returns-in_default-clause-answer g c history stands =
@@ -69,12 +71,12 @@ returns-in_default-clause-answer g c history stands =
 
 pub returns-in_default-clause-tail : goal.returns-in_default-clause-tail
 returns-in_default-clause-tail g c history tail holds =
-    subst (λ (command : Command). LeavesTail (Queued c.args.found.pan c.args.found.psn command) history tail (Refused StoreFault) c.put.new.self)
-    c.copy.ensures (c.in_default.ensures.tail history tail holds)
+    subst (λ (entry : Entry). LeavesTail entry history tail (Refused StoreFault) c.put.new.self)
+    c.to_entry.ensures (c.in_default.ensures.tail history tail holds)
 
 pub returns-clause-tail : goal.returns-clause-tail
 returns-clause-tail g c history tail holds =
-    subst (λ (command : Command). HasTail c.put.new.self (history ++ Queued c.args.found.pan c.args.found.psn command ∷ []) []) c.copy.ensures
+    subst (λ (entry : Entry). HasTail c.put.new.self (history ++ entry ∷ []) []) c.to_entry.ensures
     (c.in-Ok.ensures.tail history tail holds)
 
 pub returns-in_default-clause-crash : goal.returns-in_default-clause-crash
@@ -84,18 +86,19 @@ returns-in_default-clause-crash g c history stands =
 pub returns-clause-answer : goal.returns-clause-answer
 returns-clause-answer g c history stands =
     let issuer = c.args.issuer.now in
-    let found = c.args.found in
+    let found = c.args.found.now in
     let number : ℕ = c.args.self.now.rows.shard in
     let card = card-found _ _ _ c.requires.at_hand.card_is in
     let takes = c.takes_command.ensures issuer card.card history stands.rows_stand card.known in
     let put = c.in-Ok.ensures.put issuer history stands in
     let number_is : c.put.new.self.rows.shard ≡ number = ap (λ (rows : ShardRows). rows.shard) c.put.ensures.rows in
     let before = subst (λ (rows : ShardRows). RowsStandFor issuer rows history) (sym c.put.ensures.rows) stands.rows_stand in
-    let rows = subst (λ (name : CardName). RowsStandFor issuer c.push.new.self (history ++ Queued name.pan name.psn found.command ∷ [])) card.named
-    (c.push.ensures.queued issuer card.card history before card.known (takes.0 c.if-not-takes_command.false)) in
+    let rows =
+    subst (λ (command : Command). RowsStandFor issuer c.push.new.self (history ++ Queued found.pan found.psn command ∷ [])) c.copy.ensures
+    (subst (λ (name : CardName). RowsStandFor issuer c.push.new.self (history ++ Queued name.pan name.psn c.copy.result ∷ [])) card.named
+    (c.push.ensures.queued issuer card.card history before card.known (takes.0 c.if-not-takes_command.false))) in
     let holds =
-    subst (λ (command : Command). HoldsHistory (grounds_now issuer) number c.put.new.self.journal (history ++ Queued found.pan found.psn command ∷ []))
-    c.copy.ensures put.1 in (
+    subst (λ (entry : Entry). HoldsHistory (grounds_now issuer) number c.put.new.self.journal (history ++ entry ∷ [])) c.to_entry.ensures put.1 in (
       history ++ Queued found.pan found.psn found.command ∷ [],
       stands-with issuer number c.put.new.self.journal c.put.new.self.rows c.push.new.self c.put.new.self.told
           (history ++ Queued found.pan found.psn found.command ∷ [])
@@ -107,8 +110,16 @@ pub returns-clause-crash : goal.returns-clause-crash
 returns-clause-crash g c history stands =
     c.put.ensures.crash c.args.issuer.now history stands (legal g (goal.at.returns-clause-crash g c).After-put history stands)
 
+-- there is room for the longest record of a command
+spared : (g : Over) (c : After-put g) (spare : ℕ)
+    → (let found = c.args.found.now in Spares (most_of (Queued found.pan found.psn found.command) + spare) c.args.self.now)
+    → Spares (most_of c.to_entry.result + spare) c.args.self.now
+spared g c spare has = subst (λ (entry : Entry). Spares (most_of entry + spare) c.args.self.now) (sym c.to_entry.ensures) has
+
 pub returns-in_default-clause-room : goal.returns-in_default-clause-room
-returns-in_default-clause-room g c spare has = absurd (no-failure (c.in_default.ensures.room spare has))
+returns-in_default-clause-room g c spare has =
+    absurd (no-failure (c.in_default.ensures.room spare (spared g (goal.at.returns-in_default-clause-room g c).After-put spare has)))
 
 pub returns-clause-room : goal.returns-clause-room
-returns-clause-room g c spare has = (refl, (c.in-Ok.ensures.room spare has).1)
+returns-clause-room g c spare has =
+    (refl, (c.in-Ok.ensures.room spare (spared g (goal.at.returns-clause-room g c).After-put spare has)).1)

@@ -1,0 +1,39 @@
+-- What a call of a shard answers, and what it leaves.
+use Rattle.std.specs.Prelude.{◌≡◌, ℕ, List}
+use Rattle.issuer_base.specs.OutsideFaults.{CountsFaults}
+use Rattle.issuer_base.specs.Stores.{BothTold, LeavesOnly}
+use Rattle.issuer_base.specs.declared.answer.Answer.{Answer}
+use Rattle.issuer_base.specs.declared.entry.Entry.{Entry}
+use Rattle.issuer_base.specs.declared.outside.store.Store.{Ghosts}
+use Rattle.issuer_setup.specs.IssuerSetup.{Setup}
+use Rattle.shard_book.specs.declared.shard.Shard.{Shard}
+use Rattle.shard_book.specs.Answering.{is_store_fault, told_after}
+use Rattle.shard_book.specs.Grounds.{grounds_now, IsImageOf}
+use Rattle.shard_book.specs.Shards.{number_in, IsUnder, disk_in, faults_in, told_in, IsUndoubted, StandsFor}
+
+module _ {S : Type 0} {G : Ghosts S} where
+  -- on each history that the shard stood for, the shard stands for one that the answer makes of it
+  abbrev pub AnswersBy : Setup → Shard S G → (ℕ → List Entry → List Entry → Type 0) → Shard S G → Type 0
+  AnswersBy issuer old Changes new =
+      (history : List Entry) → StandsFor issuer old history
+      → (after : List Entry) × StandsFor issuer new after × Changes (number_in old) history after
+
+  -- whatever a crash since the start of the call may leave is the text of the history before it, possibly with a torn
+  -- record after it
+  abbrev pub LeavesImages : Setup → Shard S G → Shard S G → Type 0
+  LeavesImages issuer old new =
+      (history : List Entry) → StandsFor issuer old history
+      → BothTold (LeavesOnly (IsImageOf (grounds_now issuer) (number_in old) history)) (disk_in old) (disk_in new)
+
+  -- what every call keeps of a shard, by its answer
+  pub record KeepsShard (issuer : Setup) (old : Shard S G) (answer : Answer) (new : Shard S G) : Type 0 where
+    -- the store's fault count increases just where the answer reports that the store failed
+    pub counts : CountsFaults (faults_in old) (faults_in new) (is_store_fault answer)
+    -- the shard counts such answers
+    pub told_is : told_in new ≡ told_after (told_in old) (is_store_fault answer)
+    -- nothing is in doubt before the first of them
+    pub undoubted : IsUndoubted old → IsUndoubted new
+    -- the shard is one of this issuer's
+    pub under : IsUnder issuer new
+    -- its number is the same
+    pub number_is : number_in new ≡ number_in old
