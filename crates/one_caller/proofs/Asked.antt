@@ -1,4 +1,4 @@
--- What a line asks that was read: its card is the issuer's, and what it asks may be recorded.
+-- What a parsed line asks: its card is the issuer's, and what it asks may be recorded.
 use Rattle.std.proofs.Common.{◌≡◌, ◌≤◌, ℕ, List, Bool, true, false, Option, None, Some, Result, Ok, Err, if◌then◌else◌, refl, sym, ap, ap₂, subst, ◌∙◌, IsTrue}
 use Rattle.std.proofs.lemmas.Bool.{true≢false}
 use Rattle.issuer_base.specs.declared.command.Command.{Command}

@@ -1,4 +1,4 @@
--- Histories that go on legally, record by record, and what is sure of legal histories.
+-- Histories that are extended legally, record by record, and what holds of legal histories.
 use Rattle.std.proofs.Common.{◌≡◌, ◌≤◌, ◌<◌, ℕ, ◌%◌, zero, suc, List, [], ◌∷◌, ◌++◌, length, take, drop, All, Some}
 use Rattle.std.proofs.Common.{refl, sym, ap, subst, ◌∙◌, inl, inr, arith, append-nil, length-take}
 use Rattle.std.proofs.lemmas.Bool.{cases_lt}

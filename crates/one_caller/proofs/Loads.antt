@@ -1,4 +1,4 @@
--- The shards of a host while they are loaded one after another, and the stores as they come back.
+-- The shards of a host while they are loaded one after another, and the stores that are returned.
 use Rattle.std.proofs.Common.{◌≡◌, ◌⊎◌, ◌<◌, ◌≤◌, ℕ, zero, suc, ◌+◌, List, [], ◌∷◌, ◌++◌, length, map, reverse, Option, None, Some, IfSome}
 use Rattle.std.proofs.Common.{refl, sym, ap, subst, ◌∙◌, inl, inr, arith, append-nil, append_assoc, length-append, add-zero}
 use Rattle.std.proofs.lemmas.List.{reverse-append, length_push, length-map}

@@ -1,4 +1,4 @@
--- Every run of turns on legal histories goes on legally, and answers by its records.
+-- Every run of turns on legal histories extends them legally, and answers by its records.
 use Rattle.std.proofs.Common.{◌≡◌, ◌≤◌, ◌<◌, ◌^◌, ◌-◌, ℕ, zero, suc, List, [], ◌∷◌, length}
 use Rattle.std.proofs.Common.{get_or, None, Some, Ok, refl, sym, ap, subst, ◌∙◌, inl, inr, ⊎_elim, arith}
 use Rattle.std.proofs.lemmas.Bool.{cases_eq}

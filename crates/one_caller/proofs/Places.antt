@@ -1,4 +1,4 @@
--- Places in lists: what is read after a write, in front of a list, and behind one.
+-- Indices in lists: what is read after a write, before a list, and after one.
 use Rattle.std.proofs.Common.{◌≡◌, ◌≢◌, ℕ, zero, suc, ◌+◌, ◌<◌, List, [], ◌∷◌, ◌++◌, length, set, map, Some}
 use Rattle.std.proofs.Common.{refl, ap, subst, sym, ◌∙◌, arith}
 use Rattle.std.specs.List.{slice_get}

@@ -1,4 +1,4 @@
--- A run of a host from its loading on: it begins with the loaded books, goes on line by line, and each store holds its book's journal.
+-- A run of a host from its loading on: it begins with the loaded books, and each store has its book's journal.
 use Rattle.std.proofs.Common.{◌≡◌, ℕ, zero, suc, false, List, [], ◌∷◌, ◌++◌, length, map, Option, None, Some, IfSome, refl, sym, subst, ◌∙◌, arith}
 use Rattle.std.proofs.Common.{inl}
 use Rattle.std.proofs.lemmas.List.{length-map}

@@ -1,4 +1,4 @@
--- What one turn does to the books: at most one record more in one shard, which may come next by the issuer's own decision.
+-- What one turn does to the books: at most one shard has one more record, a valid successor by the issuer's decision.
 use Rattle.std.proofs.Common.{◌≡◌, ◌≢◌, ◌⊎◌, ◌≤◌, ℕ, true, List, [], ◌∷◌, ◌++◌, length, length-set, Some, Result, Ok, Err}
 use Rattle.std.proofs.Common.{refl, sym, ap, subst, ◌∙◌, inl, inr, arith}
 use Rattle.std.proofs.lemmas.Bool.{cases_eq}
@@ -50,7 +50,7 @@ claimed-adds issuer before request (Fresh at place reply) after asks (won, (unus
       legal-own issuer (shard_of issuer (card_of request)) before request reply asks.home asks.passes unused reply_is,
     )
 claimed-adds issuer before request (Kept at place reply) after asks (used, at_is, after_is) = inl after_is
-claimed-adds issuer before request (Refused (Below top)) after asks (too_old, after_is) = inl after_is
+claimed-adds issuer before request (Refused (Below greatest)) after asks (too_old, after_is) = inl after_is
 claimed-adds issuer before request (Refused (Taken at place)) after asks (taken, at_is, after_is) = inl after_is
 claimed-adds issuer before request (Refused Pending) after asks (lost, unused, after_is) = inl after_is
 claimed-adds issuer before request (Refused StoreFault) after asks (won, unused, after_is) = inl after_is

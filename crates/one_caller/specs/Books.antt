@@ -2,7 +2,8 @@
 use Rattle.std.specs.Prelude.{ℕ, List, map}
 use Rattle.issuer_base.specs.declared.entry.Entry.{Entry}
 
--- a shard's history, its store's count of faults, and how many of the shard's answers since it was loaded told that the store failed
+-- a shard's history, its store's fault count, and how many of the shard's answers since loading reported that the store
+-- failed
 pub record Book : Type 0 where
   pub history : List Entry
   pub faults : ℕ

@@ -9,14 +9,16 @@ use Rattle.shard_book.specs.Shards.{number_in, IsUnder, faults_in, told_in, IsUn
 use Rattle.one_caller.specs.Books.{Book}
 
 module _ {S : Type 0} {G : Ghosts S} where
-  -- there is a shard of this issuer for each number, in order; in none is anything in doubt before an answer told that its store failed
+  -- there is a shard of this issuer for each number, in order; nothing is in doubt in one before an answer reported
+  -- that its store failed
   pub record AreShards (issuer : Setup) (shards : List (Shard S G)) : Type 0 where
     pub count_is : length shards ≡ issuer.shards
     pub numbers_are : (number : ℕ) (shard : Shard S G) → slice_get shards number ≡ Some shard → number_in shard ≡ number
     pub under : (number : ℕ) (shard : Shard S G) → slice_get shards number ≡ Some shard → IsUnder issuer shard
     pub undoubted : (number : ℕ) (shard : Shard S G) → slice_get shards number ≡ Some shard → IsUndoubted shard
 
-  -- the shard stands for the book: for its history, and with these counts; where no answer told that its store failed, nothing is in doubt
+  -- the shard stands for the book: for its history, and with these counts; nothing is in doubt unless an answer
+  -- reported that its store failed
   pub record StandsForBook (issuer : Setup) (shard : Shard S G) (book : Book) : Type 0 where
     pub stands : StandsFor issuer shard book.history
     pub faults_are : faults_in shard ≡ book.faults
@@ -26,5 +28,6 @@ module _ {S : Type 0} {G : Ghosts S} where
   -- the shards stand for the books, each for the one with its number
   pub record Stand (issuer : Setup) (shards : List (Shard S G)) (books : List Book) : Type 0 where
     pub count_is : length books ≡ length shards
-    pub each : (number : ℕ) (shard : Shard S G) (book : Book) → slice_get shards number ≡ Some shard → slice_get books number ≡ Some book
+    pub each : (number : ℕ) (shard : Shard S G) (book : Book)
+        → slice_get shards number ≡ Some shard → slice_get books number ≡ Some book
         → StandsForBook issuer shard book

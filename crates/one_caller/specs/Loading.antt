@@ -19,13 +19,14 @@ module _ {S : Type 0} {G : Ghosts S} where
   -- each shard was loaded from the store at its place
   pub record AreLoaded (issuer : Setup) (stores : List S) (shards : List (Shard S G)) : Type 0 where
     pub count_is : length shards ≡ length stores
-    pub each : (number : ℕ) (store : S) (shard : Shard S G) → slice_get stores number ≡ Some store → slice_get shards number ≡ Some shard
+    pub each : (number : ℕ) (store : S) (shard : Shard S G)
+        → slice_get stores number ≡ Some store → slice_get shards number ≡ Some shard
         → IsLoadedFrom issuer number store shard
 
--- by what stores tell of their bytes and disks, and by their counts of faults
+-- by what is observable of stores: their bytes, their disks and their fault counts
 module _ {S : Type 0} (bytes : S → Option (List ℕ)) (disk : S → Option Disk) (faults : S → ℕ) where
-  -- the store was loaded and is given back: it held the text of a legal history and a rest, and has just the text now; meanwhile a crash leaves
-  -- what it might leave before, or the text
+  -- the store was loaded and is returned: it had the text of a legal history and a torn last line, and was truncated to
+  -- the text; meanwhile a crash leaves what it might leave before, or the text
   pub record IsGivenBack (issuer : Setup) (number : ℕ) (store back : S) : Type 0 where
     pub history : List Entry
     pub rest : List ℕ
@@ -34,14 +35,16 @@ module _ {S : Type 0} (bytes : S → Option (List ℕ)) (disk : S → Option Dis
     pub records : All IsRecord history
     pub legal : IsLegalHistory (grounds_of issuer) number history
     pub cut : Tells (bytes back) (texts_of history)
-    pub leaves : BothTold (λ old new. LeavesOnly (IsCutImage (length (texts_of history)) old.now) old new) (disk store) (disk back)
+    pub leaves : BothTold (λ old new. LeavesOnly (IsCutImage (length (texts_of history)) old.now) old new)
+        (disk store) (disk back)
     pub counts : CountsFaults (faults store) (faults back) false
 
-  -- the stores come back in order: those before the one that failed as they were loaded, those behind it as they were
+  -- the stores are returned in order: those before the one that failed as they were loaded, those after it unchanged
   pub record ComeBack (issuer : Setup) (stores : List S) (failed : ℕ) (fault : LoadFault) (back : List S) : Type 0 where
     pub count_is : length back ≡ length stores
     pub within : failed < length stores
-    pub before : (number : ℕ) (store after : S) → number < failed → slice_get stores number ≡ Some store → slice_get back number ≡ Some after
+    pub before : (number : ℕ) (store after : S) → number < failed
+        → slice_get stores number ≡ Some store → slice_get back number ≡ Some after
         → IsGivenBack issuer number store after
     pub at : (store after : S) → slice_get stores failed ≡ Some store → slice_get back failed ≡ Some after
         → IsNotLoaded bytes disk faults issuer failed store fault after

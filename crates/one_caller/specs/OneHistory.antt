@@ -19,14 +19,14 @@ use Rattle.shard_book.specs.Grounds.{grounds_of, grounds_now}
 use Rattle.shard_book.specs.Histories.{GoesOn}
 use Rattle.one_caller.specs.Books.{Book, histories_of}
 
--- the history goes on by legal records, and each of the new ones is the issuer's own: its decisions are those of its table
+-- the history is extended by legal records, and each of the new decisions is that of the issuer's table
 pub record LegallyGoesOn (issuer : Setup) (shard : ℕ) (first last : List Entry) : Type 0 where
   pub goes_on : GoesOn first last
   pub legal : IsLegalHistory (grounds_of issuer) shard last
   pub by_table : (place : ℕ) (entry : Entry) → length first ≤ place → slice_get last place ≡ Some entry
       → IsLegal (grounds_now issuer) shard (take place last) entry
 
--- each shard's history goes on legally, and its store's count of faults never fell
+-- each shard's history is extended legally, and its store's fault count never fell
 abbrev pub GoOnLegally : Setup → List Book → List Book → Type 0
 GoOnLegally issuer first last =
     (shard : ℕ) (was is : Book) → slice_get first shard ≡ Some was → slice_get last shard ≡ Some is
@@ -34,26 +34,29 @@ GoOnLegally issuer first last =
 
 -- the history of each shard is legal
 abbrev pub AreLegalBooks : Setup → List Book → Type 0
-AreLegalBooks issuer books = (shard : ℕ) (book : Book) → slice_get books shard ≡ Some book → IsLegalHistory (grounds_of issuer) shard book.history
+AreLegalBooks issuer books =
+    (shard : ℕ) (book : Book) → slice_get books shard ≡ Some book
+    → IsLegalHistory (grounds_of issuer) shard book.history
 
 -- each entry of the histories is a record, as the program holds them
 abbrev pub AreRecorded : List Book → Type 0
 AreRecorded books = (shard : ℕ) (book : Book) → slice_get books shard ≡ Some book → All IsRecord book.history
 
--- a record that may come next by the issuer's own decision may come next when it is loaded again
+-- a record that is a valid successor by the issuer's own decision is a valid successor when it is loaded again
 abbrev pub LoadsAgain : Setup → Type 0
 LoadsAgain issuer =
     (shard : ℕ) (before : List Entry) (entry : Entry) → IsRecord entry → IsLegal (grounds_now issuer) shard before entry
     → IsLegal (grounds_of issuer) shard before entry
 
--- line number `index` was read as this request, and was given this answer
-pub record IsAnswered (issuer : Setup) (lines : List (List ℕ)) (answers : List Answer) (index : ℕ) (request : Request) (answer : Answer) : Type 0 where
+-- line number `index` was parsed as this request, and has this answer
+pub record IsAnswered (issuer : Setup) (lines : List (List ℕ)) (answers : List Answer) (index : ℕ) (request : Request)
+    (answer : Answer) : Type 0 where
   pub line : List ℕ
   pub line_is : slice_get lines index ≡ Some line
   pub request_is : reading issuer line ≡ Ok (Decide request)
   pub answer_is : slice_get answers index ≡ Some answer
 
--- some store failed: its count rose
+-- some store failed: its fault count increased
 pub record HasFailed (first last : List Book) : Type 0 where
   pub shard : ℕ
   pub was : Book
@@ -62,20 +65,23 @@ pub record HasFailed (first last : List Book) : Type 0 where
   pub is_is : slice_get last shard ≡ Some is
   pub rose : Rose was.faults is.faults
 
--- what is sure after a run on legal histories
-pub record IsOneHistory (issuer : Setup) (lines : List (List ℕ)) (answers : List Answer) (first last : List Book) : Type 0 where
-  -- each history goes on by legal records, each new decision the table's
+-- what holds after a run on legal histories
+pub record IsOneHistory (issuer : Setup) (lines : List (List ℕ)) (answers : List Answer) (first last : List Book)
+    : Type 0 where
+  -- each history is extended by legal records, each new decision the table's
   pub goes_on : GoOnLegally issuer first last
-  -- no counter of a card was decided twice, whether in this run or before
+  -- no ATC of a card was decided twice, whether in this run or before
   pub once : IsOncePerCounter (histories_of last)
-  -- each reply that was given is that of its record
-  pub recorded : (index : ℕ) (request : Request) (answer : Answer) → IsAnswered issuer lines answers index request answer
+  -- each reply is that of its record
+  pub recorded : (index : ℕ) (request : Request) (answer : Answer)
+      → IsAnswered issuer lines answers index request answer
       → IsOfItsRecord (histories_of last) request answer
   -- two replies to the same request are the same reply
   pub one_reply : (first_index second_index : ℕ) (request : Request) (answer other : Answer) (reply other_reply : Reply)
-      → IsAnswered issuer lines answers first_index request answer → IsAnswered issuer lines answers second_index request other
+      → IsAnswered issuer lines answers first_index request answer
+      → IsAnswered issuer lines answers second_index request other
       → reply_in answer ≡ Some reply → reply_in other ≡ Some other_reply → reply ≡ other_reply
   -- each card's commands went with replies in the order of its queue
   pub in_order : (card : CardName) (shard : ℕ) → AreInOrder card (slice_index_or (histories_of last) shard [])
-  -- where an answer tells that a store failed, a store's count rose
+  -- if an answer reports that a store failed, a store's fault count increased
   pub blamed : (index : ℕ) → slice_get answers index ≡ Some (Refused StoreFault) → HasFailed first last

@@ -13,11 +13,11 @@ use Rattle.shard_book.specs.Answering.{is_store_fault}
 use Rattle.shard_book.specs.Room.{Spares}
 use Rattle.one_caller.specs.Turns.{card_asked}
 
--- how many bytes a record of the shard home adds to the shard with this number at most
+-- how many bytes a record of the shard `home` adds to the shard with this number at most
 abbrev pub added_at : ℕ → ℕ → ℕ → ℕ
 added_at home most number = if number == home then most else 0
 
--- how many bytes the record has at most that a line asks for
+-- how many bytes the record that a line asks for has at most
 abbrev pub most_asked : Asked → ℕ
 most_asked (Queue pan psn command) = MOST_QUEUED_BYTES
 most_asked _ = MOST_RECORD_BYTES
@@ -27,16 +27,19 @@ abbrev pub added_by : Setup → Result Asked Refusal → ℕ → ℕ
 added_by issuer (Err refusal) number = 0
 added_by issuer (Ok asked) number = added_at (shard_of issuer (card_asked asked)) (most_asked asked) number
 
--- each store tells its room, and so many more bytes, by its place, are within it
-pub record StoresHaveRoom {S : Type 0} (size : S → ℕ) (room : S → Option ℕ) (spare : ℕ → ℕ) (stores : List S) : Type 0 where
-  pub each : (number : ℕ) (store : S) → slice_get stores number ≡ Some store → HasRoom (spare number) (size store) (room store)
+-- the room of each store is known, and so many more bytes, by its index, are within it
+pub record StoresHaveRoom {S : Type 0} (size : S → ℕ) (room : S → Option ℕ) (spare : ℕ → ℕ) (stores : List S)
+    : Type 0 where
+  pub each : (number : ℕ) (store : S) → slice_get stores number ≡ Some store
+      → HasRoom (spare number) (size store) (room store)
 
 module _ {S : Type 0} {G : Ghosts S} where
-  -- the store of each shard tells its room, and so many more bytes, by the shard's number, are within it
+  -- the room of each shard's store is known, and so many more bytes, by the shard's number, are within it
   pub record HaveRoom (spare : ℕ → ℕ) (shards : List (Shard S G)) : Type 0 where
     pub each : (number : ℕ) (shard : Shard S G) → slice_get shards number ≡ Some shard → Spares (spare number) shard
 
-  -- with room for what a line adds and more no store fails, and the room for the more is left
+  -- with room for what a line adds and more no store fails, and the room for the more remains
   abbrev pub AnswersWithin : Setup → Result Asked Refusal → Answer → List (Shard S G) → List (Shard S G) → Type 0
-  AnswersWithin issuer asked answer old new = (spare : ℕ → ℕ) → HaveRoom (λ number. added_by issuer asked number + spare number) old
+  AnswersWithin issuer asked answer old new =
+      (spare : ℕ → ℕ) → HaveRoom (λ number. added_by issuer asked number + spare number) old
       → (is_store_fault answer ≡ false) × HaveRoom spare new

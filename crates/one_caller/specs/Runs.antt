@@ -14,33 +14,39 @@ use Rattle.one_caller.specs.Books.{Book}
 use Rattle.one_caller.specs.Hosts.{Stand}
 use Rattle.one_caller.specs.Turns.{Run}
 
--- what a store tells holds the journal of this book: its bytes are the text of the history and a prefix of the tail, which is the text of one
--- record that may come next, or nothing; nothing where no answer told that the store failed. A crash now leaves such bytes too
-pub record HoldsJournal (issuer : Setup) (shard : ℕ) (book : Book) (bytes : Option (List ℕ)) (disk : Option Disk) : Type 0 where
+-- a store's observable contents are the journal of this book: its bytes are the text of the history and a prefix of the
+-- tail, which is the text of a valid successor, or nothing; nothing unless an answer reported that the store failed. A
+-- crash now leaves such bytes too
+pub record HoldsJournal (issuer : Setup) (shard : ℕ) (book : Book) (bytes : Option (List ℕ)) (disk : Option Disk)
+    : Type 0 where
   pub tail : List ℕ
   pub tail_is : IsTail (grounds_now issuer) shard book.history tail
   pub none : book.told ≡ 0 → tail ≡ []
   pub bytes_are : IfSome bytes (IsImage (texts_of book.history) tail)
-  pub leaves : IfSome disk (λ disk. (image : List ℕ) → MayLeave disk.now image → IsImage (texts_of book.history) tail image)
+  pub leaves :
+      IfSome disk (λ disk. (image : List ℕ) → MayLeave disk.now image → IsImage (texts_of book.history) tail image)
 
 -- each store holds the journal of its shard's book
-pub record HoldJournals {S : Type 0} (bytes : S → Option (List ℕ)) (disk : S → Option Disk) (issuer : Setup) (books : List Book) (stores : List S)
-    : Type 0 where
+pub record HoldJournals {S : Type 0} (bytes : S → Option (List ℕ)) (disk : S → Option Disk) (issuer : Setup)
+    (books : List Book) (stores : List S) : Type 0 where
   pub count_is : length stores ≡ length books
-  pub each : (number : ℕ) (book : Book) (store : S) → slice_get books number ≡ Some book → slice_get stores number ≡ Some store
+  pub each : (number : ℕ) (book : Book) (store : S)
+      → slice_get books number ≡ Some book → slice_get stores number ≡ Some store
       → HoldsJournal issuer number book (bytes store) (disk store)
 
 module _ {S : Type 0} {G : Ghosts S} where
-  -- whatever a crash since these shards may leave of a store is an image of a history between that shard's first one and its last
+  -- whatever a crash since these shards may leave of a store is an image of a history between its shard's first one and
+  -- its last
   abbrev pub LeaveBetween : Setup → List Book → List Book → List (Shard S G) → List (Shard S G) → Type 0
   LeaveBetween issuer first last old new =
       (number : ℕ) (before after : Shard S G) (was is : Book)
-      → slice_get old number ≡ Some before → slice_get new number ≡ Some after → slice_get first number ≡ Some was → slice_get last number ≡ Some is
+      → slice_get old number ≡ Some before → slice_get new number ≡ Some after
+      → slice_get first number ≡ Some was → slice_get last number ≡ Some is
       → BothTold (LeavesOnly (IsImageBetween issuer number was.history is.history)) (disk_in before) (disk_in after)
 
   -- these lines were answered, one after another, since the shards were loaded
-  pub record HasRun (issuer : Setup) (loaded : List (Shard S G)) (first : List Book) (lines : List (List ℕ)) (answers : List Answer)
-      (now : List (Shard S G)) (books : List Book) : Type 0 where
+  pub record HasRun (issuer : Setup) (loaded : List (Shard S G)) (first : List Book) (lines : List (List ℕ))
+      (answers : List Answer) (now : List (Shard S G)) (books : List Book) : Type 0 where
     pub run : Run issuer first lines answers books
     pub stand : Stand issuer now books
     pub leave : LeaveBetween issuer first books loaded now

@@ -14,8 +14,8 @@ use Rattle.line_checks.specs.Reading.{reading}
 use Rattle.shard_book.specs.Answering.{is_store_fault, told_after, AnswersClaimed, AnswersOrder}
 use Rattle.one_caller.specs.Books.{Book}
 
--- a line is answered in the shard of its card, on that shard's history; the store's count rises just where the answer tells that the
--- store failed, and the books of the other shards stay
+-- a line is answered in the shard of its card, on that shard's history; the store's fault count increases just where
+-- the answer reports that the store failed, and the books of the other shards are unchanged
 pub record AnswersIn (issuer : Setup) (before : List Book) (card : CardName) (answer : Answer)
     (Changes : ℕ → List Entry → List Entry → Type 0) (after : List Book) : Type 0 where
   pub old : Book
@@ -26,7 +26,7 @@ pub record AnswersIn (issuer : Setup) (before : List Book) (card : CardName) (an
   pub told_is : new.told ≡ told_after old.told (is_store_fault answer)
   pub after_is : after ≡ slice_set before (shard_of issuer card) new
 
--- a line is refused for this, and the books stay
+-- a line is refused for this, and the books are unchanged
 abbrev pub IsRefused : List Book → Refusal → Answer → List Book → Type 0
 IsRefused before refusal answer after = (answer ≡ Refused refusal) × (after ≡ before)
 
@@ -42,8 +42,8 @@ AnswersAsked issuer (Decide request) answer shard old new =
     AnswersClaimed shard (reply_to issuer) true old request answer new
 AnswersAsked issuer order answer shard old new = AnswersOrder shard old order answer new
 
--- one turn: a line that is refused as it is read leaves all books; any other is answered in the shard of its card, and in
--- place of an answer that adds a record the answer may be that the store failed
+-- one turn: a line that is refused before it calls a shard leaves all books; any other is answered in the shard of its
+-- card, and in place of an answer that adds a record the answer may be that the store failed
 abbrev pub Turn : Setup → List Book → Result Asked Refusal → Answer → List Book → Type 0
 Turn issuer before (Err refusal) answer after = IsRefused before refusal answer after
 Turn issuer before (Ok asked) answer after =
@@ -53,6 +53,7 @@ Turn issuer before (Ok asked) answer after =
 abbrev pub Run : Setup → List Book → List (List ℕ) → List Answer → List Book → Type 0
 Run issuer before [] [] after = after ≡ before
 Run issuer before (line ∷ lines) (answer ∷ answers) after =
-    (between : List Book) × Turn issuer before (reading issuer line) answer between × Run issuer between lines answers after
+    (between : List Book) × Turn issuer before (reading issuer line) answer between
+    × Run issuer between lines answers after
 Run issuer before [] (answer ∷ answers) after = ⊥
 Run issuer before (line ∷ lines) [] after = ⊥

@@ -6,9 +6,9 @@ ghost use Rattle.one_caller.specs.Books.{Book};
 ghost use Rattle.one_caller.specs.OneHistory.{AreLegalBooks, AreRecorded, IsOneHistory, LoadsAgain};
 ghost use Rattle.one_caller.specs.Turns.{Run};
 
-/// Whatever lines come, repeated or reordered, on whatever legal histories earlier runs left: the answers and the histories are one legal history
-/// per shard, each new decision is the table's, no counter of a card is decided twice, each request has one reply, and each card's commands
-/// went out in order.
+/// Whatever lines come, repeated or reordered, on whatever legal histories earlier runs left: the answers and the
+/// journals are one legal history per shard. Each new decision is the table's, no ATC of a card is decided twice, each
+/// request has one reply, and each card's commands went out in order.
 ///
 /// The contract is a theorem on every run; the function does nothing.
 pub fn every_run_is_one_history()

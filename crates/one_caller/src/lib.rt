@@ -1,9 +1,9 @@
 //! The host of one caller over stores: a shard for each store, and the answer to each line.
 //!
-//! `specs/Turns.antt` says what a line may be answered, `specs/OneHistory.antt` what is sure after any run of turns:
-//! it is the contract of [`every_run_is_one_history`]. `specs/Runs.antt` says what a crash may leave meanwhile.
+//! `specs/Turns.antt` states what a line may be answered, `specs/OneHistory.antt` what holds after any run of turns:
+//! it is the contract of [`every_run_is_one_history`]. `specs/Runs.antt` states what a crash may leave meanwhile.
 //!
-//! A host of several callers loads its shards, and gives their stores back, by the calls of this crate too:
+//! A host of several callers loads its shards, and returns their stores, by the calls of this crate too:
 //! [`take_lists`], [`load_all`] and [`take_stores`].
 #![tactic(auto)]
 

@@ -1,4 +1,4 @@
-//! The shards of a host as they are loaded from their stores, and the stores as they are given back.
+//! Loads the shards of a host from their stores, and returns the stores.
 ghost use Rattle.std.specs.Prelude.{◌≡◌, ◌+◌, ◌≤◌, [], ◌∷◌, ◌++◌, length, map, reverse, vec_capacity, IfOk, IfErr, false};
 ghost use Rattle.shard_book.specs.Loading.{is_store_failure};
 ghost use Rattle.shard_book.specs.Shards.{store_in};
@@ -44,9 +44,9 @@ pub fn take_lists<S: Store>(alloc: Global, count: usize) -> Result<Lists<S>, NoM
     Ok(Lists { shards, back })
 }
 
-/// Loads a shard from each store, in order, into empty lists with room for all: takes over the records of the store's
-/// whole lines, truncates what comes after them, and makes them durable. The first shard that can't be loaded stops it,
-/// and the stores come back in order. The lists allocate nothing more; the shards do.
+/// Loads a shard from each store, in order, into empty lists with room for all: replays the records of the store's
+/// whole lines, truncates a torn last line, and syncs the store. The first shard that can't be loaded stops it, and the
+/// stores are returned in order. The lists allocate nothing more; the shards do.
 pub fn load_all<S: Store>(
     alloc: Global,
     issuer: &Issuer,
@@ -57,9 +57,12 @@ pub fn load_all<S: Store>(
     requires shards { (lists.shards.items ≡ []) × (length stores.items ≤ vec_capacity lists.shards) }
     requires back { (lists.back.items ≡ []) × (length stores.items ≤ vec_capacity lists.back) }
     ensures loaded { IfOk result (λ loaded. AreLoaded issuer.now stores.items loaded.shards.items) }
-    ensures room { IfErr result (λ back. StoresHaveRoom S.size S.room (λ _. 0) stores.items → is_store_failure back.fault ≡ false) }
-    ensures back { IfOk result (λ loaded. (loaded.back.items ≡ []) × (vec_capacity loaded.back ≡ vec_capacity lists.back)) }
-    ensures stopped { IfErr result (λ back. ComeBack S.bytes S.disk S.faults issuer.now stores.items back.shard back.fault back.stores.items) }
+    ensures room { IfErr result
+        (λ back. StoresHaveRoom S.size S.room (λ _. 0) stores.items → is_store_failure back.fault ≡ false) }
+    ensures back { IfOk result
+        (λ loaded. (loaded.back.items ≡ []) × (vec_capacity loaded.back ≡ vec_capacity lists.back)) }
+    ensures stopped { IfErr result (λ back.
+        ComeBack S.bytes S.disk S.faults issuer.now stores.items back.shard back.fault back.stores.items) }
 {
     let Lists { mut shards, back } = lists;
     let mut ahead = stores;
@@ -81,7 +84,7 @@ pub fn load_all<S: Store>(
     Ok(Lists { shards, back })
 }
 
-/// The stores of these shards, in their order, in the room that was taken for them. It allocates nothing.
+/// The stores of these shards, in their order, in the list that was allocated for them. It allocates nothing.
 pub fn take_stores<S: Store>(mut shards: Vec<Shard<S>>, mut back: Vec<S>) -> Vec<S>
     requires empty { back.items ≡ [] }
     requires room { length shards.items ≤ vec_capacity back }
@@ -96,7 +99,7 @@ pub fn take_stores<S: Store>(mut shards: Vec<Shard<S>>, mut back: Vec<S>) -> Vec
     back
 }
 
-/// These stores, and behind them a store and then those that are ahead, the last of which is the next.
+/// Appends to these stores a store, and then those that are left, in reverse order.
 fn all_stores<S>(mut stores: Vec<S>, store: S, mut ahead: Vec<S>) -> Vec<S>
     requires { length stores.items + 1 + length ahead.items ≤ vec_capacity stores }
     ensures { result.items ≡ stores.items ++ store ∷ reverse ahead.items }

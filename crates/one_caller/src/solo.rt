@@ -26,7 +26,7 @@ use line_checks::{Checked, CheckedOrder, CheckedRequest, check_line_in};
 use shard_book::{LoadFault, Shard};
 use std::alloc::Global;
 
-/// The host of one caller over stores: it answers line after line, and each record is safe in its shard's store before it is answered.
+/// The host of one caller over stores: it answers line after line, and each record is durable before it is answered.
 pub struct Solo<S: Store> {
     issuer: Issuer,
 
@@ -36,7 +36,7 @@ pub struct Solo<S: Store> {
     /// Room for their stores.
     back: Vec<S>,
 
-    /// Room for the data of a line.
+    /// A buffer for the data of a line.
     data: [u8; MAX_CHIP_BYTES],
     ghost are_shards: { AreShards issuer shards.items },
     ghost empty: { back.items ≡ [] },
@@ -44,18 +44,22 @@ pub struct Solo<S: Store> {
 }
 
 impl<S: Store> Solo<S> {
-    /// Loads the shards of an issuer from their stores, in order: takes over the records of each store's whole lines, cuts away what stands
-    /// behind them, and makes them safe. The first shard that can't be loaded stops it, and the stores come back in order.
+    /// Loads the shards of an issuer from their stores, in order: replays the records of each store's whole lines,
+    /// truncates a torn last line, and syncs the store. The first shard that can't be loaded stops it, and the stores
+    /// are returned in order.
     ///
-    /// Where memory is wanting for the host itself, the shard that is named is the first one. No other call takes memory.
+    /// If the host's own allocation fails, the error names shard 0. No other call allocates.
     pub fn load(alloc: Global, stores: Vec<S>, issuer: Issuer) -> Result<Solo<S>, HostBack<S>>
         requires { length stores.items ≡ issuer.shards }
         ensures issuer { IfOk result (λ host. host.issuer ≡ issuer) }
         ensures loaded { IfOk result (λ host. AreLoaded issuer stores.items host.shards.items) }
-        ensures stopped { IfErr result (λ back. ComeBack S.bytes S.disk S.faults issuer stores.items back.shard back.fault back.stores.items) }
+        ensures stopped { IfErr result (λ back.
+            ComeBack S.bytes S.disk S.faults issuer stores.items back.shard back.fault back.stores.items) }
 
-        // Stores that work at the sizes that they have don't fail, and have the same room when they are loaded.
-        ensures room { MatchResult result (λ host. (spare : ℕ → ℕ) → StoresHaveRoom S.size S.room spare stores.items → HaveRoom spare host.shards.items)
+        // Stores that work at their sizes don't fail, and have the same room once they are loaded.
+        ensures room { MatchResult result
+            (λ host. (spare : ℕ → ℕ) → StoresHaveRoom S.size S.room spare stores.items
+            → HaveRoom spare host.shards.items)
             (λ back. StoresHaveRoom S.size S.room (λ _. 0) stores.items → is_store_failure back.fault ≡ false) }
     {
         let Ok(lists) = take_lists(alloc, stores.len()) else {
@@ -78,20 +82,22 @@ impl<S: Store> Solo<S> {
         }
     }
 
-    /// The answer to a line, which is without its newline. A new record is safe in its shard's store before it is answered. A card's key for
-    /// cryptograms is derived at the card's first request, and kept set up.
+    /// The answer to a line without its newline. A new record is durable before it is answered. A card's key for
+    /// cryptograms is derived at the card's first request, and its key schedule is cached.
     pub fn authorise(&mut self, line: &[u8]) -> Answer
         ensures turn { (books : List Book) → Stand self.old.issuer self.old.shards.items books
             → (after : List Book) × Stand self.new.issuer self.new.shards.items after
             × Turn self.old.issuer books (reading self.old.issuer line.now) result after }
 
-        // An answer that tells neither a new record nor that a store failed leaves all shards as they were.
+        // An answer that reports neither a new record nor that a store failed leaves all shards unchanged.
         ensures unchanged { tells_change result ≡ false → self.new.shards.items ≡ self.old.shards.items }
 
-        // With room for what the line adds and more no store fails, and the room for the more is left.
-        ensures room { AnswersWithin self.old.issuer (reading self.old.issuer line.now) result self.old.shards.items self.new.shards.items }
+        // With room for what the line adds and more no store fails, and the room for the more remains.
+        ensures room { AnswersWithin self.old.issuer (reading self.old.issuer line.now) result
+            self.old.shards.items self.new.shards.items }
 
-        // Whatever a crash since the start of the call may leave of a store is the text of its shard's history before it, and a torn record behind it.
+        // Whatever a crash since the start of the call may leave of a store is the text of its shard's history before
+        // the call, possibly with a torn record after it.
         ensures crash { (books : List Book) → Stand self.old.issuer self.old.shards.items books
             → LeaveBetween self.old.issuer books books self.old.shards.items self.new.shards.items }
         ensures issuer { self.new.issuer ≡ self.old.issuer }
@@ -113,8 +119,10 @@ impl<S: Store> Solo<S> {
     /// What the host shows of the card with this number.
     pub fn show(&self, card: u32) -> CardView
         requires { card < length self.now.issuer.cards }
-        ensures { (books : List Book) (info : CardInfo) (book : Book) → Stand self.now.issuer self.now.shards.items books
-            → slice_get self.now.issuer.cards card ≡ Some info → slice_get books (shard_of self.now.issuer (name_of info)) ≡ Some book
+        ensures { (books : List Book) (info : CardInfo) (book : Book)
+            → Stand self.now.issuer self.now.shards.items books
+            → slice_get self.now.issuer.cards card ≡ Some info
+            → slice_get books (shard_of self.now.issuer (name_of info)) ≡ Some book
             → result ≡ card_shown (name_of info) book.history }
     {
         let cards = self.issuer.cards();
@@ -122,7 +130,7 @@ impl<S: Store> Solo<S> {
         self.shards[self.home(card)].row(card).view()
     }
 
-    /// The stores, in the order of their shards' numbers. Each holds the journal of its shard's book, also after a crash.
+    /// The stores, in the order of their shards' numbers. Each has the journal of its shard's book, also after a crash.
     pub fn close(self) -> Vec<S>
         ensures stores { result.items ≡ map store_in self.shards.items }
         ensures journals { (books : List Book) → Stand self.issuer self.shards.items books
@@ -137,23 +145,25 @@ impl<S: Store> Solo<S> {
         take_stores(shards, back)
     }
 
-    /// The place of the shard of the card with this number.
+    /// The index of the shard of the card with this number.
     fn home(&self, card: u32) -> usize
         ensures number { result ≡ card % self.now.issuer.shards }
         ensures within { result < length self.now.shards.items }
-        ensures shard { (name : CardName) → number_of name self.now.issuer.cards ≡ Some card → result ≡ shard_of self.now.issuer name }
+        ensures shard { (name : CardName) → number_of name self.now.issuer.cards ≡ Some card
+            → result ≡ shard_of self.now.issuer name }
     {
         usize::from(self.issuer.shard_of(card))
     }
 
-    /// The answer to a request that was checked, in the shard of its card.
+    /// The answer to a checked request, in the shard of its card.
     fn decide(&mut self, found: &CheckedRequest) -> Answer
         requires at_hand { IsRequestAtHand self.old.issuer found.now }
         requires checked { checked self.old.issuer found.now.request ≡ Ok (Decide found.now.request) }
         ensures turn { (books : List Book) → Stand self.old.issuer self.old.shards.items books
             → (after : List Book) × Stand self.new.issuer self.new.shards.items after
             × Turn self.old.issuer books (Ok (Decide found.now.request)) result after }
-        ensures room { AnswersWithin self.old.issuer (Ok (Decide found.now.request)) result self.old.shards.items self.new.shards.items }
+        ensures room { AnswersWithin self.old.issuer (Ok (Decide found.now.request)) result
+            self.old.shards.items self.new.shards.items }
         ensures crash { (books : List Book) → Stand self.old.issuer self.old.shards.items books
             → LeaveBetween self.old.issuer books books self.old.shards.items self.new.shards.items }
         ensures unchanged { tells_change result ≡ false → self.new.shards.items ≡ self.old.shards.items }
@@ -163,7 +173,7 @@ impl<S: Store> Solo<S> {
         self.shards[shard].answer(&self.issuer, found, true)
     }
 
-    /// The answer to an order that was checked, in the shard of its card.
+    /// The answer to a checked order, in the shard of its card.
     fn order(&mut self, found: &CheckedOrder) -> Answer
         requires { IsOrderAtHand self.old.issuer found.now }
         ensures turn { (books : List Book) → Stand self.old.issuer self.old.shards.items books
@@ -181,7 +191,7 @@ impl<S: Store> Solo<S> {
     }
 }
 
-/// Keeps the keys of all cards where there is anything in these stores, whose records are checked again.
+/// Caches the keys of all cards if any of these stores isn't empty, since its records are checked again.
 fn keep_for_records<S: Store>(issuer: &mut Issuer, stores: &[S])
     ensures { issuer.new ≡ issuer.old }
 {

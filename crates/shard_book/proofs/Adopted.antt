@@ -1,4 +1,4 @@
--- Which records that were read may come next: what was looked up and checked for them decides it.
+-- Which parsed records are valid successors: what was looked up and checked for them decides it.
 use Rattle.std.proofs.Common.{◌≡◌, ◌≢◌, ℕ, ◌%◌, Bool, true, false, if◌then◌else◌, List, sym, ap, subst, ◌∙◌}
 use Rattle.std.proofs.Common.{Option, None, Some, Result, Ok, Err, arith}
 use Rattle.std.proofs.lemmas.Option.{same_Some}

@@ -1,4 +1,4 @@
--- A text of records has one reading: which history a text loads to, and that a legal one is loaded.
+-- A text of records has one reading: which history a text loads as, and that a legal one is loaded.
 use Rattle.std.proofs.Common.{◌≡◌, ◌≢◌, ◌⊎◌, ◌<◌, ◌≤◌, ℕ, List, [], ◌∷◌, ◌++◌, length, take, refl, sym, ap, ap₂, subst, ◌∙◌, inl, inr, ⊎_elim, arith}
 use Rattle.std.proofs.Common.{true, false, Option, None, Some, Result, Ok, Err, IfOk, IfErr, IfSome, MatchResult, IsTrue, All}
 use Rattle.std.proofs.Common.{append_assoc, append-nil, length-append}

@@ -1,4 +1,4 @@
--- Histories that go on with more records.
+-- Histories that extend others.
 use Rattle.std.proofs.Common.{ℕ, List, ◌++◌, [], take, drop, sym, ap, ◌∙◌, append-nil, append_assoc}
 use Rattle.std.proofs.lemmas.List.{take-append-drop}
 use Rattle.issuer_base.specs.declared.entry.Entry.{Entry}

@@ -1,5 +1,5 @@
--- A decision may come next where its request passes the check, its card is one of the shard's, its counter is unused and
--- its reply is the issuer's; and of one that may come next the request passes the check.
+-- A decision is a valid successor if its request passes the check, its card is one of the shard's, its counter is
+-- unused, and its reply is the issuer's. The request of a valid successor passes the check.
 use Rattle.std.proofs.Common.{◌≡◌, ℕ, List, Ok}
 use Rattle.issuer_base.specs.declared.request.Request.{Request}
 use Rattle.issuer_base.specs.declared.answer.Reply.{Reply}

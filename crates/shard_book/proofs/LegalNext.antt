@@ -1,4 +1,4 @@
--- What is at hand for a line that was checked makes its record one that may come next.
+-- What is at hand for a checked line makes its record a valid successor.
 use Rattle.std.proofs.Common.{◌≡◌, ◌≤◌, ℕ, ◌%◌, ◌&&◌, List, get_or, sym, ap, subst, ◌∙◌, Bool, IsTrue, Ok}
 use Rattle.std.proofs.lemmas.Option.{slice_get_within, get_or_from_slice_get}
 use Rattle.issuer_base.specs.declared.limits.TheConstants.{MAX_STATUS}

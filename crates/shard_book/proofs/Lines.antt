@@ -1,4 +1,4 @@
--- The lines of a journal, taken over one after another.
+-- The lines of a journal, replayed one after another.
 use Rattle.std.proofs.Common.{◌≡◌, ◌≢◌, ℕ, ◌+◌, ◌<◌, List, [], ◌∷◌, ◌++◌, length, take, drop, get_or, refl, sym, ap, subst, ◌∙◌, inl, inr, arith}
 use Rattle.std.proofs.Common.{Option, None, Some, MatchOption, eq-eqb}
 use Rattle.std.proofs.Common.{append-nil, append_assoc, length-take}

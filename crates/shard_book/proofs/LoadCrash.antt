@@ -1,4 +1,4 @@
--- What a crash leaves while a store is read, and then cut to the text of its records.
+-- What a crash leaves while a store is read, and then truncated to the text of its records.
 use Rattle.std.proofs.Common.{◌≡◌, ℕ, List, length, take, refl, ap, sym, subst, ◌∙◌, inl, inr, ⊎_elim, arith, Option, Result, Ok, Err}
 use Rattle.std.proofs.Common.{IfOk, IfErr, IfSome, Some, All, ◌++◌}
 use Rattle.std.proofs.lemmas.List.{take_at}

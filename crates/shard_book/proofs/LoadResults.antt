@@ -1,4 +1,4 @@
--- What is said of a shard that was opened, or of a store that failed meanwhile, as one record.
+-- What is stated of a shard that was opened, or of a store that failed meanwhile, as one record.
 use Rattle.std.proofs.Common.{◌≡◌, ◌≤◌, ℕ, ◌+◌, Option, Result, Ok, Err, IfOk, IfErr, false, true, refl, sym, subst, ◌∙◌, arith}
 use Rattle.issuer_base.specs.OutsideFaults.{CountsFaults}
 use Rattle.issuer_base.specs.Stores.{BothTold, HasRoom, LeavesOnly}

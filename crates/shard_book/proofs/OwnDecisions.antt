@@ -1,4 +1,4 @@
--- The issuer's own decision is a reply that it makes for its response code: what a run records, a later run takes over.
+-- The issuer's own decision is a reply that it makes for its response code: what a run records, a later run replays.
 use Rattle.std.proofs.Common.{◌≡◌, ◌≤◌, ℕ, true, List, [], ◌∷◌, ◌++◌, length, refl, sym, ap, subst, ◌∙◌, arith}
 use Rattle.std.proofs.Common.{Option, None, Some, All}
 use Rattle.std.proofs.lemmas.List.Sums.{AllPass-from_list_all}

@@ -1,4 +1,4 @@
--- What the row of a card plans is the answer of its shard.
+-- The plan of a card's row is the answer of its shard.
 use Rattle.std.proofs.Common.{◌≡◌, ℕ, ◌/◌, List, ap, sym, ◌∙◌, Option, Some}
 use Rattle.std.specs.List.{slice_get}
 use Rattle.issuer_base.specs.declared.request.Request.{Request}
@@ -29,7 +29,7 @@ answers-alike : (shard : ℕ) (one other : List Entry → Request → Reply) (be
 answers-alike shard one other before request (AnswerFresh at place reply) after same (unused, at_is, place_is, reply_is, after_is) =
     (unused, at_is, place_is, reply_is ∙ same, after_is)
 answers-alike shard one other before request (AnswerKept at place reply) after same answers = answers
-answers-alike shard one other before request (Refused (IsBelowWindow top)) after same answers = answers
+answers-alike shard one other before request (Refused (IsBelowWindow greatest)) after same answers = answers
 answers-alike shard one other before request (Refused (IsTaken at place)) after same answers = answers
 answers-alike shard one other before request _ after same answers = absurd answers
 

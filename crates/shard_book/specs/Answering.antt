@@ -19,40 +19,42 @@ use Rattle.journal_rec.specs.RecordText.{text_of}
 use Rattle.shard_book.specs.declared.shard.Shard.{Shard}
 use Rattle.shard_book.specs.Shards.{HasTail}
 
--- whether the answer is that the store failed
+-- whether the answer reports that the store failed
 abbrev pub is_store_fault : Answer → Bool
 is_store_fault (Refused StoreFault) = true
 is_store_fault _ = false
 
--- whether the answer tells of a new record, or that the store failed: with any other the shard is as it was
+-- whether the answer reports a new record, or that the store failed: any other leaves the shard unchanged
 abbrev pub tells_change : Answer → Bool
 tells_change (Refused StoreFault) = true
 tells_change (Refused refusal) = false
 tells_change (Kept at place reply) = false
 tells_change _ = true
 
--- how many answers told that the store failed, after one more answer: they are counted up to a limit and no further
+-- how many answers reported that the store failed, after one more answer; the count saturates at a limit
 abbrev pub told_after : ℕ → Bool → ℕ
 told_after told true = if nat_lt told MAX_FAULTS_TOLD then told + 1 else told
 told_after told false = told
 
 -- what may be answered to a request whose claim was won or not
-abbrev pub AnswersClaimed : ℕ → (List Entry → Request → Reply) → Bool → List Entry → Request → Answer → List Entry → Type 0
--- a new counter is decided for the caller that has claimed it
+abbrev pub AnswersClaimed :
+    ℕ → (List Entry → Request → Reply) → Bool → List Entry → Request → Answer → List Entry → Type 0
+-- a request with a new ATC is decided for the caller that has claimed the ATC
 AnswersClaimed shard reply_to won before request (Fresh at place reply) after =
     (won ≡ true) × Answers shard reply_to before request (Fresh at place reply) after
 -- for another caller it is pending
 AnswersClaimed shard reply_to won before request (Refused Pending) after =
     (won ≡ false) × IsUnused (decided_for request before) request × (after ≡ before)
--- where the store fails nothing is decided
+-- if the store fails, nothing is decided
 AnswersClaimed shard reply_to won before request (Refused StoreFault) after =
     (won ≡ true) × IsUnused (decided_for request before) request × (after ≡ before)
--- all else is answered by the history
+-- the history decides any other answer
 AnswersClaimed shard reply_to won before request answer after = Answers shard reply_to before request answer after
 
 -- what may be answered to a command
 abbrev pub AnswersQueueing : ℕ → List Entry → CardName → Command → Answer → List Entry → Type 0
-AnswersQueueing shard before card command (Refused StoreFault) after = TakesOneMore (waiting (scripts_of card before)) × (after ≡ before)
+AnswersQueueing shard before card command (Refused StoreFault) after =
+    TakesOneMore (waiting (scripts_of card before)) × (after ≡ before)
 AnswersQueueing shard before card command answer after = AnswersCommand shard before card command answer after
 
 -- what may be answered to a status
@@ -68,8 +70,8 @@ AnswersOrder shard before (Status pan psn status) answer after =
     AnswersSetting shard before (named pan psn) status answer after
 AnswersOrder shard before (Decide request) answer after = ⊥
 
--- what stands behind the text after an answer: nothing where the record that was asked for is added; where the store failed what stood there
--- before, or a front of the text of this record
+-- what is in doubt after an answer: nothing if the requested record was added; if the store failed, what was in doubt
+-- before or a prefix of this record's text; otherwise what was in doubt before
 abbrev pub LeavesTail : {S : Type 0} {G : Ghosts S} → Entry → List Entry → List ℕ → Answer → Shard S G → Type 0
 LeavesTail asked before tail (Refused StoreFault) new = HasTail new before tail ⊎ HasTail new before (text_of asked)
 LeavesTail asked before tail (Refused refusal) new = HasTail new before tail

@@ -12,7 +12,7 @@ use Rattle.shard_book.specs.Grounds.{grounds_now, IsImageOf}
 use Rattle.shard_book.specs.Shards.{number_in, IsUnder, disk_in, faults_in, told_in, IsUndoubted, StandsFor}
 
 module _ {S : Type 0} {G : Ghosts S} where
-  -- on each history that the shard stood for, the shard stands for one that the answer makes of it
+  -- if the shard stood for a history, it stands for one that the answer makes of it
   abbrev pub AnswersBy : Setup → Shard S G → (ℕ → List Entry → List Entry → Type 0) → Shard S G → Type 0
   AnswersBy issuer old Changes new =
       (history : List Entry) → StandsFor issuer old history

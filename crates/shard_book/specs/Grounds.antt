@@ -1,4 +1,4 @@
--- What an issuer says of the records of its shards, and what may stand behind the text of a history.
+-- What an issuer states of the records of its shards, and what may follow the text of a history.
 use Rattle.std.specs.Prelude.{◌≡◌, ◌⊎◌, ℕ, ◌%◌, List, [], length, slice_get, Some, IsTrue, All}
 use Rattle.issuer_base.specs.declared.request.Request.{Request}
 use Rattle.issuer_base.specs.declared.answer.Reply.{Reply}
@@ -24,7 +24,7 @@ pub record IsCardOfShard (issuer : Setup) (shard : ℕ) (name : CardName) : Type
   pub number_is : number_of name issuer.cards ≡ Some number
   pub home : number % issuer.shards ≡ shard
 
--- the reply is one that the issuer makes for its response code after these records, whatever its decision table was then
+-- the reply is one that the issuer makes for its response code after these records, under any decision table
 pub record IsMadeBy (issuer : Setup) (before : List Entry) (request : Request) (reply : Reply) : Type 0 where
   pub number : ℕ
   pub card : CardInfo
@@ -34,7 +34,7 @@ pub record IsMadeBy (issuer : Setup) (before : List Entry) (request : Request) (
   pub keys_are : keys_of issuer number request ≡ Some keys
   pub made : IsMade card.method keys (scripts_of (card_of request) before) request reply
 
--- what an issuer says of its cards and their keys, with what it is to say of replies
+-- what an issuer states of its cards and their keys, and this of its replies
 abbrev pub grounds_by : Setup → (List Entry → Request → Reply → Type 0) → Grounds
 grounds_by issuer IsReply = record {
   IsCardOfShard = IsCardOfShard issuer;
@@ -43,8 +43,8 @@ grounds_by issuer IsReply = record {
   IsReply = IsReply;
 }
 
--- of records of earlier runs: a reply is one that the issuer makes for its response code after these records (`IsMadeBy`),
--- since the decision table may have been another one then
+-- of records of earlier runs: a reply is one that the issuer makes for its response code after these records
+-- (`IsMadeBy`), since the decision table may have been another one then
 abbrev pub grounds_of : Setup → Grounds
 grounds_of issuer = grounds_by issuer (IsMadeBy issuer)
 
@@ -57,11 +57,12 @@ pub record HasTable (issuer : Setup) : Type 0 where
   pub table : IsTrue (is_table issuer.table)
   pub updates : All (λ row. length row.csu ≡ 4) issuer.table
 
--- the tail is empty, or the text of a record that may come next
+-- the tail is empty, or the text of a valid successor
 abbrev pub IsTail : Grounds → ℕ → List Entry → List ℕ → Type 0
 IsTail grounds shard history tail =
     (tail ≡ []) ⊎ ((entry : Entry) × IsRecord entry × IsLegal grounds shard history entry × (tail ≡ text_of entry))
 
--- the text of the history, and behind it a front of the text of a record that may come next, or nothing
+-- the text of the history, possibly followed by a prefix of the text of a valid successor: a torn record
 abbrev pub IsImageOf : Grounds → ℕ → List Entry → List ℕ → Type 0
-IsImageOf grounds shard history image = (tail : List ℕ) × IsTail grounds shard history tail × IsImage (texts_of history) tail image
+IsImageOf grounds shard history image =
+    (tail : List ℕ) × IsTail grounds shard history tail × IsImage (texts_of history) tail image

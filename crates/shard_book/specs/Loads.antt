@@ -22,18 +22,19 @@ module _ {S : Type 0} {G : Ghosts S} where
     pub under : IsUnder issuer shard
     -- it has at most as many records as the store had bytes
     pub few : places_in shard ≤ G.size store
-    -- no answer has reported a fault
+    -- none of its answers has reported that the store failed
     pub untold : told_in shard ≡ 0
     -- nothing is in doubt
     pub undoubted : IsUndoubted shard
     -- meanwhile a crash leaves what it might leave before, or the history's text
-    pub leaves : BothTold (λ old new. LeavesOnly (IsCutImage (sure_in shard) old.now) old new) (G.disk store) (disk_in shard)
+    pub leaves :
+        BothTold (λ old new. LeavesOnly (IsCutImage (sure_in shard) old.now) old new) (G.disk store) (disk_in shard)
     -- no call of the store failed
     pub counts : CountsFaults (G.faults store) (faults_in shard) false
-    -- room that the store tells is left
+    -- room that the store had remains
     pub room : (spare : ℕ) → HasRoom spare (G.size store) (G.room store) → Spares spare shard
 
--- by what stores tell of their bytes and disks, and by their counts of faults
+-- by what is observable of stores: their bytes, their disks and their fault counts
 module _ {S : Type 0} (bytes : S → Option (List ℕ)) (disk : S → Option Disk) (faults : S → ℕ) where
   -- the shard with this number can't be loaded from the store for this reason, and this is the store afterwards
   pub record IsNotLoaded (issuer : Setup) (number : ℕ) (store : S) (fault : LoadFault) (back : S) : Type 0 where

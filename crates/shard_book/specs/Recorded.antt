@@ -1,4 +1,4 @@
--- The counters that are recorded of a shard's cards.
+-- The recorded ATCs of a shard's cards.
 use Rattle.std.specs.Prelude.{◌≡◌, ◌↔◌, ℕ, ◌%◌, ◌<◌, ◌≤◌, List, ◌++◌, slice_get, Some, Contains}
 use Rattle.counter_bits.specs.CounterSets.{times}
 use Rattle.issuer_base.specs.declared.entry.Entry.{Entry}
@@ -8,7 +8,7 @@ use Rattle.issuer_setup.specs.declared.card.CardInfo.{CardInfo}
 use Rattle.issuer_setup.specs.CardList.{name_of}
 use Rattle.issuer_setup.specs.IssuerSetup.{Setup}
 
--- the history has a decided record of the shard's card with this number, on this counter
+-- the history has a decision on this ATC of the shard's card with this number
 pub record IsRecorded (issuer : Setup) (shard : ℕ) (history : List Entry) (number counter : ℕ) : Type 0 where
   pub card : CardInfo
   pub card_is : slice_get issuer.cards number ≡ Some card
@@ -17,7 +17,7 @@ pub record IsRecorded (issuer : Setup) (shard : ℕ) (history : List Entry) (num
   pub is_decided : Contains (decided (name_of card) history) decision
   pub on_counter : decision.request.atc ≡ counter
 
--- behind the list stand the recorded counters of the shard's cards, each once, beside its card's number
+-- the longer list appends the recorded ATCs of the shard's cards, each once, with its card's number
 pub record AddsRecorded (issuer : Setup) (shard : ℕ) (history : List Entry) (list longer : List (ℕ × ℕ)) : Type 0 where
   pub added : List (ℕ × ℕ)
   pub behind : longer ≡ list ++ added

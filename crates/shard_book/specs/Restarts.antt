@@ -1,4 +1,4 @@
--- Which history a restart loads from what a crash left of a journal, whatever decision table the restart has.
+-- Which history a restart loads from what a crash left of a journal, under any decision table.
 use Rattle.std.specs.Prelude.{ℕ, ◌≤◌, List, length, Some, All}
 use Rattle.issuer_base.specs.declared.entry.Entry.{Entry}
 use Rattle.card_history.specs.LegalRecords.{IsLegalHistory}
@@ -10,7 +10,7 @@ use Rattle.shard_book.specs.Grounds.{grounds_of}
 use Rattle.shard_book.specs.Histories.{GoesOn}
 use Rattle.shard_book.specs.Shards.{IsImageLeft, IsTextOf}
 
--- the issuer with another decision table: its shards, keys and cards stay
+-- the issuer with another decision table, and the same shards, keys and cards
 abbrev pub with_table : Setup → List TableRow → Setup
 with_table issuer table = record { shards = issuer.shards; keys = issuer.keys; cards = issuer.cards; table = table }
 
@@ -19,16 +19,17 @@ pub record IsHeld (issuer : Setup) (shard : ℕ) (history : List Entry) : Type 0
   pub records : All IsRecord history
   pub legal : IsLegalHistory (grounds_of issuer) shard history
 
--- the image is what a load takes as left of a history between the first one and the last
+-- the image is one that a load takes for a history between the first one and the last
 pub record LoadsBetween (issuer : Setup) (shard : ℕ) (first last : List Entry) (image : List ℕ) : Type 0 where
   pub between : List Entry
   pub from_first : GoesOn first between
   pub to_last : GoesOn between last
   pub left : (table : List TableRow) → IsImageLeft (with_table issuer table) shard (Some image) between
 
--- the image is the text of a prefix of the history and a torn last line; the prefix has each record whose text was durable
+-- the image is the text of a prefix of the history and a torn last line; the prefix has each durable record
 pub record LoadsPrefix (issuer : Setup) (shard : ℕ) (history : List Entry) (durable : ℕ) (image : List ℕ) : Type 0 where
   pub prefix : List Entry
   pub to_history : GoesOn prefix history
   pub text : (table : List TableRow) → IsTextOf (grounds_of (with_table issuer table)) shard (Some image) prefix
-  pub has_durable : (records : List Entry) → GoesOn records history → length (texts_of records) ≤ durable → GoesOn records prefix
+  pub has_durable : (records : List Entry) → GoesOn records history → length (texts_of records) ≤ durable
+      → GoesOn records prefix

@@ -16,15 +16,15 @@ most_of (Queued pan psn command) = MOST_QUEUED_BYTES
 most_of _ = MOST_RECORD_BYTES
 
 module _ {S : Type 0} {G : Ghosts S} where
-  -- the shard's store tells its room, and so many more bytes are within it
+  -- the room of the shard's store is known, and so many more bytes are within it
   abbrev pub Spares : ℕ → Shard S G → Type 0
   Spares bytes shard = HasRoom bytes (G.size (store_in shard)) (G.room (store_in shard))
 
-  -- with room for so many bytes and more the store doesn't fail, and the room for the more is left
+  -- with room for so many bytes and more the store doesn't fail, and the room for the more remains
   abbrev pub UsesRoom : ℕ → Bool → Shard S G → Shard S G → Type 0
   UsesRoom most failed old new = (spare : ℕ) → Spares (most + spare) old → (failed ≡ false) × Spares spare new
 
-  -- a store that works at the size that it has doesn't fail, and has the same room when it is loaded
+  -- a store that works at its size doesn't fail, and has the same room once it is loaded
   abbrev pub LoadsWithin : ℕ → Option ℕ → Result (Shard S G) (LoadBack S) → Type 0
   LoadsWithin size room result = (spare : ℕ) → HasRoom spare size room
       → MatchResult result (Spares spare) (λ back. is_store_failure back.fault ≡ false)

@@ -20,8 +20,9 @@ use Rattle.shard_book.specs.declared.shard.Shard.{Shard}
 use Rattle.shard_book.specs.ShardRows.{AreRowsOf, IsHome, StandsFor as RowsStandFor}
 use Rattle.shard_book.specs.Grounds.{IsTail, IsImageOf, grounds_now, grounds_of}
 
--- the journal has the records of the history; a front of the text of a record that may come next may stand behind them
-pub record HoldsHistory {S : Type 0} {G : Ghosts S} (grounds : Grounds) (number : ℕ) (journal : Journal S G) (history : List Entry) : Type 0 where
+-- the journal has the records of the history, possibly followed by a prefix of the text of a valid successor
+pub record HoldsHistory {S : Type 0} {G : Ghosts S} (grounds : Grounds) (number : ℕ) (journal : Journal S G)
+    (history : List Entry) : Type 0 where
   pub tail : List ℕ
   pub tail_is : IsTail grounds number history tail
   pub records : All IsRecord history
@@ -44,7 +45,7 @@ module _ {S : Type 0} {G : Ghosts S} where
   abbrev pub store_in : Shard S G → S
   store_in shard = shard.journal.store
 
-  -- how many bytes of its store are sure
+  -- how many bytes of its store are durable
   abbrev pub sure_in : Shard S G → ℕ
   sure_in shard = shard.journal.sure
 
@@ -52,38 +53,41 @@ module _ {S : Type 0} {G : Ghosts S} where
   abbrev pub places_in : Shard S G → ℕ
   places_in shard = shard.journal.records
 
-  -- how many of its answers told that its store failed
+  -- how many of its answers reported that its store failed
   abbrev pub told_in : Shard S G → ℕ
   told_in shard = shard.told
 
-  -- its store has the text of the history, all safe, and behind it maybe a front of this tail, but nothing else
+  -- its store has the text of the history, all of it durable, and after it at most a prefix of this tail
   abbrev pub HasTail : Shard S G → List Entry → List ℕ → Type 0
   HasTail shard history tail = Holds shard.journal (length history) (texts_of history) tail
 
-  -- where none of its answers told that its store failed, nothing is in doubt
+  -- nothing is in doubt unless one of its answers reported that its store failed
   abbrev pub IsUndoubted : Shard S G → Type 0
   IsUndoubted shard = shard.told ≡ 0 → shard.journal.in_doubt ≡ false
 
-  -- what its store tells of its disk, and the store's count of faults
+  -- what is observable of its store's disk, and the store's fault count
   abbrev pub disk_in : Shard S G → Option Disk
   disk_in shard = G.disk shard.journal.store
 
   abbrev pub faults_in : Shard S G → ℕ
   faults_in shard = G.faults shard.journal.store
 
--- a shard stands for a history where its rows do and its journal has the history's records
-pub record StandsFor {S : Type 0} {G : Ghosts S} (issuer : Setup) (shard : Shard S G) (history : List Entry) : Type 0 where
+-- a shard stands for a history if its rows do and its journal has the history's records
+pub record StandsFor {S : Type 0} {G : Ghosts S} (issuer : Setup) (shard : Shard S G) (history : List Entry)
+    : Type 0 where
   pub rows_stand : RowsStandFor issuer shard.rows history
   pub journal_holds : HoldsHistory (grounds_now issuer) shard.rows.shard shard.journal history
 
--- the record is added and the good answer is given, or the store failed and the history is as it was
+-- the record is added and the good answer is returned, or the store failed and the history is unchanged
 abbrev pub Adds : {S : Type 0} {G : Ghosts S} → Setup → Shard S G → List Entry → Entry → Answer → Answer → Type 0
 Adds issuer new history entry good answer =
-    ((answer ≡ good) × StandsFor issuer new (history ++ entry ∷ [])) ⊎ ((answer ≡ Refused StoreFault) × StandsFor issuer new history)
+    ((answer ≡ good) × StandsFor issuer new (history ++ entry ∷ []))
+    ⊎ ((answer ≡ Refused StoreFault) × StandsFor issuer new history)
 
--- a shard that was loaded: where the bytes were told, they were the text of a legal history and a rest without a newline; the shard
--- stands for that history, and its journal has just the history's text
-pub record IsLoaded {S : Type 0} {G : Ghosts S} (issuer : Setup) (number : ℕ) (bytes : Option (List ℕ)) (shard : Shard S G) : Type 0 where
+-- a shard that was loaded: if the store's bytes were observable, they were the text of a legal history and a torn last
+-- line, which may be empty; the shard stands for that history, and its journal has just the history's text
+pub record IsLoaded {S : Type 0} {G : Ghosts S} (issuer : Setup) (number : ℕ) (bytes : Option (List ℕ))
+    (shard : Shard S G) : Type 0 where
   pub history : List Entry
   pub rest : List ℕ
   pub text_is : Tells bytes (texts_of history ++ rest)
@@ -94,7 +98,7 @@ pub record IsLoaded {S : Type 0} {G : Ghosts S} (issuer : Setup) (number : ℕ) 
   pub stands : StandsFor issuer shard history
   pub settled : HasTail shard history []
 
--- the bytes are told, and are the text of this legal history, and a rest without a newline
+-- the bytes are known: the text of this legal history and a torn last line, which may be empty
 pub record IsTextOf (grounds : Grounds) (shard : ℕ) (bytes : Option (List ℕ)) (history : List Entry) : Type 0 where
   pub rest : List ℕ
   pub text_is : bytes ≡ Some (texts_of history ++ rest)
@@ -102,7 +106,7 @@ pub record IsTextOf (grounds : Grounds) (shard : ℕ) (bytes : Option (List ℕ)
   pub records : All IsRecord history
   pub legal : IsLegalHistory grounds shard history
 
--- the bytes are told, and are an image of this history, which is legal whatever decision table an earlier run had
+-- the bytes are known: an image of this history, which is legal whatever decision table an earlier run had
 pub record IsImageLeft (issuer : Setup) (shard : ℕ) (bytes : Option (List ℕ)) (history : List Entry) : Type 0 where
   pub image : List ℕ
   pub told : bytes ≡ Some image
@@ -110,8 +114,9 @@ pub record IsImageLeft (issuer : Setup) (shard : ℕ) (bytes : Option (List ℕ)
   pub records : All IsRecord history
   pub legal : IsLegalHistory (grounds_of issuer) shard history
 
--- the shard stands for the history, and its journal has just the history's text, all of it safe
-pub record IsSettled {S : Type 0} {G : Ghosts S} (issuer : Setup) (shard : Shard S G) (history : List Entry) : Type 0 where
+-- the shard stands for the history, and its journal has just the history's text, all of it durable
+pub record IsSettled {S : Type 0} {G : Ghosts S} (issuer : Setup) (shard : Shard S G) (history : List Entry)
+    : Type 0 where
   pub stands : StandsFor issuer shard history
   pub settled : HasTail shard history []
 
@@ -119,10 +124,10 @@ pub record IsSettled {S : Type 0} {G : Ghosts S} (issuer : Setup) (shard : Shard
 abbrev pub StandsForLeft : {S : Type 0} {G : Ghosts S} → Setup → ℕ → Option (List ℕ) → List Entry → Shard S G → Type 0
 StandsForLeft issuer number bytes history shard =
     IsSettled issuer shard history
-    ⊎ ((entry : Entry) × IsLegal (grounds_of issuer) number history entry × (bytes ≡ Some (texts_of (history ++ entry ∷ [])))
-    × IsSettled issuer shard (history ++ entry ∷ []))
+    ⊎ ((entry : Entry) × IsLegal (grounds_of issuer) number history entry
+    × (bytes ≡ Some (texts_of (history ++ entry ∷ []))) × IsSettled issuer shard (history ++ entry ∷ []))
 
--- the bytes were those of records and a rest without a newline, and now are those of the records alone
+-- the bytes were the text of records and a torn last line, and were truncated to the text of the records
 pub record IsCutToText (before after : List ℕ) : Type 0 where
   pub history : List Entry
   pub rest : List ℕ
@@ -135,12 +140,12 @@ pub record IsCutToText (before after : List ℕ) : Type 0 where
 abbrev pub IsLoadImage : Moment → List ℕ → Type 0
 IsLoadImage moment image = MayLeave moment image ⊎ IsCutToText moment.bytes image
 
--- what a load that failed leaves of the bytes: the store's own fault leaves them as they were or cut to the records, any other as they were
+-- what a failed load leaves of the bytes: they are unchanged, or if the store failed possibly truncated to the records
 abbrev pub LeavesBytes : LoadFault → Option (List ℕ) → Option (List ℕ) → Type 0
 LeavesBytes StoreFailed old new = BothTold (λ before after. (after ≡ before) ⊎ IsCutToText before after) old new
 LeavesBytes _ old new = new ≡ old
 
--- and of the disk: where the store didn't fail, each moment has the bytes of the first
+-- and of the disk: unless the store failed, each moment has the bytes of the first
 abbrev pub LeavesDisk : LoadFault → Option Disk → Option Disk → Type 0
 LeavesDisk StoreFailed old new = Unit {0}
 LeavesDisk _ old new = BothTold OnlyReads old new

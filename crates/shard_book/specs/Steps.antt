@@ -28,40 +28,50 @@ pub record IsCardOf (issuer : Setup) (number : ℕ) (card : CardInfo) : Type 0 w
 abbrev pub IsPlanFor : Setup → ShardRows → CheckedRequest → ℕ → Outcome → Type 0
 IsPlanFor issuer rows found place outcome =
     (history : List Entry) → StandsFor issuer rows history → place ≡ length history
-    → Answers rows.shard (reply_to issuer) history found.request (answer_of rows.shard outcome) (history_after history found.request outcome)
+    → Answers rows.shard (reply_to issuer) history found.request (answer_of rows.shard outcome)
+    (history_after history found.request outcome)
 
--- the decision of this request that comes next for its card is added
+-- the decision of this request, a valid successor, is added
 abbrev pub Applies : ShardRows → CheckedRequest → Decision → ShardRows → Type 0
 Applies old found step new =
-    (issuer : Setup) (card : CardInfo) (history : List Entry) → StandsFor issuer old history → IsCardOf issuer found.card card
+    (issuer : Setup) (card : CardInfo) (history : List Entry) → StandsFor issuer old history
+    → IsCardOf issuer found.card card
     → IsNext card history step → step.request ≡ found.request → StandsFor issuer new (with_record history step)
 
--- whether the decision of this request of a card may come next
+-- whether the decision of this request of a card is a valid successor
 abbrev pub Accepts : ShardRows → CheckedRequest → Reply → Bool → Type 0
 Accepts rows found reply accepted =
-    (issuer : Setup) (card : CardInfo) (history : List Entry) → StandsFor issuer rows history → IsCardOf issuer found.card card
-    → card_of found.request ≡ name_of card → (IsTrue accepted ↔ MayFollow card.method found.keys history found.request reply)
+    (issuer : Setup) (card : CardInfo) (history : List Entry) → StandsFor issuer rows history
+    → IsCardOf issuer found.card card
+    → card_of found.request ≡ name_of card
+    → (IsTrue accepted ↔ MayFollow card.method found.keys history found.request reply)
 
--- the decision is taken over
+-- the decision is replayed
 abbrev pub Adopts : ShardRows → CheckedRequest → Reply → ℕ → ShardRows → Type 0
 Adopts old found reply place new =
-    (issuer : Setup) (card : CardInfo) (history : List Entry) → StandsFor issuer old history → IsCardOf issuer found.card card
-    → card_of found.request ≡ name_of card → place ≡ length history → StandsFor issuer new (history ++ Decided found.request reply ∷ [])
+    (issuer : Setup) (card : CardInfo) (history : List Entry) → StandsFor issuer old history
+    → IsCardOf issuer found.card card
+    → card_of found.request ≡ name_of card → place ≡ length history
+    → StandsFor issuer new (history ++ Decided found.request reply ∷ [])
 
--- whether the card's queue takes one more command
+-- whether the card's queue accepts one more command
 abbrev pub TakesCommand : ShardRows → ℕ → Bool → Type 0
 TakesCommand rows number takes =
-    (issuer : Setup) (card : CardInfo) (history : List Entry) → StandsFor issuer rows history → IsCardOf issuer number card
+    (issuer : Setup) (card : CardInfo) (history : List Entry) → StandsFor issuer rows history
+    → IsCardOf issuer number card
     → (IsTrue takes ↔ TakesOneMore (waiting (scripts_of (name_of card) history)))
 
--- the command is queued for this card, whose queue takes it
+-- the command is queued for this card, whose queue accepts it
 abbrev pub Queues : ShardRows → ℕ → Command → ShardRows → Type 0
 Queues old number command new =
-    (issuer : Setup) (card : CardInfo) (history : List Entry) → StandsFor issuer old history → IsCardOf issuer number card
-    → TakesOneMore (waiting (scripts_of (name_of card) history)) → StandsFor issuer new (with_command_for history card command)
+    (issuer : Setup) (card : CardInfo) (history : List Entry) → StandsFor issuer old history
+    → IsCardOf issuer number card
+    → TakesOneMore (waiting (scripts_of (name_of card) history))
+    → StandsFor issuer new (with_command_for history card command)
 
 -- this card has the status
 abbrev pub SetsStatus : ShardRows → ℕ → ℕ → ShardRows → Type 0
 SetsStatus old number status new =
-    (issuer : Setup) (card : CardInfo) (history : List Entry) → StandsFor issuer old history → IsCardOf issuer number card
+    (issuer : Setup) (card : CardInfo) (history : List Entry) → StandsFor issuer old history
+    → IsCardOf issuer number card
     → StandsFor issuer new (with_status_for history card status)

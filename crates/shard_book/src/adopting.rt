@@ -1,4 +1,4 @@
-//! Taking over the records of a journal, each where it may come next.
+//! Replays the records of a journal, each if it is a valid successor.
 ghost use Rattle.std.specs.Prelude.{◌≡◌, ◌↔◌, ℕ, ◌≤◌, List, [], ◌∷◌, ◌++◌, length, IsTrue};
 ghost use Rattle.issuer_base.specs.declared.entry.Entry.{Entry};
 ghost use Rattle.issuer_base.specs.ScriptCommand.{is_command};
@@ -20,14 +20,14 @@ use issuer_setup::Issuer;
 use line_checks::{CheckedRequest, check_request};
 
 impl Rows {
-    /// Takes over a record that was read from the place, where it may come next, and says whether it did.
+    /// Replays the record with this index if it is a valid successor. The result is whether it is.
     pub(crate) fn adopt(&mut self, issuer: &Issuer, entry: Entry, place: u64) -> bool
         requires rows { AreRowsOf issuer.now self.old }
         requires form { IsTrue (is_record entry) }
         ensures exact { (history : List Entry) → StandsFor issuer.now self.old history
             → (IsTrue result ↔ IsLegal (grounds_of issuer.now) self.old.shard history entry) }
-        ensures adopted { IsTrue result → (history : List Entry) → StandsFor issuer.now self.old history → place ≡ length history
-            → StandsFor issuer.now self.new (history ++ entry ∷ []) }
+        ensures adopted { IsTrue result → (history : List Entry) → StandsFor issuer.now self.old history
+            → place ≡ length history → StandsFor issuer.now self.new (history ++ entry ∷ []) }
         ensures same { AreSame self.old self.new }
     {
         match entry {
@@ -37,7 +37,7 @@ impl Rows {
         }
     }
 
-    /// Takes over a decision.
+    /// Replays a decision.
     fn adopt_decision(
         &mut self,
         issuer: &Issuer,
@@ -48,8 +48,8 @@ impl Rows {
         requires { AreRowsOf issuer.now self.old }
         ensures exact { (history : List Entry) → StandsFor issuer.now self.old history
             → (IsTrue result ↔ IsLegalDecision (grounds_of issuer.now) self.old.shard history request reply) }
-        ensures adopted { IsTrue result → (history : List Entry) → StandsFor issuer.now self.old history → place ≡ length history
-            → StandsFor issuer.now self.new (history ++ Entry.Decided request reply ∷ []) }
+        ensures adopted { IsTrue result → (history : List Entry) → StandsFor issuer.now self.old history
+            → place ≡ length history → StandsFor issuer.now self.new (history ++ Entry.Decided request reply ∷ []) }
         ensures same { AreSame self.old self.new }
     {
         let Ok(found) = check_request(issuer, request) else {
@@ -61,7 +61,7 @@ impl Rows {
         self.adopt_checked(found, reply, place)
     }
 
-    /// Takes over a command.
+    /// Replays a command.
     fn adopt_command(&mut self, issuer: &Issuer, pan: Pan, psn: u8, command: Command) -> bool
         requires rows { AreRowsOf issuer.now self.old }
         requires form { IsTrue (is_command command) }
@@ -84,7 +84,7 @@ impl Rows {
         true
     }
 
-    /// Takes over a status.
+    /// Replays a status.
     fn adopt_status(&mut self, issuer: &Issuer, pan: Pan, psn: u8, status: u8) -> bool
         requires rows { AreRowsOf issuer.now self.old }
         requires within { status ≤ MAX_STATUS }

@@ -10,17 +10,18 @@ ghost use Rattle.shard_book.specs.Histories.{IsImageBetween};
 ghost use Rattle.shard_book.specs.Restarts.{IsHeld, LoadsBetween, LoadsPrefix};
 ghost use Rattle.shard_book.specs.Shards.{IsLoadImage, IsTextOf};
 
-/// Whatever a crash leaves of a journal loads again, also where the decision table was changed meanwhile: what it leaves of a shard that
-/// answers is what a load takes as left of a history; what it leaves of a journal that is being loaded, or that wasn't loaded, is the text
-/// of a prefix of its history, with each record whose text was durable.
+/// Whatever a crash leaves of a journal loads again, even if the decision table has changed meanwhile. Of a shard that
+/// answers it leaves an image of a history, as the clause `image` of `Shard::load` takes it. Of a journal that is being
+/// loaded, or whose load failed, it leaves the text of a prefix of its history, with each durable record.
 ///
 /// The contract is a theorem on every history and image; the function does nothing.
 pub fn every_image_loads_again()
     // While a shard answers: to the clause `image` of `Shard::load`.
     ensures between { (issuer : Setup) (shard : ℕ) (first last : List Entry) (image : List ℕ)
-        → HasTable issuer → IsHeld issuer shard last → IsImageBetween issuer shard first last image → LoadsBetween issuer shard first last image }
+        → HasTable issuer → IsHeld issuer shard last → IsImageBetween issuer shard first last image
+        → LoadsBetween issuer shard first last image }
 
-    // While a journal is loaded, by its clause `opened`, or where that fails, by its clause `crash`: to its clause `exact`.
+    // While a journal is loaded, by `leaves` of `IsLoadedFrom`, or if that fails of `IsNotLoaded`: to `exact`.
     ensures opened { (issuer : Setup) (shard : ℕ) (history : List Entry) (moment : Moment) (image : List ℕ)
         → IsTextOf (grounds_of issuer) shard (Some moment.bytes) history
         → IsCutImage (length (texts_of history)) moment image → LoadsPrefix issuer shard history moment.safe image }

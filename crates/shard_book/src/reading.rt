@@ -1,4 +1,4 @@
-//! Reading the text of a journal from its store, a part at a time.
+//! Reads the text of a journal from its store, one part after another.
 ghost use Rattle.std.specs.Prelude.{◌≡◌, ◌≢◌, ℕ, ◌^◌, ◌<◌, ◌≤◌, [], length, take, drop, MatchBool, IfOk, IfErr, IfSome, OnOk, is_err};
 ghost use Rattle.issuer_base.specs.OutsideFaults.{CountsFaults};
 ghost use Rattle.issuer_base.specs.Stores.{BothTold, WorksWithin};
@@ -17,12 +17,12 @@ use journal_rec::MOST_RECORD_BYTES;
 use record_store::read_from;
 use std::alloc::Global;
 
-/// How many bytes of a store are read at a time at most: more than any record has.
+/// The largest part of a store that is read at a time: more bytes than any record has.
 const BUFFER_BYTES: usize = 64 * 1_024;
 
-/// Reads a store, and takes over the records of its whole lines into the rows of this shard.
+/// Reads a store, and replays the records of its whole lines into the rows of this shard.
 ///
-/// All memory is taken before the store is read.
+/// It allocates all memory before it reads the store.
 pub(crate) fn take_over<S: Store>(
     alloc: Global,
     store: &mut S,
@@ -32,7 +32,8 @@ pub(crate) fn take_over<S: Store>(
     requires { shard < issuer.now.shards }
     ensures taken { IfOk result (λ over. ReadsText issuer.now shard (S.bytes store.old) over.rows over.taken) }
     ensures rows { IfOk result (λ over. AreRowsOf issuer.now over.rows × (over.rows.shard ≡ shard)) }
-    ensures within { IfOk result (λ over. (over.taken.records ≤ over.taken.bytes) × (over.taken.bytes ≤ S.size store.old)) }
+    ensures within { IfOk result
+        (λ over. (over.taken.records ≤ over.taken.bytes) × (over.taken.bytes ≤ S.size store.old)) }
     ensures stopped { IfErr result (StopsText issuer.now shard (S.bytes store.old)) }
     ensures size { S.size store.new ≡ S.size store.old }
     ensures bytes { S.bytes store.new ≡ S.bytes store.old }
@@ -51,7 +52,7 @@ pub(crate) fn take_over<S: Store>(
     take_text(rows, issuer, store, &mut buffer)
 }
 
-/// Takes over the records of a store's whole lines into rows without records.
+/// Replays the records of a store's whole lines into rows without records.
 fn take_text<S: Store>(
     rows: Rows,
     issuer: &Issuer,
@@ -62,8 +63,10 @@ fn take_text<S: Store>(
     requires room { MOST_RECORD_BYTES ≤ length buffer.old }
     ensures taken { StandsFor issuer.now rows []
         → IfOk result (λ over. ReadsText issuer.now rows.shard (S.bytes store.old) over.rows over.taken) }
-    ensures within { IfOk result (λ over. (over.taken.records ≤ over.taken.bytes) × (over.taken.bytes ≤ S.size store.old)) }
-    ensures stopped { StandsFor issuer.now rows [] → IfErr result (StopsText issuer.now rows.shard (S.bytes store.old)) }
+    ensures within { IfOk result
+        (λ over. (over.taken.records ≤ over.taken.bytes) × (over.taken.bytes ≤ S.size store.old)) }
+    ensures stopped { StandsFor issuer.now rows []
+        → IfErr result (StopsText issuer.now rows.shard (S.bytes store.old)) }
     ensures same { IfOk result (λ over. AreSame rows over.rows) }
     ensures size { S.size store.new ≡ S.size store.old }
     ensures bytes { S.bytes store.new ≡ S.bytes store.old }
@@ -84,7 +87,7 @@ fn take_text<S: Store>(
 }
 
 impl Rows {
-    /// Takes over the records of a store's lines, part by part, until a part has no whole line.
+    /// Replays the records of a store's lines, part by part, until a part has no whole line.
     fn adopt_parts<S: Store>(
         &mut self,
         issuer: &Issuer,
@@ -94,9 +97,11 @@ impl Rows {
         requires { AreRowsOf issuer.now self.old }
         ensures front { StandsFor issuer.now self.old []
             → IfOk result (ReadsFront issuer.now self.old.shard (S.bytes store.old) self.new) }
-        ensures end { IfOk result (λ taken. IfSome (S.bytes store.old) (λ text. IsUnbroken (take (length buffer.old) (drop taken.bytes text)))) }
+        ensures end { IfOk result (λ taken.
+            IfSome (S.bytes store.old) (λ text. IsUnbroken (take (length buffer.old) (drop taken.bytes text)))) }
         ensures within { IfOk result (λ taken. (taken.records ≤ taken.bytes) × (taken.bytes ≤ S.size store.old)) }
-        ensures stopped { StandsFor issuer.now self.old [] → IfErr result (StopsText issuer.now self.old.shard (S.bytes store.old)) }
+        ensures stopped { StandsFor issuer.now self.old []
+            → IfErr result (StopsText issuer.now self.old.shard (S.bytes store.old)) }
         ensures same { AreSame self.old self.new }
         ensures size { S.size store.new ≡ S.size store.old }
         ensures bytes { S.bytes store.new ≡ S.bytes store.old }
@@ -123,8 +128,8 @@ impl Rows {
         Ok(taken)
     }
 
-    /// Takes over the records of the whole lines that stand behind those that were taken over, as far as the buffer
-    /// goes, and gives what is taken over then.
+    /// Replays the records of the whole lines after those that were replayed, as far as the buffer reaches. The result
+    /// is what has then been replayed.
     fn adopt_part<S: Store>(
         &mut self,
         issuer: &Issuer,
@@ -165,15 +170,16 @@ impl Rows {
     }
 }
 
-/// Whether no newline stands behind what was taken over, where none stands in the first bytes there that fit the buffer. A line
-/// that begins with so many bytes is that of no record.
+/// Checks that no newline is after the replayed text, if none is in its next bytes that fit the buffer. A line with so
+/// many bytes is that of no record.
 fn check_rest<S: Store>(store: &mut S, taken: Taken, buffer: &mut [u8]) -> Result<(), LoadFault>
     requires within { taken.bytes ≤ S.size store.old }
     requires few { taken.records ≤ taken.bytes }
     requires room { MOST_RECORD_BYTES ≤ length buffer.old }
     ensures rest { IfSome (S.bytes store.old) (λ text. IsUnbroken (take (length buffer.old) (drop taken.bytes text)))
         → OnOk result (IfSome (S.bytes store.old) (λ text. IsUnbroken (drop taken.bytes text))) }
-    ensures stopped { (issuer : Setup) (shard : ℕ) (rows : ShardRows) → ReadsFront issuer shard (S.bytes store.old) rows taken
+    ensures stopped { (issuer : Setup) (shard : ℕ) (rows : ShardRows)
+        → ReadsFront issuer shard (S.bytes store.old) rows taken
         → IfSome (S.bytes store.old) (λ text. IsUnbroken (take (length buffer.old) (drop taken.bytes text)))
         → IfErr result (StopsText issuer shard (S.bytes store.old)) }
     ensures size { S.size store.new ≡ S.size store.old }
@@ -197,7 +203,7 @@ fn check_rest<S: Store>(store: &mut S, taken: Taken, buffer: &mut [u8]) -> Resul
     Ok(())
 }
 
-/// Whether a newline stands in a store from a place on.
+/// Whether a store has a newline from an offset on.
 fn has_newline<S: Store>(store: &mut S, from: u64, buffer: &mut [u8]) -> Result<bool, StoreFail>
     requires within { from ≤ S.size store.old }
     requires room { 0 < length buffer.old }
@@ -222,8 +228,8 @@ fn has_newline<S: Store>(store: &mut S, from: u64, buffer: &mut [u8]) -> Result<
     Ok(false)
 }
 
-/// The bytes that a part of a store of so many bytes is read into: as many as the store has, where they aren't too many, and
-/// room for any record.
+/// A buffer for the parts of a store of this size: as many bytes as the store has, up to a limit, and enough for any
+/// record.
 fn buffer(alloc: Global, size: u64) -> Result<Vec<u8>, NoMemory>
     ensures { IfOk result (λ bytes. MOST_RECORD_BYTES ≤ length bytes.items) }
 {

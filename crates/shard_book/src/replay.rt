@@ -1,4 +1,4 @@
-//! Taking over the records of a text, line by line.
+//! Replays the records of a text, line by line.
 ghost use Rattle.std.specs.Prelude.{◌≡◌, ◌≢◌, ℕ, ◌+◌, ◌^◌, ◌<◌, ◌≤◌, List, length, drop, MatchOption, IfOk, IfErr, OnOk, false};
 ghost use Rattle.issuer_base.specs.declared.entry.Entry.{Entry};
 ghost use Rattle.shard_book.specs.Loading.{IsBad, StopsAt, TakesLine, TakesLines, is_store_failure};
@@ -22,22 +22,22 @@ pub enum LoadFault {
     /// This whole line, counted from 1, is that of no record: the journal isn't one that this host wrote.
     BadLine(u64),
 
-    /// This whole line, counted from 1, is that of a record which may not come after those before it: the journal is of another issuer,
-    /// or was changed.
+    /// This whole line, counted from 1, is that of a record which is no valid successor of those before it: the journal
+    /// is of another issuer, or was changed.
     BadRecord(u64),
 
-    /// No memory was left.
+    /// Memory ran out.
     NoMemory,
 }
 
-/// What a store was read as: the rows of its shard, and how many records and bytes they come from.
+/// What was replayed of a store: the rows of its shard, and how many records and bytes they come from.
 #[derive(Drop)]
 pub(crate) struct TakenOver {
     pub(crate) rows: Rows,
     pub(crate) taken: Taken,
 }
 
-/// How many records were taken over from the front of a text, and how many bytes they have.
+/// How many records were replayed from the beginning of a text, and how many bytes they have.
 #[derive(Clone, Copy)]
 pub(crate) struct Taken {
     pub(crate) records: u64,
@@ -45,7 +45,7 @@ pub(crate) struct Taken {
 }
 
 impl Rows {
-    /// Takes over the records of the whole lines of a text, the first of which comes to this place.
+    /// Replays the records of the whole lines of a text, the first of which has this index.
     pub(crate) fn adopt_lines(
         &mut self,
         issuer: &Issuer,
@@ -83,7 +83,7 @@ impl Rows {
         Ok(taken)
     }
 
-    /// Takes over the record of a line, which comes to this place.
+    /// Replays the record of a line, which has this index.
     fn adopt_line(&mut self, issuer: &Issuer, line: &[u8], place: u64) -> Result<(), LoadFault>
         requires rows { AreRowsOf issuer.now self.old }
         requires room { place + 1 < 2 ^ 64 }
@@ -105,7 +105,7 @@ impl Rows {
     }
 }
 
-/// How many bytes stand before the first newline from a place on.
+/// How many bytes are before the first newline from an offset on.
 pub(crate) fn next_newline(text: &[u8], from: usize) -> Option<usize>
     requires { from ≤ length text.now }
     ensures { MatchOption result (IsUnbroken (drop from text.now)) (IsLineAhead (drop from text.now)) }

@@ -22,7 +22,7 @@ use std::marker::Model;
 
 /// The rows of the cards of one shard of an issuer.
 ///
-/// A contract sees the number of the shard, how many shards and cards the issuer has, the rows, and the sets of recorded counters.
+/// A contract sees the number of the shard, how many shards and cards the issuer has, the rows, and the recorded ATCs.
 #[derive(Drop)]
 pub(crate) struct Rows {
     shard: u8,
@@ -32,7 +32,7 @@ pub(crate) struct Rows {
     /// A row for each card of the shard, in the order of their numbers.
     rows: Vec<Row>,
 
-    /// The recorded counters of each of these cards.
+    /// The recorded ATCs of each of these cards.
     bits: CounterBits,
 }
 
@@ -47,7 +47,7 @@ impl Model for Rows {
 }
 
 impl Rows {
-    /// The rows of a shard without records. No other call takes memory.
+    /// The rows of a shard without records. No other call allocates.
     pub(crate) fn new(alloc: Global, issuer: &Issuer, shard: u8) -> Result<Rows, NoMemory>
         requires { shard < issuer.now.shards }
         ensures rows { IfOk result (AreRowsOf issuer.now) }
@@ -112,7 +112,7 @@ impl Rows {
         self.rows[index].apply(&found.request, reply, place);
     }
 
-    /// Takes over the decision of a request that was checked, where it may come next, and says whether it did.
+    /// Replays the decision of a checked request if it is a valid successor. The result is whether it is.
     pub(crate) fn adopt_checked(&mut self, found: CheckedRequest, reply: Reply, place: u64) -> bool
         requires home { IsHome self.old found.card }
         requires session { found.session ≡ session_ac found.keys.ac.0 found.request.atc }
@@ -135,7 +135,7 @@ impl Rows {
         true
     }
 
-    /// Whether the queue of this card takes one more command.
+    /// Whether the queue of this card accepts one more command.
     pub(crate) fn takes_command(&self, card: u32) -> bool
         requires { IsHome self.now card }
         ensures { TakesCommand self.now card result }
@@ -143,7 +143,7 @@ impl Rows {
         takes_one_more(self.row(card))
     }
 
-    /// Queues a command for this card, whose queue takes one more.
+    /// Queues a command for this card, whose queue accepts one more.
     pub(crate) fn push(&mut self, card: u32, command: Command)
         requires home { IsHome self.old card }
         requires form { IsTrue (is_command command) }
@@ -163,10 +163,11 @@ impl Rows {
         self.rows[index_of(card, self.shards)].set_status(status);
     }
 
-    /// Lists each recorded counter of each card of the shard once, beside the card's number, behind what the list has. Where memory
-    /// runs out, some of them may stand there.
+    /// Appends each recorded ATC of each card of the shard once, with the card's number. If memory runs out, some of
+    /// them may have been appended.
     pub(crate) fn list_recorded(&self, list: &mut Vec<(u32, u16)>) -> Result<(), NoMemory>
-        ensures kept { (length list.old.items ≤ length list.new.items) × (take (length list.old.items) list.new.items ≡ list.old.items) }
+        ensures kept { (length list.old.items ≤ length list.new.items)
+            × (take (length list.old.items) list.new.items ≡ list.old.items) }
         ensures covers { Covers self.now }
         ensures listed { IfOk result (λ _. Lists self.now list.old.items list.new.items) }
     {
@@ -178,7 +179,7 @@ impl Rows {
     }
 }
 
-/// Where the row of a card stands among those of its shard.
+/// The index of a card's row among those of its shard.
 fn index_of(card: u32, shards: u8) -> usize
     requires { 0 < shards }
     ensures { result ≡ card / shards }
@@ -186,7 +187,7 @@ fn index_of(card: u32, shards: u8) -> usize
     (card / u32::from(shards)) as usize
 }
 
-/// The number of the card whose row stands there.
+/// The number of the card whose row has this index.
 fn number_at(index: u32, shards: u8, shard: u8) -> u32
     requires { shard + index * shards < 2 ^ 32 }
     ensures { result ≡ shard + index * shards }
@@ -203,7 +204,7 @@ fn home_cards(cards: u32, shards: u8, shard: u8) -> u32
     (cards + u32::from(shards) - 1 - u32::from(shard)) / u32::from(shards)
 }
 
-/// Whether the row's queue takes one more command.
+/// Whether the row's queue accepts one more command.
 fn takes_one_more(row: &Row) -> bool
     ensures { IsTrue result ↔ TakesOneMore row.now.scripts.commands }
 {

@@ -1,4 +1,4 @@
-//! A shard over a store: what it answers, and what it writes before that.
+//! A shard over a store: what it answers, and what it records before that.
 ghost use Rattle.std.specs.Prelude.{◌≡◌, ◌⊎◌, ℕ, ◌^◌, ◌≤◌, ◌/◌, slice_get, Some, min, if◌then◌else◌, List, [], ◌∷◌, ◌++◌, length, ◌<◌, Ok, IfOk, IfErr, IsErr, MatchResult, All, false, true, IsTrue, is_err};
 ghost use Rattle.issuer_base.specs.OutsideFaults.{CountsFaults};
 ghost use Rattle.issuer_base.specs.Stores.{BothTold, CutsBytes, HasRoom, LeavesOnly};
@@ -48,11 +48,11 @@ pub struct Shard<S: Store> {
     journal: Journal<S>,
     rows: Rows,
 
-    /// How many answers since loading told that the store failed, counted up to [`MAX_FAULTS_TOLD`].
+    /// How many answers since loading reported that the store failed, counted up to [`MAX_FAULTS_TOLD`].
     told: u64,
 }
 
-/// A store that wasn't loaded, and why.
+/// A store from which no shard was loaded, and why.
 pub struct LoadBack<S> {
     pub fault: LoadFault,
     pub store: S,
@@ -79,7 +79,8 @@ impl<S: Store> Shard<S> {
         // So is what a crash left of a history, under whatever decision table: as that history, or as it and the one
         // record whose text is whole.
         ensures image { (history : List Entry) → IsImageLeft issuer.now shard (S.bytes store) history
-            → MatchResult result (StandsForLeft issuer.now shard (S.bytes store) history) (λ back. IsOutside back.fault) }
+            → MatchResult result (StandsForLeft issuer.now shard (S.bytes store) history)
+            (λ back. IsOutside back.fault) }
         ensures stopped { IfErr result
             (λ back. IsNotLoaded S.bytes S.disk S.faults issuer.now shard store back.fault back.store) }
         ensures size { IfErr result
@@ -134,7 +135,7 @@ impl<S: Store> Shard<S> {
                 place,
                 reply: reply.copy(),
             },
-            Outcome::Below(top) => Answer::Refused(Refusal::Below(top)),
+            Outcome::Below(greatest) => Answer::Refused(Refusal::Below(greatest)),
             Outcome::Taken(place) => Answer::Refused(Refusal::Taken { shard, place }),
         }
     }
@@ -171,21 +172,22 @@ impl<S: Store> Shard<S> {
 
     /// How many records the shard has.
     pub fn places(&self) -> u64
-        ensures history { (issuer : Setup) (history : List Entry) → StandsFor issuer self.now history → result ≡ length history }
+        ensures history { (issuer : Setup) (history : List Entry) → StandsFor issuer self.now history
+            → result ≡ length history }
         ensures places { result ≡ places_in self.now }
     {
         self.journal.records()
     }
 
-    /// How many answers since loading told that the store failed, counted up to 2^62 and no further.
+    /// How many answers since loading reported that the store failed. The count saturates at 2^62.
     pub fn faults(&self) -> u64
         ensures { result ≡ told_in self.now }
     {
         self.told
     }
 
-    /// Lists all recorded counters of the shard's cards, each once beside the number of its card, behind what the list has. Where
-    /// memory runs out the list stays as it was.
+    /// Appends each recorded ATC of each card of the shard once, with the number of its card. If memory runs out,
+    /// the list is unchanged.
     pub fn recorded(&self, list: &mut Vec<(u32, u16)>) -> Result<(), NoMemory>
         ensures recorded { (issuer : Setup) (history : List Entry) → StandsFor issuer self.now history
             → IfOk result (λ _. AddsRecorded issuer (number_in self.now) history list.old.items list.new.items) }
@@ -199,7 +201,7 @@ impl<S: Store> Shard<S> {
         listed
     }
 
-    /// The store, with the text of the records, and behind it what is in doubt.
+    /// The store. It has the text of the records, and after it what is in doubt.
     pub fn into_store(self) -> S
         ensures { result ≡ store_in self }
     {
@@ -262,26 +264,25 @@ impl<S: Store> Shard<S> {
         }
     }
 
-    /// Decides a request by its plan.
+    /// Records the decision of a request, and applies it to the row of its card.
     fn decide(&mut self, found: &CheckedRequest, reply: Reply, at: u64) -> Answer
         requires home { HasCard self.old found.now.card }
         requires some { 1 ≤ length reply.bytes.items }
         ensures added { (issuer : Setup) (card : CardInfo) (history : List Entry) → StandsFor issuer self.old history
-            → IsCardOf issuer found.now.card card → IsNext card history (record { request = found.now.request; reply = reply; place = at })
+            → IsCardOf issuer found.now.card card
+            → IsNext card history (record { request = found.now.request; reply = reply; place = at })
             → IsLegal (grounds_now issuer) (number_in self.old) history (Entry.Decided found.now.request reply)
-            → Adds issuer self.new history (Entry.Decided found.now.request reply) (Answer.Fresh (number_in self.old) (length history) reply) result }
+            → Adds issuer self.new history (Entry.Decided found.now.request reply)
+            (Answer.Fresh (number_in self.old) (length history) reply) result }
         ensures tail { (history : List Entry) (tail : List ℕ) → HasTail self.old history tail
             → LeavesTail (Entry.Decided found.now.request reply) history tail result self.new }
         ensures changed { tells_change result ≡ true }
         ensures crash { (issuer : Setup) (history : List Entry) → StandsFor issuer self.old history
             → IsLegal (grounds_now issuer) (number_in self.old) history (Entry.Decided found.now.request reply)
-            → BothTold (LeavesOnly (IsImageOf (grounds_now issuer) (number_in self.old) history)) (disk_in self.old) (disk_in self.new) }
+            → BothTold (LeavesOnly (IsImageOf (grounds_now issuer) (number_in self.old) history))
+            (disk_in self.old) (disk_in self.new) }
         ensures room { UsesRoom MOST_RECORD_BYTES (is_store_fault result) self.old self.new }
-        ensures count { CountsFaults (faults_in self.old) (faults_in self.new) (is_store_fault result) }
-        ensures told { told_in self.new ≡ told_after (told_in self.old) (is_store_fault result) }
-        ensures undoubted { IsUndoubted self.new }
-        ensures under { (issuer : Setup) → IsUnder issuer self.old → IsUnder issuer self.new }
-        ensures number { number_in self.new ≡ number_in self.old }
+        ensures kept { (issuer : Setup) → IsUnder issuer self.old → KeepsShard issuer self.old result self.new }
     {
         let mut text = ArrayVec::new();
         write_decided(&mut text, &found.request, &reply);
@@ -296,21 +297,23 @@ impl<S: Store> Shard<S> {
         }
     }
 
-    /// Writes the text of a record and makes it safe, and gives its place.
+    /// Appends the text of a record to the journal and syncs it. The result is the record's index.
     fn put(&mut self, entry: &Entry) -> Result<u64, StoreFail>
         requires { IsTrue (is_record entry.now) }
         ensures put { (issuer : Setup) (history : List Entry) → StandsFor issuer self.old history
             → IfOk result (λ place. (place ≡ length history)
             × HoldsHistory (grounds_now issuer) (number_in self.old) self.new.journal (history ++ entry.now ∷ [])) }
         ensures failed { (issuer : Setup) (history : List Entry) → StandsFor issuer self.old history
-            → IsLegal (grounds_now issuer) (number_in self.old) history entry.now → IsErr result → StandsFor issuer self.new history }
+            → IsLegal (grounds_now issuer) (number_in self.old) history entry.now
+            → IsErr result → StandsFor issuer self.new history }
         ensures tail { (history : List Entry) (tail : List ℕ) → HasTail self.old history tail
             → MatchResult result (λ _. HasTail self.new (history ++ entry.now ∷ []) [])
             (λ _. HasTail self.new history tail ⊎ HasTail self.new history (text_of entry.now)) }
         ensures rows { self.new.rows ≡ self.old.rows }
         ensures crash { (issuer : Setup) (history : List Entry) → StandsFor issuer self.old history
             → IsLegal (grounds_now issuer) (number_in self.old) history entry.now
-            → BothTold (LeavesOnly (IsImageOf (grounds_now issuer) (number_in self.old) history)) (disk_in self.old) (disk_in self.new) }
+            → BothTold (LeavesOnly (IsImageOf (grounds_now issuer) (number_in self.old) history))
+            (disk_in self.old) (disk_in self.new) }
         ensures room { UsesRoom (most_of entry.now) (is_err result) self.old self.new }
         ensures count { CountsFaults (faults_in self.old) (faults_in self.new) (is_err result) }
         ensures told { told_in self.new ≡ told_after (told_in self.old) (is_err result) }
@@ -319,21 +322,27 @@ impl<S: Store> Shard<S> {
         self.put_text(write_entry(entry).as_slice())
     }
 
-    /// Writes this text of a record and makes it safe, and gives its place.
+    /// Appends this text of a record to the journal and syncs it. The result is the record's index.
     fn put_text(&mut self, text: &[u8]) -> Result<u64, StoreFail>
         requires { LEAST_RECORD_BYTES ≤ length text.now }
-        ensures put { (issuer : Setup) (history : List Entry) (entry : Entry) → IsRecord entry → text.now ≡ text_of entry → StandsFor issuer self.old history
+        ensures put { (issuer : Setup) (history : List Entry) (entry : Entry)
+            → IsRecord entry → text.now ≡ text_of entry → StandsFor issuer self.old history
             → IfOk result (λ place. (place ≡ length history)
             × HoldsHistory (grounds_now issuer) (number_in self.old) self.new.journal (history ++ entry ∷ [])) }
-        ensures failed { (issuer : Setup) (history : List Entry) (entry : Entry) → IsRecord entry → text.now ≡ text_of entry → StandsFor issuer self.old history
-            → IsLegal (grounds_now issuer) (number_in self.old) history entry → IsErr result → StandsFor issuer self.new history }
-        ensures tail { (history : List Entry) (tail : List ℕ) (entry : Entry) → text.now ≡ text_of entry → HasTail self.old history tail
+        ensures failed { (issuer : Setup) (history : List Entry) (entry : Entry)
+            → IsRecord entry → text.now ≡ text_of entry → StandsFor issuer self.old history
+            → IsLegal (grounds_now issuer) (number_in self.old) history entry
+            → IsErr result → StandsFor issuer self.new history }
+        ensures tail { (history : List Entry) (tail : List ℕ) (entry : Entry)
+            → text.now ≡ text_of entry → HasTail self.old history tail
             → MatchResult result (λ _. HasTail self.new (history ++ entry ∷ []) [])
             (λ _. HasTail self.new history tail ⊎ HasTail self.new history (text_of entry)) }
         ensures rows { self.new.rows ≡ self.old.rows }
-        ensures crash { (issuer : Setup) (history : List Entry) (entry : Entry) → IsRecord entry → text.now ≡ text_of entry → StandsFor issuer self.old history
+        ensures crash { (issuer : Setup) (history : List Entry) (entry : Entry)
+            → IsRecord entry → text.now ≡ text_of entry → StandsFor issuer self.old history
             → IsLegal (grounds_now issuer) (number_in self.old) history entry
-            → BothTold (LeavesOnly (IsImageOf (grounds_now issuer) (number_in self.old) history)) (disk_in self.old) (disk_in self.new) }
+            → BothTold (LeavesOnly (IsImageOf (grounds_now issuer) (number_in self.old) history))
+            (disk_in self.old) (disk_in self.new) }
         ensures room { UsesRoom (length text.now) (is_err result) self.old self.new }
         ensures count { CountsFaults (faults_in self.old) (faults_in self.new) (is_err result) }
         ensures told { told_in self.new ≡ told_after (told_in self.old) (is_err result) }
@@ -345,7 +354,7 @@ impl<S: Store> Shard<S> {
     }
 }
 
-/// Opens the journal of a store whose front was taken over.
+/// Opens the journal of a store from whose prefix the rows were replayed.
 fn open<S: Store>(store: S, rows: Rows, taken: Taken) -> Result<Shard<S>, LoadBack<S>>
     requires within { taken.bytes ≤ S.size store }
     requires few { taken.records ≤ taken.bytes }
@@ -356,9 +365,11 @@ fn open<S: Store>(store: S, rows: Rows, taken: Taken) -> Result<Shard<S>, LoadBa
     ensures undoubted { IfOk result IsUndoubted }
     ensures holds { (text rest : List ℕ) → length text ≡ taken.bytes → Tells (S.bytes store) (text ++ rest)
         → IfOk result (λ loaded. Holds loaded.journal taken.records text []) }
-    ensures opened { IfOk result (λ loaded. BothTold (λ old new. LeavesOnly (IsCutImage taken.bytes old.now) old new) (S.disk store) (disk_in loaded)) }
+    ensures opened { IfOk result (λ loaded.
+        BothTold (λ old new. LeavesOnly (IsCutImage taken.bytes old.now) old new) (S.disk store) (disk_in loaded)) }
     ensures kept { IfErr result (λ back. BothTold (CutsBytes taken.bytes true) (S.bytes store) (S.bytes back.store)) }
-    ensures crash { IfErr result (λ back. BothTold (λ old new. LeavesOnly (IsCutImage taken.bytes old.now) old new) (S.disk store) (S.disk back.store)) }
+    ensures crash { IfErr result (λ back.
+        BothTold (λ old new. LeavesOnly (IsCutImage taken.bytes old.now) old new) (S.disk store) (S.disk back.store)) }
     ensures fault { IfErr result (λ back. back.fault ≡ LoadFault.StoreFault) }
     ensures room { LoadsWithin (S.size store) (S.room store) result }
     ensures count { IfOk result (λ loaded. CountsFaults (S.faults store) (faults_in loaded) false) }
@@ -377,7 +388,7 @@ fn open<S: Store>(store: S, rows: Rows, taken: Taken) -> Result<Shard<S>, LoadBa
     }
 }
 
-/// How many answers told that the store failed, after one more answer.
+/// How many answers reported that the store failed, after one more answer.
 fn told_after(told: u64, failed: bool) -> u64
     ensures { result ≡ told_after told failed }
 {

@@ -79,13 +79,13 @@ pub(crate) fn set_status<S: Store>(shard: &mut Shard<S>, issuer: &Issuer) -> Opt
     ensures under { IsUnder issuer.now shard.new }
     ensures number { number_in shard.new ≡ 0 }
 {
-    let Ok(Checked::Status(found)) = check_line(issuer, b"S 4000000000000002 00 3") else {
+    let Ok(Checked::Order(found)) = check_line(issuer, b"S 4000000000000002 00 3") else {
         return None;
     };
-    if !is_home(issuer, found.card) {
+    if !is_home(issuer, found.card()) {
         return None;
     }
-    Some(shard.set_status(issuer, found))
+    Some(shard.order(issuer, &found))
 }
 
 /// Statuses set over a store that was empty, of which one call fails.

@@ -1,4 +1,4 @@
--- The stores so far, and those ahead, are all.
+-- The stores so far, and those that are left, are all.
 use Rattle.std.proofs.Common.{◌≡◌, ◌+◌, ◌≤◌, ◌++◌, reverse, vec_len, vec_capacity}
 use Rattle.one_caller.proofs.loading.all_stores.Given as goal
 

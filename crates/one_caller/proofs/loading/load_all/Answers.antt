@@ -1,4 +1,4 @@
--- One more shard is loaded, or the stores come back.
+-- One more shard is loaded, or the stores are returned.
 use Rattle.std.proofs.Common.{◌≡◌, ◌++◌, ◌∷◌, List, length, map, reverse, subst, sym, ap, ◌∙◌, rules}
 use Rattle.shard_book.specs.declared.shard.Shard.{Shard}
 use Rattle.shard_book.specs.Shards.{store_in}

@@ -1,4 +1,4 @@
--- The shards so far were loaded from the first stores, and the others are ahead.
+-- The shards so far were loaded from the first stores, and the others are left.
 use Rattle.std.proofs.Common.{◌≡◌, ◌≤◌, length, reverse, vec_capacity}
 use Rattle.one_caller.proofs.Loads.{IsLoading}
 use Rattle.one_caller.proofs.loading.load_all.Given as goal

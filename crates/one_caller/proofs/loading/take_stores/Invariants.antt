@@ -1,4 +1,4 @@
--- The stores of the shards that are left, and those that were taken, are all.
+-- The stores of the shards that are left, and those that were moved, are all.
 use Rattle.std.proofs.Common.{◌≡◌, ◌+◌, ◌≤◌, ◌++◌, map, reverse, vec_len, vec_capacity}
 use Rattle.shard_book.specs.Shards.{store_in}
 use Rattle.one_caller.proofs.loading.take_stores.Given as goal

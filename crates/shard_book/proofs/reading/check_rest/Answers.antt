@@ -1,4 +1,4 @@
--- A newline far behind ends a line that is that of no record; where none is found, the rest has none.
+-- A newline after the buffer ends a line that is that of no record. Without one the remainder is a torn line.
 use Rattle.std.proofs.Common.{true, false, arith, length}
 use Rattle.record_store.proofs.ReadSoFar.{reads-none}
 use Rattle.shard_book.proofs.Loaded.{found-as, rest-short, rest-long, stops-long}

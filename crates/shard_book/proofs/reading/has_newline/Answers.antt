@@ -1,4 +1,4 @@
--- A newline is found in the part that was read, or this part is passed too.
+-- A newline is found in the part that was read, or this part has none.
 use Rattle.std.proofs.Common.{refl, sym, arith, ◌∙◌, []}
 use Rattle.issuer_base.proofs.ManyCalls.{CountsFaults-no_call, CountsFaults-then}
 use Rattle.record_store.proofs.ReadSoFar.{reads-none, reads-then}

@@ -1,4 +1,4 @@
--- No newline stands in what was read so far.
+-- What was read so far has no newline.
 use Rattle.std.proofs.Common.{◌≡◌, ◌-◌, ◌≤◌, take, drop, IfSome, false}
 use Rattle.issuer_base.specs.OutsideFaults.{CountsFaults}
 use Rattle.issuer_base.specs.Stores.{BothTold}

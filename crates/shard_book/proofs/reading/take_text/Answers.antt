@@ -1,4 +1,4 @@
--- The records of a store are taken over, and the rest behind them was looked at.
+-- The records of a store are replayed, and the remainder is checked.
 use Rattle.std.proofs.Common.{length}
 use Rattle.record_store.proofs.ReadSoFar.{reads-then}
 use Rattle.shard_book.proofs.Loaded.{reads-all, rest-step}

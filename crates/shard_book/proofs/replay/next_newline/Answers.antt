@@ -1,4 +1,4 @@
--- The first newline of what is ahead.
+-- The first newline of the remainder.
 use Rattle.std.proofs.Common.{List, ℕ, length, MatchOption, subst, arith}
 use Rattle.std.proofs.lemmas.Slice.{between_to_end}
 use Rattle.journal_rec.specs.RecordText.{IsUnbroken}

@@ -1,4 +1,4 @@
--- A line is answered in a shard, and one that is refused as it is read calls none.
+-- A line is answered in a shard, and one that its check refuses calls none.
 use Rattle.std.proofs.Common.{◌≡◌, ◌+◌, List, Result, Ok, ap, subst, sym, ◌∙◌}
 use Rattle.issuer_base.specs.declared.answer.Refusal.{Refusal}
 use Rattle.card_history.specs.declared.decision.Asked.{Asked}

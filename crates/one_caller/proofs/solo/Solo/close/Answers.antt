@@ -1,4 +1,4 @@
--- Each store holds the journal of its shard's book.
+-- Each store has the journal of its shard's book.
 use Rattle.one_caller.proofs.Running.{hold-journals}
 use Rattle.one_caller.proofs.solo.Solo.close.Goals as goal
 

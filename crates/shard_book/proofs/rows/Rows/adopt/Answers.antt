@@ -1,4 +1,4 @@
--- A record may come next as its kind says.
+-- A record is a valid successor by the rule of its kind.
 use Rattle.std.proofs.Common.{◌↔◌, [], ◌∷◌, ◌++◌, sym, subst, IsTrue}
 use Rattle.issuer_base.specs.declared.entry.Entry.{Entry}
 use Rattle.card_history.specs.LegalRecords.{IsLegal}

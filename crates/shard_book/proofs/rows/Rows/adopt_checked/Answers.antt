@@ -1,4 +1,4 @@
--- The row of the card says whether its decision may come next, and takes it over.
+-- The row of the card decides whether its decision is a valid successor, and replays it.
 use Rattle.std.proofs.Common.{◌≡◌, ℕ, ◌&&◌, ◌||◌, eqb, ap, subst}
 use Rattle.counter_bits.specs.CounterSets.{has}
 use Rattle.issuer_base.specs.declared.request.Request.{Request}

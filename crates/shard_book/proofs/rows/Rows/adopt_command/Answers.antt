@@ -1,4 +1,4 @@
--- A command may come next where its card is one of the shard's and the queue takes it.
+-- A command is a valid successor if its card is one of the shard's and the queue accepts it.
 use Rattle.std.proofs.Common.{[], ◌∷◌, ◌++◌, refl, sym, subst, ◌∙◌}
 use Rattle.std.proofs.lemmas.Bool.{false≢true}
 use Rattle.issuer_base.specs.declared.entry.Entry.TheVariants.{Queued}

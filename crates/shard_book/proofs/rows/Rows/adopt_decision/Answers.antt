@@ -1,4 +1,4 @@
--- A decision may come next where its request passes the check, its card is one of the shard's, and the card's row accepts it.
+-- A decision is a valid successor if its request passes the check, its card is the shard's, and the row accepts it.
 use Rattle.std.proofs.Common.{◌≡◌, ◌↔◌, ◌%◌, [], ◌∷◌, ◌++◌, sym, subst, ◌∙◌, Ok, IsTrue}
 use Rattle.issuer_base.specs.declared.request.Request.{Request}
 use Rattle.issuer_base.specs.declared.entry.Entry.TheVariants.{Decided}

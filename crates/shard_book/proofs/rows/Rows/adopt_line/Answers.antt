@@ -1,4 +1,4 @@
--- A line is taken over where it is that of a record that may come next.
+-- A line is replayed if it is that of a valid successor.
 use Rattle.std.proofs.Common.{ap, sym, ◌∙◌, ◌+◌}
 use Rattle.std.proofs.lemmas.Bool.{false≢true}
 use Rattle.shard_book.proofs.rows.Rows.adopt_line.Goals as goal

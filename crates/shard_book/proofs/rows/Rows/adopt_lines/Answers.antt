@@ -1,4 +1,4 @@
--- One line more is taken over, or is bad.
+-- One more line is replayed, or is bad.
 use Rattle.std.proofs.Common.{◌≡◌, ◌+◌, ◌-◌, ℕ, ◌++◌, length, take, drop, refl, ap, subst, ◌∙◌, arith, length-append, length-drop}
 use Rattle.shard_book.specs.Grounds.{grounds_of}
 use Rattle.shard_book.specs.Loading.{IsBad, TakesLine}

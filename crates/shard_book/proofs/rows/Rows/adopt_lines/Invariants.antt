@@ -1,4 +1,4 @@
--- What was taken over so far is the front of the text.
+-- What was replayed so far is a prefix of the text.
 use Rattle.std.proofs.Common.{◌≡◌, ◌-◌, ◌≤◌, List, length}
 use Rattle.issuer_base.specs.declared.entry.Entry.{Entry}
 use Rattle.card_history.specs.LegalRecords.{IsLegalHistory}

@@ -1,4 +1,4 @@
--- The records of one more part are taken over, or a line of it is bad.
+-- The records of one more part are replayed, or a line of it is bad.
 use Rattle.std.proofs.Common.{◌≡◌, ◌-◌, ℕ, min, List, Bool, length, take, drop, refl, sym, subst, arith, length-take}
 use Rattle.issuer_base.specs.OutsideFaults.{CountsFaults}
 use Rattle.journal_rec.specs.RecordText.{IsUnbroken}

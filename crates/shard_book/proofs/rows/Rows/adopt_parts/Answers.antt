@@ -1,4 +1,4 @@
--- One more part was taken over.
+-- One more part was replayed.
 use Rattle.std.proofs.Common.{refl, subst, ◌∙◌, arith, Option, IfSome, List, ℕ, length, take, drop}
 use Rattle.issuer_base.proofs.ManyCalls.{CountsFaults-no_call, CountsFaults-then}
 use Rattle.record_store.proofs.ReadSoFar.{reads-none, reads-then}

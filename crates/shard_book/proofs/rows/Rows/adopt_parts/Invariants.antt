@@ -1,4 +1,4 @@
--- What was taken over so far is the front of the store's text.
+-- What was replayed so far is a prefix of the store's text.
 use Rattle.std.proofs.Common.{◌≡◌, ◌-◌, ◌≤◌, [], false}
 use Rattle.issuer_base.specs.OutsideFaults.{CountsFaults}
 use Rattle.issuer_base.specs.Stores.{BothTold}

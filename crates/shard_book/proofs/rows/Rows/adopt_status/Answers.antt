@@ -1,4 +1,4 @@
--- A status may come next where its card is one of the shard's.
+-- A status is a valid successor if its card is one of the shard's.
 use Rattle.std.proofs.Common.{[], ◌∷◌, ◌++◌, sym, subst, ◌∙◌}
 use Rattle.issuer_base.specs.declared.entry.Entry.TheVariants.{Status}
 use Rattle.card_history.specs.Records.{CardName, named}

@@ -1,4 +1,4 @@
--- The counters of one card more are listed.
+-- The ATCs of one more card are listed.
 use Rattle.std.proofs.Common.{ℕ, ◌+◌, ◌&&◌, eqb, ap, ◌∙◌, arith}
 use Rattle.counter_bits.specs.CounterSets.{times, one_if, has}
 use Rattle.counter_bits.proofs.Listing.{kept-more}

@@ -1,4 +1,4 @@
--- The counters of the cards so far stand behind what the list had.
+-- The list has the ATCs of the cards so far, after what it had.
 use Rattle.std.proofs.Common.{◌≡◌, ◌≤◌, ◌+◌, ◌/◌, ◌%◌, ◌&&◌, ℕ, length, take, eqb, ltb}
 use Rattle.counter_bits.specs.CounterSets.{has, times, one_if}
 use Rattle.shard_book.proofs.rows.Rows.list_recorded.Given as goal

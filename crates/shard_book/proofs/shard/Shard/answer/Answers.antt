@@ -1,4 +1,4 @@
--- Each outcome of the plan is answered as the history says.
+-- Each outcome of the plan is answered as the history requires.
 use Rattle.std.proofs.Common.{◌≡◌, List, length, refl, sym, subst, ◌∙◌}
 use Rattle.issuer_base.specs.declared.answer.Reply.{Reply}
 use Rattle.issuer_base.specs.declared.entry.Entry.{Entry}

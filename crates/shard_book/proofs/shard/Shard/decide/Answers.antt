@@ -1,4 +1,4 @@
--- A decision that was put is added.
+-- A recorded decision is added.
 use Rattle.std.proofs.Common.{◌≡◌, ℕ, ◌+◌, [], ◌∷◌, ◌++◌, length, ap, arith, sym, subst, ◌∙◌, inl, inr, refl}
 use Rattle.issuer_base.specs.declared.answer.Answer.TheVariants.{Fresh}
 use Rattle.issuer_base.specs.declared.entry.Entry.TheVariants.{Decided}

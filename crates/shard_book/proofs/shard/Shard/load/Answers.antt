@@ -1,4 +1,4 @@
--- What is loaded, what a load that failed leaves, and what a crash leaves meanwhile.
+-- What is loaded, what a failed load leaves, and what a crash leaves meanwhile.
 use Rattle.std.proofs.Common.{◌≡◌, false}
 use Rattle.shard_book.specs.Loading.{is_store_failure}
 use Rattle.shard_book.proofs.Exactly.{image-outside, leaves-bytes, leaves-cut, leaves-disk, loads-exactly, loads-image}

@@ -1,4 +1,4 @@
--- The text of a record is put.
+-- The text of a record is appended.
 use Rattle.std.proofs.Common.{◌≡◌, ◌+◌, length, ap, arith, ◌∙◌}
 use Rattle.journal_rec.specs.RecordText.{text_of}
 use Rattle.journal_rec.proofs.TextLaws.{length-text_of}

@@ -1,4 +1,4 @@
--- What is held once the text of a record was put into the journal, or not, and what a crash leaves meanwhile.
+-- What the shard holds once the text of a record was appended, or not, and what a crash leaves meanwhile.
 use Rattle.std.proofs.Common.{length, ap, sym, ◌∙◌}
 use Rattle.journal_rec.specs.RecordText.{texts_of}
 use Rattle.shard_book.specs.Answering.{told_after}

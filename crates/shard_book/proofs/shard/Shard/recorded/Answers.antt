@@ -1,4 +1,4 @@
--- What is listed is recorded.
+-- Each ATC that is listed is recorded.
 use Rattle.shard_book.specs.ShardRows.{Lists}
 use Rattle.shard_book.specs.Recorded.{AddsRecorded}
 use Rattle.shard_book.proofs.Recorded.{adds-recorded, ok-weaker}
