@@ -1,10 +1,9 @@
 """Cards at terminals, a network that loses and spoils, and their issuer's host: what `world` counts (docs/FORMATS.md)."""
-from cards import issuer_data, seal
+from card import Card, commands_in
 from chip_data import objects
 from configuration import MOST, CardInfo, Issuer, KeySet, TableRow
 from host import Host
-from keys import session_key_for_cryptograms, session_key_for_messages
-from terminal import line_of, purchase, signed
+from terminal import line_of
 
 SHARDS = 4
 COUNTS = ["taps", "fresh", "approved", "kept", "refused", "authenticated", "unauthenticated", "queued", "done", "ran", "halted"]
@@ -18,54 +17,6 @@ def issuer_of(cards):
     keys = KeySet(1, "A", bytes(range(16)), bytes(range(16, 32)))
     infos = [CardInfo(f"4000000000{number:06d}", "00", 1 + number % 2) for number in range(cards)]
     return Issuer(SHARDS, [keys], infos, [table_row(500_000, "3035", False, "00000000"), table_row(0, "3030", True, "00800000")])
-
-
-class Card:
-    """A card. Its issuer application data are this project's profile."""
-
-    def __init__(self, info, masters):
-        self.info = info
-        self.masters = masters
-        self.atc = self.register = self.count = 0
-        self.failed = False
-        self.open = None
-        self.chain = None
-        self.ran = []
-
-    def tap(self, amount, number):
-        """GENERATE AC: the request of a new transaction."""
-        self.atc += 1
-        request = purchase(self.info.pan, self.atc, self.register, self.count)
-        results = bytes([0xA0, 0, 0, self.count << 4 | self.failed << 3, 0])
-        data = request.data[:3] + results + request.data[8:]
-        request = request._replace(amount=bytes.fromhex(f"{amount:012d}"), number=number.to_bytes(4, "big"), data=data)
-        self.open = signed(request, self.masters[0])
-        self.chain = None
-        return self.open
-
-    def authenticate(self, value, code):
-        """EXTERNAL AUTHENTICATE, or the second GENERATE AC: whether the issuer's cryptogram is right for the open transaction."""
-        if self.open is None or self.chain is not None:
-            return False
-        session = session_key_for_cryptograms(self.masters[0], self.open.atc)
-        if value != issuer_data(self.info.method, session, self.open.cryptogram, code, value[4:]):
-            return False
-        self.register, self.count, self.failed = self.atc, 0, False
-        self.chain = self.open.cryptogram
-        return True
-
-    def run(self, sealed):
-        """A script command: it is run where its MAC is right at this place of the chain."""
-        if self.chain is None:
-            return
-        command = sealed[:4] + sealed[5:-8]
-        key = session_key_for_messages(self.masters[1], self.open.cryptogram)
-        right, chain = seal(key, self.chain, command)
-        if self.count < 15 and right == sealed:
-            self.ran.append(command)
-            self.count, self.chain = self.count + 1, chain
-        else:
-            self.failed = True
 
 
 class World:
@@ -98,8 +49,7 @@ class World:
             self.count("unauthenticated")
             return
         self.count("authenticated")
-        sealed = [value for tag, value in objects(values.get("72", b"")) if tag == "86"]
-        for command in sealed[:commands]:
+        for command in commands_in(reply[0])[:commands]:
             card.run(command)
 
     def step(self, index, seed):
@@ -108,7 +58,8 @@ class World:
         if fate == 0:
             for parameter in range(3):
                 self.ask(f"Q {card.info.pan} {card.info.psn} 04da00{parameter:02x}{index:08x}".encode())
-        request = card.tap(900_000 if turn % 2 else 1_000, (seed + index) % 2**32)
+        amount, number = 900_000 if turn % 2 else 1_000, (seed + index) % 2**32
+        request = card.tap(amount=bytes.fromhex(f"{amount:012d}"), number=number.to_bytes(4, "big"))
         self.count("taps")
         if fate == 1:
             return
