@@ -9,17 +9,19 @@ use Rattle.issuer_base.specs.declared.answer.Answer.{Answer}
 use Rattle.issuer_base.specs.declared.answer.Answer.TheVariants.{Fresh, Kept, Queued, Set, Refused}
 use Rattle.issuer_base.specs.declared.answer.Reply.{Reply}
 use Rattle.issuer_base.specs.declared.answer.Refusal.TheVariants.{Below, Taken, QueueFull, Pending, StoreFault}
-use Rattle.issuer_base.specs.declared.command.Command.{Command}
 use Rattle.issuer_base.specs.declared.entry.Entry.{Entry}
-use Rattle.issuer_base.specs.declared.entry.Entry.TheVariants.{Decided, Queued as IsQueued, Status as IsStatus}
+use Rattle.issuer_base.specs.declared.entry.Entry.TheVariants.{Decided}
 use Rattle.issuer_base.specs.declared.request.Request.{Request}
-use Rattle.card_history.specs.Records.{CardName, card_of}
+use Rattle.card_history.specs.Records.{card_of}
 use Rattle.issuer_setup.specs.CardList.{number_of}
 use Rattle.issuer_setup.specs.IssuerSetup.{Setup}
 use Rattle.shared_seats.specs.Totals.{one_if}
 use Rattle.claim_words.specs.declared.view.ClaimView.{ClaimView}
 use Rattle.claim_words.specs.ClaimViews.{is_pair, claims_on, is_kept}
-use Rattle.shard_book.specs.Answering.{AnswersClaimed, AnswersQueueing, AnswersSetting}
+use Rattle.line_checks.specs.AtHand.{order_asked, record_of}
+use Rattle.line_checks.specs.declared.checked.CheckedOrder.{CheckedOrder}
+use Rattle.line_checks.specs.declared.checked.CheckedOrder.TheVariants.{Command as IsCommand, Status as IsStatus}
+use Rattle.shard_book.specs.Answering.{AnswersClaimed, AnswersOrder}
 use Rattle.turn_book.specs.declared.logs.Log.{Log}
 use Rattle.turn_book.specs.declared.view.TurnView.{TurnView}
 use Rattle.turn_book.specs.Logs.{heads_of, items_at, with_items, IsFront}
@@ -90,23 +92,19 @@ module _ (issuer : Setup) (shard card counter : ℕ) (between : List LogItem) wh
     lost-decides reply_to request (Refused StoreFault) turn fault = fault-decides added fault
     lost-decides reply_to request _ turn other = absurd turn
 
-    -- nor does a command or a status decide anything
-    pub queueing-decides : (name : CardName) (command : Command) (answer : Answer)
-        → AnswersQueueing shard (records_of between) name command answer (records_of (log_after between added))
+    -- nor does an order decide anything
+    pub order-decides : (order : CheckedOrder) (answer : Answer)
+        → AnswersOrder shard (records_of between) (order_asked order) answer (records_of (log_after between added))
         → IsAdded issuer shard between answer added → decides issuer card counter added ≡ false
-    queueing-decides name command (Queued at place) (room, at_is, place_is, after_is) (entry, added_is, legal) =
-        ap (decides issuer card counter) (added-record between added (IsQueued name.pan name.psn command) entry added_is after_is)
-    queueing-decides name command (Refused QueueFull) turn none = none-decides none
-    queueing-decides name command (Refused StoreFault) turn fault = fault-decides added fault
-    queueing-decides name command _ turn other = absurd turn
-
-    pub setting-decides : (name : CardName) (status : ℕ) (answer : Answer)
-        → AnswersSetting shard (records_of between) name status answer (records_of (log_after between added))
-        → IsAdded issuer shard between answer added → decides issuer card counter added ≡ false
-    setting-decides name status (Set at place) (at_is, place_is, after_is) (entry, added_is, legal) =
-        ap (decides issuer card counter) (added-record between added (IsStatus name.pan name.psn status) entry added_is after_is)
-    setting-decides name status (Refused StoreFault) turn fault = fault-decides added fault
-    setting-decides name status _ turn other = absurd turn
+    order-decides (IsCommand found) (Queued at place) (room, at_is, place_is, after_is) (entry, added_is, legal) =
+        ap (decides issuer card counter) (added-record between added (record_of (IsCommand found)) entry added_is after_is)
+    order-decides (IsCommand found) (Refused QueueFull) turn none = none-decides none
+    order-decides (IsCommand found) (Refused StoreFault) turn fault = fault-decides added fault
+    order-decides (IsCommand found) _ turn other = absurd turn
+    order-decides (IsStatus found) (Set at place) (at_is, place_is, after_is) (entry, added_is, legal) =
+        ap (decides issuer card counter) (added-record between added (record_of (IsStatus found)) entry added_is after_is)
+    order-decides (IsStatus found) (Refused StoreFault) turn fault = fault-decides added fault
+    order-decides (IsStatus found) _ turn other = absurd turn
 
 -- ---- the seats after a turn
 

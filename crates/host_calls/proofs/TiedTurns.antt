@@ -5,12 +5,13 @@ use Rattle.std.proofs.Math.Nat.{mod-lt}
 use Rattle.std.specs.List.{slice_get}
 use Rattle.std.specs.Option.{option_map_or}
 use Rattle.issuer_base.specs.declared.answer.Answer.{Answer}
-use Rattle.issuer_base.specs.declared.command.Command.{Command}
 use Rattle.issuer_base.specs.declared.outside.store.Store.{Ghosts}
 use Rattle.issuer_base.specs.declared.request.Request.{Request}
 use Rattle.card_history.specs.Records.{CardName, card_of}
 use Rattle.issuer_setup.specs.CardList.{number_of}
 use Rattle.issuer_setup.specs.IssuerSetup.{Setup, shard_of}
+use Rattle.line_checks.specs.AtHand.{card_of_order}
+use Rattle.line_checks.specs.declared.checked.CheckedOrder.{CheckedOrder}
 use Rattle.row_core.specs.Replying.{reply_to}
 use Rattle.shared_seats.specs.Totals.{one_if}
 use Rattle.claim_words.specs.declared.view.ClaimView.{ClaimView}
@@ -25,11 +26,11 @@ use Rattle.shared_shards.specs.declared.logs.LogItem.{LogItem}
 use Rattle.shared_shards.specs.declared.logs.LogHead.{LogHead}
 use Rattle.shared_shards.specs.declared.turns.ShardTurns.{ShardTurns}
 use Rattle.shared_shards.specs.ShardSeats.{opening_in, AreTurnsOf, IsSeatOf}
-use Rattle.shared_shards.specs.Turned.{DecidesInTurn, QueuesInTurn, SetsInTurn, ShowsInTurn}
+use Rattle.shared_shards.specs.Turned.{DecidesInTurn, OrdersInTurn, ShowsInTurn}
 use Rattle.host_calls.specs.Decisions.{AreTied}
 use Rattle.host_calls.specs.Finishes.{standing_by}
 use Rattle.host_calls.specs.Passes.{open_in}
-use Rattle.host_calls.proofs.Added.{IsHeaded, claimed-decides, lost-decides, queueing-decides, setting-decides, tied-turned}
+use Rattle.host_calls.proofs.Added.{IsHeaded, claimed-decides, lost-decides, order-decides, tied-turned}
 use Rattle.host_calls.proofs.Settling.{open-once, kept-settled}
 
 -- a card's shard is one of the issuer's
@@ -73,26 +74,15 @@ module _ (issuer : Setup) (claims : ClaimView) (before : TurnView LogItem LogHea
         ap one_if (lost-decides issuer shard card counter turn.between turn.added (reply_to issuer) request answer turn.changes turn.adds),
       )))
 
-  pub tied-queued : (name : CardName) (command : Command) → IsHeaded issuer (shard_of issuer name) before.seen
-      → QueuesInTurn issuer name command before answer after → AreTied claims after
-  tied-queued name command headed turn =
-      let shard : ℕ = shard_of issuer name in
+  pub tied-ordered : (order : CheckedOrder) → IsHeaded issuer (shard_of issuer (card_of_order order)) before.seen
+      → OrdersInTurn issuer order before answer after → AreTied claims after
+  tied-ordered order headed turn =
+      let shard : ℕ = shard_of issuer (card_of_order order) in
       subst (AreTied claims) (sym turn.after_is)
       (tied-turned issuer shard turn.between claims claims before headed turn.front refl tied turn.added
       (λ card counter. omega (
         arith,
-        ap one_if (queueing-decides issuer shard card counter turn.between turn.added name command answer turn.changes turn.adds),
-      )))
-
-  pub tied-set : (name : CardName) (status : ℕ) → IsHeaded issuer (shard_of issuer name) before.seen → SetsInTurn issuer name status before answer after
-      → AreTied claims after
-  tied-set name status headed turn =
-      let shard : ℕ = shard_of issuer name in
-      subst (AreTied claims) (sym turn.after_is)
-      (tied-turned issuer shard turn.between claims claims before headed turn.front refl tied turn.added
-      (λ card counter. omega (
-        arith,
-        ap one_if (setting-decides issuer shard card counter turn.between turn.added name status answer turn.changes turn.adds),
+        ap one_if (order-decides issuer shard card counter turn.between turn.added order answer turn.changes turn.adds),
       )))
 
   -- a request whose claim was won, which is then kept where the request was decided and else given back

@@ -1,4 +1,4 @@
--- What closing a host of several callers tells, and gives back.
+-- What holds once a host of several callers is closed.
 use Rattle.std.specs.Prelude.{◌≡◌, ℕ, ◌+◌, ◌<◌, ◌≤◌, List, length, slice_get, Option, Some, All}
 use Rattle.issuer_base.specs.Stores.{BothTold, Disk, LeavesOnly}
 use Rattle.issuer_setup.specs.IssuerSetup.{Setup}
@@ -20,21 +20,23 @@ use Rattle.one_caller.specs.OneHistory.{LegallyGoesOn}
 use Rattle.host_calls.specs.OpeningLogs.{opened_on}
 use Rattle.one_caller.specs.Runs.{HoldsJournal}
 
--- the book of a log: its history, the count of faults of its store, and how many answers told that the store failed
+-- the book of a log: its history, its store's fault count, and how many answers reported that the store failed
 abbrev pub book_of : Log LogItem LogHead → ℕ → Book
 book_of log faults = record { history = records_of log.items; faults = faults; told = length (faults_of log.items) }
 
--- by what stores tell of their bytes and disks, and by their counts of faults
+-- by the stores' observable bytes and disks, and their fault counts
 module _ {S : Type 0} (bytes : S → Option (List ℕ)) (disk : S → Option Disk) (faults : S → ℕ) where
-  -- a shard's store, where the log was the first one when the host was loaded, and the last one when it is closed: the history went on legally,
-  -- each new decision is the table's, and each entry is a record; the store holds its journal, with nothing behind it where no answer told a
-  -- fault; whatever a crash since the log was opened may leave is an image of a history between the first and the last; the counts of the faults
-  -- that were told rise from the first one to the store's
+  -- a shard's store, with its log as the host was loaded and as it was closed
   pub record IsClosed (issuer : Setup) (number : ℕ) (first last : Log LogItem LogHead) (store : S) : Type 0 where
+    -- the history was extended by valid records, each new decision the table's
     pub goes_on : LegallyGoesOn issuer number (records_of first.items) (records_of last.items)
     pub records : All IsRecord (records_of last.items)
+    -- the store holds its journal, and nothing is in doubt if no answer reported a fault
     pub holds : HoldsJournal issuer number (book_of last (faults store)) (bytes store) (disk store)
-    pub since : BothTold (LeavesOnly (IsImageBetween issuer number (records_of first.items) (records_of last.items))) first.head.opened (disk store)
+    -- whatever a crash since the log was opened may leave is an image of a history between the first and the last
+    pub since : BothTold (LeavesOnly (IsImageBetween issuer number (records_of first.items) (records_of last.items)))
+        first.head.opened (disk store)
+    -- the fault counts that were reported rise from the first one to the store's
     pub rise : RiseTo first.head.faults (faults_of last.items) (faults store)
 
   -- so it is with each shard, in order
@@ -43,7 +45,7 @@ module _ {S : Type 0} (bytes : S → Option (List ℕ)) (disk : S → Option Dis
     pub each : (number : ℕ) (first last : Log LogItem LogHead) (store : S) → slice_get opening number ≡ Some first → slice_get seen number ≡ Some last
         → slice_get stores number ≡ Some store → IsClosed issuer number first last store
 
--- the items past the opening logs stand at just the places of the view's own, each once
+-- the indices of the items after the opening logs are exactly the view's own, each once
 abbrev pub AreItsOwn : Setup → List (Log LogItem LogHead) → TurnView LogItem LogHead → Type 0
 AreItsOwn issuer opening view =
     (shard place : ℕ) → shard < issuer.shards
@@ -51,12 +53,12 @@ AreItsOwn issuer opening view =
 
 -- what the view knows of claims is what became of them
 pub record AreSettled (issuer : Setup) (opening : List (Log LogItem LogHead)) (view : ClaimView) : Type 0 where
-  -- what was lost is recorded in the opening logs, or stands in the claims
+  -- an ATC whose claim was lost is recorded in the opening logs, or among the claims
   pub found : (card counter : ℕ) → counter < COUNTERS → 0 < times card counter view.found
       → 0 < opened_on issuer opening card counter + claims_on is_any card counter view.claims
-  -- what a top told is recorded in the opening logs, or stands in the claims as kept
+  -- what was read from a top is recorded in the opening logs, or among the kept claims
   pub tops : (card counter : ℕ) → counter < COUNTERS → 0 < times card counter view.tops
       → 0 < opened_on issuer opening card counter + claims_on is_kept card counter view.claims
-  -- each counter of a card stands at most once: in the opening logs, or as a claim that isn't given back
+  -- each ATC of a card occurs at most once: in the opening logs, or as a claim that isn't given back
   pub once : (card counter : ℕ) → counter < COUNTERS
       → opened_on issuer opening card counter + claims_on is_live card counter view.claims ≤ 1

@@ -1,4 +1,4 @@
--- The decisions that stand in the logs of shards, by the number of the card and the transaction counter.
+-- The decisions in the logs of shards, by the number of the card and the ATC.
 use Rattle.std.specs.Prelude.{◌≡◌, ℕ, zero, suc, ◌<◌, List, [], ◌∷◌, length, Bool, false, ◌==◌, ◌&&◌, Option, None, Some, All, slice_get}
 use Rattle.issuer_base.specs.declared.entry.Entry.TheVariants.{Decided}
 use Rattle.card_history.specs.Records.{card_of}
@@ -19,27 +19,27 @@ abbrev pub is_number : ℕ → Option ℕ → Bool
 is_number number None = false
 is_number number (Some found) = found == number
 
--- whether the item is the record of a decision on this counter of the issuer's card with this number
+-- whether the item is the record of a decision on this ATC of the issuer's card with this number
 abbrev pub decides : Setup → ℕ → ℕ → Option LogItem → Bool
 decides issuer card counter (Some (Record (Decided request reply))) = is_number card (number_of (card_of request) issuer.cards) && (request.atc == counter)
 decides issuer card counter _ = false
 
--- the same of the item at a place of a shard's log
+-- the same of the item at an index of a shard's log
 abbrev pub decides_at : List (Log LogItem LogHead) → ℕ → ℕ → ℕ → ℕ → Bool
 decides_at [] card counter shard place = false
 decides_at (log ∷ logs) card counter zero place = decides log.head.issuer card counter (slice_get log.items place)
 decides_at (log ∷ logs) card counter (suc shard) place = decides_at logs card counter shard place
 
--- how many of the records at these places are decisions on this counter of this card
+-- how many of the records at these indices are decisions on this ATC of this card
 abbrev pub decisions_at : List (Log LogItem LogHead) → List (ℕ × ℕ) → ℕ → ℕ → ℕ
 decisions_at logs places card counter = how_many (λ pair. decides_at logs card counter pair.0 pair.1) places
 
--- something stands at each of the places
+-- each of the indices is within its log
 abbrev pub AreWithin : List (Log LogItem LogHead) → List (ℕ × ℕ) → Type 0
 AreWithin logs places = All (λ pair. pair.1 < length (items_at logs pair.0)) places
 
--- a seat at the claims and a seat at the shards go together: they have one name, and the claims that are kept are the decided records
--- that were added
+-- a seat at the claims and a seat at the shards go together: they have the same names, and the claims that are kept are
+-- the decided records that were appended
 pub record AreTied (claims : ClaimView) (logs : TurnView LogItem LogHead) : Type 0 where
   pub one_name : claims.names ≡ logs.names
   pub seen : AreWithin logs.seen logs.mine

@@ -2,6 +2,7 @@
 pub mod Decisions
 pub mod OpeningLogs
 pub mod Passes
+pub mod Loading
 pub mod PreChecks
 pub mod Authorising
 pub mod Closing

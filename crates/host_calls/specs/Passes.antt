@@ -15,13 +15,13 @@ use Rattle.shared_shards.specs.declared.logs.LogHead.{LogHead}
 use Rattle.host_calls.specs.declared.host.Host.{Host}
 use Rattle.host_calls.specs.declared.pass.Pass.{Pass}
 use Rattle.host_calls.specs.declared.pass.Checked.{Checked}
-use Rattle.host_calls.specs.declared.pass.Checked.TheVariants.{Decide, Queue, Status}
+use Rattle.host_calls.specs.declared.pass.Checked.TheVariants.{Decide, Order}
 
--- what the pass knows of claims: its own, the pairs that it found set, and what tops told it
+-- what the pass knows of claims: its own, the ATCs that it found claimed, and those that it read from tops
 abbrev pub claims_of : Pass → ClaimView
 claims_of pass = view_of_claims pass.claims
 
--- what it knows of the shards: the logs that it has seen, and the places of its own records and Fault items
+-- what it knows of the shards: the logs that it has seen, and the indices of its own records and faults
 abbrev pub logs_of : Pass → TurnView LogItem LogHead
 logs_of pass = view_of_turns pass.turns
 
@@ -35,21 +35,20 @@ module _ {S : Type 0} {G : Ghosts S} where
     pub claims_are : IsSeatOfWords pass.claims host.claims
     pub turns_are : IsSeatOf host.turns pass.turns
 
-  -- besides, it has no open claim
+  -- and it has no open claim
   pub record IsFree (host : Host S G) (pass : Pass) : Type 0 where
     pub of : IsOf host pass
     pub settled : open_in (claims_of pass).claims ≡ 0
 
-  -- besides, the claim on this counter of this card is its own, and its one open claim
+  -- and the claim on this ATC of this card is its own, and its one open claim
   pub record HasClaimed (host : Host S G) (pass : Pass) (card counter : ℕ) : Type 0 where
     pub of : IsOf host pass
     pub own : HasOpen card counter (claims_of pass)
     pub alone : open_in (claims_of pass).claims ≡ 1
 
-  -- the pass holds what was checked with it: where it won a claim for a request this is its one open claim; otherwise it is free, and
-  -- where it lost it has found the counter set
+  -- the pass holds what was checked with it: if it won a claim for a request, this is its one open claim; otherwise it
+  -- is free, and if it lost the claim, it found the ATC claimed
   abbrev pub Holds : Host S G → Pass → Checked → Type 0
   Holds host pass (Decide found Won) = HasClaimed host pass found.card found.request.atc
   Holds host pass (Decide found Lost) = IsFree host pass × (0 < times found.card found.request.atc (claims_of pass).found)
-  Holds host pass (Queue found) = IsFree host pass
-  Holds host pass (Status found) = IsFree host pass
+  Holds host pass (Order found) = IsFree host pass

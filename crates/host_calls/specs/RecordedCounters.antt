@@ -1,4 +1,4 @@
--- The counters that are recorded of the cards of some shards.
+-- The recorded ATCs of the cards of some shards.
 use Rattle.std.specs.Prelude.{◌≡◌, ◌↔◌, ℕ, ◌%◌, ◌<◌, ◌≤◌, List, length, slice_get, Some}
 use Rattle.counter_bits.specs.CounterSets.{times}
 use Rattle.issuer_base.specs.declared.entry.Entry.{Entry}
@@ -15,7 +15,8 @@ module _ {S : Type 0} {G : Ghosts S} where
     pub numbers_are : (number : ℕ) (shard : Shard S G) → slice_get shards number ≡ Some shard → number_in shard ≡ number
     pub stand : (number : ℕ) (shard : Shard S G) → slice_get shards number ≡ Some shard → (history : List Entry) × StandsFor issuer shard history
 
-  -- the list has just the recorded counters of the cards of the first so many shards, each once, whatever histories the shards stand for
+  -- the list has just the recorded ATCs of the cards of the first so many shards, each once, whatever histories the
+  -- shards stand for
   pub record AreRecordedOf (issuer : Setup) (shards : List (Shard S G)) (count : ℕ) (list : List (ℕ × ℕ)) : Type 0 where
     pub once : (card counter : ℕ) → times card counter list ≤ 1
     pub home : (card counter : ℕ) → 0 < times card counter list → card % issuer.shards < count

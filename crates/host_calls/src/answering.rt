@@ -1,5 +1,5 @@
 //! The answer to a line, and what is shown of a card.
-ghost use Rattle.std.specs.Prelude.{◌≡◌, ◌+◌, ◌-◌, ◌^◌, ◌<◌, min, length};
+ghost use Rattle.std.specs.Prelude.{◌≡◌, ◌<◌, length};
 ghost use Rattle.line_checks.specs.Reading.{reading};
 ghost use Rattle.shared_shards.specs.Turned.{ShowsInTurn};
 ghost use Rattle.host_calls.specs.Authorising.{Authorises, LineSeenIsAnswered};
@@ -12,34 +12,30 @@ use issuer_base::{Answer, Store};
 use std::sync::Wait;
 
 impl<S: Store> Host<S> {
-    /// The answer to a line, which is without its newline: `pre_check`, and then `finish`. It waits for the shard's turn.
+    /// The answer to a line, without its newline: `pre_check`, and then `finish`. It waits for the shard's turn.
     pub fn authorise<R: Wait>(&self, rt: &R, pass: &mut Pass, line: &[u8]) -> Answer
         requires free { IsFree self.now pass.old }
         ensures free { IsFree self.now pass.new }
-        ensures answers { Authorises self.now.issuer (reading self.now.issuer line.now) (claims_of pass.old) (logs_of pass.old) result
-            (claims_of pass.new) (logs_of pass.new) }
+        ensures answers { Authorises self.now.issuer (reading self.now.issuer line.now)
+            (claims_of pass.old) (logs_of pass.old) result (claims_of pass.new) (logs_of pass.new) }
         ensures seen { LineSeenIsAnswered self.now.issuer (reading self.now.issuer line.now) (logs_of pass.old) result }
         ensures names { (claims_of pass.new).names ≡ (claims_of pass.old).names }
-        ensures answered { pass.new.answered ≡ min (pass.old.answered + 1) (2 ^ 64 - 1) }
     {
         match self.pre_check(pass, line) {
             Ok(checked) => self.finish(rt, pass, checked),
-            Err(refusal) => {
-                pass.answered = pass.answered.saturating_add(1);
-                Answer::Refused(refusal)
-            }
+            Err(refusal) => Answer::Refused(refusal),
         }
     }
 
-    /// What the host shows of the card with this number, by its shard's log as it is when the turn comes. It waits for that turn, and adds
-    /// nothing.
+    /// What the host shows of the card with this number, by its shard's log as it is when the turn comes. It waits for
+    /// the turn. Nothing is appended.
     pub fn show<R: Wait>(&self, rt: &R, pass: &mut Pass, card: u32) -> CardView
         requires free { IsFree self.now pass.old }
         requires card { card < length self.now.issuer.cards }
         ensures free { IsFree self.now pass.new }
         ensures shown { ShowsInTurn self.now.issuer card (logs_of pass.old) result (logs_of pass.new) }
         ensures names { (claims_of pass.new).names ≡ (claims_of pass.old).names }
-        ensures same { (claims_of pass.new ≡ claims_of pass.old) × (pass.new.answered ≡ pass.old.answered) }
+        ensures same { claims_of pass.new ≡ claims_of pass.old }
     {
         self.turns.show(rt, &mut pass.turns, &self.issuer, card)
     }

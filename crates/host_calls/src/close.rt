@@ -13,16 +13,17 @@ use issuer_base::Store;
 use one_caller::take_stores;
 
 impl<S: Store> Host<S> {
-    /// Ends the host, with a pass into which all others were joined, and gives the stores in the order of their shards' numbers. It takes no
-    /// memory.
+    /// Closes the host, with a pass into which all others were joined, and returns the stores in the order of their
+    /// shards' numbers. It doesn't allocate.
     pub fn close(self, pass: Pass) -> Vec<S>
         requires free { IsFree self pass }
         requires whole { IsWhole (claims_of pass).names }
 
-        // Each history went on legally, and each store holds the journal of its history.
-        ensures stores { AreClosed S.bytes S.disk S.faults self.issuer (opening_in self.turns) (logs_of pass).seen result.items }
+        // Each history was extended by valid records, and each store holds the journal of its history.
+        ensures stores { AreClosed S.bytes S.disk S.faults self.issuer (opening_in self.turns)
+            (logs_of pass).seen result.items }
 
-        // What was added since loading is the pass's own, and its kept claims are the decided records among it.
+        // What was appended since loading is the pass's own, and its kept claims are the decided records among it.
         ensures places { AreItsOwn self.issuer (opening_in self.turns) (logs_of pass) }
         ensures kept { (card counter : ℕ) → claims_on is_kept card counter (claims_of pass).claims
             ≡ decisions_at (logs_of pass).seen (logs_of pass).mine card counter }
@@ -31,7 +32,6 @@ impl<S: Store> Host<S> {
         let Pass {
             claims: claiming,
             turns: turning,
-            answered: _,
         } = pass;
         let Host {
             issuer: _,

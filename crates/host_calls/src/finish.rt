@@ -1,13 +1,12 @@
 //! The answers to what was checked.
-ghost use Rattle.std.specs.Prelude.{◌≡◌, ◌+◌, ◌-◌, ◌^◌, ◌<◌, min, true, false};
+ghost use Rattle.std.specs.Prelude.{◌≡◌, ◌<◌, true, false};
 ghost use Rattle.claim_words.specs.ClaimViews.{HasOpen, settled};
 ghost use Rattle.claim_words.specs.Seats.{IsOf as IsSeatOfWords, cards_of, view_of as view_of_claims};
 ghost use Rattle.claim_words.specs.declared.claim_words.Claim.TheVariants.{Won, Lost};
-ghost use Rattle.card_history.specs.Records.{named};
-ghost use Rattle.line_checks.specs.AtHand.{IsCommandAtHand, IsStatusAtHand};
-ghost use Rattle.shared_shards.specs.Turned.{DecidesInTurn, QueuesInTurn, SetsInTurn};
+ghost use Rattle.line_checks.specs.AtHand.{IsOrderAtHand};
+ghost use Rattle.shared_shards.specs.Turned.{OrdersInTurn};
 ghost use Rattle.host_calls.specs.declared.pass.Checked.TheVariants.{Decide};
-ghost use Rattle.host_calls.specs.Finishes.{claims_after, is_fresh, standing_by, FinishesInTurn, SeenIsAnswered, WonIsDecided};
+ghost use Rattle.host_calls.specs.Finishes.{claims_after, is_fresh, standing_by, Finishes};
 ghost use Rattle.host_calls.specs.Passes.{claims_of, logs_of, HasClaimed, Holds, IsFree};
 ghost use Rattle.host_calls.specs.PreChecks.{HasPassed};
 
@@ -15,26 +14,24 @@ use crate::host::Host;
 use crate::pass::{Checked, Pass};
 use claim_words::{Claim, ClaimSeat};
 use issuer_base::{Answer, Store};
-use line_checks::{CheckedCommand, CheckedRequest, CheckedStatus};
+use line_checks::{CheckedOrder, CheckedRequest};
 use std::sync::Wait;
 
 impl<S: Store> Host<S> {
-    /// The answer to what was checked with this pass, by the log of the card's shard as it is when the turn comes. A new record is safe
-    /// in its shard's store before it is answered. A claim that was won is kept where its request was decided, and otherwise given back.
+    /// The answer to what was checked with this pass, by the log of the card's shard as it is when the turn comes. A
+    /// new record is durable in its shard's store before it is answered. If the request's claim was won, it is kept if
+    /// the request was decided, and otherwise given back.
     ///
     /// It waits for the shard's turn.
     pub fn finish<R: Wait>(&self, rt: &R, pass: &mut Pass, checked: Checked) -> Answer
         requires held { Holds self.now pass.old checked }
         requires passed { HasPassed self.now.issuer checked }
         ensures free { IsFree self.now pass.new }
-        ensures turn { FinishesInTurn self.now.issuer checked (logs_of pass.old) result (logs_of pass.new) }
-        ensures won { WonIsDecided self.now.issuer checked result (logs_of pass.new) }
-        ensures seen { SeenIsAnswered self.now.issuer checked (logs_of pass.old) result }
+        ensures turn { Finishes self.now.issuer checked (logs_of pass.old) result (logs_of pass.new) }
         ensures claims { claims_of pass.new ≡ claims_after checked result (claims_of pass.old) }
         ensures names { (claims_of pass.new).names ≡ (claims_of pass.old).names }
-        ensures answered { pass.new.answered ≡ min (pass.old.answered + 1) (2 ^ 64 - 1) }
     {
-        let answer = match checked {
+        match checked {
             Checked::Decide {
                 found,
                 claim: Claim::Won,
@@ -43,11 +40,8 @@ impl<S: Store> Host<S> {
                 found,
                 claim: Claim::Lost,
             } => self.decide_lost(rt, pass, &found),
-            Checked::Queue(found) => self.queue(rt, pass, found),
-            Checked::Status(found) => self.set_status(rt, pass, found),
-        };
-        pass.answered = pass.answered.saturating_add(1);
-        answer
+            Checked::Order(found) => self.order(rt, pass, &found),
+        }
     }
 
     /// The answer to a request whose claim was won.
@@ -55,11 +49,9 @@ impl<S: Store> Host<S> {
         requires held { HasClaimed self.now pass.old found.now.card found.now.request.atc }
         requires passed { HasPassed self.now.issuer (Decide found.now Won) }
         ensures free { IsFree self.now pass.new }
-        ensures turn { DecidesInTurn self.now.issuer true found.now.request (logs_of pass.old) result (logs_of pass.new) }
-        ensures won { WonIsDecided self.now.issuer (Decide found.now Won) result (logs_of pass.new) }
-        ensures seen { SeenIsAnswered self.now.issuer (Decide found.now Won) (logs_of pass.old) result }
-        ensures claims { claims_of pass.new ≡ settled (standing_by result) found.now.card found.now.request.atc (claims_of pass.old) }
-        ensures answered { pass.new.answered ≡ pass.old.answered }
+        ensures turn { Finishes self.now.issuer (Decide found.now Won) (logs_of pass.old) result (logs_of pass.new) }
+        ensures claims { claims_of pass.new
+            ≡ settled (standing_by result) found.now.card found.now.request.atc (claims_of pass.old) }
     {
         let answer = self
             .turns
@@ -74,7 +66,8 @@ impl<S: Store> Host<S> {
         requires card { found.now.card < cards_of self.now.claims }
         requires held { HasOpen found.now.card found.now.request.atc (view_of_claims seat.old) }
         ensures seat { IsSeatOfWords seat.new self.now.claims }
-        ensures view { view_of_claims seat.new ≡ settled (standing_by answer.now) found.now.card found.now.request.atc (view_of_claims seat.old) }
+        ensures view { view_of_claims seat.new
+            ≡ settled (standing_by answer.now) found.now.card found.now.request.atc (view_of_claims seat.old) }
     {
         let counter = found.request.parts().atc;
         match answer {
@@ -92,34 +85,21 @@ impl<S: Store> Host<S> {
         requires free { IsFree self.now pass.old }
         requires passed { HasPassed self.now.issuer (Decide found.now Lost) }
         ensures free { IsFree self.now pass.new }
-        ensures turn { DecidesInTurn self.now.issuer false found.now.request (logs_of pass.old) result (logs_of pass.new) }
-        ensures seen { SeenIsAnswered self.now.issuer (Decide found.now Lost) (logs_of pass.old) result }
-        ensures same { (claims_of pass.new ≡ claims_of pass.old) × (pass.new.answered ≡ pass.old.answered) }
+        ensures turn { Finishes self.now.issuer (Decide found.now Lost) (logs_of pass.old) result (logs_of pass.new) }
+        ensures same { claims_of pass.new ≡ claims_of pass.old }
     {
         self.turns
             .decide(rt, &mut pass.turns, &self.issuer, found, false)
     }
 
-    /// The answer to a command.
-    fn queue<R: Wait>(&self, rt: &R, pass: &mut Pass, found: CheckedCommand) -> Answer
+    /// The answer to an order.
+    fn order<R: Wait>(&self, rt: &R, pass: &mut Pass, found: &CheckedOrder) -> Answer
         requires free { IsFree self.now pass.old }
-        requires at_hand { IsCommandAtHand self.now.issuer found }
+        requires at_hand { IsOrderAtHand self.now.issuer found.now }
         ensures free { IsFree self.now pass.new }
-        ensures turn { QueuesInTurn self.now.issuer (named found.pan found.psn) found.command (logs_of pass.old) result (logs_of pass.new) }
-        ensures same { (claims_of pass.new ≡ claims_of pass.old) × (pass.new.answered ≡ pass.old.answered) }
+        ensures turn { OrdersInTurn self.now.issuer found.now (logs_of pass.old) result (logs_of pass.new) }
+        ensures same { claims_of pass.new ≡ claims_of pass.old }
     {
-        self.turns.queue(rt, &mut pass.turns, &self.issuer, found)
-    }
-
-    /// The answer to a status.
-    fn set_status<R: Wait>(&self, rt: &R, pass: &mut Pass, found: CheckedStatus) -> Answer
-        requires free { IsFree self.now pass.old }
-        requires at_hand { IsStatusAtHand self.now.issuer found }
-        ensures free { IsFree self.now pass.new }
-        ensures turn { SetsInTurn self.now.issuer (named found.pan found.psn) found.status (logs_of pass.old) result (logs_of pass.new) }
-        ensures same { (claims_of pass.new ≡ claims_of pass.old) × (pass.new.answered ≡ pass.old.answered) }
-    {
-        self.turns
-            .set_status(rt, &mut pass.turns, &self.issuer, found)
+        self.turns.order(rt, &mut pass.turns, &self.issuer, found)
     }
 }

@@ -11,8 +11,8 @@ use issuer_setup::Issuer;
 use shared_shards::ShardTurns;
 use std::sync::Mutex;
 
-/// The host of several callers over stores: each of them answers its own lines with its own pass, and each record is safe in its
-/// shard's store before it is answered.
+/// The host of several callers over stores. Each caller answers its own lines with its own pass. Each record is durable
+/// in its shard's store before it is answered.
 pub struct Host<S: Store> {
     pub(crate) issuer: Issuer,
 
@@ -22,7 +22,7 @@ pub struct Host<S: Store> {
     /// The issuer's shards, at which callers take turns.
     pub(crate) turns: ShardTurns<S>,
 
-    // The lock is never taken: with it, the stores need not be shared.
+    // The lock is never taken. Because of it, the type of the stores needn't be one that threads can share.
     pub(crate) room: Mutex<StoreRoom<S>>,
     ghost cards: { cards_of claims ≡ length issuer.cards },
     ghost shards: { AreTurnsOf issuer turns },
@@ -30,7 +30,7 @@ pub struct Host<S: Store> {
     ghost recorded: { AreRecordedIn issuer (opening_in turns) claims },
 }
 
-/// An empty list with room for the store of each shard, so that closing takes no memory.
+/// An empty list with room for the store of each shard, so that `close` doesn't allocate.
 pub(crate) struct StoreRoom<S> {
     pub(crate) list: Vec<S>,
     ghost empty: { list.items ≡ [] },
@@ -47,7 +47,7 @@ impl<S> StoreRoom<S> {
 }
 
 impl<S: Store> Host<S> {
-    /// The issuer that was given to `load`.
+    /// The issuer that was passed to `load`.
     pub fn issuer(&self) -> &Issuer
         ensures { result.now ≡ self.now.issuer }
     {

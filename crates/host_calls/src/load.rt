@@ -1,14 +1,10 @@
 //! The loading of a host of several callers.
 ghost use Rattle.std.specs.Prelude.{◌≡◌, ◌<◌, ◌≤◌, length, IfOk, IfErr};
-ghost use Rattle.claim_words.specs.ClaimViews.{newcomer};
-ghost use Rattle.claim_words.specs.Seats.{cards_of, view_of as view_of_claims, IsOf as IsSeatOfWords};
 ghost use Rattle.issuer_setup.specs.IssuerSetup.{Setup};
-ghost use Rattle.shared_seats.specs.SeatNames.{first_names};
-ghost use Rattle.turn_book.specs.TurnViews.{first_view};
-ghost use Rattle.shared_shards.specs.ShardSeats.{opening_in, AreTurnsOf, IsSeatOf};
+ghost use Rattle.shared_shards.specs.ShardSeats.{opening_in};
 ghost use Rattle.one_caller.specs.Loading.{AreLoaded};
-ghost use Rattle.host_calls.specs.OpeningLogs.{AreOpenedFrom, AreRecordedIn, HostComesBack};
-ghost use Rattle.host_calls.specs.Passes.{claims_of, logs_of, IsFree};
+ghost use Rattle.host_calls.specs.Loading.{IsFirstPass, IsShared};
+ghost use Rattle.host_calls.specs.OpeningLogs.{AreOpenedFrom, HostComesBack};
 
 use crate::host::{Host, StoreRoom};
 use crate::pass::Pass;
@@ -31,12 +27,12 @@ pub(crate) struct Shared<S: Store> {
 }
 
 impl<S: Store> Host<S> {
-    /// Loads the shards of an issuer from their stores, in order, as `Solo::load` does, and lets callers share them. The pass is the first
-    /// one; others are split off it. Callers only read the issuer, so each card's keys for cryptograms are derived now, and kept set up: of a pair of
-    /// card and key set, that sets up one key and enciphers two blocks.
+    /// Loads the shards of an issuer from their stores, in order, as `Solo::load` does. Callers share the host, each
+    /// with a pass that is split off the first one. Callers only read the issuer, so the application-cryptogram keys of
+    /// all cards are derived here, and cached with their key schedules.
     ///
-    /// The first shard that can't be loaded stops it. Where memory is wanting for the host itself, the shard that is named is the first one.
-    /// Then the stores come back in order. No other call takes memory.
+    /// The first shard that can't be loaded stops it. If the host's own allocation fails, the error names shard 0. Then
+    /// the stores come back in order. No other call allocates.
     pub fn load(
         alloc: Global,
         stores: Vec<S>,
@@ -44,13 +40,11 @@ impl<S: Store> Host<S> {
     ) -> Result<(Host<S>, Pass), HostBack<S>>
         requires { length stores.items ≡ issuer.shards }
         ensures issuer { IfOk result (λ made. made.0.issuer ≡ issuer) }
-        ensures opening { IfOk result (λ made. AreOpenedFrom S.bytes S.disk S.faults issuer stores.items (opening_in made.0.turns)) }
-
-        // The first pass has no claims, was told nothing, has added nothing, and has seen just the opening logs.
-        ensures pass { IfOk result (λ made. IsFree made.0 made.1 × (made.1.answered ≡ 0)) }
-        ensures claims { IfOk result (λ made. claims_of made.1 ≡ newcomer first_names) }
-        ensures logs { IfOk result (λ made. logs_of made.1 ≡ first_view (opening_in made.0.turns)) }
-        ensures stopped { IfErr result (λ back. HostComesBack S.bytes S.disk S.faults issuer stores.items back.shard back.fault back.stores.items) }
+        ensures opening { IfOk result
+            (λ made. AreOpenedFrom S.bytes S.disk S.faults issuer stores.items (opening_in made.0.turns)) }
+        ensures pass { IfOk result (λ made. IsFirstPass made.0 made.1) }
+        ensures stopped { IfErr result (λ back.
+            HostComesBack S.bytes S.disk S.faults issuer stores.items back.shard back.fault back.stores.items) }
     {
         let Ok(lists) = take_lists(alloc, usize::from(MAX_SHARDS)) else {
             return Err(HostBack {
@@ -88,7 +82,8 @@ impl<S: Store> Host<S> {
     }
 }
 
-/// Lets callers share shards that were loaded from these stores. Where memory is wanting, and then alone, the shards come back in order.
+/// Lets callers share shards that were loaded from these stores. Only if an allocation fails, the shards come back in
+/// order.
 fn share<S: Store>(
     alloc: Global,
     issuer: &Issuer,
@@ -97,13 +92,7 @@ fn share<S: Store>(
 ) -> Result<Shared<S>, Vec<Shard<S>>>
     requires count { (length stores.now.value.items ≡ issuer.now.shards) × (0 < issuer.now.shards) }
     requires loaded { AreLoaded issuer.now stores.now.value.items shards.items }
-    ensures opening { IfOk result (λ made. AreOpenedFrom S.bytes S.disk S.faults issuer.now stores.now.value.items (opening_in made.turns)) }
-    ensures turns { IfOk result (λ made. AreTurnsOf issuer.now made.turns × IsSeatOf made.turns made.pass.turns) }
-    ensures cards { IfOk result (λ made. (cards_of made.claims ≡ length issuer.now.cards) × IsSeatOfWords made.pass.claims made.claims) }
-    ensures recorded { IfOk result (λ made. AreRecordedIn issuer.now (opening_in made.turns) made.claims) }
-    ensures claims { IfOk result (λ made. claims_of made.pass ≡ newcomer first_names) }
-    ensures logs { IfOk result (λ made. logs_of made.pass ≡ first_view (opening_in made.turns)) }
-    ensures answered { IfOk result (λ made. made.pass.answered ≡ 0) }
+    ensures shared { IfOk result (IsShared issuer.now stores.now.value.items) }
     ensures refused { IfErr result (λ back. back.items ≡ shards.items) }
 {
     let Ok(recorded) = list_recorded(alloc, shards.as_slice()) else {
@@ -117,7 +106,6 @@ fn share<S: Store>(
             let pass = Pass {
                 claims: claiming,
                 turns: turning,
-                answered: 0,
             };
             Ok(Shared {
                 claims,

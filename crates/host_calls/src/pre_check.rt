@@ -1,8 +1,8 @@
-//! What can be checked of a line before its turn.
-ghost use Rattle.std.specs.Prelude.{◌≡◌, Ok, IfOk, MatchResult};
+//! The check of a line before its turn.
+ghost use Rattle.std.specs.Prelude.{◌≡◌, IfOk, MatchResult};
 ghost use Rattle.line_checks.specs.Reading.{reading};
 ghost use Rattle.host_calls.specs.Passes.{claims_of, logs_of, IsFree, Holds};
-ghost use Rattle.host_calls.specs.PreChecks.{asked_of, HasPassed, ChecksRequest, PreChecks};
+ghost use Rattle.host_calls.specs.PreChecks.{HasPassed, ChecksRequest, IsAskedBy, PreChecks};
 ghost use Rattle.claim_words.specs.declared.claim_words.Claim.{Claim};
 ghost use Rattle.claim_words.specs.declared.claim_words.Claim.TheVariants.{Won};
 ghost use Rattle.host_calls.specs.declared.pass.Checked.TheVariants.{Decide};
@@ -13,36 +13,35 @@ use issuer_base::{Refusal, Store, WINDOW};
 use line_checks::{self, CheckedRequest, check_line};
 
 impl<S: Store> Host<S> {
-    /// Checks a line, which is without its newline, as far as that needs no shard: what it asks of a card of the issuer, or the
-    /// first thing that is wrong with it. A request whose counter is below the window of its card's greatest one is refused;
-    /// otherwise its counter is claimed, won or lost. It never waits.
+    /// Checks a line, without its newline, as far as that needs no shard. It returns what the line asks of a card of
+    /// the issuer, or the line's first fault. A request whose ATC is below the window of its card's top is refused.
+    /// Otherwise the ATC is claimed, won or lost. It never waits.
     ///
-    /// What it gives has to be finished, with the same pass.
+    /// What it returns must be finished with the same pass.
     pub fn pre_check(&self, pass: &mut Pass, line: &[u8]) -> Result<Checked, Refusal>
         requires free { IsFree self.now pass.old }
-        ensures checks { PreChecks self.now.issuer (reading self.now.issuer line.now) (claims_of pass.old) result (claims_of pass.new) }
+        ensures checks { PreChecks self.now.issuer (reading self.now.issuer line.now)
+            (claims_of pass.old) result (claims_of pass.new) }
         ensures names { (claims_of pass.new).names ≡ (claims_of pass.old).names }
-        ensures logs { (logs_of pass.new ≡ logs_of pass.old) × (pass.new.answered ≡ pass.old.answered) }
-        ensures asked { IfOk result (λ checked. Ok (asked_of checked) ≡ reading self.now.issuer line.now) }
-        ensures passed { IfOk result (HasPassed self.now.issuer) }
+        ensures logs { logs_of pass.new ≡ logs_of pass.old }
+        ensures asked { IfOk result (IsAskedBy self.now.issuer (reading self.now.issuer line.now)) }
 
-        // Where it refuses the line the pass is still free; otherwise it holds what was checked.
+        // If it refuses the line, the pass is still free; otherwise the pass holds what was checked.
         ensures held { MatchResult result (Holds self.now pass.new) (λ _. IsFree self.now pass.new) }
     {
         match check_line(&self.issuer, line)? {
             line_checks::Checked::Decide(found) => self.claim(pass, found),
-            line_checks::Checked::Queue(found) => Ok(Checked::Queue(found)),
-            line_checks::Checked::Status(found) => Ok(Checked::Status(found)),
+            line_checks::Checked::Order(found) => Ok(Checked::Order(found)),
         }
     }
 
-    /// Claims the counter of a request that was checked, unless its card's top tells that it is below the window.
+    /// Claims the ATC of a checked request, unless it is below the window of its card's top.
     fn claim(&self, pass: &mut Pass, found: CheckedRequest) -> Result<Checked, Refusal>
         requires free { IsFree self.now pass.old }
         requires passed { HasPassed self.now.issuer (Decide found Won) }
         ensures checks { ChecksRequest found.card found.request.atc (claims_of pass.old) result (claims_of pass.new) }
         ensures names { (claims_of pass.new).names ≡ (claims_of pass.old).names }
-        ensures logs { (logs_of pass.new ≡ logs_of pass.old) × (pass.new.answered ≡ pass.old.answered) }
+        ensures logs { logs_of pass.new ≡ logs_of pass.old }
         ensures found { IfOk result (λ checked. (claim : Claim) × (checked ≡ Decide found claim)) }
         ensures held { MatchResult result (Holds self.now pass.new) (λ _. IsFree self.now pass.new) }
     {

@@ -1,5 +1,5 @@
 -- The lines and answers of one host's callers, and the lines that wait.
-use Rattle.std.specs.Prelude.{◌≡◌, ℕ, ◌==◌, Bool, List, ◌++◌, length, slice_get, Option, Some}
+use Rattle.std.specs.Prelude.{◌≡◌, ℕ, ◌==◌, Bool, List, [], ◌++◌, length, slice_get, Option, Some}
 use Rattle.issuer_base.specs.Stores.{Disk}
 use Rattle.issuer_base.specs.declared.answer.Answer.{Answer}
 use Rattle.issuer_base.specs.declared.outside.store.Store.{Ghosts}
@@ -9,6 +9,7 @@ use Rattle.shared_shards.specs.ShardSeats.{opening_in}
 use Rattle.shared_shards.specs.declared.logs.LogItem.{LogItem}
 use Rattle.shared_shards.specs.declared.logs.LogHead.{LogHead}
 use Rattle.host_calls.specs.Closing.{AreClosed}
+use Rattle.host_calls.specs.OpeningLogs.{AreOpenedFrom}
 use Rattle.shared_laws.specs.Callers.{Caller, AreCallers}
 use Rattle.shared_callers.specs.Dealing.{every, AreDealt}
 use Rattle.shared_callers.specs.OneLane.{IsServed}
@@ -55,6 +56,15 @@ module _ {S : Type 0} {G : Ghosts S} where
     pub turns : AreInTurns lanes.dealer.lanes.items lanes.dealer.progress lines taken due waiting
     pub served : (number : ℕ) (lane : Lane) → slice_get lanes.dealer.lanes.items number ≡ Some lane
         → IsServed (issuer_in lanes) (opening_logs lanes) lane.pass (every (callers_in lanes) number lines) (every (callers_in lanes) number answers)
+
+  -- the lanes of an issuer with so many callers were loaded from these stores: no line was answered, and none waits
+  pub record AreLoadedFrom (issuer : Setup) (callers : ℕ) (stores : List S) (lanes : Lanes S G) : Type 0 where
+    pub issuer_is : issuer_in lanes ≡ issuer
+    pub callers_are : callers_in lanes ≡ callers
+    pub opening : AreOpenedFrom G.bytes G.disk G.faults issuer stores (opening_logs lanes)
+    pub served : HasServed lanes [] [] [] []
+    pub none_wait : waiting_in lanes ≡ 0
+    pub none_due : due_in lanes ≡ 0
 
 -- by the stores' observable bytes and disks, and their fault counters
 module _ {S : Type 0} (bytes : S → Option (List ℕ)) (disk : S → Option Disk) (faults : S → ℕ) where

@@ -20,7 +20,8 @@ impl<S: Store> Lanes<S> {
     pub fn close(self) -> Vec<S>
         requires { waiting_in self ≡ 0 }
         ensures { (lines : List (List ℕ)) (answers due : List Answer) → HasServed self lines answers due []
-            → HasClosed S.bytes S.disk S.faults (issuer_in self) (opening_logs self) (callers_in self) lines answers result.items }
+            → HasClosed S.bytes S.disk S.faults (issuer_in self) (opening_logs self) (callers_in self)
+            lines answers result.items }
     {
         let Lanes {
             host,

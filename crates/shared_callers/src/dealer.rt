@@ -52,7 +52,8 @@ impl Dealer {
             → AreInTurns self.old.lanes.items self.old.progress lines taken due waiting
             → AreInTurns self.new.lanes.items self.new.progress lines taken due (waiting ++ line.now ∷ []) }
         ensures passes { map (λ lane. lane.pass) self.new.lanes.items ≡ map (λ lane. lane.pass) self.old.lanes.items }
-        ensures counts { (self.new.progress.waiting ≡ self.old.progress.waiting + 1) × (self.new.progress.due ≡ self.old.progress.due) }
+        ensures counts { (self.new.progress.waiting ≡ self.old.progress.waiting + 1)
+            × (self.new.progress.due ≡ self.old.progress.due) }
         ensures room { self.new.room ≡ self.old.room }
     {
         let next = self.progress.next;
@@ -69,7 +70,8 @@ impl Dealer {
             → (rest : List Answer) × (due ≡ result ∷ rest)
             × AreInTurns self.new.lanes.items self.new.progress lines (taken ++ result ∷ []) rest waiting }
         ensures passes { map (λ lane. lane.pass) self.new.lanes.items ≡ map (λ lane. lane.pass) self.old.lanes.items }
-        ensures counts { (self.new.progress.due + 1 ≡ self.old.progress.due) × (self.new.progress.waiting ≡ self.old.progress.waiting) }
+        ensures counts { (self.new.progress.due + 1 ≡ self.old.progress.due)
+            × (self.new.progress.waiting ≡ self.old.progress.waiting) }
         ensures room { self.new.room ≡ self.old.room }
     {
         let from = self.progress.from;
@@ -90,7 +92,8 @@ impl Dealer {
         requires none { self.old.progress.due ≡ 0 }
         ensures turns { (lines : List (List ℕ)) (answers : List Answer) (waiting : List (List ℕ))
             → AreInTurns self.old.lanes.items self.old.progress lines answers [] waiting
-            → (more : List Answer) × AreInTurns self.new.lanes.items self.new.progress (lines ++ waiting) answers more [] }
+            → (more : List Answer)
+            × AreInTurns self.new.lanes.items self.new.progress (lines ++ waiting) answers more [] }
         ensures lanes { HaveAnswered host.now self.old.lanes.items self.new.lanes.items }
         ensures counts { (self.new.progress.waiting ≡ 0) × (self.new.progress.due ≡ self.old.progress.waiting) }
         ensures room { self.new.room ≡ self.old.room }
@@ -132,7 +135,8 @@ fn answer_beside<S: Store + Send, R: Threads + Wait + Sync, G: Gate + Sync>(
     first: &mut [Lane],
     others: &mut [Lane],
 )
-    requires free { All (λ lane. IsFree host.now lane.pass) first.old × All (λ lane. IsFree host.now lane.pass) others.old }
+    requires free { All (λ lane. IsFree host.now lane.pass) first.old
+        × All (λ lane. IsFree host.now lane.pass) others.old }
     requires none { All (λ lane. lane.answers.items ≡ []) first.old × All (λ lane. lane.answers.items ≡ []) others.old }
     requires one { length first.old ≡ 1 }
     requires some { 0 < length others.old }

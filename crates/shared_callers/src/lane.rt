@@ -80,7 +80,8 @@ impl Lane {
         requires room { length (waiting_lines self.old) < self.old.room }
         requires kept { length line.now ≤ KEPT_BYTES }
         ensures waiting { waiting_lines self.new ≡ waiting_lines self.old ++ line.now ∷ [] }
-        ensures same { (self.new.pass ≡ self.old.pass) × (self.new.answers ≡ self.old.answers) × (self.new.room ≡ self.old.room) }
+        ensures same { (self.new.pass ≡ self.old.pass) × (self.new.answers ≡ self.old.answers)
+            × (self.new.room ≡ self.old.room) }
     {
         self.lines.add(line);
     }
@@ -89,7 +90,8 @@ impl Lane {
     pub(crate) fn take(&mut self) -> Answer
         requires { 0 < length (due_answers self.old) }
         ensures answers { due_answers self.old ≡ result ∷ due_answers self.new }
-        ensures same { (self.new.pass ≡ self.old.pass) × (self.new.lines ≡ self.old.lines) × (self.new.room ≡ self.old.room) }
+        ensures same { (self.new.pass ≡ self.old.pass) × (self.new.lines ≡ self.old.lines)
+            × (self.new.room ≡ self.old.room) }
     {
         self.answers.pop_front().unwrap()
     }
@@ -136,8 +138,8 @@ fn answer_line<S: Store, R: Wait, G: Gate>(
 ) -> Answer
     requires free { IsFree host.now pass.old }
     ensures free { IsFree host.now pass.new }
-    ensures answers { Authorises host.now.issuer (reading host.now.issuer line.now) (claims_of pass.old) (logs_of pass.old) result
-        (claims_of pass.new) (logs_of pass.new) }
+    ensures answers { Authorises host.now.issuer (reading host.now.issuer line.now)
+        (claims_of pass.old) (logs_of pass.old) result (claims_of pass.new) (logs_of pass.new) }
     ensures names { (claims_of pass.new).names ≡ (claims_of pass.old).names }
 {
     let checked = host.pre_check(pass, line);

@@ -55,7 +55,8 @@ impl<S: Store> Lanes<S> {
         requires room { is_full_in self.old ≡ false }
         requires kept { length line.now ≤ KEPT_BYTES }
         ensures served { (lines : List (List ℕ)) (answers due : List Answer) (waiting : List (List ℕ))
-            → HasServed self.old lines answers due waiting → HasServed self.new lines answers due (waiting ++ line.now ∷ []) }
+            → HasServed self.old lines answers due waiting
+            → HasServed self.new lines answers due (waiting ++ line.now ∷ []) }
         ensures counts { (waiting_in self.new ≡ waiting_in self.old + 1) × (due_in self.new ≡ due_in self.old) }
         ensures host { HasSameHost self.old self.new }
     {
@@ -70,7 +71,8 @@ impl<S: Store> Lanes<S> {
     where
         S: Send,
         requires { due_in self.old ≡ 0 }
-        ensures served { (lines : List (List ℕ)) (answers : List Answer) (waiting : List (List ℕ)) → HasServed self.old lines answers [] waiting
+        ensures served { (lines : List (List ℕ)) (answers : List Answer) (waiting : List (List ℕ))
+            → HasServed self.old lines answers [] waiting
             → (more : List Answer) × HasServed self.new (lines ++ waiting) (answers ++ more) more [] }
         ensures counts { (waiting_in self.new ≡ 0) × (due_in self.new ≡ waiting_in self.old) }
         ensures host { HasSameHost self.old self.new }
@@ -80,8 +82,10 @@ impl<S: Store> Lanes<S> {
 
     /// Takes the next answer in the order of the lines; `None` once all were taken.
     pub fn next_answer(&mut self) -> Option<Answer>
-        ensures served { (lines : List (List ℕ)) (answers due : List Answer) (waiting : List (List ℕ)) → HasServed self.old lines answers due waiting
-            → MatchOption result (due ≡ []) (λ answer. (rest : List Answer) × (due ≡ answer ∷ rest) × HasServed self.new lines answers rest waiting) }
+        ensures served { (lines : List (List ℕ)) (answers due : List Answer) (waiting : List (List ℕ))
+            → HasServed self.old lines answers due waiting
+            → MatchOption result (due ≡ []) (λ answer. (rest : List Answer) × (due ≡ answer ∷ rest)
+            × HasServed self.new lines answers rest waiting) }
 
         // If all answers were taken, nothing changes.
         ensures counts { MatchOption result ((due_in self.old ≡ 0) × (self.new ≡ self.old))

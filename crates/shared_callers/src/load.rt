@@ -1,7 +1,7 @@
 //! The loading of a host for several callers.
 ghost use Rattle.std.specs.Prelude.{◌≡◌, ℕ, ◌<◌, ◌≤◌, ◌*◌, ◌/◌, [], length, vec_len, vec_capacity, All, IfOk, IfErr};
 ghost use Rattle.issuer_base.specs.declared.limits.TheConstants.{MAX_CALLERS};
-ghost use Rattle.host_calls.specs.OpeningLogs.{AreOpenedFrom, HostComesBack};
+ghost use Rattle.host_calls.specs.OpeningLogs.{HostComesBack};
 ghost use Rattle.shared_shards.specs.ShardSeats.{opening_in};
 ghost use Rattle.shared_callers.specs.OneLane.{IsNew};
 ghost use Rattle.shared_callers.specs.Seated.{AreSeated};
@@ -22,7 +22,7 @@ struct AllRoom {
 }
 
 impl<S: Store> Lanes<S> {
-    ghost use Rattle.shared_callers.specs.Lanes.{issuer_in, opening_logs, callers_in, waiting_in, due_in, HasServed};
+    ghost use Rattle.shared_callers.specs.Lanes.{AreLoadedFrom};
 
     /// Loads the host as `Host::load` does, for 1 to [`MAX_CALLERS`](issuer_base::MAX_CALLERS) callers. No later call
     /// allocates. If an allocation for the lanes fails, the stores come back as they were, and the error names shard 0.
@@ -34,14 +34,9 @@ impl<S: Store> Lanes<S> {
     ) -> Result<Lanes<S>, HostBack<S>>
         requires count { length stores.items ≡ issuer.shards }
         requires callers { (0 < callers) × (callers ≤ MAX_CALLERS) }
-        ensures issuer { IfOk result (λ lanes. issuer_in lanes ≡ issuer) }
-        ensures callers { IfOk result (λ lanes. callers_in lanes ≡ callers) }
-        ensures opening { IfOk result (λ lanes. AreOpenedFrom S.bytes S.disk S.faults issuer stores.items (opening_logs lanes)) }
-
-        // No line was answered, and none waits.
-        ensures served { IfOk result (λ lanes. HasServed lanes [] [] [] []) }
-        ensures counts { IfOk result (λ lanes. (waiting_in lanes ≡ 0) × (due_in lanes ≡ 0)) }
-        ensures stopped { IfErr result (λ back. HostComesBack S.bytes S.disk S.faults issuer stores.items back.shard back.fault back.stores.items) }
+        ensures loaded { IfOk result (AreLoadedFrom issuer callers stores.items) }
+        ensures stopped { IfErr result (λ back.
+            HostComesBack S.bytes S.disk S.faults issuer stores.items back.shard back.fault back.stores.items) }
     {
         let Ok(AllRoom { lanes, rooms }) = take_room(alloc, callers) else {
             return Err(HostBack {
@@ -105,7 +100,8 @@ fn seat_all<S: Store>(
     ensures seated { AreSeated host.now first.new result.items }
     ensures new { All (IsNew host.now.issuer (opening_in host.now.turns)) result.items }
     ensures count { vec_len result ≡ vec_len rooms }
-    ensures room { (count : ℕ) → All (λ room. room.count ≡ count) rooms.items → All (λ lane. lane.room ≡ count) result.items }
+    ensures room { (count : ℕ) → All (λ room. room.count ≡ count) rooms.items
+        → All (λ lane. lane.room ≡ count) result.items }
 {
     let step = rooms.len() as u64;
     let mut number = 0u64;

@@ -7,17 +7,18 @@ use Rattle.issuer_base.specs.declared.answer.Answer.TheVariants.{Fresh, Kept, Qu
 use Rattle.issuer_base.specs.declared.answer.Refusal.{Refusal}
 use Rattle.issuer_base.specs.declared.answer.Refusal.TheVariants.{Below}
 use Rattle.issuer_base.specs.declared.answer.Reply.{Reply}
-use Rattle.issuer_base.specs.declared.command.Command.{Command}
 use Rattle.issuer_base.specs.declared.entry.Entry.{Entry}
 use Rattle.issuer_base.specs.declared.request.Request.{Request}
 use Rattle.card_history.specs.declared.decision.Asked.{Asked}
 use Rattle.card_history.specs.declared.decision.Asked.TheVariants.{Decide as AsksDecision, Queue as AsksQueue, Status as AsksStatus}
-use Rattle.card_history.specs.Records.{CardName, named, card_of}
+use Rattle.card_history.specs.Records.{card_of}
 use Rattle.issuer_setup.specs.IssuerSetup.{Setup, shard_of}
 use Rattle.line_checks.specs.Reading.{reading}
 use Rattle.row_core.specs.Replying.{reply_to}
 use Rattle.claim_words.specs.declared.view.ClaimView.{ClaimView}
-use Rattle.shard_book.specs.Answering.{AnswersClaimed, AnswersQueueing, AnswersSetting}
+use Rattle.line_checks.specs.AtHand.{card_of_order, order_asked}
+use Rattle.line_checks.specs.declared.checked.CheckedOrder.{CheckedOrder}
+use Rattle.shard_book.specs.Answering.{AnswersClaimed, AnswersOrder}
 use Rattle.turn_book.specs.declared.view.TurnView.{TurnView}
 use Rattle.turn_book.specs.Logs.{items_at, with_items, IsFront}
 use Rattle.turn_book.proofs.LogLemmas.{front_refl, front_append, front_trans, items-with_same, items-with_other, heads-with, heads-length}
@@ -26,7 +27,8 @@ use Rattle.shared_shards.specs.declared.logs.LogHead.{LogHead}
 use Rattle.shared_shards.specs.ShardLogs.{records_of}
 use Rattle.shared_shards.specs.Turned.{log_after, turned, IsAdded}
 use Rattle.host_calls.specs.declared.pass.Checked.{Checked}
-use Rattle.host_calls.specs.declared.pass.Checked.TheVariants.{Decide, Queue, Status}
+use Rattle.line_checks.specs.declared.checked.CheckedOrder.TheVariants.{Command as IsCommand, Status as IsStatus}
+use Rattle.host_calls.specs.declared.pass.Checked.TheVariants.{Decide, Order}
 use Rattle.host_calls.specs.Authorising.{EndsIn, Authorises}
 use Rattle.host_calls.specs.Finishes.{is_won}
 use Rattle.host_calls.specs.PreChecks.{PreChecks}
@@ -71,21 +73,24 @@ claimed-tells shard reply_to won between request (Queued at place) after changes
 claimed-tells shard reply_to won between request (Set at place) after changes = absurd changes
 claimed-tells shard reply_to won between request (Refused refusal) after changes = tt
 
-queueing-tells : (shard : ℕ) (between : List LogItem) (name : CardName) (command : Command) (answer : Answer) (after : List Entry)
-    → AnswersQueueing shard (records_of between) name command answer after → Tells shard between answer
-queueing-tells shard between name command (Fresh at place reply) after changes = absurd changes
-queueing-tells shard between name command (Kept at place reply) after changes = tt
-queueing-tells shard between name command (Queued at place) after (room, at_is, place_is, after_is) = (at_is, place_is)
-queueing-tells shard between name command (Set at place) after changes = absurd changes
-queueing-tells shard between name command (Refused refusal) after changes = tt
+order-tells : (shard : ℕ) (between : List LogItem) (order : CheckedOrder) (answer : Answer) (after : List Entry)
+    → AnswersOrder shard (records_of between) (order_asked order) answer after → Tells shard between answer
+order-tells shard between (IsCommand found) (Fresh at place reply) after changes = absurd changes
+order-tells shard between (IsCommand found) (Kept at place reply) after changes = tt
+order-tells shard between (IsCommand found) (Queued at place) after (room, at_is, place_is, after_is) = (at_is, place_is)
+order-tells shard between (IsCommand found) (Set at place) after changes = absurd changes
+order-tells shard between (IsCommand found) (Refused refusal) after changes = tt
+order-tells shard between (IsStatus found) (Fresh at place reply) after changes = absurd changes
+order-tells shard between (IsStatus found) (Kept at place reply) after changes = tt
+order-tells shard between (IsStatus found) (Queued at place) after changes = absurd changes
+order-tells shard between (IsStatus found) (Set at place) after (at_is, place_is, after_is) = (at_is, place_is)
+order-tells shard between (IsStatus found) (Refused refusal) after changes = tt
 
-setting-tells : (shard : ℕ) (between : List LogItem) (name : CardName) (status : ℕ) (answer : Answer) (after : List Entry)
-    → AnswersSetting shard (records_of between) name status answer after → Tells shard between answer
-setting-tells shard between name status (Fresh at place reply) after changes = absurd changes
-setting-tells shard between name status (Kept at place reply) after changes = tt
-setting-tells shard between name status (Queued at place) after changes = absurd changes
-setting-tells shard between name status (Set at place) after (at_is, place_is, after_is) = (at_is, place_is)
-setting-tells shard between name status (Refused refusal) after changes = tt
+-- an order is for its card's shard
+order-for : (issuer : Setup) (other : ℕ) (order : CheckedOrder)
+    → is_for issuer other (Ok (order_asked order)) ≡ eqb (shard_of issuer (card_of_order order)) other
+order-for issuer other (IsCommand found) = refl
+order-for issuer other (IsStatus found) = refl
 
 module _ (issuer : Setup) (says : Result Asked Refusal) (claims : ClaimView)
     (logs : ShardView) (answer : Answer) (claims_now : ClaimView) (logs_now : ShardView) where
@@ -102,26 +107,14 @@ module _ (issuer : Setup) (says : Result Asked Refusal) (claims : ClaimView)
         (records_of (log_after turn.between turn.added)) turn.changes;
     after_is = turn.after_is;
   }
-  finished-turn (Queue found) between (says_is, turn, claims_are, won) = record {
-    shard = shard_of issuer (named found.pan found.psn);
-    home = λ other. ap (is_for issuer other) (sym says_is);
+  finished-turn (Order found) between (says_is, turn, claims_are, won) = record {
+    shard = shard_of issuer (card_of_order found);
+    home = λ other. ap (is_for issuer other) (sym says_is) ∙ order-for issuer other found;
     between = turn.between;
     added = turn.added;
     front = turn.front;
     adds = turn.adds;
-    tells = queueing-tells (shard_of issuer (named found.pan found.psn)) turn.between (named found.pan found.psn) found.command answer
-        (records_of (log_after turn.between turn.added)) turn.changes;
-    after_is = turn.after_is;
-  }
-  finished-turn (Status found) between (says_is, turn, claims_are, won) = record {
-    shard = shard_of issuer (named found.pan found.psn);
-    home = λ other. ap (is_for issuer other) (sym says_is);
-    between = turn.between;
-    added = turn.added;
-    front = turn.front;
-    adds = turn.adds;
-    tells = setting-tells (shard_of issuer (named found.pan found.psn)) turn.between (named found.pan found.psn) found.status answer
-        (records_of (log_after turn.between turn.added)) turn.changes;
+    tells = order-tells (shard_of issuer (card_of_order found)) turn.between found answer (records_of (log_after turn.between turn.added)) turn.changes;
     after_is = turn.after_is;
   }
 

@@ -25,7 +25,8 @@ use Rattle.shard_book.specs.Answering.{AnswersClaimed}
 use Rattle.shared_shards.specs.ShardLogs.{records_of}
 use Rattle.shared_shards.specs.Turned.{log_after}
 use Rattle.host_calls.specs.declared.pass.Checked.{Checked}
-use Rattle.host_calls.specs.declared.pass.Checked.TheVariants.{Decide, Queue, Status}
+use Rattle.line_checks.specs.declared.checked.CheckedOrder.TheVariants.{Command as IsCommand, Status as IsStatus}
+use Rattle.host_calls.specs.declared.pass.Checked.TheVariants.{Decide, Order}
 use Rattle.host_calls.specs.Authorising.{EndsIn, Authorises}
 use Rattle.host_calls.specs.Finishes.{standing_by}
 use Rattle.one_caller.specs.OneHistory.{IsAnswered}
@@ -145,10 +146,10 @@ module _ (issuer : Setup) (before : ClaimView) (logs : ShardView) (answer : Answ
   finished-step (Decide found Lost) between (card, number_is, checks) (says_is, turn, claims_are, won) =
       let (in_window, card_is, kept, new) = checks.claims in
       lost-step found.request card checks.top (claims_are ∙ kept)
-  finished-step (Queue found) between (ok, kept) (says_is, turn, claims_are, won) =
-      same-step issuer (Ok (asked_of (Queue found))) before answer after (claims_are ∙ kept)
-  finished-step (Status found) between (ok, kept) (says_is, turn, claims_are, won) =
-      same-step issuer (Ok (asked_of (Status found))) before answer after (claims_are ∙ kept)
+  finished-step (Order (IsCommand found)) between (ok, kept) (says_is, turn, claims_are, won) =
+      same-step issuer (Ok (asked_of (Order (IsCommand found)))) before answer after (claims_are ∙ kept)
+  finished-step (Order (IsStatus found)) between (ok, kept) (says_is, turn, claims_are, won) =
+      same-step issuer (Ok (asked_of (Order (IsStatus found)))) before answer after (claims_are ∙ kept)
 
 ended-step : (issuer : Setup) (says : Result Asked Refusal) (before : ClaimView) (logs : ShardView) (answer : Answer) (after : ClaimView) (logs_now : ShardView)
     (checked : Result Checked Refusal) (between : ClaimView) → PreChecks issuer says before checked between

@@ -37,7 +37,8 @@ use Rattle.host_calls.specs.Authorising.{EndsIn, Authorises}
 use Rattle.host_calls.specs.Finishes.{FinishesInTurn, is_won}
 use Rattle.host_calls.specs.PreChecks.{asked_of, PreChecks}
 use Rattle.host_calls.specs.declared.pass.Checked.{Checked}
-use Rattle.host_calls.specs.declared.pass.Checked.TheVariants.{Decide as Decides, Queue as Queues, Status as Sets}
+use Rattle.line_checks.specs.declared.checked.CheckedOrder.TheVariants.{Command as Queues, Status as Sets}
+use Rattle.host_calls.specs.declared.pass.Checked.TheVariants.{Decide as Decides, Order as Orders}
 use Rattle.one_caller.proofs.LegalBooks.{goes-stays}
 use Rattle.shared_laws.specs.Explained.{history_at, IsDecidedOn, ExplainsRequest, ExplainsCommand, ExplainsStatus, Explains}
 use Rattle.shared_laws.proofs.Decisions.{greatest-decided, decided-stays}
@@ -137,14 +138,14 @@ module _ (issuer : Setup) (some : 0 < issuer.shards) (first last : ℕ → List 
       request-explained (first shard) seen.between (history_at logs_now.seen shard) (last shard)
       (goes-then (first shard) (history_at logs.seen shard) seen.between (from shard) seen.goes_on) (to shard) shard (reply_to issuer) (is_won claim)
       found.request answer seen.changes
-  finish-explained (Queues found) turn =
+  finish-explained (Orders (Queues found)) turn =
       let shard : ℕ = shard_of issuer (named found.pan found.psn) in
       let below = home-there issuer some answer logs logs_now whole (named found.pan found.psn) in
       let seen = turn-sees issuer shard _ logs answer logs_now below turn in
       command-explained (first shard) seen.between (history_at logs_now.seen shard) (last shard)
       (goes-then (first shard) (history_at logs.seen shard) seen.between (from shard) seen.goes_on) (to shard) shard (named found.pan found.psn)
       found.command answer seen.changes
-  finish-explained (Sets found) turn =
+  finish-explained (Orders (Sets found)) turn =
       let shard : ℕ = shard_of issuer (named found.pan found.psn) in
       let below = home-there issuer some answer logs logs_now whole (named found.pan found.psn) in
       let seen = turn-sees issuer shard _ logs answer logs_now below turn in

@@ -33,7 +33,7 @@ use Rattle.host_calls.specs.Authorising.{EndsIn, Authorises}
 use Rattle.host_calls.specs.Finishes.{FinishesInTurn, claims_after, standing_by}
 use Rattle.host_calls.specs.PreChecks.{asked_of, PreChecks, Claims}
 use Rattle.host_calls.specs.declared.pass.Checked.{Checked}
-use Rattle.host_calls.specs.declared.pass.Checked.TheVariants.{Decide as Decides, Queue as Queues, Status as Sets}
+use Rattle.host_calls.specs.declared.pass.Checked.TheVariants.{Decide as Decides, Order as Orders}
 use Rattle.shared_laws.specs.Callers.{Calls}
 use Rattle.shared_laws.specs.Explained.{history_at, SeesTurn}
 use Rattle.shared_laws.proofs.Decisions.{IsNumbered, numbered-stays}
@@ -105,8 +105,7 @@ claims-checked card counter top before (Ok (Decides found claim)) after (above, 
         top-times card top before other_card other,
       );
     }
-claims-checked card counter top before (Ok (Queues found)) after never = absurd never
-claims-checked card counter top before (Ok (Sets found)) after never = absurd never
+claims-checked card counter top before (Ok (Orders found)) after never = absurd never
 
 pre-checked : (issuer : Setup) (says : Result Asked Refusal) (before : ClaimView) (result : Result Checked Refusal) (after : ClaimView)
     → PreChecks issuer says before result after → IsChecked before after
@@ -204,14 +203,12 @@ module _ (issuer : Setup) (some : 0 < issuer.shards) (logs logs_now : TurnView L
       (turn-sees issuer (shard_of issuer (card_of found.request)) _ logs answer logs_now
       (home-there issuer some answer logs logs_now whole (card_of found.request)) turn)
   finish-keeps (Decides found Lost) answer view turn number = keeps-same issuer view view logs_now refl
-  finish-keeps (Queues found) answer view turn number = keeps-same issuer view view logs_now refl
-  finish-keeps (Sets found) answer view turn number = keeps-same issuer view view logs_now refl
+  finish-keeps (Orders found) answer view turn number = keeps-same issuer view view logs_now refl
 
 after-tops : (checked : Checked) (answer : Answer) (view : ClaimView) → (claims_after checked answer view).tops ≡ view.tops
 after-tops (Decides found Won) answer view = refl
 after-tops (Decides found Lost) answer view = refl
-after-tops (Queues found) answer view = refl
-after-tops (Sets found) answer view = refl
+after-tops (Orders found) answer view = refl
 
 -- ---- a call, and all calls of a caller
 

@@ -32,7 +32,8 @@ use Rattle.shared_shards.specs.ShardLogs.{records_of}
 use Rattle.shared_shards.specs.Turned.{log_after}
 use Rattle.turn_book.proofs.LogLemmas.{items-with_same}
 use Rattle.host_calls.specs.declared.pass.Checked.{Checked}
-use Rattle.host_calls.specs.declared.pass.Checked.TheVariants.{Decide, Queue, Status}
+use Rattle.line_checks.specs.declared.checked.CheckedOrder.TheVariants.{Command as IsCommand, Status as IsStatus}
+use Rattle.host_calls.specs.declared.pass.Checked.TheVariants.{Decide, Order}
 use Rattle.host_calls.specs.Authorising.{EndsIn, Authorises}
 use Rattle.host_calls.specs.PreChecks.{asked_of, PreChecks}
 use Rattle.shared_laws.specs.Explained.{IsDecidedOn}
@@ -109,8 +110,8 @@ module _ (issuer : Setup) (before : ClaimView) (logs : ShardView) (answer : Answ
       ∙ items-with_same logs.seen (shard_of issuer (card_of found.request)) (log_after turn.between turn.added) here in
       subst (λ (request : Request). IsDecidedOn (card_of request) request.atc (records_of (items_at logs_now.seen (shard_of issuer (card_of request))))) same
       (subst (λ (items : List LogItem). IsDecidedOn (card_of found.request) found.request.atc (records_of items)) (sym seen) has)
-  finished-shown (Queue found) between request below shows (says_is, turn, claims_are, won) = absurd (cc)
-  finished-shown (Status found) between request below shows (says_is, turn, claims_are, won) = absurd (cc)
+  finished-shown (Order (IsCommand found)) between request below shows (says_is, turn, claims_are, won) = absurd (cc)
+  finished-shown (Order (IsStatus found)) between request below shows (says_is, turn, claims_are, won) = absurd (cc)
 
   ended-shown : (checked : Result Checked Refusal) (between : ClaimView) (request : Request)
       → PreChecks issuer (Ok (AsksDecision request)) before checked between
@@ -161,8 +162,8 @@ finished-lost issuer before logs after logs_now (Decide found Lost) between (car
       front = turn.front;
       unused = turn.changes.1;
     }
-finished-lost issuer before logs after logs_now (Queue found) between checks (says_is, turn, claims_are, won) = absurd turn.changes
-finished-lost issuer before logs after logs_now (Status found) between checks (says_is, turn, claims_are, won) = absurd turn.changes
+finished-lost issuer before logs after logs_now (Order (IsCommand found)) between checks (says_is, turn, claims_are, won) = absurd turn.changes
+finished-lost issuer before logs after logs_now (Order (IsStatus found)) between checks (says_is, turn, claims_are, won) = absurd turn.changes
 
 refused-lost : (issuer : Setup) (says : Result Asked Refusal) (before : ClaimView) (between : ClaimView) → (says ≡ Err Pending → ⊥)
     → PreChecks issuer says before (Err Pending) between → ⊥

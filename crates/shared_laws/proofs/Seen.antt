@@ -38,7 +38,8 @@ use Rattle.host_calls.specs.Authorising.{EndsIn, Authorises}
 use Rattle.host_calls.specs.Finishes.{FinishesInTurn, is_won}
 use Rattle.host_calls.specs.PreChecks.{asked_of, PreChecks}
 use Rattle.host_calls.specs.declared.pass.Checked.{Checked}
-use Rattle.host_calls.specs.declared.pass.Checked.TheVariants.{Decide as Decides, Queue as Queues, Status as Sets}
+use Rattle.line_checks.specs.declared.checked.CheckedOrder.TheVariants.{Command as Queues, Status as Sets}
+use Rattle.host_calls.specs.declared.pass.Checked.TheVariants.{Decide as Decides, Order as Orders}
 use Rattle.shared_laws.specs.Callers.{Calls}
 use Rattle.shared_laws.specs.Explained.{history_at, SeesTurn, Sees, AreAnsweredInOrder}
 
@@ -160,11 +161,11 @@ module _ (issuer : Setup) (some : 0 < issuer.shards) (answer : Answer) (logs log
     inr (is_won claim, turn-sees issuer (shard_of issuer (card_of found.request)) _ logs answer logs_now (home-there (card_of found.request)) turn),
     turn-long issuer (shard_of issuer (card_of found.request)) _ logs answer logs_now (home-there (card_of found.request)) turn ∙ whole,
   )
-  finish-sees (Queues found) turn = (
+  finish-sees (Orders (Queues found)) turn = (
     turn-sees issuer (shard_of issuer (named found.pan found.psn)) _ logs answer logs_now (home-there (named found.pan found.psn)) turn,
     turn-long issuer (shard_of issuer (named found.pan found.psn)) _ logs answer logs_now (home-there (named found.pan found.psn)) turn ∙ whole,
   )
-  finish-sees (Sets found) turn = (
+  finish-sees (Orders (Sets found)) turn = (
     turn-sees issuer (shard_of issuer (named found.pan found.psn)) _ logs answer logs_now (home-there (named found.pan found.psn)) turn,
     turn-long issuer (shard_of issuer (named found.pan found.psn)) _ logs answer logs_now (home-there (named found.pan found.psn)) turn ∙ whole,
   )

@@ -32,7 +32,8 @@ use Rattle.host_calls.specs.Finishes.{FinishesInTurn, is_won}
 use Rattle.one_caller.specs.OneHistory.{IsAnswered}
 use Rattle.host_calls.specs.PreChecks.{asked_of, PreChecks}
 use Rattle.host_calls.specs.declared.pass.Checked.{Checked}
-use Rattle.host_calls.specs.declared.pass.Checked.TheVariants.{Decide as Decides, Queue as Queues, Status as Sets}
+use Rattle.line_checks.specs.declared.checked.CheckedOrder.TheVariants.{Command as Queues, Status as Sets}
+use Rattle.host_calls.specs.declared.pass.Checked.TheVariants.{Decide as Decides, Order as Orders}
 use Rattle.shared_laws.specs.Callers.{Calls}
 use Rattle.shared_laws.specs.Explained.{history_at, IsDecidedOn, SeesTurn}
 use Rattle.shared_laws.proofs.Decisions.{greatest-decided, decided-stays}
@@ -66,8 +67,8 @@ module _ (issuer : Setup) (some : 0 < issuer.shards) (logs logs_now : TurnView L
       (goes-same seen.between (history_at logs_now.seen shard) too_old.1)
       (greatest-decided (card_of found.request) seen.between top too_old.0.greatest_is) in
       inr (subst (λ (request : Request). IsDecidedOn (card_of request) top (history_at logs_now.seen (shard_of issuer (card_of request)))) same shows)
-  finish-shows (Queues found) request top claims says_is turn = absurd (cc)
-  finish-shows (Sets found) request top claims says_is turn = absurd (cc)
+  finish-shows (Orders (Queues found)) request top claims says_is turn = absurd (cc)
+  finish-shows (Orders (Sets found)) request top claims says_is turn = absurd (cc)
 
   ends-show : (checked : Result Checked Refusal) (request : Request) (top : ℕ) (claims between claims_now : ClaimView)
       → PreChecks issuer (Ok (Decide request)) claims checked between
@@ -107,8 +108,8 @@ module _ (issuer : Setup) (some : 0 < issuer.shards) (logs logs_now : TurnView L
       → IsShown issuer (card_of request) request.atc claims logs → ⊥
   ends-barred (Err other) request at place reply claims between claims_now checks ends shown =
       let never : Fresh at place reply ≡ Refused other = ends.0 in cc
-  ends-barred (Ok (Queues found)) request at place reply claims between claims_now checks ends shown = let never = ends.0 in cc
-  ends-barred (Ok (Sets found)) request at place reply claims between claims_now checks ends shown = let never = ends.0 in cc
+  ends-barred (Ok (Orders (Queues found))) request at place reply claims between claims_now checks ends shown = let never = ends.0 in cc
+  ends-barred (Ok (Orders (Sets found))) request at place reply claims between claims_now checks ends shown = let never = ends.0 in cc
   ends-barred (Ok (Decides found claim)) request at place reply claims between claims_now (card, number_is, check) ends shown =
       let same : found.request ≡ request = let e : Ok (Decide found.request) ≡ Ok (Decide request) = ends.0 in cc in
       let shard : ℕ = shard_of issuer (card_of found.request) in

@@ -41,7 +41,8 @@ pub record Caller : Type 0 where
   pub logs : TurnView LogItem LogHead
   pub logs_now : TurnView LogItem LogHead
 
--- the caller began with a pass that had made no call and had seen the opening logs, and its lines were answered one after another
+-- the caller began with a pass that had made no call and had seen the opening logs, and its lines were answered one
+-- after another
 pub record IsCaller (issuer : Setup) (opening : List (Log LogItem LogHead)) (caller : Caller) : Type 0 where
   pub no_claims : caller.claims.claims ≡ []
   pub no_found : caller.claims.found ≡ []

@@ -1,6 +1,6 @@
 -- What an answer of a shard adds to its log, and the log that the shard stands for then.
 use Rattle.std.proofs.Common.{◌≡◌, ℕ, zero, suc, ◌+◌, ◌<◌, ◌≤◌, ◌&&◌, ltb, Bool, true, false}
-use Rattle.std.proofs.Common.{if◌then◌else◌, List, [], ◌∷◌, ◌++◌, length, take, All, Option, None, Some, Ok, IsTrue}
+use Rattle.std.proofs.Common.{if◌then◌else◌, List, [], ◌∷◌, ◌++◌, length, take, All, Option, None, Some, Ok}
 use Rattle.std.proofs.Common.{refl, sym, ap, subst, ◌∙◌, inl, inr, arith}
 use Rattle.std.specs.List.{slice_get}
 use Rattle.std.proofs.lemmas.Bool.{cases_lt, ltb-true, ltb-false}
@@ -8,28 +8,30 @@ use Rattle.std.proofs.lemmas.List.{length_push, take-append-le, take_all}
 use Rattle.std.proofs.lemmas.Option.{same_Some, none-some, slice_get_within, get_or_from_slice_get}
 use Rattle.issuer_base.specs.OutsideFaults.{CountsFaults}
 use Rattle.issuer_base.specs.Stores.{Disk, BothTold, LeavesOnly}
-use Rattle.issuer_base.specs.declared.command.Command.{Command}
 use Rattle.issuer_base.specs.declared.request.Request.{Request}
 use Rattle.issuer_base.specs.declared.answer.Answer.{Answer}
 use Rattle.issuer_base.specs.declared.answer.Answer.TheVariants.{Fresh, Kept, Queued, Set, Refused}
 use Rattle.issuer_base.specs.declared.answer.Refusal.TheVariants.{Below, Taken, QueueFull, Pending, StoreFault}
 use Rattle.issuer_base.specs.declared.entry.Entry.{Entry}
-use Rattle.issuer_base.specs.declared.entry.Entry.TheVariants.{Decided, Queued as IsQueued, Status as IsStatus}
-use Rattle.issuer_base.specs.declared.limits.TheConstants.{MAX_FAULTS_TOLD, MAX_STATUS}
+use Rattle.issuer_base.specs.declared.entry.Entry.TheVariants.{Decided}
+use Rattle.issuer_base.specs.declared.limits.TheConstants.{MAX_FAULTS_TOLD}
 use Rattle.issuer_base.specs.declared.outside.store.Store.{Ghosts}
-use Rattle.issuer_base.specs.ScriptCommand.{is_command}
 use Rattle.card_history.specs.declared.decision.Asked.TheVariants.{Decide}
 use Rattle.card_history.specs.LegalRecords.{IsLegal, IsLegalHistory}
-use Rattle.card_history.specs.Records.{CardName, card_of}
+use Rattle.card_history.specs.Records.{card_of}
 use Rattle.card_history.proofs.LongerHistories.{slice_get-push}
 use Rattle.issuer_setup.specs.IssuerSetup.{Setup}
 use Rattle.journal_rec.specs.Record.{IsRecord}
+use Rattle.line_checks.specs.AtHand.{card_of_order, order_asked, record_of, IsOrderAtHand}
 use Rattle.line_checks.specs.Reading.{checked}
+use Rattle.line_checks.specs.declared.checked.CheckedOrder.{CheckedOrder}
+use Rattle.line_checks.specs.declared.checked.CheckedOrder.TheVariants.{Command as IsCommand, Status as IsStatus}
 use Rattle.row_core.specs.Replying.{reply_to}
 use Rattle.shard_book.specs.declared.shard.Shard.{Shard}
-use Rattle.shard_book.specs.Answering.{is_store_fault, told_after, AnswersClaimed, AnswersQueueing, AnswersSetting}
+use Rattle.shard_book.specs.Answering.{is_store_fault, told_after, AnswersClaimed, AnswersOrder}
+use Rattle.shard_book.specs.Calls.{KeepsShard, LeavesImages}
 use Rattle.shard_book.specs.Grounds.{IsCardOfShard, IsImageOf, grounds_of, grounds_now}
-use Rattle.shard_book.specs.Shards.{number_in, IsUnder, disk_in, faults_in, told_in, IsUndoubted, StandsFor}
+use Rattle.shard_book.specs.Shards.{disk_in, faults_in, told_in, StandsFor}
 use Rattle.shard_book.proofs.LegalDecisions.{legal-own}
 use Rattle.shard_book.proofs.Lines.{legal-more}
 use Rattle.shard_book.proofs.OwnDecisions.{legal-then}
@@ -38,7 +40,7 @@ use Rattle.shared_shards.specs.declared.logs.LogItem.TheVariants.{Record, Fault}
 use Rattle.shard_book.specs.Histories.{GoesOn, IsImageBetween}
 use Rattle.shared_shards.specs.Opening.{head_with}
 use Rattle.shared_shards.specs.ShardLogs.{records_of, faults_of, RiseTo, last_count, StandsForLog}
-use Rattle.shared_shards.specs.Turned.{log_after, AddsFault, IsAdded, decided_by, recorded_by, added_by}
+use Rattle.shared_shards.specs.Turned.{log_after, AddsFault, AddsRecord, IsAdded, decided_by, recorded_by, added_by}
 use Rattle.shard_book.proofs.Histories.{goes-none}
 use Rattle.shared_shards.proofs.Since.{since-more}
 use Rattle.shared_shards.proofs.LogSteps.{records-record, records-fault, faults-record, faults-fault, rise-later, rise-more, last-more}
@@ -79,6 +81,22 @@ module _ (issuer : Setup) (shard : ℕ) (before after : List Entry) where
     adds = λ items told count records told_is. adds items told count told_is;
   }
 
+  -- a record is added, which is a valid successor
+  recorded-added : (entry : Entry) (answer : Answer) → is_store_fault answer ≡ false → after ≡ before ++ entry ∷ []
+      → IsLegal (grounds_now issuer) shard before entry
+      → ((items : List LogItem) (added : Option LogItem) → AddsRecord issuer shard items added → IsAdded issuer shard items answer added)
+      → IsAnsweredBy issuer shard before after answer (Some entry)
+  recorded-added entry answer good after_is legal adds = record {
+    records = (after_is, legal);
+    apart = λ given is. good;
+    adds = λ items told count records told_is.
+        adds items (Some (Record entry)) (
+          entry,
+          refl,
+          subst (λ (before : List Entry). IsLegal (grounds_now issuer) shard before entry) (sym records) legal,
+        );
+  }
+
   failed-added : after ≡ before → IsAnsweredBy issuer shard before after (Refused StoreFault) None
   failed-added same = record {
     records = same;
@@ -90,17 +108,8 @@ module _ (issuer : Setup) (shard : ℕ) (before after : List Entry) where
       → checked issuer request ≡ Ok (Decide request) → AnswersClaimed shard (reply_to issuer) won before request answer after
       → IsAnsweredBy issuer shard before after answer (decided_by request answer)
   claimed-answered won request (Fresh at place reply) home passes (win, (unused, at_is, place_is, reply_is, after_is)) =
-      let legal : IsLegal (grounds_now issuer) shard before (Decided request reply) =
-      legal-own issuer shard before request reply home passes unused reply_is in
-      record {
-        records = (after_is, legal);
-        apart = λ given is. refl;
-        adds = λ items told count records told_is. (
-          Decided request reply,
-          refl,
-          subst (λ (before : List Entry). IsLegal (grounds_now issuer) shard before (Decided request reply)) (sym records) legal,
-        );
-      }
+      recorded-added (Decided request reply) (Fresh at place reply) refl after_is
+      (legal-own issuer shard before request reply home passes unused reply_is) (λ items added is. is)
   claimed-answered won request (Kept at place reply) home passes (used, at_is, after_is) =
       nothing-added (Kept at place reply) refl after_is (λ items told count told_is. refl)
   claimed-answered won request (Refused (Below top)) home passes (too_old, after_is) =
@@ -112,41 +121,21 @@ module _ (issuer : Setup) (shard : ℕ) (before after : List Entry) where
   claimed-answered won request (Refused StoreFault) home passes (win, unused, after_is) = failed-added after_is
   claimed-answered won request _ home passes turn = absurd turn
 
-  pub queueing-answered : (name : CardName) (command : Command) (answer : Answer) → IsCardOfShard issuer shard name → IsTrue (is_command command)
-      → AnswersQueueing shard before name command answer after
-      → IsAnsweredBy issuer shard before after answer (recorded_by (IsQueued name.pan name.psn command) answer)
-  queueing-answered name command (Queued at place) home form (room, at_is, place_is, after_is) =
-      let legal : IsLegal (grounds_now issuer) shard before (IsQueued name.pan name.psn command) = record { of_a_card = home; form = form; room = room } in
-      record {
-        records = (after_is, legal);
-        apart = λ given is. refl;
-        adds = λ items told count records told_is. (
-          IsQueued name.pan name.psn command,
-          refl,
-          subst (λ (before : List Entry). IsLegal (grounds_now issuer) shard before (IsQueued name.pan name.psn command)) (sym records) legal,
-        );
-      }
-  queueing-answered name command (Refused QueueFull) home form (full, after_is) =
+  pub order-answered : (order : CheckedOrder) (answer : Answer) → IsCardOfShard issuer shard (card_of_order order) → IsOrderAtHand issuer order
+      → AnswersOrder shard before (order_asked order) answer after
+      → IsAnsweredBy issuer shard before after answer (recorded_by (record_of order) answer)
+  order-answered (IsCommand found) (Queued at place) home at_hand (room, at_is, place_is, after_is) =
+      recorded-added (record_of (IsCommand found)) (Queued at place) refl after_is (record { of_a_card = home; form = at_hand.form_is; room = room })
+      (λ items added is. is)
+  order-answered (IsCommand found) (Refused QueueFull) home at_hand (full, after_is) =
       nothing-added (Refused QueueFull) refl after_is (λ items told count told_is. refl)
-  queueing-answered name command (Refused StoreFault) home form (room, after_is) = failed-added after_is
-  queueing-answered name command _ home form turn = absurd turn
-
-  pub setting-answered : (name : CardName) (status : ℕ) (answer : Answer) → IsCardOfShard issuer shard name → status ≤ MAX_STATUS
-      → AnswersSetting shard before name status answer after
-      → IsAnsweredBy issuer shard before after answer (recorded_by (IsStatus name.pan name.psn status) answer)
-  setting-answered name status (Set at place) home within (at_is, place_is, after_is) =
-      let legal : IsLegal (grounds_now issuer) shard before (IsStatus name.pan name.psn status) = record { of_a_card = home; within = within } in
-      record {
-        records = (after_is, legal);
-        apart = λ given is. refl;
-        adds = λ items told count records told_is. (
-          IsStatus name.pan name.psn status,
-          refl,
-          subst (λ (before : List Entry). IsLegal (grounds_now issuer) shard before (IsStatus name.pan name.psn status)) (sym records) legal,
-        );
-      }
-  setting-answered name status (Refused StoreFault) home within after_is = failed-added after_is
-  setting-answered name status _ home within turn = absurd turn
+  order-answered (IsCommand found) (Refused StoreFault) home at_hand (room, after_is) = failed-added after_is
+  order-answered (IsCommand found) _ home at_hand turn = absurd turn
+  order-answered (IsStatus found) (Set at place) home at_hand (at_is, place_is, after_is) =
+      recorded-added (record_of (IsStatus found)) (Set at place) refl after_is (record { of_a_card = home; within = at_hand.within })
+      (λ items added is. is)
+  order-answered (IsStatus found) (Refused StoreFault) home at_hand after_is = failed-added after_is
+  order-answered (IsStatus found) _ home at_hand turn = absurd turn
 
 -- ---- histories that grow by the issuer's own decisions
 
@@ -195,13 +184,8 @@ IsLast first now counts = length counts < MAX_FAULTS_TOLD → now ≡ last_count
 
 -- a call of the shard answered so
 pub record IsCalled {S : Type 0} {G : Ghosts S} (issuer : Setup) (old new : Shard S G) (answer : Answer) : Type 0 where
-  pub counts : CountsFaults (faults_in old) (faults_in new) (is_store_fault answer)
-  pub told_is : told_in new ≡ told_after (told_in old) (is_store_fault answer)
-  pub undoubted : IsUndoubted old → IsUndoubted new
-  pub under : IsUnder issuer new
-  pub number_is : number_in new ≡ number_in old
-  pub leaves : (history : List Entry) → StandsFor issuer old history
-      → BothTold (LeavesOnly (IsImageOf (grounds_now issuer) (number_in old) history)) (disk_in old) (disk_in new)
+  pub keeps : KeepsShard issuer old answer new
+  pub leaves : LeavesImages issuer old new
 
 module _ {S : Type 0} {G : Ghosts S} (issuer : Setup) (shard first faults : ℕ) (disk : Option Disk) (old new : Shard S G) (answer : Answer) (items : List LogItem)
     (stands : StandsForLog old (head_with issuer shard faults first disk) items) (called : IsCalled issuer old new answer) (after : List Entry)
@@ -226,12 +210,12 @@ module _ {S : Type 0} {G : Ghosts S} (issuer : Setup) (shard first faults : ℕ)
       let fewer = stands.opened in
       let long = length_push history entry in
       let counts : CountsFaults (faults_in old) (faults_in new) false =
-      subst (λ failed. CountsFaults (faults_in old) (faults_in new) failed) good called.counts in
-      let told : told_in new ≡ told_in old = called.told_is ∙ ap (told_after (told_in old)) good in
+      subst (λ failed. CountsFaults (faults_in old) (faults_in new) failed) good called.keeps.counts in
+      let told : told_in new ≡ told_in old = called.keeps.told_is ∙ ap (told_after (told_in old)) good in
       let faults_same = faults-record items entry in
       record {
-        number_is = called.number_is ∙ stands.number_is;
-        under = called.under;
+        number_is = called.keeps.number_is ∙ stands.number_is;
+        under = called.keeps.under;
         table = stands.table;
         stands = subst (StandsFor issuer new) (sym same) stands_new;
         legal = subst (IsLegalHistory (grounds_of issuer) shard) (sym same)
@@ -240,7 +224,7 @@ module _ {S : Type 0} {G : Ghosts S} (issuer : Setup) (shard first faults : ℕ)
         by_table = subst (AreOwnFrom issuer shard first) (sym same) (own-more issuer shard first history entry stands.by_table next);
         told_is = told ∙ stands.told_is ∙ sym (ap (λ (counts : List ℕ). length counts) faults_same);
         few = subst (λ (counts : List ℕ). length counts ≤ MAX_FAULTS_TOLD) (sym faults_same) stands.few;
-        undoubted = called.undoubted stands.undoubted;
+        undoubted = called.keeps.undoubted stands.undoubted;
         counts = subst (λ (counts : List ℕ). RiseTo faults counts (faults_in new)) (sym faults_same)
             (rise-later faults (faults_of items) (faults_in old) (faults_in new) stands.counts counts.never_falls);
         last_is = subst (IsLast faults (faults_in new)) (sym faults_same) (λ fewer. counts.counted ∙ stands.last_is fewer);
@@ -252,8 +236,8 @@ module _ {S : Type 0} {G : Ghosts S} (issuer : Setup) (shard first faults : ℕ)
       → length (faults_of more) ≤ MAX_FAULTS_TOLD → RiseTo faults (faults_of more) (faults_in new) → IsLast faults (faults_in new) (faults_of more)
       → StandsForLog new (head_with issuer shard faults first disk) more
   other-step more same after_is told few counts last_is = record {
-    number_is = called.number_is ∙ stands.number_is;
-    under = called.under;
+    number_is = called.keeps.number_is ∙ stands.number_is;
+    under = called.keeps.under;
     table = stands.table;
     stands = subst (StandsFor issuer new) (after_is ∙ sym same) now;
     legal = subst (IsLegalHistory (grounds_of issuer) shard) (sym same) stands.legal;
@@ -261,7 +245,7 @@ module _ {S : Type 0} {G : Ghosts S} (issuer : Setup) (shard first faults : ℕ)
     by_table = subst (AreOwnFrom issuer shard first) (sym same) stands.by_table;
     told_is = told;
     few = few;
-    undoubted = called.undoubted stands.undoubted;
+    undoubted = called.keeps.undoubted stands.undoubted;
     counts = counts;
     last_is = last_is;
     since = since-then (records_of more) (subst (GoesOn (records_of items)) (sym same) (goes-none (records_of items)));
@@ -271,21 +255,21 @@ module _ {S : Type 0} {G : Ghosts S} (issuer : Setup) (shard first faults : ℕ)
       → StandsForLog new (head_with issuer shard faults first disk) (log_after items (added_by None (failed && less) (faults_in new)))
   none-step false less failed_is less_is after_is =
       let counts : CountsFaults (faults_in old) (faults_in new) false =
-      subst (λ failed. CountsFaults (faults_in old) (faults_in new) failed) failed_is called.counts in
-      other-step items refl after_is (called.told_is ∙ ap (told_after (told_in old)) failed_is ∙ stands.told_is) stands.few
+      subst (λ failed. CountsFaults (faults_in old) (faults_in new) failed) failed_is called.keeps.counts in
+      other-step items refl after_is (called.keeps.told_is ∙ ap (told_after (told_in old)) failed_is ∙ stands.told_is) stands.few
       (rise-later faults (faults_of items) (faults_in old) (faults_in new) stands.counts counts.never_falls)
       (λ fewer. counts.counted ∙ stands.last_is fewer)
   none-step true false failed_is less_is after_is =
-      let counts = called.counts.never_falls in
-      let told : told_in new ≡ told_in old = called.told_is ∙ ap (told_after (told_in old)) failed_is
+      let counts = called.keeps.counts.never_falls in
+      let told : told_in new ≡ told_in old = called.keeps.told_is ∙ ap (told_after (told_in old)) failed_is
       ∙ ap (λ (less : Bool). if less then told_in old + 1 else told_in old) less_is in
       other-step items refl after_is (told ∙ stands.told_is) stands.few
       (rise-later faults (faults_of items) (faults_in old) (faults_in new) stands.counts counts)
       (λ fewer. let most = ltb-false (told_in old) MAX_FAULTS_TOLD less_is in let told_was = stands.told_is in absurd (omega arith))
   none-step true true failed_is less_is after_is =
       let counts : CountsFaults (faults_in old) (faults_in new) true =
-      subst (λ failed. CountsFaults (faults_in old) (faults_in new) failed) failed_is called.counts in
-      let told : told_in new ≡ told_in old + 1 = called.told_is ∙ ap (told_after (told_in old)) failed_is
+      subst (λ failed. CountsFaults (faults_in old) (faults_in new) failed) failed_is called.keeps.counts in
+      let told : told_in new ≡ told_in old + 1 = called.keeps.told_is ∙ ap (told_after (told_in old)) failed_is
       ∙ ap (λ (less : Bool). if less then told_in old + 1 else told_in old) less_is in
       let more = faults-fault items (faults_in new) in
       let long = length_push (faults_of items) (faults_in new) in

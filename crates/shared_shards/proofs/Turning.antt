@@ -1,5 +1,5 @@
 -- A turn at a shard, from the moment that it comes to its end.
-use Rattle.std.proofs.Common.{◌≡◌, ℕ, ◌<◌, ◌%◌, ◌/◌, ◌&&◌, ltb, Bool, List, length, Option, None, Some, refl, sym, ap, subst, ◌∙◌, arith}
+use Rattle.std.proofs.Common.{◌≡◌, ℕ, ◌<◌, ◌%◌, ◌/◌, ◌&&◌, ltb, List, length, Option, None, Some, refl, sym, ap, subst, ◌∙◌, arith}
 use Rattle.std.specs.List.{slice_get}
 use Rattle.std.proofs.lemmas.Option.{same_Some, slice_get_within}
 use Rattle.issuer_base.specs.Stores.{Disk}
@@ -18,6 +18,7 @@ use Rattle.line_checks.specs.AtHand.{IsCardAtHand}
 use Rattle.row_core.specs.CardRow.{CardRow, StandsFor as RowStandsFor}
 use Rattle.shard_book.specs.declared.shard.Shard.{Shard}
 use Rattle.shard_book.specs.Answering.{is_store_fault}
+use Rattle.shard_book.specs.Calls.{AnswersBy}
 use Rattle.shard_book.specs.Grounds.{IsCardOfShard}
 use Rattle.shard_book.specs.Shards.{number_in, HasCard, faults_in, told_in, StandsFor}
 use Rattle.turn_book.specs.declared.logs.Log.{Log}
@@ -122,28 +123,24 @@ module _ {S : Type 0} {G : Ghosts S} where
         after_is = after_is ∙ ap (λ n. turned n (items_at logs number) None before) number_is;
       }
 
-  -- the shard that has the turn is called: it answers so, and gives its log this record, or where it has to, that the store failed
+  -- the shard that has the turn is called: it answers so, and gives its log this record, or that the store failed
   pub record IsCalledInTurn (issuer : Setup) (Changes : ℕ → List Entry → List Entry → Type 0) (logs : List (Log LogItem LogHead)) (number : ℕ)
-      (old new : Shard S G) (answer : Answer) (given : Option Entry) (fault : Bool) : Type 0 where
+      (old new : Shard S G) (answer : Answer) (entry : Option Entry) (told : ℕ) : Type 0 where
     pub found : HasFound issuer logs number old
     pub called : IsCalled issuer old new answer
-    pub answers : (history : List Entry) → StandsFor issuer old history → (after : List Entry) × StandsFor issuer new after × Changes
-        (number_in old) history after
-    pub entry : Option Entry
-    pub entry_is : given ≡ entry
+    pub answers : AnswersBy issuer old Changes new
     pub recording : (history after : List Entry) → Changes number history after → IsAnsweredBy issuer number history after answer entry
-    pub told : ℕ
     pub told_is : told ≡ told_in old
-    pub fault_is : fault ≡ (is_store_fault answer && ltb told MAX_FAULTS_TOLD)
 
   module _ {issuer : Setup} {Changes : ℕ → List Entry → List Entry → Type 0} {logs : List (Log LogItem LogHead)} {number : ℕ} {old new : Shard S G}
-      {answer : Answer} {given : Option Entry} {fault : Bool}
-      (call : IsCalledInTurn issuer Changes logs number old new answer given fault) where
+      {answer : Answer} {entry : Option Entry} {told : ℕ}
+      (call : IsCalledInTurn issuer Changes logs number old new answer entry told) where
     abbrev items : List LogItem
     items = items_at logs number
 
-    abbrev by_rule : Bool
-    by_rule = is_store_fault answer && ltb (told_in old) MAX_FAULTS_TOLD
+    -- what is added, where the shard's answers had reported so many faults before
+    abbrev adding : ℕ → Option LogItem
+    adding before = added_by entry (is_store_fault answer && ltb before MAX_FAULTS_TOLD) (faults_in new)
 
     abbrev said : (after : List Entry) × StandsFor issuer new after × Changes (number_in old) (records_of items) after
     said = call.answers (records_of items) call.found.stands.stands
@@ -151,39 +148,34 @@ module _ {S : Type 0} {G : Ghosts S} where
     changed : Changes number (records_of items) said.0
     changed = subst (λ n. Changes n (records_of items) said.0) call.found.stands.number_is said.2
 
-    added-is : added_by given fault (faults_in new) ≡ added_by call.entry by_rule (faults_in new)
-    added-is =
-        ap (λ (entry : Option Entry). added_by entry fault (faults_in new)) call.entry_is
-        ∙ ap (λ (fault : Bool). added_by call.entry fault (faults_in new))
-        (call.fault_is ∙ ap (λ told. is_store_fault answer && ltb told MAX_FAULTS_TOLD) call.told_is)
+    answered : IsAnsweredBy issuer number (records_of items) said.0 answer entry
+    answered = call.recording (records_of items) said.0 changed
 
     -- the shard stands for the log with what was added
-    pub turn-stands : StandsIn new (with_items logs number (log_after items (added_by given fault (faults_in new)))) number
+    pub turn-stands : StandsIn new (with_items logs number (log_after items (adding told))) number
     turn-stands =
-        subst (λ (added : Option LogItem). StandsIn new (with_items logs number (log_after items added)) number) (sym added-is)
+        subst (λ (told : ℕ). StandsIn new (with_items logs number (log_after items (adding told))) number) (sym call.told_is)
         (stands-close (λ (shard : Shard S G) head items. StandsForLog shard head items) new logs number
-        (head_with issuer number call.found.faults call.found.first call.found.disk) (log_after items (added_by call.entry by_rule (faults_in new))) call.found.head_is
-        (log-step issuer number call.found.first call.found.faults call.found.disk old new answer items call.found.stands call.called said.0 said.1 call.entry
-        (call.recording (records_of items) said.0 changed)))
+        (head_with issuer number call.found.faults call.found.first call.found.disk) (log_after items (adding (told_in old))) call.found.head_is
+        (log-step issuer number call.found.first call.found.faults call.found.disk old new answer items call.found.stands call.called said.0 said.1 entry
+        answered))
 
     -- and the turn answers so, at the shard of the card
     pub turn-answers : (shard : ℕ) → number ≡ shard → (before inside after : TurnView LogItem LogHead) → number < length before.seen
         → IsFront (items_at before.seen number) items → inside ≡ entered number items before
-        → after ≡ free (counted_if number (added_by given fault (faults_in new)) inside) → AnswersInTurn issuer shard (Changes shard) before answer after
+        → after ≡ free (counted_if number (adding told) inside) → AnswersInTurn issuer shard (Changes shard) before answer after
     turn-answers shard number_is before inside after below front inside_is after_is =
-        let answered = call.recording (records_of items) said.0 changed in
-        let added : Option LogItem = added_by call.entry by_rule (faults_in new) in
+        let added : Option LogItem = adding told in
         let answers : AnswersInTurn issuer number (Changes number) before answer after = record {
           between = items;
           added = added;
           front = front;
           changes = subst (Changes number (records_of items))
-              (sym (records-after issuer number call.found.first call.found.faults call.found.disk old new answer items call.found.stands call.called said.0 said.1 call.entry
-              by_rule (faults_in new) answered)) changed;
-          adds = answered.adds items (told_in old) (faults_in new) refl call.found.stands.told_is;
+              (sym (records-after issuer number call.found.first call.found.faults call.found.disk old new answer items call.found.stands call.called said.0 said.1 entry
+              (is_store_fault answer && ltb told MAX_FAULTS_TOLD) (faults_in new) answered)) changed;
+          adds = answered.adds items told (faults_in new) refl (call.told_is ∙ call.found.stands.told_is);
           after_is = after_is
-              ∙ ap (λ (inside : TurnView LogItem LogHead). free (counted_if number (added_by given fault (faults_in new)) inside)) inside_is
-              ∙ ap (λ (added : Option LogItem). free (counted_if number added (entered number items before))) added-is
+              ∙ ap (λ (inside : TurnView LogItem LogHead). free (counted_if number added inside)) inside_is
               ∙ turned-is before number items added below;
         } in
         subst (λ n. AnswersInTurn issuer n (Changes n) before answer after) number_is answers

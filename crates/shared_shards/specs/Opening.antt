@@ -11,8 +11,8 @@ use Rattle.shared_shards.specs.declared.logs.LogHead.{LogHead}
 use Rattle.shared_shards.specs.declared.logs.LogItem.{LogItem}
 use Rattle.shared_shards.specs.declared.logs.LogItem.TheVariants.{Record}
 
--- the head of a log: the issuer, the shard's number, its store's count of faults, how many records it opens with, and what its store tells of
--- its disk
+-- the head of a log: the issuer, the shard's number, its store's fault count, how many records it opens with, and its
+-- store's disk, if the store exposes it
 abbrev pub head_with : Setup → ℕ → ℕ → ℕ → Option Disk → LogHead
 head_with issuer shard faults records opened =
     record { issuer = issuer; shard = shard; faults = faults; records = records; opened = opened }
@@ -21,7 +21,7 @@ head_with issuer shard faults records opened =
 abbrev pub log_with : LogHead → List Entry → Log LogItem LogHead
 log_with head history = record { head = head; items = map Record history }
 
--- the bytes that the store at this place tells
+-- the observable bytes of the store at this index
 abbrev pub bytes_at : {S : Type 0} → (S → Option (List ℕ)) → List S → ℕ → Option (List ℕ)
 bytes_at bytes [] number = None
 bytes_at bytes (store ∷ stores) zero = bytes store

@@ -1,4 +1,4 @@
--- The log of a shard: its records, and the faults that answers told; and when a shard stands for it.
+-- The log of a shard: its records, and the faults that answers reported; and when a shard stands for it.
 use Rattle.std.specs.Prelude.{◌≡◌, ℕ, ◌<◌, ◌≤◌, List, [], ◌∷◌, length, take, slice_get, Some}
 use Rattle.issuer_base.specs.OutsideFaults.{Rose}
 use Rattle.issuer_base.specs.Stores.{BothTold, LeavesOnly}
@@ -20,13 +20,13 @@ records_of [] = []
 records_of (Record entry ∷ items) = entry ∷ records_of items
 records_of (Fault count ∷ items) = records_of items
 
--- the counts of faults that it tells
+-- the fault counts that it has
 abbrev pub faults_of : List LogItem → List ℕ
 faults_of [] = []
 faults_of (Record entry ∷ items) = faults_of items
 faults_of (Fault count ∷ items) = count ∷ faults_of items
 
--- each count is above the one before it, or stands at its last value; the first goes before them, and none is above the count now
+-- each count is above the one before it, or saturated; the first comes before them, and none is above the count now
 abbrev pub RiseTo : ℕ → List ℕ → ℕ → Type 0
 RiseTo first [] now = first ≤ now
 RiseTo first (count ∷ counts) now = (first ≤ count) × Rose first count × RiseTo count counts now
@@ -46,17 +46,17 @@ pub record StandsForLog {S : Type 0} {G : Ghosts S} (shard : Shard S G) (head : 
   pub under : IsUnder head.issuer shard
   pub table : HasTable head.issuer
   pub stands : StandsFor head.issuer shard (records_of items)
-  -- the records are a legal history, and those behind the opening ones are the issuer's own decisions
+  -- the records are a legal history, and those after the opening ones are the issuer's own decisions
   pub legal : IsLegalHistory (grounds_of head.issuer) head.shard (records_of items)
   pub opened : head.records ≤ length (records_of items)
   pub by_table : (place : ℕ) (entry : Entry) → head.records ≤ place → slice_get (records_of items) place ≡ Some entry
       → IsLegal (grounds_now head.issuer) head.shard (take place (records_of items)) entry
-  -- the log tells each answer that told that the store failed, up to a limit
+  -- the log has each answer that reported that the store failed, up to a limit
   pub told_is : told_in shard ≡ length (faults_of items)
   pub few : length (faults_of items) ≤ MAX_FAULTS_TOLD
   pub undoubted : IsUndoubted shard
   pub counts : RiseTo head.faults (faults_of items) (faults_in shard)
-  -- below the limit the store's count is the last one that is told, so that each such answer tells the count after it
+  -- below the limit the store's count is the last one in the log, so each such answer has the count after it
   pub last_is : length (faults_of items) < MAX_FAULTS_TOLD → faults_in shard ≡ last_count head.faults (faults_of items)
   -- whatever a crash since the log was opened may leave is an image of a history between the opening one and the log's
   pub since : BothTold (LeavesOnly (IsImageBetween head.issuer head.shard (opening_records head items) (records_of items))) head.opened (disk_in shard)

@@ -1,6 +1,5 @@
--- What a turn at a shard may answer, what it adds to the shard's log, and what the seat has seen then.
-use Rattle.std.specs.Prelude.{◌≡◌, ℕ, ◌%◌, ◌<◌, ◌≤◌, Bool, true, false, List, [], ◌∷◌, ◌++◌, length, slice_get, Option, None, Some}
-use Rattle.issuer_base.specs.declared.command.Command.{Command}
+-- What a turn at a shard may answer, what it appends to the shard's log, and what the seat has seen then.
+use Rattle.std.specs.Prelude.{◌≡◌, ℕ, ◌%◌, ◌<◌, ◌≤◌, ◌&&◌, nat_lt, Bool, true, false, List, [], ◌∷◌, ◌++◌, length, slice_get, Option, None, Some}
 use Rattle.issuer_base.specs.declared.request.Request.{Request}
 use Rattle.issuer_base.specs.declared.answer.Answer.{Answer}
 use Rattle.issuer_base.specs.declared.answer.Answer.TheVariants.{Fresh, Queued, Set, Refused}
@@ -9,18 +8,25 @@ use Rattle.issuer_base.specs.declared.entry.Entry.{Entry}
 use Rattle.issuer_base.specs.declared.entry.Entry.TheVariants.{Decided}
 use Rattle.issuer_base.specs.declared.limits.TheConstants.{MAX_FAULTS_TOLD}
 use Rattle.card_history.specs.LegalRecords.{IsLegal}
-use Rattle.card_history.specs.Records.{CardName, card_of}
+use Rattle.card_history.specs.Records.{card_of}
+use Rattle.line_checks.specs.declared.checked.CheckedOrder.{CheckedOrder}
+use Rattle.line_checks.specs.AtHand.{card_of_order, order_asked, record_of}
 use Rattle.issuer_setup.specs.declared.card.CardInfo.{CardInfo}
 use Rattle.issuer_setup.specs.CardList.{name_of}
 use Rattle.issuer_setup.specs.IssuerSetup.{Setup, shard_of}
 use Rattle.row_core.specs.Replying.{reply_to}
-use Rattle.shard_book.specs.Answering.{AnswersClaimed, AnswersQueueing, AnswersSetting}
+use Rattle.shard_book.specs.Answering.{is_store_fault, AnswersClaimed, AnswersOrder}
+use Rattle.shard_book.specs.Shards.{faults_in}
 use Rattle.shard_book.specs.Grounds.{grounds_now}
 use Rattle.card_history.specs.declared.card_view.CardView.{CardView}
 use Rattle.turn_book.specs.declared.view.Turn.TheVariants.{Free}
 use Rattle.turn_book.specs.declared.view.TurnView.{TurnView}
 use Rattle.turn_book.specs.Logs.{items_at, with_items, IsFront}
 use Rattle.turn_book.specs.TurnViews.{counted}
+use Rattle.issuer_base.specs.declared.outside.store.Store.{Ghosts}
+use Rattle.shared_shards.specs.declared.held.Call.{Call}
+use Rattle.shared_shards.specs.declared.held.Call.TheVariants.{Decide as CalledToDecide, Order as CalledToOrder}
+use Rattle.shared_shards.specs.declared.held.Called.{Called}
 use Rattle.shared_shards.specs.declared.logs.LogHead.{LogHead}
 use Rattle.shared_shards.specs.declared.logs.LogItem.{LogItem}
 use Rattle.shared_shards.specs.declared.logs.LogItem.TheVariants.{Record, Fault}
@@ -32,7 +38,7 @@ abbrev pub log_after : List LogItem → Option LogItem → List LogItem
 log_after items None = items
 log_after items (Some item) = items ++ item ∷ []
 
--- a seat's places, with that of the item that was added behind these items of the shard's log
+-- a seat's indices, with that of the item that was appended to these items of the shard's log
 abbrev pub mine_after : ℕ → List LogItem → Option LogItem → List (ℕ × ℕ) → List (ℕ × ℕ)
 mine_after shard items None mine = mine
 mine_after shard items (Some item) mine = (shard, length items) ∷ mine
@@ -45,17 +51,18 @@ turned shard between added view = record view {
   turn = Free;
 }
 
--- a record is added, which may come next by the issuer's own decision
+-- a record is appended, which is a valid successor by the issuer's own decision
 abbrev pub AddsRecord : Setup → ℕ → List LogItem → Option LogItem → Type 0
 AddsRecord issuer shard between added = (entry : Entry) × (added ≡ Some (Record entry)) × IsLegal (grounds_now issuer) shard (records_of between) entry
 
--- a fault is added, while the log tells fewer than the limit
+-- a fault is appended, while the log has fewer than the limit
 abbrev pub AddsFault : List LogItem → Option LogItem → Type 0
 AddsFault between None = MAX_FAULTS_TOLD ≤ length (faults_of between)
 AddsFault between (Some (Record entry)) = ⊥
 AddsFault between (Some (Fault count)) = length (faults_of between) < MAX_FAULTS_TOLD
 
--- an answer with a new record adds it, one that tells that the store failed adds that, and no other answer adds anything
+-- an answer with a new record appends it, one that reports that the store failed appends that, and no other appends
+-- anything
 abbrev pub IsAdded : Setup → ℕ → List LogItem → Answer → Option LogItem → Type 0
 IsAdded issuer shard between (Fresh at place reply) added = AddsRecord issuer shard between added
 IsAdded issuer shard between (Queued at place) added = AddsRecord issuer shard between added
@@ -63,8 +70,8 @@ IsAdded issuer shard between (Set at place) added = AddsRecord issuer shard betw
 IsAdded issuer shard between (Refused StoreFault) added = AddsFault between added
 IsAdded issuer shard between _ added = added ≡ None
 
--- a turn at the shard: when it came the log began with what the seat had seen; the answer changes the log's records as it says, and the seat
--- has then seen the whole log
+-- a turn at the shard: when it came, what the seat had seen was a prefix of the log; the answer changes the log's
+-- records as it says, and the seat has then seen the whole log
 pub record AnswersInTurn (issuer : Setup) (shard : ℕ) (Changes : List Entry → List Entry → Type 0) (before : TurnView LogItem LogHead) (answer : Answer)
     (after : TurnView LogItem LogHead) : Type 0 where
   pub between : List LogItem
@@ -80,17 +87,13 @@ DecidesInTurn issuer won request before answer after =
     AnswersInTurn issuer (shard_of issuer (card_of request))
     (λ old new. AnswersClaimed (shard_of issuer (card_of request)) (reply_to issuer) won old request answer new) before answer after
 
--- so is a command for this card
-abbrev pub QueuesInTurn : Setup → CardName → Command → TurnView LogItem LogHead → Answer → TurnView LogItem LogHead → Type 0
-QueuesInTurn issuer card command before answer after =
-    AnswersInTurn issuer (shard_of issuer card) (λ old new. AnswersQueueing (shard_of issuer card) old card command answer new) before answer after
+-- so is an order: a command to be queued, or a status to be set
+abbrev pub OrdersInTurn : Setup → CheckedOrder → TurnView LogItem LogHead → Answer → TurnView LogItem LogHead → Type 0
+OrdersInTurn issuer order before answer after =
+    AnswersInTurn issuer (shard_of issuer (card_of_order order))
+    (λ old new. AnswersOrder (shard_of issuer (card_of_order order)) old (order_asked order) answer new) before answer after
 
--- and a status
-abbrev pub SetsInTurn : Setup → CardName → ℕ → TurnView LogItem LogHead → Answer → TurnView LogItem LogHead → Type 0
-SetsInTurn issuer card status before answer after =
-    AnswersInTurn issuer (shard_of issuer card) (λ old new. AnswersSetting (shard_of issuer card) old card status answer new) before answer after
-
--- the card with this number is shown as its shard's log says, and nothing is added
+-- the card with this number is shown as its shard's log says, and nothing is appended
 pub record ShowsInTurn (issuer : Setup) (card : ℕ) (before : TurnView LogItem LogHead) (view : CardView) (after : TurnView LogItem LogHead) : Type 0 where
   pub between : List LogItem
   pub front : IsFront (items_at before.seen (card % issuer.shards)) between
@@ -110,7 +113,12 @@ recorded_by entry (Queued at place) = Some entry
 recorded_by entry (Set at place) = Some entry
 recorded_by entry _ = None
 
--- what a call adds: its record, or the count of faults where it is to be told
+-- the record that a call appends by its answer, where it appends one
+abbrev pub record_by : Call → Answer → Option Entry
+record_by (CalledToDecide found) answer = decided_by found.now.request answer
+record_by (CalledToOrder found) answer = recorded_by (record_of found.now) answer
+
+-- what a call appends: its record, or the store's fault count
 abbrev pub item_by : Option Entry → ℕ → LogItem
 item_by (Some entry) count = Record entry
 item_by None count = Fault count
@@ -119,6 +127,12 @@ abbrev pub added_by : Option Entry → Bool → ℕ → Option LogItem
 added_by (Some entry) fault count = Some (Record entry)
 added_by None true count = Some (Fault count)
 added_by None false count = None
+
+-- what a call appends to its shard's log: its record, or that the store failed, up to a limit
+abbrev pub added_in : {S : Type 0} {G : Ghosts S} → Called S G → Option LogItem
+added_in called =
+    added_by (record_by called.call called.answer.now) (is_store_fault called.answer.now && nat_lt called.told MAX_FAULTS_TOLD)
+    (faults_in called.shard)
 
 -- the view with one item more in the shard's log, where there is one
 abbrev pub counted_if : ℕ → Option LogItem → TurnView LogItem LogHead → TurnView LogItem LogHead

@@ -1,12 +1,13 @@
-//! A shard as the value of a shard's log, and what a call of a shard adds to the log.
+//! A shard as the value of a shard's log, and what a call of a shard appends to the log.
 ghost use Rattle.shard_book.specs.Shards.{faults_in};
 ghost use Rattle.shared_shards.specs.ShardLogs.{StandsForLog};
 ghost use Rattle.std.specs.Prelude.{◌≡◌};
 ghost use Rattle.std.specs.Option.{is_some};
-ghost use Rattle.shared_shards.specs.Turned.{item_by, added_by};
+ghost use Rattle.shared_shards.specs.Turned.{item_by, record_by, added_in};
 
 use crate::logs::{LogHead, LogItem};
-use issuer_base::{Entry, Store};
+use issuer_base::{Answer, MAX_FAULTS_TOLD, Refusal, Store};
+use line_checks::{CheckedOrder, CheckedRequest};
 use shard_book::Shard;
 use turn_book::{Item, Logged};
 
@@ -19,26 +20,40 @@ impl<S: Store> Logged<LogItem, LogHead> for HeldShard<S> {
     ghost stands = { λ held head items. StandsForLog held.shard head items };
 }
 
-/// A shard after a call.
-pub(crate) struct Called<S: Store> {
+/// What a shard is called with.
+#[derive(Drop)]
+pub(crate) enum Call<'a> {
+    /// A request, to be answered.
+    Decide(&'a CheckedRequest),
+
+    /// An order, to be recorded.
+    Order(&'a CheckedOrder),
+}
+
+/// A shard after a call. The item that the call appends to the shard's log is read off the call and its answer.
+pub(crate) struct Called<'a, S: Store> {
     pub(crate) shard: Shard<S>,
+    pub(crate) call: Call<'a>,
+    pub(crate) answer: &'a Answer,
 
-    /// The record that the call added.
-    pub(crate) entry: Option<Entry>,
-
-    /// Whether the log has to tell that the store failed.
-    pub(crate) fault: bool,
+    /// How many answers of the shard reported a fault of its store before.
+    pub(crate) told: u64,
 }
 
-impl<S: Store> Item<LogItem> for Called<S> {
-    ghost item = { λ called. item_by called.entry (faults_in called.shard) };
+impl<S: Store> Item<LogItem> for Called<'_, S> {
+    ghost item = { λ called. item_by (record_by called.call called.answer.now) (faults_in called.shard) };
 }
 
-impl<S: Store> Called<S> {
-    /// Whether the call added something to the log.
+impl<S: Store> Called<'_, S> {
+    /// Whether the call appends an item to the log: its record, or that the store failed, up to a limit.
     pub(crate) fn adds(&self) -> bool
-        ensures { result ≡ is_some (added_by self.now.entry self.now.fault (faults_in self.now.shard)) }
+        ensures { result ≡ is_some (added_in self.now) }
     {
-        self.entry.is_some() || self.fault
+        match self.answer {
+            Answer::Fresh { .. } => matches!(self.call, Call::Decide(_)),
+            Answer::Queued { .. } | Answer::Set { .. } => matches!(self.call, Call::Order(_)),
+            Answer::Refused(Refusal::StoreFault) => self.told < MAX_FAULTS_TOLD,
+            Answer::Kept { .. } | Answer::Refused(_) => false,
+        }
     }
 }

@@ -1,5 +1,5 @@
-//! The shards of a host, at which callers take turns: each record that a call adds stands in the shard's log, and so does each
-//! answer that told that the store failed.
+//! The shards of a host, at which callers take turns. The shard's log has each record that a call appends, and each
+//! answer that reported that the store failed.
 #![tactic(auto)]
 
 mod held;

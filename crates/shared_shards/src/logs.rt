@@ -1,4 +1,4 @@
-//! What stands in a shard's log. These types exist in proofs alone: no value of them is made.
+//! What a shard's log has. These types exist in proofs alone: the program has no value of them.
 
 use issuer_base::Entry;
 use issuer_setup::Issuer;
@@ -7,27 +7,27 @@ use std::marker::Model;
 
 /// An item of a shard's log.
 pub enum LogItem {
-    /// A record was added.
+    /// A record was appended.
     Record(Entry),
 
-    /// An answer told that the store failed, and then this was the store's count of faults.
+    /// An answer reported that the store failed; this was the store's fault count then.
     Fault(u64),
 }
 
-/// What stands at the head of a shard's log.
+/// The head of a shard's log.
 pub struct LogHead {
     pub issuer: Issuer,
 
     /// The shard's number.
     pub shard: u8,
 
-    /// The store's count of faults after loading.
+    /// The store's fault count after loading.
     pub faults: u64,
 
     /// How many records the shard had then.
     pub records: u64,
 
-    /// What the store told of its disk then.
+    /// The store's disk then, if the store exposes it.
     pub opened: Option<SeenDisk>,
 }
 
@@ -52,7 +52,7 @@ impl Model for SeenDisk {
 struct SeenMoment {
     bytes: LinkedList<u8>,
 
-    /// How many of them, from the front, were safe.
+    /// The length of its durable prefix.
     safe: u64,
 }
 

@@ -59,7 +59,7 @@ impl<J: MayOpen> PerchPlay<Logs> for Shows<J> {
     ghost then = { λ _ _ _ _ after. J.may_open after };
 }
 
-/// A mark that shows logs with which shards may open, where there are any. It takes memory for a moment.
+/// A mark that shows logs with which shards may open, where there are any. It allocates for a moment.
 fn shown<J: MayOpen, S: Store>(
     alloc: Global,
     issuer: &Issuer,

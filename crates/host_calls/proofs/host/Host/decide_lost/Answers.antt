@@ -14,6 +14,9 @@ invariant_of-pass g c =
     let headed = headed-there host.issuer host.turns pass.turns host.shards c.requires.free.of.turns_are (card_of found.request) in
     record { tied = tied-lost host.issuer (claims_of pass) (logs_of pass) c.decide.result _ pass.tied found.request headed c.decide.ensures.turn }
 
-pub returns-clause-seen : goal.returns-clause-seen
-returns-clause-seen g c =
-    seen-answers c.args.self.now.issuer c.args.found.now.request (logs_of c.args.pass.now) c.decide.result _ false c.decide.ensures.turn
+pub returns-clause-turn : goal.returns-clause-turn
+returns-clause-turn g c = record {
+  turn = c.decide.ensures.turn;
+  won = tt;
+  seen = seen-answers c.args.self.now.issuer c.args.found.now.request (logs_of c.args.pass.now) c.decide.result _ false c.decide.ensures.turn;
+}

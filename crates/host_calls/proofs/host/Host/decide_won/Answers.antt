@@ -27,14 +27,14 @@ returns-clause-free g c = record {
       c.requires.held.alone;
 }
 
-pub returns-clause-won : goal.returns-clause-won
-returns-clause-won g c =
+pub returns-clause-turn : goal.returns-clause-turn
+returns-clause-turn g c =
     let host = c.args.self.now in
     let pass = c.args.pass.now in
     let request = c.args.found.now.request in
     let headed = headed-there host.issuer host.turns pass.turns host.shards c.requires.held.of.turns_are (card_of request) in
-    won-decides host.issuer request (logs_of pass) c.decide-answer.result _ headed c.decide-answer.ensures.turn
-
-pub returns-clause-seen : goal.returns-clause-seen
-returns-clause-seen g c =
-    seen-answers c.args.self.now.issuer c.args.found.now.request (logs_of c.args.pass.now) c.decide-answer.result _ true c.decide-answer.ensures.turn
+    record {
+      turn = c.decide-answer.ensures.turn;
+      won = won-decides host.issuer request (logs_of pass) c.decide-answer.result _ headed c.decide-answer.ensures.turn;
+      seen = seen-answers host.issuer request (logs_of pass) c.decide-answer.result _ true c.decide-answer.ensures.turn;
+    }

@@ -12,10 +12,10 @@ returns-in-Err-clause-stopped g c =
 
 pub invariant_of-host : goal.invariant_of-host
 invariant_of-host g c = record {
-  cards = c.in-Ok-share.ensures.cards.0;
-  shards = c.in-Ok-share.ensures.turns.0;
-  counted = opened-counted g.S.Store.bytes g.S.Store.disk g.S.Store.faults c.keep_all.new.self c.of-before.result.value.items _ c.in-Ok-share.ensures.opening;
-  recorded = c.in-Ok-share.ensures.recorded;
+  cards = c.in-Ok-share.ensures.shared.cards_are;
+  shards = c.in-Ok-share.ensures.shared.turns_are;
+  counted = opened-counted g.S.Store.bytes g.S.Store.disk g.S.Store.faults c.keep_all.new.self c.of-before.result.value.items _ c.in-Ok-share.ensures.shared.opening;
+  recorded = c.in-Ok-share.ensures.shared.recorded;
 }
 
 pub returns-in_default-clause-stopped : goal.returns-in_default-clause-stopped

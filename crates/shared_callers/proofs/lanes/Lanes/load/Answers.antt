@@ -13,7 +13,8 @@ returns-in_default-clause-stopped g c = inl (none-loaded g.S.Store c.args.issuer
 pub seat_all-lanes-requires-clause-first : goal.seat_all-lanes-requires-clause-first
 seat_all-lanes-requires-clause-first g c =
     let made = c.in-Ok-load.made in
-    seated-none made.0 made.1 c.in-Ok-load.ensures.pass.0 c.in-Ok-load.ensures.claims c.in-Ok-load.ensures.logs
+    let first = c.in-Ok-load.ensures.pass in
+    seated-none made.0 made.1 first.free first.claims_are first.logs_are
 
 pub invariant_of-dealer-clause-each_room : goal.invariant_of-dealer-clause-each_room
 invariant_of-dealer-clause-each_room g c =
@@ -53,13 +54,20 @@ invariant_of-result-clause-most g c =
     let same : c.len.result ≡ c.len-2.result = search rules in
     subst (λ n. n * (BLOCK_LINES / c.len-2.result) ≤ BLOCK_LINES) (sym same) (room-most BLOCK_LINES c.len-2.result)
 
-pub returns-clause-served : goal.returns-clause-served
-returns-clause-served g c =
+pub returns-clause-loaded : goal.returns-clause-loaded
+returns-clause-loaded g c =
     let host = c.in-Ok-load.made.0 in
     let lanes = c.seat_all-lanes.result.items in
     record {
-      taken = [];
-      answers_are = refl;
-      turns = new-in-turns host.issuer (opening_in host.turns) lanes _ c.seat_all-lanes.ensures.new refl refl refl refl;
-      served = new-all-served host.issuer (opening_in host.turns) lanes c.seat_all-lanes.ensures.new;
+      issuer_is = c.in-Ok-load.ensures.issuer;
+      callers_are = search rules;
+      opening = c.in-Ok-load.ensures.opening;
+      served = record {
+        taken = [];
+        answers_are = refl;
+        turns = new-in-turns host.issuer (opening_in host.turns) lanes _ c.seat_all-lanes.ensures.new refl refl refl refl;
+        served = new-all-served host.issuer (opening_in host.turns) lanes c.seat_all-lanes.ensures.new;
+      };
+      none_wait = refl;
+      none_due = refl;
     }
