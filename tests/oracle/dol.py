@@ -19,16 +19,24 @@ class Bad(Exception):
         self.at = at
 
 
+class BadDol(Bad):
+    pass
+
+
+class BadData(Bad):
+    pass
+
+
 def read_dol(data):
     """The entries: tag in hexadecimal, and how many bytes."""
     entries, total, at = [], 0, 0
     while at < len(data):
         length = tag_length(data, at)
         if length is None or at + length >= len(data):
-            raise Bad(at)
+            raise BadDol(at)
         total += data[at + length]
         if len(entries) == MOST_ENTRIES or total > MOST_BYTES:
-            raise Bad(at)
+            raise BadDol(at)
         entries.append((data[at : at + length].hex(), data[at + length]))
         at += length + 1
     return entries
@@ -40,10 +48,10 @@ def read_data(data):
     try:
         for tag, value, at in placed_objects(data):
             if len(values) == MOST_OBJECTS or len(value) > MOST_VALUE_BYTES or tag in values:
-                raise Bad(at)
+                raise BadData(at)
             values[tag] = value
     except Refused as torn:
-        raise Bad(int(str(torn).split()[1])) from None
+        raise BadData(int(str(torn).split()[1])) from None
     return values
 
 
@@ -73,7 +81,7 @@ def filled_entry(tag, size, value):
 
 
 def fill_dol(dol, data):
-    """The filled list of these two texts. Raises `Bad` for the list first, then for the data."""
+    """The filled list of these two texts. Raises `BadDol` first, then `BadData`."""
     entries = read_dol(dol)
     values = read_data(data)
     return b"".join(filled_entry(tag, size, values.get(tag)) for tag, size in entries)

@@ -2,6 +2,7 @@
 import re
 
 from configuration import LIMIT, Fault, read_configuration
+from dol import BadData, BadDol, fill_dol
 from host import Host
 from journals import BadLine, Journals
 from world import play
@@ -13,6 +14,7 @@ COMMANDS = {
     "serve": ({"--config", "--requests", "--journal"}, {"--callers"}),
     "show": ({"--config", "--journal"}, set()),
     "world": ({"--cards", "--steps", "--seed"}, set()),
+    "fill": ({"--dol", "--data"}, set()),
 }
 
 
@@ -30,6 +32,21 @@ def number(options, name, least, most, default=None):
     if not re.fullmatch("0|[1-9][0-9]*", text) or not least <= int(text) <= most:
         raise Stop(1)
     return int(text)
+
+
+def spelled(options, name):
+    if not re.fullmatch("([0-9A-Fa-f]{2}){1,1024}", options[name]):
+        raise Stop(1)
+    return bytes.fromhex(options[name])
+
+
+def filled_line(dol, data):
+    try:
+        return f"{fill_dol(dol, data).hex()}\n"
+    except BadDol as fault:
+        raise Stop(9, fault.at) from fault
+    except BadData as fault:
+        raise Stop(10, fault.at) from fault
 
 
 def read_words(words):
@@ -91,6 +108,9 @@ def run_command(words, out):
         cards = number(options, "--cards", 1, 4096)
         steps = number(options, "--steps", 0, min(200_000, 65_535 * cards))
         out.write(play(cards, steps, number(options, "--seed", 0, 2**32 - 1)).encode())
+        return
+    if command == "fill":
+        out.write(filled_line(spelled(options, "--dol"), spelled(options, "--data")).encode())
         return
     number(options, "--callers", 1, 16, "1")
     journals = Journals()

@@ -11,10 +11,10 @@ use Rattle.issuer_base.specs.declared.answer.Answer.TheVariants.{Fresh, Kept, Qu
 use Rattle.issuer_base.specs.declared.answer.Refusal.{Refusal}
 use Rattle.issuer_base.specs.declared.answer.Refusal.TheVariants.{BadLine, BadTlv, Missing, BadField, Repeated, UnknownCard, NotArqc, UnknownKey}
 use Rattle.issuer_base.specs.declared.answer.Refusal.TheVariants.{BadCryptogram, Below, Taken, Pending, QueueFull, BadCommand, StoreFault}
-use Rattle.answer_text.specs.AnswerText.{newline, line_of, IsLine, yes_or_no, refusal_words, answer_words, printed}
+use Rattle.answer_text.specs.AnswerText.{newline, line_of, IsLine, yes_or_no, refusal_words, answer_words, printed, bytes_text}
 use Rattle.answer_text.specs.StopText.{stop_words, stop_text}
 use Rattle.answer_text.specs.declared.stop_line.Stop.{Stop}
-use Rattle.answer_text.specs.declared.stop_line.Stop.TheVariants.{Usage, Config, ReadFault, BadJournal, NoMemory, TooLong}
+use Rattle.answer_text.specs.declared.stop_line.Stop.TheVariants.{Usage, Config, ReadFault, BadJournal, NoMemory, TooLong, BadDol, BadData}
 use Rattle.answer_text.specs.declared.stop_line.Stop.TheVariants.{StoreFault as JournalFault}
 
 -- a byte is no newline
@@ -112,8 +112,14 @@ stop_words-inner (JournalFault shard) = simp decimal-inner
 stop_words-inner (BadJournal shard line) = simp decimal-inner
 stop_words-inner NoMemory = simp decimal-inner
 stop_words-inner (TooLong line) = simp decimal-inner
+stop_words-inner (BadDol at) = simp decimal-inner
+stop_words-inner (BadData at) = simp decimal-inner
 
 -- the text of a stop is one line
 pub stop_text-IsLine : (stop : Stop) → IsLine (stop_text stop)
 unfolding stop_text
 stop_text-IsLine stop = line_of-IsLine (codes "stop" ∷ stop_words stop) (stop_words-inner stop)
+
+-- the text of bytes is one line
+pub bytes_text-IsLine : (bytes : List ℕ) → IsLine (bytes_text bytes)
+bytes_text-IsLine bytes = line_of-IsLine (encode_lower bytes ∷ []) (simp encode_lower-inner)

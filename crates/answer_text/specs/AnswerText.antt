@@ -23,6 +23,10 @@ line_of words = join_with_byte 32 words ++ newline ∷ []
 abbrev pub IsLine : List ℕ → Type 0
 IsLine text = (front : List ℕ) × (text ≡ front ++ newline ∷ []) × All (λ byte. byte ≢ newline) front
 
+-- the line of bytes in hexadecimal digits
+abbrev pub bytes_text : List ℕ → List ℕ
+bytes_text bytes = line_of (encode_lower bytes ∷ [])
+
 -- whether the issuer approves, as a word
 abbrev pub yes_or_no : Bool → List ℕ
 yes_or_no approve = if approve then codes "yes" else codes "no"

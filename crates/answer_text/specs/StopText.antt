@@ -3,7 +3,7 @@ use Rattle.std.specs.Prelude.{ℕ, List, [], ◌∷◌, codes}
 use Rattle.std.specs.Fmt.{decimal}
 use Rattle.answer_text.specs.AnswerText.{line_of}
 use Rattle.answer_text.specs.declared.stop_line.Stop.{Stop}
-use Rattle.answer_text.specs.declared.stop_line.Stop.TheVariants.{Usage, Config, ReadFault, StoreFault, BadJournal, NoMemory, TooLong}
+use Rattle.answer_text.specs.declared.stop_line.Stop.TheVariants.{Usage, Config, ReadFault, StoreFault, BadJournal, NoMemory, TooLong, BadDol, BadData}
 
 -- the exit status of a run that stops with this error
 abbrev pub status_of_stop : Stop → ℕ
@@ -14,9 +14,11 @@ status_of_stop (StoreFault shard) = 5
 status_of_stop (BadJournal shard line) = 6
 status_of_stop NoMemory = 7
 status_of_stop (TooLong line) = 8
+status_of_stop (BadDol at) = 9
+status_of_stop (BadData at) = 10
 
--- the details of a stop: the part and index in the configuration, the shard, the line in its journal, or the line of
--- the input
+-- the details of a stop: the part and index in the configuration, the shard, the line in its journal, the line of the
+-- input, or the offset in the DOL or in the data
 abbrev pub place_words : Stop → List (List ℕ)
 place_words Usage = []
 place_words (Config part index) = decimal part ∷ decimal index ∷ []
@@ -25,6 +27,8 @@ place_words (StoreFault shard) = decimal shard ∷ []
 place_words (BadJournal shard line) = decimal shard ∷ decimal line ∷ []
 place_words NoMemory = []
 place_words (TooLong line) = decimal line ∷ []
+place_words (BadDol at) = decimal at ∷ []
+place_words (BadData at) = decimal at ∷ []
 
 -- a stop: the status of the run, and its details
 unfoldable pub stop_words : Stop → List (List ℕ)

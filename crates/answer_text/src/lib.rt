@@ -2,9 +2,11 @@
 #![tactic(auto)]
 
 mod answer_line;
+mod bytes_line;
 mod stop_line;
 mod words;
 
 pub use answer_line::write_answer;
+pub use bytes_line::write_bytes;
 pub use stop_line::{Stop, write_stop};
 pub use words::{LINE_ROOM, put, put_number};

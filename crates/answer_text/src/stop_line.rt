@@ -30,6 +30,12 @@ pub enum Stop {
     /// The input is longer than the host reads, and this line, counted from 1, has the first byte past
     /// the limit: status 8.
     TooLong { line: u64 },
+
+    /// The entry at this offset of the DOL isn't whole or is past a limit: status 9.
+    BadDol { at: usize },
+
+    /// The data object at this offset isn't whole, repeats a tag or is past a limit: status 10.
+    BadData { at: usize },
 }
 
 impl Stop {
@@ -45,6 +51,8 @@ impl Stop {
             Stop::BadJournal { .. } => 6,
             Stop::NoMemory => 7,
             Stop::TooLong { .. } => 8,
+            Stop::BadDol { .. } => 9,
+            Stop::BadData { .. } => 10,
         }
     }
 }
@@ -70,6 +78,7 @@ pub fn write_stop(stop: &Stop, out: &mut ArrayVec<u8, LINE_ROOM>)
             put_number(out, line);
         }
         Stop::TooLong { line } => put_number(out, line),
+        Stop::BadDol { at } | Stop::BadData { at } => put_number(out, at as u64),
     }
     out.push(b'\n');
 }

@@ -41,6 +41,15 @@ pub(crate) fn put_hex(out: &mut ArrayVec<u8, LINE_ROOM>, bytes: &[u8])
     ensures room { array_vec_len out.new ≡ array_vec_len out.old + (2 * length bytes.now + 1) }
 {
     out.push(b' ');
+    put_digits(out, bytes);
+}
+
+/// Appends the bytes in hexadecimal digits.
+pub(crate) fn put_digits(out: &mut ArrayVec<u8, LINE_ROOM>, bytes: &[u8])
+    requires { array_vec_len out.old + 2 * length bytes.now ≤ LINE_ROOM }
+    ensures text { out.new.items ≡ out.old.items ++ encode_lower bytes.now }
+    ensures room { array_vec_len out.new ≡ array_vec_len out.old + 2 * length bytes.now }
+{
     for byte in bytes {
         put_byte(out, *byte);
     }

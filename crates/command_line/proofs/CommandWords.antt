@@ -3,7 +3,7 @@ use Rattle.std.proofs.Common.{◌≡◌, ℕ, ◌+◌, ◌-◌, ◌*◌, ◌<◌
 use Rattle.std.proofs.Common.{drop, get_or, Option}
 use Rattle.std.proofs.Common.{refl, sym, ap, ◌∙◌, subst, arith, add-one, inl, inr, ⊎_elim}
 use Rattle.std.proofs.Common.{drop-cons}
-use Rattle.std.specs.Prelude.{◌&&◌, ◌||◌, ◌==◌, ◌%◌, ◌/◌, not, if◌then◌else◌, map, slice_get, Some, None, IsTrue}
+use Rattle.std.specs.Prelude.{◌&&◌, ◌||◌, ◌==◌, ◌%◌, ◌/◌, not, if◌then◌else◌, map, slice_get, Some, None, Ok, IsTrue}
 use Rattle.std.specs.Prelude.{MatchOption, codes}
 use Rattle.std.specs.Prelude.{◌^◌}
 use Rattle.std.specs.Fmt.{decimal}
@@ -15,11 +15,14 @@ use Rattle.std.proofs.lemmas.Slice.Eq.{bytes_eq-Decides}
 use Rattle.std.proofs.lemmas.Option.{slice_get_within, get_or_from_slice_get}
 use Rattle.std.proofs.lemmas.List.{drop_all}
 use Rattle.std.proofs.lemmas.List.Elements.{All-from_recursion, recursion_from_All}
+use Rattle.hex.specs.Hex.{decode_of}
+use Rattle.hex.proofs.HexLemmas.{decode_of-ok}
 use Rattle.command_line.specs.declared.words.Command.{Command}
-use Rattle.command_line.specs.declared.words.Command.TheVariants.{Serve, Show, World}
+use Rattle.command_line.specs.declared.words.Command.TheVariants.{Serve, Show, World, Fill}
 use Rattle.command_line.specs.Command.{IsValue, Pair, words_of, values_of, is_one_of, IsCall, IsSize, serve_options}
-use Rattle.command_line.specs.Command.{callers_option, show_options, world_options}
-use Rattle.command_line.specs.Command.{RequestFile, IsGroup, IsServe, IsShow, IsWorld, IsCommand, IsNoCommand}
+use Rattle.command_line.specs.Command.{callers_option, show_options, world_options, fill_options, SpellsBytes}
+use Rattle.command_line.specs.Command.{RequestFile, IsGroup, IsServe, IsShow, IsWorld, IsFill, IsCommand}
+use Rattle.command_line.specs.Command.{IsNoCommand}
 use Rattle.command_line.specs.Pairs.{is_value, first_word, pairs_of, is_pair, are_pairs, only, values_in, value_in}
 use Rattle.command_line.specs.Pairs.{AreWordsWith, AreWordsOf, GivesCallers, Asks, is_within}
 
@@ -483,6 +486,41 @@ world-gives words cards steps seed world =
       within = true-size cards steps world.size;
     }
 
+-- a word that spells bytes has two digits for each
+pub spelled-size : (word bytes : List ℕ) → SpellsBytes word bytes → length word ≡ 2 * length bytes
+spelled-size word bytes spells = (decode_of-ok word bytes spells.spelled).2
+
+pub fill-from : (words : List (List ℕ)) (dol_word data_word dol given : List ℕ) → AreWordsOf Fill words
+    → value_in words (codes "--dol") ≡ Some dol_word → value_in words (codes "--data") ≡ Some data_word
+    → SpellsBytes dol_word dol → SpellsBytes data_word given → IsFill words dol given
+fill-from words dol_word data_word dol given are a b dol_is data_is = record {
+  dol_word = dol_word;
+  data_word = data_word;
+  call = call-from (codes "fill") fill_options words (dol_word ∷ data_word ∷ []) are
+      (two-values words (codes "--dol") (codes "--data") dol_word data_word a b);
+  dol_is = dol_is;
+  data_is = data_is;
+}
+
+pub record FillGives (words : List (List ℕ)) (dol_word data_word : List ℕ) : Type 0 where
+  pub dol_is : value_in words (codes "--dol") ≡ Some dol_word
+  pub data_is : value_in words (codes "--data") ≡ Some data_word
+
+pub fill-gives : (words : List (List ℕ)) (dol given : List ℕ) (fill : IsFill words dol given)
+    → FillGives words fill.dol_word fill.data_word
+fill-gives words dol given fill =
+    let parts = parted (codes "fill") fill_options words (fill.dol_word ∷ fill.data_word ∷ []) fill.call in
+    let pairs = pairs_of (drop 1 words) in
+    let lists : values_of (codes "--dol") pairs ∷ values_of (codes "--data") pairs ∷ []
+    ≡ (fill.dol_word ∷ []) ∷ (fill.data_word ∷ []) ∷ [] = parts.once in
+    let l : values_of (codes "--dol") pairs ≡ fill.dol_word ∷ [] = cc in
+    let d : values_of (codes "--data") pairs ≡ fill.data_word ∷ [] = cc in
+    record { dol_is = ap only l; data_is = ap only d }
+
+-- what is given is one word
+pub one-word : (value : Option (List ℕ)) (word other : List ℕ) → Some word ≡ value → value ≡ Some other → word ≡ other
+one-word value word other is others = let both : Some word ≡ Some other = is ∙ others in cc
+
 -- what is said in one way and in another is one number
 pub one-number : (value : Option (List ℕ)) (word : List ℕ) (number said : ℕ) → Some word ≡ value → word ≡ decimal number
     → number < 2 ^ 32
@@ -524,6 +562,8 @@ asks-words words Serve asks = (serve-gives words asks.0 asks.1 asks.2 asks.3).ar
 asks-words words Show asks = (parted (codes "show") show_options words (asks.0 ∷ asks.1 ∷ []) asks.2).are
 asks-words words World asks =
     (parted (codes "world") world_options words (decimal asks.0 ∷ decimal asks.1 ∷ decimal asks.2 ∷ []) asks.3.call).are
+asks-words words Fill asks =
+    (parted (codes "fill") fill_options words (asks.2.dol_word ∷ asks.2.data_word ∷ []) asks.2.call).are
 
 -- no two commands begin alike
 same-command : (command other : Command) → first_word command ≡ first_word other → command ≡ other
@@ -538,6 +578,15 @@ same-command World Serve same =
     let first : ◌≡◌ {A = ℕ} 119 115 = ap (λ (word : List ℕ). get_or word 0 0) same in absurd (omega (arith, first))
 same-command World Show same = let long : 5 ≡ 4 = ap length same in absurd (omega (arith, long))
 same-command World World same = refl
+same-command Fill Fill same = refl
+same-command Serve Fill same = let long : 5 ≡ 4 = ap length same in absurd (omega (arith, long))
+same-command Fill Serve same = let long : 4 ≡ 5 = ap length same in absurd (omega (arith, long))
+same-command World Fill same = let long : 5 ≡ 4 = ap length same in absurd (omega (arith, long))
+same-command Fill World same = let long : 4 ≡ 5 = ap length same in absurd (omega (arith, long))
+same-command Show Fill same =
+    let first : ◌≡◌ {A = ℕ} 115 102 = ap (λ (word : List ℕ). get_or word 0 0) same in absurd (omega (arith, first))
+same-command Fill Show same =
+    let first : ◌≡◌ {A = ℕ} 102 115 = ap (λ (word : List ℕ). get_or word 0 0) same in absurd (omega (arith, first))
 
 -- words are those of one command
 one-command : (words : List (List ℕ)) (command other : Command) → AreWordsOf command words → AreWordsOf other words
@@ -554,6 +603,7 @@ none-asked words none = record {
     | Some name ↦ λ serve. none Serve (config, name, journal, serve)
   ];
   no_world = λ cards steps seed world. none World (cards, steps, seed, world);
+  no_fill = λ dol given fill. none Fill (dol, given, fill);
 }
 
 pub no-words : (words : List (List ℕ)) → ((command : Command) → AreWordsOf command words → ⊥) → IsNoCommand words
@@ -587,3 +637,44 @@ command-no_world words config (Some requests) journal cards steps seed serve wor
     let same : Serve ≡ World = one-command words Serve World (asks-words words Serve (config, requests, journal, serve))
     (asks-words words World (cards, steps, seed, world)) in
     absurd (cc)
+
+pub fill-no_command : (words : List (List ℕ)) (dol given config : List ℕ) (requests : Option RequestFile)
+    (journal : List ℕ)
+    → IsFill words dol given → IsCommand words config requests journal → ⊥
+fill-no_command words dol given config None journal fill show =
+    let same : Fill ≡ Show = one-command words Fill Show (asks-words words Fill (dol, given, fill))
+    (asks-words words Show (config, journal, show)) in
+    absurd (cc)
+fill-no_command words dol given config (Some requests) journal fill serve =
+    let same : Fill ≡ Serve = one-command words Fill Serve (asks-words words Fill (dol, given, fill))
+    (asks-words words Serve (config, requests, journal, serve)) in
+    absurd (cc)
+
+pub fill-no_world : (words : List (List ℕ)) (dol given : List ℕ) (cards steps seed : ℕ) → IsFill words dol given
+    → IsWorld words cards steps seed → ⊥
+fill-no_world words dol given cards steps seed fill world =
+    let same : Fill ≡ World = one-command words Fill World (asks-words words Fill (dol, given, fill))
+    (asks-words words World (cards, steps, seed, world)) in
+    absurd (cc)
+
+-- words fill one DOL from one data
+pub record AreSameTexts (dol other_dol given other_given : List ℕ) : Type 0 where
+  pub dol_is : dol ≡ other_dol
+  pub given_is : given ≡ other_given
+
+one-spelled : (word other bytes others : List ℕ) → word ≡ other → SpellsBytes word bytes → SpellsBytes other others
+    → bytes ≡ others
+one-spelled word other bytes others same spells spells_others =
+    let both : Ok bytes ≡ Ok others = sym spells.spelled ∙ ap decode_of same ∙ spells_others.spelled in cc
+
+pub one-fill : (words : List (List ℕ)) (dol given other_dol other_given : List ℕ) → IsFill words dol given
+    → IsFill words other_dol other_given → AreSameTexts dol other_dol given other_given
+one-fill words dol given other_dol other_given fill other =
+    let one = fill-gives words dol given fill in
+    let two = fill-gives words other_dol other_given other in
+    let dols : fill.dol_word ≡ other.dol_word = one-word _ _ _ (sym one.dol_is) two.dol_is in
+    let datas : fill.data_word ≡ other.data_word = one-word _ _ _ (sym one.data_is) two.data_is in
+    record {
+      dol_is = one-spelled _ _ _ _ dols fill.dol_is other.dol_is;
+      given_is = one-spelled _ _ _ _ datas fill.data_is other.data_is;
+    }

@@ -1,9 +1,10 @@
--- The words of the three commands that the program knows.
+-- The words of the four commands that the program knows.
 use Rattle.std.specs.Prelude.{◌≡◌, ◌≢◌, ◌⊎◌, ℕ, ◌*◌, ◌^◌, ◌<◌, ◌≤◌, Bool, false, ◌||◌, if◌then◌else◌}
-use Rattle.std.specs.Prelude.{List, [], ◌∷◌, map, Option, None, Some, codes, IsTrue, All}
+use Rattle.std.specs.Prelude.{List, [], ◌∷◌, length, map, Option, None, Some, Ok, codes, IsTrue, All}
 use Rattle.std.specs.Fmt.{decimal}
 use Rattle.std.specs.Str.{bytes_eq}
-use Rattle.issuer_base.specs.declared.limits.TheConstants.{MAX_CALLERS}
+use Rattle.hex.specs.Hex.{decode_of}
+use Rattle.issuer_base.specs.declared.limits.TheConstants.{MAX_CALLERS, MAX_CHIP_BYTES}
 
 -- a value is a word that isn't empty and doesn't begin with a hyphen
 abbrev pub IsValue : List ℕ → Type 0
@@ -40,8 +41,8 @@ pub record IsCall (command : List ℕ) (options words values : List (List ℕ)) 
   pub known : All (λ pair. IsTrue (is_one_of options pair.option)) pairs
   pub named : All (λ pair. IsValue pair.value) pairs
 
--- the options that the command to serve needs and the one that it may have besides, those of the command to show, and
--- of the one to play a world
+-- the options that the command to serve needs and the one that it may have besides, those of the command to show, of
+-- the one to play a world, and of the one to fill a DOL
 abbrev pub serve_options : List (List ℕ)
 serve_options = codes "--config" ∷ codes "--requests" ∷ codes "--journal" ∷ []
 
@@ -53,6 +54,9 @@ show_options = codes "--config" ∷ codes "--journal" ∷ []
 
 abbrev pub world_options : List (List ℕ)
 world_options = codes "--cards" ∷ codes "--steps" ∷ codes "--seed" ∷ []
+
+abbrev pub fill_options : List (List ℕ)
+fill_options = codes "--dol" ∷ codes "--data" ∷ []
 
 -- a request file, by its name and by how many callers answer its lines
 pub record RequestFile : Type 0 where
@@ -92,13 +96,28 @@ pub record IsWorld (words : List (List ℕ)) (cards steps seed : ℕ) : Type 0 w
   pub size : IsSize cards steps
   pub seed_within : seed < 2 ^ 32
 
+-- a word spells bytes, each by two hexadecimal digits of either case: one byte or more, up to the most of chip data
+pub record SpellsBytes (word bytes : List ℕ) : Type 0 where
+  pub spelled : decode_of word ≡ Ok bytes
+  pub some : 1 ≤ length bytes
+  pub few : length bytes ≤ MAX_CHIP_BYTES
+
+-- the words are the command to fill a DOL from data, whose bytes they spell
+pub record IsFill (words : List (List ℕ)) (dol given : List ℕ) : Type 0 where
+  pub dol_word : List ℕ
+  pub data_word : List ℕ
+  pub call : IsCall (codes "fill") fill_options words (dol_word ∷ data_word ∷ [])
+  pub dol_is : SpellsBytes dol_word dol
+  pub data_is : SpellsBytes data_word given
+
 -- the words are a command over journals, with these names, and it is to serve where there is a request file
 abbrev pub IsCommand : List (List ℕ) → List ℕ → Option RequestFile → List ℕ → Type 0
 IsCommand words config (Some requests) journal = IsServe words config requests journal
 IsCommand words config None journal = IsShow words config journal
 
--- the words are none of the three
+-- the words are none of the four
 pub record IsNoCommand (words : List (List ℕ)) : Type 0 where
   pub no_host : (config : List ℕ) (requests : Option RequestFile) (journal : List ℕ)
       → IsCommand words config requests journal → ⊥
   pub no_world : (cards steps seed : ℕ) → IsWorld words cards steps seed → ⊥
+  pub no_fill : (dol given : List ℕ) → IsFill words dol given → ⊥

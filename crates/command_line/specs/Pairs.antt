@@ -4,13 +4,13 @@ use Rattle.std.specs.Prelude.{List, [], ◌∷◌, length, drop, slice_get, Opti
 use Rattle.std.specs.Fmt.{decimal}
 use Rattle.std.specs.Option.{option_map}
 use Rattle.command_line.specs.declared.words.Command.{Command}
-use Rattle.command_line.specs.declared.words.Command.TheVariants.{Serve, Show, World}
+use Rattle.command_line.specs.declared.words.Command.TheVariants.{Serve, Show, World, Fill}
 use Rattle.command_line.specs.declared.words.Requests.{Requests}
 use Rattle.command_line.specs.declared.words.Task.{Task}
-use Rattle.command_line.specs.declared.words.Task.TheVariants.{Host, Play}
+use Rattle.command_line.specs.declared.words.Task.TheVariants.{Host, Play, Fill as FillTask}
 use Rattle.command_line.specs.Command.{Pair, values_of, is_one_of, serve_options, callers_option, show_options}
-use Rattle.command_line.specs.Command.{world_options}
-use Rattle.command_line.specs.Command.{RequestFile, IsGroup, IsServe, IsShow, IsWorld, IsCommand}
+use Rattle.command_line.specs.Command.{world_options, fill_options}
+use Rattle.command_line.specs.Command.{RequestFile, IsGroup, IsServe, IsShow, IsWorld, IsFill, IsCommand}
 
 -- whether a word is a value
 abbrev pub is_value : List ℕ → Bool
@@ -22,11 +22,13 @@ abbrev pub first_word : Command → List ℕ
 first_word Serve = codes "serve"
 first_word Show = codes "show"
 first_word World = codes "world"
+first_word Fill = codes "fill"
 
 abbrev pub options_of : Command → List (List ℕ)
 options_of Serve = callers_option ∷ serve_options
 options_of Show = show_options
 options_of World = world_options
+options_of Fill = fill_options
 
 -- the pairs of words, two by two
 abbrev pub pairs_of : List (List ℕ) → List Pair
@@ -78,6 +80,7 @@ Asks Serve words =
     (config : List ℕ) × (requests : RequestFile) × (journal : List ℕ) × IsServe words config requests journal
 Asks Show words = (config journal : List ℕ) × IsShow words config journal
 Asks World words = (cards steps seed : ℕ) × IsWorld words cards steps seed
+Asks Fill words = (dol given : List ℕ) × IsFill words dol given
 
 -- the request file that the code names
 abbrev pub request_file : Requests → RequestFile
@@ -87,6 +90,7 @@ request_file requests = record { name = requests.file.now; callers = requests.ca
 abbrev pub IsTask : List (List ℕ) → Task → Type 0
 IsTask words (Host names) = IsCommand words names.config.now (option_map request_file names.requests) names.journal.now
 IsTask words (Play size) = IsWorld words size.cards size.steps size.seed
+IsTask words (FillTask texts) = IsFill words texts.dol.items texts.data.items
 
 -- whether a world may have so many cards and steps
 abbrev pub is_within : ℕ → ℕ → Bool

@@ -3,4 +3,4 @@
 
 mod words;
 
-pub use words::{Names, Requests, Task, WorldSize, read_words};
+pub use words::{DolTexts, Names, Requests, Task, WorldSize, read_words};

@@ -1,16 +1,17 @@
 //! The words of a run.
-ghost use Rattle.std.specs.Prelude.{◌≡◌, ◌≢◌, ◌+◌, ◌*◌, ◌%◌, ◌<◌, ◌^◌, ℕ, length, drop, slice_get, IfNone, IfSome};
+ghost use Rattle.std.specs.Prelude.{◌≡◌, ◌≢◌, ◌+◌, ◌*◌, ◌%◌, ◌<◌, ◌^◌, ℕ, List, length, drop, slice_get, IfNone, IfSome};
 ghost use Rattle.std.specs.Prelude.{MatchOption};
 ghost use Rattle.std.specs.Fmt.{decimal};
 ghost use Rattle.std.specs.Option.{option_map};
-ghost use Rattle.command_line.specs.Command.{is_one_of, IsGroup, IsNoCommand};
+ghost use Rattle.command_line.specs.Command.{is_one_of, IsGroup, IsNoCommand, SpellsBytes};
 ghost use Rattle.command_line.specs.Pairs.{is_value, first_word, options_of, is_pair, are_pairs, pairs_of, values_in};
 ghost use Rattle.command_line.specs.Pairs.{value_in, is_within, AreWordsOf, GivesCallers, Asks, IsTask};
 ghost use Rattle.command_line.specs.declared.words.Command.{Command};
-ghost use Rattle.command_line.specs.declared.words.Command.TheVariants.{Serve, Show, World};
-ghost use Rattle.command_line.specs.declared.words.Task.TheVariants.{Host, Play};
+ghost use Rattle.command_line.specs.declared.words.Command.TheVariants.{Serve, Show, World, Fill};
+ghost use Rattle.command_line.specs.declared.words.Task.TheVariants.{Host, Play, Fill as FillTask};
 
-use issuer_base::{MAX_CALLERS, Words};
+use arrayvec::ArrayVec;
+use issuer_base::{MAX_CALLERS, MAX_CHIP_BYTES, Words};
 use itoa::Buffer;
 
 /// How many cards a world may have.
@@ -31,15 +32,19 @@ pub(crate) enum Command {
     Show,
     /// It plays a world.
     World,
+    /// It fills a DOL.
+    Fill,
 }
 
 /// What the program does.
-#[derive(Clone, Copy)]
+#[derive(Drop)]
 pub enum Task<'a> {
     /// It answers request lines or shows cards, over the journals of a configuration.
     Host(Names<'a>),
     /// It plays a world of its own.
     Play(WorldSize),
+    /// It fills a DOL from data objects.
+    Fill(DolTexts),
 }
 
 /// The names in the words of a command over journals.
@@ -73,6 +78,15 @@ pub struct WorldSize {
     pub seed: u32,
 }
 
+/// What the words of the command to fill a DOL spell.
+#[derive(Drop)]
+pub struct DolTexts {
+    /// The DOL.
+    pub dol: ArrayVec<u8, MAX_CHIP_BYTES>,
+    /// The data objects that it is filled from.
+    pub data: ArrayVec<u8, MAX_CHIP_BYTES>,
+}
+
 /// What the words ask for, and `None` where they are no command.
 pub fn read_words(words: &Words) -> Option<Task<'_>>
     ensures task { IfSome result (IsTask words.now) }
@@ -82,6 +96,7 @@ pub fn read_words(words: &Words) -> Option<Task<'_>>
         Command::Serve => Some(Task::Host(serve_names(words)?)),
         Command::Show => Some(Task::Host(show_names(words)?)),
         Command::World => Some(Task::Play(world_size(words)?)),
+        Command::Fill => Some(Task::Fill(dol_texts(words)?)),
     }
 }
 
@@ -174,6 +189,36 @@ fn world_size(words: &Words) -> Option<WorldSize>
     }
 }
 
+/// The DOL and the data in the words of the command to fill one.
+fn dol_texts(words: &Words) -> Option<DolTexts>
+    requires { AreWordsOf Fill words.now }
+    ensures texts { IfSome result (λ texts. IsTask words.now (FillTask texts)) }
+    ensures none { IfNone result (Asks Fill words.now → ⊥) }
+{
+    let dol = bytes_of(value_of(words, "--dol")?)?;
+    let data = bytes_of(value_of(words, "--data")?)?;
+    Some(DolTexts { dol, data })
+}
+
+/// The bytes that a word spells in hexadecimal digits; `None` where it spells none, or more than 1,024.
+fn bytes_of(word: &str) -> Option<ArrayVec<u8, MAX_CHIP_BYTES>>
+    ensures { MatchOption result ((bytes : List ℕ) → SpellsBytes word.now bytes → ⊥)
+        (λ bytes. SpellsBytes word.now bytes.items) }
+{
+    let count = word.len() / 2;
+    if count == 0 {
+        return None;
+    }
+    if count > MAX_CHIP_BYTES {
+        return None;
+    }
+    let mut bytes = [0; MAX_CHIP_BYTES];
+    match hex::decode_to_slice(word.as_bytes(), &mut bytes[..count]) {
+        Ok(()) => Some(ArrayVec::try_from(&bytes[..count]).unwrap()),
+        Err(_) => None,
+    }
+}
+
 /// Whether a world may have so many cards and steps.
 fn is_within(cards: u32, steps: u32) -> bool
     ensures { result ≡ is_within cards steps }
@@ -209,6 +254,8 @@ fn command_of(word: &str) -> Option<Command>
         Some(Command::Show)
     } else if word == "world" {
         Some(Command::World)
+    } else if word == "fill" {
+        Some(Command::Fill)
     } else {
         None
     }
@@ -245,6 +292,7 @@ fn is_option(word: &str, command: Command) -> bool
         }
         Command::Show => word == "--config" || word == "--journal",
         Command::World => word == "--cards" || word == "--steps" || word == "--seed",
+        Command::Fill => word == "--dol" || word == "--data",
     }
 }
 

@@ -3,7 +3,7 @@ use Rattle.std.specs.Prelude.{◌≡◌, ℕ, ◌+◌, ◌≤◌, Bool, true, fa
 use Rattle.std.specs.Io.KnownBytes.{Consumes, IsAtEnd}
 use Rattle.answer_text.specs.declared.stop_line.Stop.{Stop}
 use Rattle.answer_text.specs.declared.stop_line.Stop.TheVariants.{Usage, Config, ReadFault, StoreFault, BadJournal}
-use Rattle.answer_text.specs.declared.stop_line.Stop.TheVariants.{NoMemory as Memory, TooLong}
+use Rattle.answer_text.specs.declared.stop_line.Stop.TheVariants.{NoMemory as Memory, TooLong, BadDol, BadData}
 use Rattle.issuer_setup.specs.IssuerSetup.{Setup}
 use Rattle.issuer_setup.specs.KeyList.{AreKeys}
 use Rattle.shard_book.specs.Grounds.{HasTable}
@@ -63,6 +63,8 @@ GivesNoIssuer left Usage = ⊥
 GivesNoIssuer left (StoreFault shard) = ⊥
 GivesNoIssuer left (BadJournal shard line) = ⊥
 GivesNoIssuer left (TooLong line) = ⊥
+GivesNoIssuer left (BadDol at) = ⊥
+GivesNoIssuer left (BadData at) = ⊥
 
 -- the run stops since the input failed
 abbrev pub is_read_cause : Stop → Bool
@@ -73,6 +75,8 @@ is_read_cause Usage = false
 is_read_cause (StoreFault shard) = false
 is_read_cause (BadJournal shard line) = false
 is_read_cause (TooLong line) = false
+is_read_cause (BadDol at) = false
+is_read_cause (BadData at) = false
 
 -- the input failed
 abbrev pub is_read_stop : {T : Type 0} → Result T Stop → Bool

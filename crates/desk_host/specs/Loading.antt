@@ -9,7 +9,7 @@ use Rattle.issuer_base.specs.declared.outside.Desk.{Ghosts as Desk}
 use Rattle.issuer_base.specs.declared.outside.DeskCall.TheVariants.{Log}
 use Rattle.answer_text.specs.declared.stop_line.Stop.{Stop}
 use Rattle.answer_text.specs.declared.stop_line.Stop.TheVariants.{Usage, Config, ReadFault, StoreFault, BadJournal}
-use Rattle.answer_text.specs.declared.stop_line.Stop.TheVariants.{NoMemory, TooLong}
+use Rattle.answer_text.specs.declared.stop_line.Stop.TheVariants.{NoMemory, TooLong, BadDol, BadData}
 use Rattle.card_history.specs.LegalRecords.{IsLegalHistory}
 use Rattle.issuer_setup.specs.IssuerSetup.{Setup}
 use Rattle.journal_rec.specs.Record.{IsRecord}
@@ -103,6 +103,8 @@ GivesNoHost issuer prefix logs desk stores Usage = ⊥
 GivesNoHost issuer prefix logs desk stores (Config part index) = ⊥
 GivesNoHost issuer prefix logs desk stores ReadFault = ⊥
 GivesNoHost issuer prefix logs desk stores (TooLong line) = ⊥
+GivesNoHost issuer prefix logs desk stores (BadDol at) = ⊥
+GivesNoHost issuer prefix logs desk stores (BadData at) = ⊥
 
 -- there is no host, for this cause, and all whole lines of the journals that were opened stay
 pub record ComesToNoHost (issuer : Setup) (prefix : List ℕ) (logs : Logged) (desk : DeskFaults)

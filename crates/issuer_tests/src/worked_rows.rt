@@ -652,6 +652,54 @@ fn worlds() -> &'static [Run] {
     &WORLDS
 }
 
+/// DOLs that are filled.
+static DOLS: [Run; 6] = [
+    Run {
+        name: "every rule in one DOL",
+        words: "fill --dol 9F02049F37069F1A035A0A9F3302 --data 9F02060000000123459F37041A2B3C4D9F1A0202765A084000000000000002",
+        answers: &["000123451a2b3c4d00000002764000000000000002ffff0000\n"],
+        ..SERVED
+    },
+    Run {
+        name: "a value that is truncated",
+        words: "fill --dol 9F3702 --data 9F37041A2B3C4D",
+        answers: &["1a2b\n"],
+        ..SERVED
+    },
+    Run {
+        name: "a torn DOL",
+        words: "fill --dol 95029F --data 9C0100",
+        answers: &["stop 9 2\n"],
+        status: 9,
+        ..SERVED
+    },
+    Run {
+        name: "data that repeat a tag",
+        words: "fill --dol 9502 --data 9C01009C0100",
+        answers: &["stop 10 3\n"],
+        status: 10,
+        ..SERVED
+    },
+    Run {
+        name: "a torn DOL and data that repeat a tag",
+        words: "fill --data 9C01009C0100 --dol 95029F",
+        answers: &["stop 9 2\n"],
+        status: 9,
+        ..SERVED
+    },
+    Run {
+        name: "half a byte of data",
+        words: "fill --dol 9502 --data 9C010",
+        answers: &["stop 1\n"],
+        status: 1,
+        ..SERVED
+    },
+];
+
+fn dols() -> &'static [Run] {
+    &DOLS
+}
+
 /// Whether a run has the expected outcome. The journals are those that the run before left, unless it begins with its
 /// own.
 fn comes_to_the_expected<R: AllocGlobal + Threads + Wait + Sync>(
@@ -688,6 +736,7 @@ fn comes_to_the_worked_rows(rt: HostRuntime) -> Result<(), Fail> {
         journals_found(),
         settings(),
         worlds(),
+        dols(),
     ] {
         for run in runs {
             let is_right = comes_to_the_expected(&rt, run, &mut journals)?;

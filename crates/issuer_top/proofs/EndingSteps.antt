@@ -18,7 +18,7 @@ use Rattle.line_reader.specs.declared.limits.TheConstants.{MAX_LINES}
 use Rattle.answer_text.specs.StopText.{stop_text}
 use Rattle.answer_text.specs.declared.stop_line.Stop.{Stop}
 use Rattle.answer_text.specs.declared.stop_line.Stop.TheVariants.{Usage, Config, ReadFault, StoreFault, BadJournal}
-use Rattle.answer_text.specs.declared.stop_line.Stop.TheVariants.{NoMemory, TooLong}
+use Rattle.answer_text.specs.declared.stop_line.Stop.TheVariants.{NoMemory, TooLong, BadDol, BadData}
 use Rattle.issuer_setup.specs.IssuerSetup.{Setup}
 use Rattle.one_caller.specs.Books.{Book}
 use Rattle.issuer_top.specs.declared.ending.Ending.{Ending}
@@ -42,7 +42,7 @@ use Rattle.issuer_top.specs.Stopping.{is_broken, GivesStop, EndsServing, written
 use Rattle.issuer_top.specs.Played.{IsWorldText, GivesText, PlaysBy}
 use Rattle.issuer_top.specs.Endings.{OpenedNoInput, OpenedConfigOnly, OpenedBothInputs, IsSetUp, AnswersLines}
 use Rattle.issuer_top.specs.Endings.{AnswersNoLine, IsPlayed, HasNoHost}
-use Rattle.issuer_top.specs.Endings.{Stops, EndsBy}
+use Rattle.issuer_top.specs.Endings.{Stops, IsDone, IsDue, EndsBy}
 
 -- an input that a desk gave is one that stands there
 pub gives_input : (told : Option (Option (List ℕ))) (left : Option (List ℕ)) → Tells told left
@@ -206,6 +206,9 @@ module _ (seen : Seen) (config : List ℕ) (requests : Option RequestFile) (jour
       absurd none
   ends_no_issuer T first input left (TooLong line) opened input_is no_stores given none fresh count stopping =
       absurd none
+  ends_no_issuer T first input left (BadDol at) opened input_is no_stores given none fresh count stopping = absurd none
+  ends_no_issuer T first input left (BadData at) opened input_is no_stores given none fresh count stopping =
+      absurd none
 
 -- the words and the configuration are as they should be
 pub IsSetUp-from_said : (seen : Seen) (config : List ℕ) (requests : Option RequestFile) (journal : List ℕ)
@@ -286,6 +289,8 @@ module _ (seen : Seen) (requests : Option RequestFile) (journal : List ℕ) (iss
   ends_no_host (Config part index) with_config no_requests cause left stopping = absurd cause
   ends_no_host ReadFault with_config no_requests cause left stopping = absurd cause
   ends_no_host (TooLong line) with_config no_requests cause left stopping = absurd cause
+  ends_no_host (BadDol at) with_config no_requests cause left stopping = absurd cause
+  ends_no_host (BadData at) with_config no_requests cause left stopping = absurd cause
 
 -- the journals gave no host, by what the desk told and counted before
 pub ends_unloaded : (seen : Seen) (requests : Option RequestFile) (journal : List ℕ) (issuer : Setup) (ending : Ending)
@@ -505,6 +510,22 @@ ends_showing seen journal issuer books (Err fault) opened set_up kept lawful wri
   front = written;
 }
 
+-- ---- a run that writes one text
+
+-- the text was written, or a prefix of it
+pub ends_by_text : (seen : Seen) (ending : Ending) (text : List ℕ) → IsDone seen text → IsDue seen text
+    → GivesText seen.sink.held_before seen.sink.held_after seen.sink.faults_before seen.sink.faults_after text ending
+    → EndsBy seen ending
+ends_by_text seen ending text done due gives =
+    ⊎_elim
+    (λ whole. subst (EndsBy seen) (sym whole.0) (text, done, whole.1))
+    (λ prefix.
+    let failed : CountsFaults seen.sink.faults_before seen.sink.faults_after true =
+    subst (λ e. CountsFaults seen.sink.faults_before seen.sink.faults_after (is_broken e)) prefix.0 gives.count in
+    subst (EndsBy seen) (sym prefix.0)
+    (record { rose = failed.counted; text = text; due = due; front = prefix.1 }))
+    gives.written
+
 -- ---- the ways that playing ends
 
 module _ (seen : Seen) (cards steps seed : ℕ) (world : IsWorld seen.words cards steps seed)
@@ -524,14 +545,7 @@ module _ (seen : Seen) (cards steps seed : ℕ) (world : IsWorld seen.words card
         no_stores = no_stores;
         played = is;
       } in
-      ⊎_elim
-      (λ whole. subst (EndsBy seen) (sym whole.0) (text, inr (inr played), whole.1))
-      (λ front.
-      let failed : CountsFaults seen.sink.faults_before seen.sink.faults_after true =
-      subst (λ e. CountsFaults seen.sink.faults_before seen.sink.faults_after (is_broken e)) front.0 gives.count in
-      subst (EndsBy seen) (sym front.0)
-      (record { rose = failed.counted; text = text; due = inr (inr (inr played)); front = front.1 }))
-      gives.written
+      ends_by_text seen ending text (inr (inr (inl played))) (inr (inr (inr (inl played)))) gives
 
   pub ends_playing : (ending : Ending)
       → PlaysBy cards steps seed seen.sink.held_before seen.sink.held_after seen.sink.faults_before

@@ -17,7 +17,7 @@ use Rattle.config_read.specs.declared.fault.ConfigFault.{ConfigFault}
 use Rattle.config_read.specs.Configuration.{configured}
 use Rattle.answer_text.specs.declared.stop_line.Stop.{Stop}
 use Rattle.answer_text.specs.declared.stop_line.Stop.TheVariants.{Usage, Config, ReadFault, StoreFault, BadJournal}
-use Rattle.answer_text.specs.declared.stop_line.Stop.TheVariants.{NoMemory, TooLong}
+use Rattle.answer_text.specs.declared.stop_line.Stop.TheVariants.{NoMemory, TooLong, BadDol, BadData}
 use Rattle.shard_book.specs.declared.replay.LoadFault.{LoadFault}
 use Rattle.shard_book.specs.declared.replay.LoadFault.TheVariants.{BadLine, BadRecord}
 use Rattle.shard_book.specs.Loading.{StopsAt, StopsText, IsOutside}
@@ -34,6 +34,7 @@ use Rattle.issuer_top.specs.Status.{status_of}
 use Rattle.issuer_top.specs.Endings.{EndsBy, IsReadFault, HasNoHost, IsInOrder, ServesInOrder, ShowsInOrder}
 use Rattle.issuer_top.specs.Endings.{PlaysInOrder, Completes}
 use Rattle.command_line.proofs.CommandWords.{serve-gives, show-gives, serve-no_show, command-no_world}
+use Rattle.command_line.proofs.CommandWords.{fill-no_command, fill-no_world}
 
 -- ---- what is said once
 
@@ -214,6 +215,10 @@ module _ (seen : Seen) (config journal : List ℕ) (requests : Option RequestFil
   in-order status (Stopped (BadJournal shard line)) is ends short = absurd (not-bad_journal shard line ends.0 ends.1)
   in-order status (Stopped NoMemory) is ends short = inr is
   in-order status (Stopped (TooLong line)) is ends short = absurd (short line refl)
+  in-order status (Stopped (BadDol at)) is ends short =
+      let f = ends.1 in absurd (fill-no_command seen.words f.dol f.given config requests journal f.fill command)
+  in-order status (Stopped (BadData at)) is ends short =
+      let f = ends.1 in absurd (fill-no_command seen.words f.dol f.given config requests journal f.fill command)
   in-order status WriteFault is ends short = absurd (order.sink_stood ends.rose)
 
 -- ---- the three commands
@@ -279,6 +284,12 @@ module _ (seen : Seen) (order : PlaysInOrder seen) where
   plays-in_order status (Stopped NoMemory) is ends = inr is
   plays-in_order status (Stopped (TooLong line)) is ends =
       let l = ends.1.lines in absurd (no_host l.set_up.config (Some l.requests) l.journal l.set_up.command)
+  plays-in_order status (Stopped (BadDol at)) is ends =
+      let f = ends.1 in
+      absurd (fill-no_world seen.words f.dol f.given order.cards order.steps order.seed f.fill order.world)
+  plays-in_order status (Stopped (BadData at)) is ends =
+      let f = ends.1 in
+      absurd (fill-no_world seen.words f.dol f.given order.cards order.steps order.seed f.fill order.world)
   plays-in_order status WriteFault is ends = absurd (order.sink_stood ends.rose)
 
 pub completes : (seen : Seen) (status : ℕ) (ending : Ending) → status ≡ status_of ending → EndsBy seen ending

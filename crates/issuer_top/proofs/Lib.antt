@@ -2,3 +2,4 @@
 pub mod EndingSteps
 pub mod Statuses
 pub mod InOrder
+mod FillingSteps

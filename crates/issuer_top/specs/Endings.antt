@@ -14,15 +14,15 @@ use Rattle.line_reader.specs.Reading.{IsWithinLimits}
 use Rattle.issuer_setup.specs.IssuerSetup.{Setup}
 use Rattle.config_read.specs.declared.fault.ConfigFault.{ConfigFault}
 use Rattle.config_read.specs.Configuration.{configured}
-use Rattle.answer_text.specs.AnswerText.{printed}
+use Rattle.answer_text.specs.AnswerText.{printed, bytes_text}
 use Rattle.answer_text.specs.StopText.{stop_text}
 use Rattle.answer_text.specs.declared.stop_line.Stop.{Stop}
 use Rattle.answer_text.specs.declared.stop_line.Stop.TheVariants.{Usage, Config, ReadFault, StoreFault, BadJournal}
-use Rattle.answer_text.specs.declared.stop_line.Stop.TheVariants.{NoMemory, TooLong}
+use Rattle.answer_text.specs.declared.stop_line.Stop.TheVariants.{NoMemory, TooLong, BadDol, BadData}
 use Rattle.shard_book.specs.Grounds.{grounds_of}
 use Rattle.shard_book.specs.Shards.{IsTextOf}
 use Rattle.one_caller.specs.Books.{Book}
-use Rattle.command_line.specs.Command.{RequestFile, IsServe, IsShow, IsWorld, IsCommand, IsNoCommand}
+use Rattle.command_line.specs.Command.{RequestFile, IsServe, IsShow, IsWorld, IsFill, IsCommand, IsNoCommand}
 use Rattle.line_serving.specs.Answers.{AreAnsweredBy, AnswersNone}
 use Rattle.desk_host.specs.SeenStores.{SeenStore}
 use Rattle.issuer_top.specs.Seen.{Seen, SeenInput}
@@ -36,6 +36,7 @@ use Rattle.desk_host.specs.Left.{LeaveJournals}
 use Rattle.desk_host.specs.Shown.{shown_text}
 use Rattle.issuer_top.specs.Status.{status_of}
 use Rattle.issuer_top.specs.Played.{IsWorldText}
+use Rattle.issuer_top.specs.Filling.{filling}
 use Rattle.issuer_top.specs.declared.ending.Ending.{Ending}
 use Rattle.issuer_top.specs.declared.ending.Ending.TheVariants.{Done, Stopped, WriteFault}
 
@@ -136,9 +137,20 @@ pub record IsPlayed (seen : Seen) (text : List ℕ) : Type 0 where
   pub no_stores : seen.stores ≡ []
   pub played : IsWorldText cards steps seed text
 
--- status 0: all lines of the request file were answered, all cards were shown, or a world was played
+-- a DOL was filled, and this is the line of its bytes; nothing was opened
+pub record IsFilled (seen : Seen) (text : List ℕ) : Type 0 where
+  pub dol : List ℕ
+  pub given : List ℕ
+  pub bytes : List ℕ
+  pub fill : IsFill seen.words dol given
+  pub opened : OpenedNoInput seen
+  pub no_stores : seen.stores ≡ []
+  pub filled_is : filling dol given ≡ Ok bytes
+  pub text_is : text ≡ bytes_text bytes
+
+-- status 0: all lines of the request file were answered, all cards were shown, a world was played, or a DOL was filled
 abbrev pub IsDone : Seen → List ℕ → Type 0
-IsDone seen text = IsServed seen text ⊎ (IsShown seen text ⊎ IsPlayed seen text)
+IsDone seen text = IsServed seen text ⊎ (IsShown seen text ⊎ (IsPlayed seen text ⊎ IsFilled seen text))
 
 -- ---- the other statuses
 
@@ -261,6 +273,16 @@ pub record IsTooLong (number : ℕ) (seen : Seen) (text : List ℕ) : Type 0 whe
   pub which : AreLinesBefore number lines.read lines.asked
   pub last : text ≡ answers ++ stop_text (TooLong number)
 
+-- statuses 9 and 10: the DOL or the data are broken, and the first error is reported; nothing was opened
+pub record CannotFill (stop : Stop) (seen : Seen) (text : List ℕ) : Type 0 where
+  pub dol : List ℕ
+  pub given : List ℕ
+  pub fill : IsFill seen.words dol given
+  pub opened : OpenedNoInput seen
+  pub no_stores : seen.stores ≡ []
+  pub cause : filling dol given ≡ Err stop
+  pub last : text ≡ stop_text stop
+
 -- a run that stops so has this cause, and this text was due
 abbrev pub Stops : Stop → Seen → List ℕ → Type 0
 Stops Usage seen text = IsUsage seen text
@@ -270,6 +292,8 @@ Stops (StoreFault shard) seen text = HasNoHost (StoreFault shard) seen text
 Stops (BadJournal shard line) seen text = HasNoHost (BadJournal shard line) seen text
 Stops NoMemory seen text = IsNoMemory seen text
 Stops (TooLong number) seen text = IsTooLong number seen text
+Stops (BadDol at) seen text = CannotFill (BadDol at) seen text
+Stops (BadData at) seen text = CannotFill (BadData at) seen text
 
 -- the sink took all of a text of this kind, and nothing else
 abbrev pub Writes : (Seen → List ℕ → Type 0) → Seen → Type 0
@@ -281,10 +305,11 @@ pub record IsBegun (seen : Seen) (text : List ℕ) : Type 0 where
   pub which : AreFirstLines lines.file lines.read lines.asked
 
 -- status 4: the texts of which the sink may have taken a prefix alone: that of a run that stops, the answers so far,
--- the cards, or what a world came to
+-- the cards, what a world came to, or a filled DOL
 abbrev pub IsDue : Seen → List ℕ → Type 0
 IsDue seen text =
-    ((stop : Stop) × Stops stop seen text) ⊎ (IsBegun seen text ⊎ (IsShown seen text ⊎ IsPlayed seen text))
+    ((stop : Stop) × Stops stop seen text)
+    ⊎ (IsBegun seen text ⊎ (IsShown seen text ⊎ (IsPlayed seen text ⊎ IsFilled seen text)))
 
 -- status 4: the sink failed, and took a prefix of a text that was due, but not all of it
 pub record IsWriteFault (seen : Seen) : Type 0 where

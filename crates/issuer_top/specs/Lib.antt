@@ -5,3 +5,4 @@ pub mod Status
 pub mod Endings
 pub mod Stopping
 pub mod Played
+pub mod Filling

@@ -9,7 +9,7 @@ use issuer_base::WriteFault;
 /// How a run ends.
 #[derive(Clone, Copy)]
 pub(crate) enum Ending {
-    /// All lines were answered, all cards were shown, or a world was played.
+    /// All lines were answered, all cards were shown, a world was played, or a DOL was filled.
     Done,
     /// The run stopped early, and wrote its last line.
     Stopped(Stop),

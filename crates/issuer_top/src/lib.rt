@@ -2,6 +2,7 @@
 #![tactic(auto)]
 
 mod ending;
+mod filling;
 mod play;
 mod stopping;
 mod top_call;

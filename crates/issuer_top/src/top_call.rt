@@ -13,8 +13,10 @@ ghost use Rattle.issuer_top.specs.Seen.{sink_seen};
 ghost use Rattle.command_line.specs.Command.{IsCommand, IsGroup};
 ghost use Rattle.command_line.specs.Pairs.{request_file};
 ghost use Rattle.issuer_top.specs.Endings.{IsSetUp, EndsBy, Ends, Completes};
+ghost use Rattle.issuer_top.specs.Filling.{Fills};
 
 use crate::ending::{Ending, end_writing, status_of};
+use crate::filling::fill_dol;
 use crate::play::play_world;
 use crate::stopping::stop_with;
 use answer_text::Stop;
@@ -30,10 +32,10 @@ use std::thread::Threads;
 
 /// What a run gives back: its status, the desk, and all that was opened.
 pub struct Ended<D: Desk> {
-    /// 0: all lines were answered, all cards shown, or a world played; 1: the words are no command; 2: the
+    /// 0: all lines were answered, all cards shown, a world played, or a DOL filled; 1: the words are no command; 2: the
     /// configuration is none; 3: an input failed; 4: the sink failed; 5: a journal can't be opened, or its store failed
     /// while it was loaded; 6: a line of a journal is bad; 7: no memory was left; 8: the request file goes past a
-    /// limit.
+    /// limit; 9: the DOL is broken; 10: the data are.
     pub status: u8,
     /// The desk that was given.
     pub desk: D,
@@ -46,7 +48,8 @@ pub struct Ended<D: Desk> {
 }
 
 /// Does all that the program does: reads the words and the configuration, loads the journals, and answers each line of
-/// the request file, by one caller or by several at once, or shows all cards; or plays a world of its own.
+/// the request file, by one caller or by several at once, or shows all cards; or plays a world of its own, or fills a
+/// DOL.
 ///
 /// The gate is told of each request line by its number, from 1: before it is answered and once it is. It may wait for
 /// the gate.
@@ -65,6 +68,10 @@ where
     // Where words, configuration, journals and request file are in order and no count rose, all is done, or memory was
     // wanting.
     ensures completes { Completes result.status
+        (seen_by D.Desk D.Input.Source D.Journal.Store W.Sink words.now desk result out.old out.new) }
+
+    // A DOL is filled, or its first error has its status, the DOL's before the data's; or the sink failed.
+    ensures fills { Fills result.status
         (seen_by D.Desk D.Input.Source D.Journal.Store W.Sink words.now desk result out.old out.new) }
 {
     let Outcome {
@@ -112,6 +119,7 @@ where
     match read_words(words) {
         Some(Task::Host(names)) => run_host(rt, names, desk, out, gate),
         Some(Task::Play(size)) => nothing_opened(alloc, play_world(alloc, size, out)),
+        Some(Task::Fill(texts)) => nothing_opened(alloc, fill_dol(&texts, out)),
         None => nothing_opened(alloc, stop_with(Stop::Usage, out)),
     }
 }
