@@ -6,19 +6,13 @@ ghost use Rattle.des_block.specs.Keyed.{HasKeyPair};
 ghost use Rattle.arpc_methods.specs.Arpc.{method1, method2, value91};
 
 use arrayvec::ArrayVec;
-use des_block::{Key16, Tdes};
+use des_block::Tdes;
 use issuer_base::Method;
 use retail_mac::mac_under;
 
 /// The ARPC by method 1: triple DES, under the session key for cryptograms, of the application cryptogram with the
 /// response code xored into its first two bytes. EMV 4.3 Book 2, section 8.2.1.
-pub fn method1(sk: &Key16, ac: &[u8; 8], arc: [u8; 2]) -> [u8; 8]
-    ensures { result ≡ method1 sk.now.0 ac.now arc }
-{
-    method1_under(&Tdes::new(sk), ac, arc)
-}
-
-fn method1_under(cipher: &Tdes, ac: &[u8; 8], arc: [u8; 2]) -> [u8; 8]
+pub fn method1(cipher: &Tdes, ac: &[u8; 8], arc: [u8; 2]) -> [u8; 8]
     ensures { (key : List ℕ) → HasKeyPair cipher.now key → result ≡ method1 key ac.now arc }
 {
     let mut block = *ac;
@@ -29,13 +23,7 @@ fn method1_under(cipher: &Tdes, ac: &[u8; 8], arc: [u8; 2]) -> [u8; 8]
 
 /// The ARPC by method 2: the first four bytes of the MAC, under the session key for cryptograms, of the application
 /// cryptogram and the card status update. EMV 4.3 Book 2, section 8.2.2, without proprietary authentication data.
-pub fn method2(sk: &Key16, ac: &[u8; 8], csu: [u8; 4]) -> [u8; 4]
-    ensures { result ≡ method2 sk.now.0 ac.now csu }
-{
-    method2_under(&Tdes::new(sk), ac, csu)
-}
-
-fn method2_under(cipher: &Tdes, ac: &[u8; 8], csu: [u8; 4]) -> [u8; 4]
+pub fn method2(cipher: &Tdes, ac: &[u8; 8], csu: [u8; 4]) -> [u8; 4]
     ensures { (key : List ℕ) → HasKeyPair cipher.now key → result ≡ method2 key ac.now csu }
 {
     let [a, b, c, d, ..] = mac_under(cipher, &text_of(ac, csu));
@@ -52,21 +40,8 @@ fn text_of(ac: &[u8; 8], csu: [u8; 4]) -> [u8; 12]
 }
 
 /// The issuer authentication data, the value of tag 91: the ARPC and, by method 1, the response code or, by method 2,
-/// the card status update.
+/// the card status update. `cipher` is the session key for cryptograms with its key schedule.
 pub fn value91(
-    method: Method,
-    sk: &Key16,
-    ac: &[u8; 8],
-    arc: [u8; 2],
-    csu: [u8; 4],
-) -> ArrayVec<u8, 16>
-    ensures { result.items ≡ value91 method sk.now.0 ac.now arc csu }
-{
-    value91_under(method, &Tdes::new(sk), ac, arc, csu)
-}
-
-/// As `value91`, under a session key for cryptograms whose key schedule is given.
-pub fn value91_under(
     method: Method,
     cipher: &Tdes,
     ac: &[u8; 8],
@@ -76,8 +51,8 @@ pub fn value91_under(
     ensures { (key : List ℕ) → HasKeyPair cipher.now key → result.items ≡ value91 method key ac.now arc csu }
 {
     match method {
-        Method::One => joined(&method1_under(cipher, ac, arc), &arc),
-        Method::Two => joined(&method2_under(cipher, ac, csu), &csu),
+        Method::One => joined(&method1(cipher, ac, arc), &arc),
+        Method::Two => joined(&method2(cipher, ac, csu), &csu),
     }
 }
 

@@ -13,9 +13,9 @@ ghost use Rattle.card_model.specs.CardSteps.{CardStep, Tap, Authenticate, Run, n
 use crate::terminal::Terminal;
 use arpc_methods::value91;
 use cryptogram_in::expected;
-use des_block::Key16;
+use des_block::{Key16, Tdes};
 use issuer_base::{Command, Method, NoMemory, Pan, Parts, Request};
-use key_derive::{CardKeys, session_ac, session_sm};
+use key_derive::{CardKeys, SessionKey, session_ac, session_sm};
 use secure_msg::unseal;
 use std::alloc::Global;
 use std::marker::Model;
@@ -192,7 +192,8 @@ impl Card {
         let key = self.keys.ac;
         let mut parts = self.next_fields(terminal);
         let unsigned = Request::new(parts.copy()).unwrap();
-        parts.ac = expected(&key, &unsigned);
+        let session = SessionKey::for_cryptograms(&key, unsigned.parts().atc);
+        parts.ac = expected(&session, &unsigned);
         Request::new(parts).unwrap()
     }
 
@@ -252,7 +253,7 @@ fn is_answer(method: Method, session: &Key16, ac: &[u8; 8], value: &[u8], arc: [
     let [_, _, _, _, a, b, c, d, ..] = *value else {
         return false;
     };
-    let expected = value91(method, session, ac, arc, [a, b, c, d]);
+    let expected = value91(method, &Tdes::new(session), ac, arc, [a, b, c, d]);
     value == expected.as_slice()
 }
 

@@ -2,7 +2,7 @@
 //! OpenSSL, and two requests of another program, which was compared with OpenSSL.
 
 use chip_request::{LineKind, read_line, read_request};
-use cryptogram_in::{expected, expected_under, holds, holds_under, input};
+use cryptogram_in::{expected, holds, input};
 use des_block::Key16;
 use key_derive::SessionKey;
 use std::test::Fail;
@@ -59,12 +59,11 @@ fn cryptograms_are_those_of_another_program(rt: HostRuntime) -> Result<(), Fail>
         let mk = Key16(mk.to_be_bytes());
         let want = want.to_be_bytes();
         assert_eq!(rt; input(&request), data);
-        assert_eq!(rt; expected(&mk, &request), want);
-        assert!(rt; holds(&mk, &request));
-        assert!(rt; !holds(&Key16([7; 16]), &request));
         let session = SessionKey::for_cryptograms(&mk, request.parts().atc);
-        assert_eq!(rt; expected_under(&session, &request), want);
-        assert!(rt; holds_under(&session, &request));
+        assert_eq!(rt; expected(&session, &request), want);
+        assert!(rt; holds(&session, &request));
+        let other = SessionKey::for_cryptograms(&Key16([7; 16]), request.parts().atc);
+        assert!(rt; !holds(&other, &request));
     }
     Ok(())
 }

@@ -5,3 +5,4 @@ pub mod RowPartsLemmas
 pub mod FrontLemmas
 pub mod PartsLemmas
 pub mod TableLemmas
+pub mod ShardsLemmas

@@ -1,7 +1,10 @@
 -- What a configuration is parsed as: an issuer, or its first fault.
-use Rattle.std.specs.Prelude.{ℕ, nat_le, if◌then◌else◌, List, length, Option, Some, None, is_some, Result, Ok, Err}
+use Rattle.std.specs.Prelude.{◌≡◌, ℕ, true, nat_le, if◌then◌else◌, List, length, Option, Some, None, is_some, Result, Ok, Err}
 use Rattle.serde_json.specs.Data.{Data}
 use Rattle.serde_json.specs.Find.{as_object}
+use Rattle.issuer_setup.specs.Shards.{are_shards}
+use Rattle.issuer_setup.specs.KeyList.{AreKeys}
+use Rattle.issuer_setup.specs.CardList.{AreCards}
 use Rattle.issuer_setup.specs.IssuerSetup.{Setup}
 use Rattle.config_read.specs.declared.config.TheConstants.{MAX_CONFIG_BYTES}
 use Rattle.config_read.specs.declared.fault.TheConstants.{WHOLE}
@@ -32,3 +35,9 @@ where_json (Some value) = setup_in value
 -- what a configuration of these bytes is parsed as; its length, at most 4,194,304, is checked first
 unfoldable pub configured : List ℕ → Result Setup ConfigFault
 configured bytes = if nat_le (length bytes) MAX_CONFIG_BYTES then where_json (json_of bytes) else Err (At WHOLE 0)
+
+-- a parsed issuer has 1 to 16 shards, and valid key sets and cards
+pub record HasValidParts (issuer : Setup) : Type 0 where
+  pub shards : are_shards issuer.shards ≡ true
+  pub keys : AreKeys issuer.keys
+  pub cards : AreCards issuer.cards

@@ -1,7 +1,7 @@
 //! The parser of a configuration: an issuer, or its first fault.
 ghost use Rattle.std.specs.Prelude.{◌≡◌, ◌≢◌, Ok, Err, IfOk, IfErr};
 ghost use Rattle.serde_json.specs.View.{view};
-ghost use Rattle.config_read.specs.Configuration.{configured, setup_in};
+ghost use Rattle.config_read.specs.Configuration.{configured, setup_in, HasValidParts};
 
 use crate::fault::{ConfigFault, WHOLE};
 use crate::json_value::read_json;
@@ -19,6 +19,7 @@ pub const MAX_CONFIG_BYTES: usize = 4_194_304;
 #[tactic(auto, unfolding(crate::specs::Configuration::configured))]
 pub fn read_config(alloc: Global, bytes: &[u8]) -> Result<Issuer, ConfigFault>
     ensures issuer { IfOk result (λ issuer. configured bytes.now ≡ Ok issuer) }
+    ensures valid { IfOk result HasValidParts }
     ensures refused { IfErr result (λ fault. fault ≢ ConfigFault.NoMemory → configured bytes.now ≡ Err fault) }
 {
     if bytes.len() > MAX_CONFIG_BYTES {
@@ -31,6 +32,7 @@ pub fn read_config(alloc: Global, bytes: &[u8]) -> Result<Issuer, ConfigFault>
 /// Parses a JSON value as an issuer.
 fn read_issuer(alloc: Global, value: &Value) -> Result<Issuer, ConfigFault>
     ensures issuer { IfOk result (λ issuer. setup_in (view value.now) ≡ Ok issuer) }
+    ensures valid { IfOk result HasValidParts }
     ensures refused { IfErr result (λ fault. fault ≢ ConfigFault.NoMemory → setup_in (view value.now) ≡ Err fault) }
 {
     if !value.is_object() {

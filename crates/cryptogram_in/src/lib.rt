@@ -4,10 +4,9 @@
 mod joined;
 
 ghost use Rattle.std.specs.Prelude.{◌≡◌, ◌↔◌, IsTrue};
-ghost use Rattle.key_derive.specs.SessionKey.{counter_bytes, session_ac};
-ghost use Rattle.cryptogram_in.specs.Cryptogram.{input, cryptogram_under, application_cryptogram};
+ghost use Rattle.key_derive.specs.SessionKey.{counter_bytes};
+ghost use Rattle.cryptogram_in.specs.Cryptogram.{input, cryptogram_under};
 
-use des_block::Key16;
 use issuer_base::Request;
 use joined::Joined;
 use key_derive::SessionKey;
@@ -42,40 +41,15 @@ fn counter_bytes(atc: u16) -> [u8; 2]
 
 /// The application cryptogram that a card computes over the request under this session key: EMV 4.3 Book 2,
 /// section 8.1.2. Eleven block operations of DES, for the MAC of nine blocks, and no key schedule.
-pub fn expected_under(session: &SessionKey, request: &Request) -> [u8; 8]
+pub fn expected(session: &SessionKey, request: &Request) -> [u8; 8]
     ensures { result ≡ cryptogram_under session.now request.now }
 {
     mac_under(session.cipher(), &input(request))
 }
 
 /// Whether the request's cryptogram is the expected one under this session key, in all eight bytes.
-pub fn holds_under(session: &SessionKey, request: &Request) -> bool
+pub fn holds(session: &SessionKey, request: &Request) -> bool
     ensures { IsTrue result ↔ (request.now.ac ≡ cryptogram_under session.now request.now) }
 {
-    expected_under(session, request) == request.parts().ac
-}
-
-/// The application cryptogram that a card with this master key computes over the request: EMV 4.3 Book 2, section
-/// 8.1.2.
-///
-/// Four key schedules of DES, two for the session key's derivation and two for the MAC, and seventeen block
-/// operations of DES: six for the two halves of the session key and eleven for the MAC of nine blocks.
-pub fn expected(mk: &Key16, request: &Request) -> [u8; 8]
-    ensures { result ≡ application_cryptogram mk.now.0 request.now }
-{
-    expected_under(&session_of(mk, request), request)
-}
-
-/// Whether the request's cryptogram is the expected one, in all eight bytes.
-pub fn holds(mk: &Key16, request: &Request) -> bool
-    ensures { IsTrue result ↔ (request.now.ac ≡ application_cryptogram mk.now.0 request.now) }
-{
-    holds_under(&session_of(mk, request), request)
-}
-
-/// The session key of the request's transaction.
-fn session_of(mk: &Key16, request: &Request) -> SessionKey
-    ensures { result ≡ session_ac mk.now.0 request.now.atc }
-{
-    SessionKey::for_cryptograms(mk, request.parts().atc)
+    expected(session, request) == request.parts().ac
 }

@@ -1,16 +1,16 @@
 -- What the definition of a decision states: which row it is, and that a table always has one.
-use Rattle.std.proofs.Common.{◌≡◌, ℕ, zero, suc, ◌<◌, ◌==◌, true, false, List, [], ◌∷◌, refl, ap, sym, ◌∙◌, subst, inl, inr, Option, None, Some, IsTrue}
+use Rattle.std.proofs.Common.{◌≡◌, ℕ, zero, suc, ◌<◌, ◌==◌, true, false, ◌&&◌, List, [], ◌∷◌, length, refl, ap, sym, ◌∙◌, subst, inl, inr, Option, None, Some, IsTrue}
 use Rattle.std.proofs.Common.{IsSome, bit_and, arith}
 use Rattle.std.proofs.lemmas.Bool.{cond-true, cond-false, cases_Bool, and_parts, and_from, eqb-true, le-leb}
 use Rattle.std.proofs.lemmas.Option.{same_Some}
 use Rattle.std.specs.Int.Bits.{and_zero_r}
 use Rattle.std.specs.Option.{is_none, option_map}
-use Rattle.std.specs.List.{list_all, slice_get}
+use Rattle.std.specs.List.{list_all, find, slice_get}
 use Rattle.issuer_base.specs.declared.request.Parts.{Parts}
 use Rattle.issuer_base.specs.ChipData.{cvr, amount_value}
 use Rattle.decision_table.specs.declared.row.TableRow.{TableRow}
 use Rattle.decision_table.specs.Fitting.{has_bits, is_for, fits, decision, IsDecision}
-use Rattle.decision_table.specs.Tables.{takes_all, ends_in_all, is_table}
+use Rattle.decision_table.specs.Tables.{tells_approval, takes_all, ends_in_all, is_table}
 
 none-before : (status : ℕ) (request : Parts) (here : TableRow) (rows : List TableRow) (place : ℕ) → fits status request here ≡ false
     → ((before : ℕ) (other : TableRow) → before < place → slice_get rows before ≡ Some other → fits status request other ≡ false)
@@ -19,11 +19,11 @@ none-before status request here rows place unfit first zero other below stands =
     subst (λ (row : TableRow). fits status request row ≡ false) (same_Some here other stands) unfit
 none-before status request here rows place unfit first (suc before) other below stands = first before other (omega arith) stands
 
--- the row that decides fits, and none before it does
-pub decides : (rows : List TableRow) (status : ℕ) (request : Parts) (row : TableRow) → decision rows status request ≡ Some row
+-- the first row that fits is at some index, and none before it fits
+pub first-fits : (rows : List TableRow) (status : ℕ) (request : Parts) (row : TableRow) → find (fits status request) rows ≡ Some row
     → IsDecision rows status request row
-decides [] status request row found = absurd (let no : None ≡ Some row = found in cc)
-decides (here ∷ rows) status request row found =
+first-fits [] status request row found = absurd (let no : None ≡ Some row = found in cc)
+first-fits (here ∷ rows) status request row found =
     elim (cases_Bool (fits status request here)) [
       | inl fitting ↦
           let same : here ≡ row = same_Some here row (sym (cond-true (fits status request here) _ _ fitting) ∙ found) in
@@ -34,7 +34,7 @@ decides (here ∷ rows) status request row found =
             first = λ before other below stands. absurd (omega arith);
           }
       | inr unfit ↦
-          let rest = decides rows status request row (sym (cond-false (fits status request here) _ _ unfit) ∙ found) in
+          let rest = first-fits rows status request row (sym (cond-false (fits status request here) _ _ unfit) ∙ found) in
           record {
             place = suc rest.place;
             stands = rest.stands;
@@ -79,7 +79,7 @@ takes_all-fits row status request below all =
     (has_bits-zeros row.cvr_mask row.cvr_value (cvr request) to_cvr_mask.1 to_cvr.1)
 
 some-fits : (rows : List TableRow) (status : ℕ) (request : Parts) → amount_value request < 1000000000000 → ends_in_all rows ≡ true
-    → decision rows status request ≡ None → ⊥
+    → find (fits status request) rows ≡ None → ⊥
 some-fits [] status request below ends none = let no : false ≡ true = ends in absurd (cc)
 some-fits (row ∷ []) status request below ends none =
     let some : Some row ≡ None = sym (cond-true (fits status request row) _ _ (takes_all-fits row status request below ends)) ∙ none in
@@ -90,14 +90,59 @@ some-fits (row ∷ next ∷ rows) status request below ends none =
       | inr unfit ↦ some-fits (next ∷ rows) status request below ends (sym (cond-false (fits status request row) _ _ unfit) ∙ none)
     ]
 
+-- among rows with their approval, the first with it that fits is the first that fits
+decision-fits : (rows : List TableRow) (status : ℕ) (request : Parts) → list_all tells_approval rows ≡ true
+    → decision rows status request ≡ find (fits status request) rows
+decision-fits [] status request told = refl
+decision-fits (row ∷ rows) status request told =
+    let parts = and_parts (tells_approval row) (list_all tells_approval rows) told in
+    let test : (tells_approval row && fits status request row) ≡ fits status request row = ap (λ told. told && fits status request row) parts.0 in
+    elim (cases_Bool (fits status request row)) [
+      | inl fitting ↦ cond-true (tells_approval row && fits status request row) _ _ (test ∙ fitting) ∙ sym (cond-true (fits status request row) _ _ fitting)
+      | inr unfit ↦
+          cond-false (tells_approval row && fits status request row) _ _ (test ∙ unfit) ∙ decision-fits rows status request parts.1
+          ∙ sym (cond-false (fits status request row) _ _ unfit)
+    ]
+
+-- in a table the first row that fits decides
+pub table-decision : (rows : List TableRow) (status : ℕ) (request : Parts) → IsTrue (is_table rows)
+    → decision rows status request ≡ find (fits status request) rows
+unfolding is_table
+table-decision rows status request table = decision-fits rows status request (and_parts _ _ table).0
+
+-- the row of a table that decides fits, and none before it does
+pub decides : (rows : List TableRow) (status : ℕ) (request : Parts) (row : TableRow) → IsTrue (is_table rows)
+    → decision rows status request ≡ Some row → IsDecision rows status request row
+decides rows status request row table found = first-fits rows status request row (sym (table-decision rows status request table) ∙ found)
+
+-- a row that decides has its approval, whether the rows are a table or not
+pub decision-tells : (rows : List TableRow) (status : ℕ) (request : Parts) (row : TableRow) → decision rows status request ≡ Some row
+    → tells_approval row ≡ true
+decision-tells [] status request row found = absurd (let no : None ≡ Some row = found in cc)
+decision-tells (here ∷ rows) status request row found =
+    elim (cases_Bool (tells_approval here && fits status request here)) [
+      | inl decides ↦
+          let same : here ≡ row = same_Some here row (sym (cond-true (tells_approval here && fits status request here) _ _ decides) ∙ found) in
+          subst (λ (first : TableRow). tells_approval first ≡ true) same (and_parts (tells_approval here) _ decides).0
+      | inr other ↦ decision-tells rows status request row (sym (cond-false (tells_approval here && fits status request here) _ _ other) ∙ found)
+    ]
+
+-- such a row's card status update has four bytes
+pub tells-update : (row : TableRow) → tells_approval row ≡ true → length row.csu ≡ 4
+unfolding tells_approval
+tells-update row told = eqb-true (length row.csu) 4 (and_parts (length row.csu == 4) _ told).0
+
 -- a table decides every request
 pub decision-table : (rows : List TableRow) (status : ℕ) (request : Parts) → amount_value request < 1000000000000 → IsTrue (is_table rows)
     → decision rows status request ≡ None → ⊥
 unfolding is_table
-decision-table rows status request below table none = some-fits rows status request below (and_parts _ _ table).1 none
+decision-table rows status request below table none =
+    some-fits rows status request below (and_parts _ _ table).1 (sym (table-decision rows status request table) ∙ none)
 
 -- so what is found in a table is there
 pub found-table : {A : Type 0} (shown : A → TableRow) (found : Option A) (rows : List TableRow) (status : ℕ) (request : Parts)
-    → amount_value request < 1000000000000 → IsTrue (is_table rows) → option_map shown found ≡ decision rows status request → IsSome found
+    → amount_value request < 1000000000000 → IsTrue (is_table rows) → option_map shown found ≡ find (fits status request) rows → IsSome found
+unfolding is_table
 found-table shown (Some row) rows status request below table is = refl
-found-table shown None rows status request below table is = absurd (decision-table rows status request below table (sym is))
+found-table shown None rows status request below table is =
+    absurd (some-fits rows status request below (and_parts _ _ table).1 (sym is))

@@ -4,6 +4,7 @@ use Rattle.std.specs.List.{find}
 use Rattle.issuer_base.specs.declared.request.Parts.{Parts}
 use Rattle.issuer_base.specs.ChipData.{cvr, amount_value}
 use Rattle.decision_table.specs.declared.row.TableRow.{TableRow}
+use Rattle.decision_table.specs.Tables.{tells_approval}
 
 -- byte by byte, the byte under the mask is the value
 abbrev pub has_bits : List ℕ → List ℕ → List ℕ → Bool
@@ -25,9 +26,10 @@ fits status request row =
     && has_bits row.tvr_mask row.tvr_value request.tvr
     && has_bits row.cvr_mask row.cvr_value (cvr request)
 
--- the row that decides: the first one that matches
+-- the row that decides: the first that matches and has its approval in its card status update. In a table each row has,
+-- so there it is the first that matches
 abbrev pub decision : List TableRow → ℕ → Parts → Option TableRow
-decision rows status request = find (fits status request) rows
+decision rows status request = find (λ row. tells_approval row && fits status request row) rows
 
 -- a row that decides is at some index of the table and matches, and no row before that index matches
 pub record IsDecision (rows : List TableRow) (status : ℕ) (request : Parts) (row : TableRow) : Type 0 where

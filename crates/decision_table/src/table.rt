@@ -109,7 +109,7 @@ fn find_row<'a>(
     amount: u64,
 ) -> Option<&'a TableRow>
     requires { amount ≡ amount_value request.now }
-    ensures { option_map (λ row. row.now) result ≡ decision rows.now status request.now }
+    ensures { option_map (λ row. row.now) result ≡ find (fits status request.now) rows.now }
 {
     rows.iter().find(|row| fits(row, status, request, amount))
 }

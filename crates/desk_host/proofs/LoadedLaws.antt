@@ -26,7 +26,7 @@ module _ {S : Type 0} {G : Ghosts S} where
       let begun = begins issuer prefix logs loaded ready shards in
       let legal = begins-legal issuer ready.stores loaded ready.loaded begun in
       let records = recorded begun.has_run.stand in
-      let one = run-one_history issuer (legal-then issuer sound.table) begun.books begun.books [] [] legal records
+      let one = run-one_history issuer (legal-then issuer) begun.books begun.books [] [] legal records
       refl in
       is-lawful issuer begun.books begun.books sound (begun.has_run.stand.count_is ∙ shards.count_is) refl one.goes_on
       records

@@ -6,7 +6,6 @@ use Rattle.answer_text.specs.declared.stop_line.Stop.TheVariants.{Usage, Config,
 use Rattle.answer_text.specs.declared.stop_line.Stop.TheVariants.{NoMemory as Memory, TooLong, BadDol, BadData}
 use Rattle.issuer_setup.specs.IssuerSetup.{Setup}
 use Rattle.issuer_setup.specs.KeyList.{AreKeys}
-use Rattle.shard_book.specs.Grounds.{HasTable}
 use Rattle.world_net.specs.WorldRuns.{IsIssuer}
 use Rattle.config_read.specs.declared.fault.ConfigFault.{ConfigFault}
 use Rattle.config_read.specs.declared.fault.ConfigFault.TheVariants.{NotJson, At, NoMemory as NoRoom}
@@ -34,11 +33,10 @@ config_stop NotJson = Config 1 0
 config_stop (At part index) = Config part index
 config_stop NoRoom = Memory
 
--- an issuer's parts are sound, as their types say: its shards, cards and key sets, and the updates of its table
+-- an issuer's parts are sound, as their types say: its shards, cards and key sets
 pub record HasSoundParts (issuer : Setup) : Type 0 where
   pub valid : IsIssuer issuer
   pub keys : AreKeys issuer.keys
-  pub table : HasTable issuer
 
 -- the configuration says this issuer
 pub record Says (left : Option (List ℕ)) (issuer : Setup) : Type 0 where

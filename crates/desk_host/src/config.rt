@@ -8,7 +8,6 @@ use answer_text::Stop;
 use config_read::{ConfigFault, MAX_CONFIG_BYTES, read_config};
 use issuer_base::{ReadFault, Source};
 use issuer_setup::Issuer;
-use shard_book::has_table;
 use std::alloc::Global;
 
 const CHUNK_BYTES: usize = 4_096;
@@ -56,22 +55,9 @@ pub fn read_issuer<S: Source>(alloc: Global, source: &mut S) -> Result<Issuer, S
         Err(TextFault::NoMemory) => return Err(Stop::NoMemory),
     };
     match read_config(alloc, &text) {
-        Ok(issuer) => {
-            sound_parts(&issuer);
-            Ok(issuer)
-        }
+        Ok(issuer) => Ok(issuer),
         Err(fault) => Err(config_stop(fault)),
     }
-}
-
-/// Each part of an issuer is sound, as its type says.
-fn sound_parts(issuer: &Issuer)
-    ensures { HasSoundParts issuer.now }
-{
-    let _shards = issuer.shards();
-    let _cards = issuer.cards();
-    let _key = issuer.key(0);
-    has_table(issuer);
 }
 
 /// How a run stops where its configuration says no issuer.

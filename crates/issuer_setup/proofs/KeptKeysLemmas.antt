@@ -1,5 +1,5 @@
 -- The stored pairs of the cards' master keys: how many there are, and the index of that of a card from a key set.
-use Rattle.std.proofs.Common.{◌≡◌, ℕ, zero, suc, ◌+◌, ◌*◌, ◌<◌, ◌≤◌, List, [], ◌∷◌, ◌++◌, length, take, get_or, None, Some, ap, sym, ◌∙◌, subst, refl, arith}
+use Rattle.std.proofs.Common.{◌≡◌, ℕ, zero, suc, ◌+◌, ◌*◌, ◌<◌, ◌≤◌, List, [], ◌∷◌, ◌++◌, length, take, get_or, Option, None, Some, IsSome, true, false, ap, sym, ◌∙◌, subst, refl, arith}
 use Rattle.std.proofs.Math.Nat.{suc-mul}
 use Rattle.std.proofs.lemmas.List.{length-append, length-map}
 use Rattle.std.proofs.lemmas.List.Folds.{length-flat_map-take}
@@ -7,9 +7,13 @@ use Rattle.std.proofs.lemmas.Option.{slice_get_within, slice_get-map}
 use Rattle.std.specs.List.{flat_map, position, slice_get}
 use Rattle.std.specs.Option.{option_map}
 use Rattle.key_derive.specs.declared.card.KeySet.{KeySet}
-use Rattle.key_derive.specs.declared.card.CardKeys.{CardKeys}
 use Rattle.key_derive.specs.CardKey.{card_keys}
+use Rattle.issuer_base.specs.ChipData.{dki}
+use Rattle.issuer_base.specs.declared.request.Request.{Request}
+use Rattle.decision_table.specs.declared.row.TableRow.{TableRow}
 use Rattle.issuer_setup.specs.declared.card.CardInfo.{CardInfo}
+use Rattle.issuer_setup.specs.declared.kept_keys.KeySlot.{KeySlot}
+use Rattle.issuer_setup.specs.KeySlots.{IsSlotOf}
 use Rattle.issuer_setup.specs.IssuerSetup.{keys_from}
 use Rattle.issuer_setup.specs.KeptKeys.{KeptPairs, pairs_of, kept_keys}
 use Rattle.issuer_setup.specs.KeyList.{has_dki, key_of}
@@ -75,18 +79,33 @@ kept-within keys cards kept number index place kept_is below found =
     (kept-at keys cards number place card.0 set.0 card.1 set.1) in
     subst (λ (kept : KeptPairs). number * kept.sets + place < length kept.pairs) (sym kept_is) within
 
--- and that pair is the card's keys from the first key set with the index
-pub kept-keys : (keys : List KeySet) (cards : List CardInfo) (kept : KeptPairs) (number index place : ℕ) (pair : CardKeys)
-    → kept ≡ kept_keys keys cards → number < length cards → position (has_dki index) keys ≡ Some place
-    → slice_get kept.pairs (number * kept.sets + place) ≡ Some pair → Some pair ≡ keys_from (key_of index keys) (slice_get cards number)
-kept-keys keys cards kept number index place pair kept_is below found read =
+-- the index of that pair is a slot of the card's keys from the first key set with the index
+pub is-slot : (shards : ℕ) (keys : List KeySet) (cards : List CardInfo) (table : List TableRow) (kept : KeptPairs) (number : ℕ) (request : Request)
+    (place : ℕ) (slot : KeySlot) → kept ≡ kept_keys keys cards → number < length cards → position (has_dki (dki request)) keys ≡ Some place
+    → slot.index ≡ number * kept.sets + place
+    → IsSlotOf (record { shards = shards; keys = keys; cards = cards; table = table }) number request slot
+is-slot shards keys cards table kept number request place slot kept_is below found index_is =
     let card = element cards number below in
-    let set = element keys place (key_of-within index keys place found) in
-    let stands = kept-at keys cards number place card.0 set.0 card.1 set.1 in
-    let read_there : slice_get (flat_map (pairs_of keys) cards) (number * length keys + place) ≡ Some pair =
-    subst (λ (kept : KeptPairs). slice_get kept.pairs (number * kept.sets + place) ≡ Some pair) kept_is read in
-    let named : key_of index keys ≡ Some set.0 = key_of-place index keys place found ∙ set.1 in
-    sym read_there ∙ stands ∙ sym (ap (keys_from (Some set.0)) card.1) ∙ sym (ap (λ set. keys_from set (slice_get cards number)) named)
+    let set = element keys place (key_of-within (dki request) keys place found) in
+    let index : slot.index ≡ number * length keys + place = index_is ∙ ap (λ (kept : KeptPairs). number * kept.sets + place) kept_is in
+    let named : key_of (dki request) keys ≡ Some set.0 = key_of-place (dki request) keys place found ∙ set.1 in
+    record {
+      keys = card_keys set.0 card.0.pan card.0.psn;
+      stored = ap (slice_get (flat_map (pairs_of keys) cards)) index ∙ kept-at keys cards number place card.0 set.0 card.1 set.1;
+      keys_are = ap (λ set. keys_from set (slice_get cards number)) named ∙ ap (keys_from (Some set.0)) card.1;
+    }
+
+is_some-some : {A : Type 0} (found : Option A) → IsSome found → (value : A) × (found ≡ Some value)
+is_some-some None some = absurd (let no : false ≡ true = some in cc)
+is_some-some (Some value) some = (value, refl)
+
+-- a slot that has keys is the index of a stored pair
+pub slot-within : (keys : List KeySet) (cards : List CardInfo) (kept : KeptPairs) (index : ℕ) → kept ≡ kept_keys keys cards
+    → IsSome (slice_get (flat_map (pairs_of keys) cards) index) → index < length kept.pairs
+slot-within keys cards kept index kept_is some =
+    let pair = is_some-some (slice_get (flat_map (pairs_of keys) cards) index) some in
+    subst (λ (kept : KeptPairs). index < length kept.pairs) (sym kept_is)
+    (slice_get_within (flat_map (pairs_of keys) cards) index pair.0 pair.1)
 
 -- where no key set has the index, a card has no keys
 pub no-keys : (keys : List KeySet) (cards : List CardInfo) (number index : ℕ) → position (has_dki index) keys ≡ None

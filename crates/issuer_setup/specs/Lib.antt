@@ -5,3 +5,4 @@ pub mod CardList
 pub mod CardOrder
 pub mod KeptKeys
 pub mod IssuerSetup
+pub mod KeySlots

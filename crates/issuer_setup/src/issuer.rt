@@ -1,22 +1,21 @@
 //! An issuer: its shards, its key sets, its cards with their master keys, and its decision table.
-ghost use Rattle.std.specs.Prelude.{◌≡◌, ◌%◌, ◌<◌, true, None, Some, length, slice_get, IfOk, IfErr};
-ghost use Rattle.std.specs.Option.{option_map};
+ghost use Rattle.std.specs.Prelude.{◌≡◌, ◌%◌, ◌<◌, true, None, Some, length, slice_get, IsSome, MatchOption, IfOk, IfErr};
 ghost use Rattle.card_history.specs.Records.{CardName};
-ghost use Rattle.key_derive.specs.SessionKey.{session_ac};
 ghost use Rattle.issuer_setup.specs.Shards.{are_shards};
-ghost use Rattle.issuer_setup.specs.KeyList.{key_of, bad_key, AreKeys};
+ghost use Rattle.issuer_setup.specs.KeyList.{bad_key, AreKeys};
 ghost use Rattle.issuer_setup.specs.CardList.{number_of, bad_card, AreCards};
 ghost use Rattle.issuer_setup.specs.IssuerSetup.{IsFaultOf, keys_of, shard_of};
+ghost use Rattle.issuer_setup.specs.KeySlots.{keys_at, IsSlotOf};
 
 use crate::card::CardInfo;
 use crate::cards::{Cards, CardsFault};
-use crate::kept_keys::KeptKeys;
+use crate::kept_keys::{KeptKeys, KeySlot};
 use crate::key_sets::KeySets;
 use crate::shard_count::ShardCount;
 use arrayvec::ArrayVec;
 use decision_table::Table;
 use issuer_base::{MAX_KEY_SETS, NoMemory, Pan, Request};
-use key_derive::{CardKeys, CardSecrets, KeySet, LazyKeys, SessionKey};
+use key_derive::{CardSecrets, KeySet};
 use std::alloc::Global;
 use std::marker::Model;
 
@@ -104,7 +103,9 @@ impl Issuer {
         cards: Cards,
         table: Table,
     ) -> Result<Issuer, NoMemory>
-        ensures { IfOk result (λ issuer. issuer ≡ record { shards = shards; keys = keys; cards = cards; table = table }) }
+        ensures parts { IfOk result (λ issuer. issuer ≡ record { shards = shards; keys = keys; cards = cards; table = table }) }
+        ensures keys { IfOk result (λ issuer. AreKeys issuer.keys) }
+        ensures cards { IfOk result (λ issuer. AreCards issuer.cards) }
     {
         let kept = KeptKeys::underived(alloc, keys.as_slice(), cards.as_slice())?;
         Ok(Issuer {
@@ -159,14 +160,6 @@ impl Issuer {
         &self.table
     }
 
-    /// The key set with this derivation key index; `None` if no key set has it.
-    pub fn key(&self, dki: u8) -> Option<&KeySet>
-        ensures key { option_map (λ set. set.now) result ≡ key_of dki self.now.keys }
-        ensures valid { AreKeys self.now.keys }
-    {
-        self.keys.find(dki)
-    }
-
     /// The first key set of the configuration.
     pub fn first_key(&self) -> &KeySet
         ensures { slice_get self.now.keys 0 ≡ Some result.now }
@@ -174,43 +167,31 @@ impl Issuer {
         self.keys.first()
     }
 
-    /// The master keys of this card from the key set that the request's derivation key index names; `None` if
-    /// no key set has that index. Both are derived now.
-    pub fn keys_of(&self, card: u32, request: &Request) -> Option<CardKeys>
+    /// Where the master keys of this card are from the key set that the request's derivation key index names; `None` if no
+    /// key set has that index.
+    pub fn key_slot(&self, card: u32, request: &Request) -> Option<KeySlot>
         requires { card < length self.now.cards }
-        ensures { result ≡ keys_of self.now card request.now }
+        ensures { MatchOption result (keys_of self.now card request.now ≡ None) (IsSlotOf self.now card request.now) }
     {
-        Some(self.lazy_keys_of(card, request)?.pair())
+        let place = self.keys.place_of(request.dki())?;
+        Some(self.kept.slot(card, place))
     }
 
-    /// The same keys, each derived on demand.
-    pub fn lazy_keys_of(&self, card: u32, request: &Request) -> Option<LazyKeys>
-        requires { card < length self.now.cards }
-        ensures { result ≡ keys_of self.now card request.now }
+    /// The master keys in this slot.
+    pub fn secrets(&self, slot: KeySlot) -> &CardSecrets
+        requires { IsSome (keys_at self.now slot) }
+        ensures { keys_at self.now slot ≡ Some result.now }
     {
-        Some(self.secrets_of(card, request)?.keys())
+        self.kept.secrets(slot)
     }
 
-    /// The session key for the cryptograms of this request, from the same keys. If the card's key is cached, this
-    /// computes one key schedule and enciphers two blocks; else three key schedules and four blocks.
-    pub fn session_of(&self, card: u32, request: &Request) -> Option<SessionKey>
-        requires { card < length self.now.cards }
-        ensures { result ≡ option_map (λ keys. session_ac keys.ac.0 request.now.atc) (keys_of self.now card request.now) }
-    {
-        let secrets = self.secrets_of(card, request)?;
-        Some(secrets.session(request.parts().atc))
-    }
-
-    /// Caches the key schedule of the card's master key for cryptograms from the key set that the request's derivation
-    /// key index names, if there is such a key set. If it isn't cached yet, this computes two key schedules and
-    /// enciphers two blocks.
-    pub fn keep(&mut self, card: u32, request: &Request)
-        requires { card < length self.old.cards }
+    /// Caches the key schedule of the master key for cryptograms in this slot. If it isn't cached yet, this computes two
+    /// key schedules and enciphers two blocks.
+    pub fn keep(&mut self, slot: KeySlot)
+        requires { IsSome (keys_at self.old slot) }
         ensures { self.new ≡ self.old }
     {
-        if let Some(place) = self.keys.place_of(request.dki()) {
-            self.kept.keep(card, place);
-        }
+        self.kept.keep(slot);
     }
 
     /// Caches the key schedule of the master key for cryptograms of each card from each key set. Those of the issuer's
@@ -220,15 +201,6 @@ impl Issuer {
         ensures { self.new ≡ self.old }
     {
         self.kept.keep_all(self.keys.as_slice());
-    }
-
-    /// The card's master keys from the key set that the request's derivation key index names.
-    fn secrets_of(&self, card: u32, request: &Request) -> Option<&CardSecrets>
-        requires { card < length self.now.cards }
-        ensures { option_map (λ secrets. secrets.now) result ≡ keys_of self.now card request.now }
-    {
-        let place = self.keys.place_of(request.dki())?;
-        Some(self.kept.secrets_of(card, place))
     }
 
     /// The number of the card with this account and sequence number; `None` if no card has them.

@@ -8,6 +8,13 @@ use key_derive::{CardSecrets, KeySet, MasterCiphers};
 use std::alloc::{AllocError, Global};
 use std::marker::Model;
 
+/// Where an issuer has the master keys of one of its cards from one of its key sets.
+#[derive(Clone, Copy)]
+pub struct KeySlot {
+    /// The index of the pair of keys.
+    pub(crate) index: usize,
+}
+
 /// The master keys of each card from each key set. The key schedules of those for cryptograms can be cached; the others
 /// are derived at each use.
 ///
@@ -54,22 +61,30 @@ impl KeptKeys {
         })
     }
 
-    /// The master keys of the card with this number from the key set at index `place`.
-    pub(crate) fn secrets_of(&self, card: u32, place: usize) -> &CardSecrets
+    /// The slot of the card with this number and the key set at index `place`.
+    pub(crate) fn slot(&self, card: u32, place: usize) -> KeySlot
         requires { card * self.now.sets + place < length self.now.pairs }
-        ensures { slice_get self.now.pairs (card * self.now.sets + place) ≡ Some result.now }
+        ensures { result.index ≡ card * self.now.sets + place }
     {
-        &self.pairs[card as usize * self.sets + place]
+        KeySlot {
+            index: card as usize * self.sets + place,
+        }
     }
 
-    /// Caches the key for cryptograms of the card with this number from the key set at index `place`, unless it is
-    /// cached already.
-    pub(crate) fn keep(&mut self, card: u32, place: usize)
-        requires { card * self.old.sets + place < length self.old.pairs }
+    /// The master keys in this slot.
+    pub(crate) fn secrets(&self, slot: KeySlot) -> &CardSecrets
+        requires { slot.index < length self.now.pairs }
+        ensures { slice_get self.now.pairs slot.index ≡ Some result.now }
+    {
+        &self.pairs[slot.index]
+    }
+
+    /// Caches the key for cryptograms in this slot, unless it is cached already.
+    pub(crate) fn keep(&mut self, slot: KeySlot)
+        requires { slot.index < length self.old.pairs }
         ensures { self.new ≡ self.old }
     {
-        let at = card as usize * self.sets + place;
-        self.pairs[at].keep();
+        self.pairs[slot.index].keep();
     }
 
     /// Caches the keys for cryptograms of all cards from each of these key sets. If they are the issuer's, each master

@@ -1,8 +1,7 @@
 //! The key sets of an issuer, each named by its derivation key index.
 ghost use Rattle.std.specs.Prelude.{◌≡◌, ◌≤◌, [], None, Some, length, slice_get, IfOk, IfErr};
 ghost use Rattle.std.specs.List.{list_any, position};
-ghost use Rattle.std.specs.Option.{option_map};
-ghost use Rattle.issuer_setup.specs.KeyList.{has_dki, key_of, first_repeat, bad_key, AreKeys};
+ghost use Rattle.issuer_setup.specs.KeyList.{has_dki, first_repeat, bad_key, AreKeys};
 
 use arrayvec::ArrayVec;
 use issuer_base::MAX_KEY_SETS;
@@ -48,14 +47,6 @@ impl KeySets {
         ensures valid { AreKeys self.now }
     {
         self.kept.as_slice()
-    }
-
-    /// The key set with this derivation key index; `None` if no key set has it.
-    pub(crate) fn find(&self, dki: u8) -> Option<&KeySet>
-        ensures key { option_map (λ set. set.now) result ≡ key_of dki self.now }
-        ensures valid { AreKeys self.now }
-    {
-        self.as_slice().iter().find(|set| set.dki == dki)
     }
 
     /// The index of the key set with this derivation key index.

@@ -12,5 +12,6 @@ mod shard_count;
 pub use card::CardInfo;
 pub use cards::{Cards, CardsFault};
 pub use issuer::{Issuer, IssuerFault};
+pub use kept_keys::KeySlot;
 pub use key_sets::KeySets;
 pub use shard_count::ShardCount;

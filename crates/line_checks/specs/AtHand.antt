@@ -12,6 +12,7 @@ use Rattle.card_history.specs.Records.{CardName, named, card_of, card_in}
 use Rattle.key_derive.specs.SessionKey.{session_ac}
 use Rattle.issuer_setup.specs.CardList.{number_of, AreCards}
 use Rattle.issuer_setup.specs.IssuerSetup.{Setup, keys_of}
+use Rattle.issuer_setup.specs.KeySlots.{IsSlotOf}
 use Rattle.line_checks.specs.declared.checked.Checked.{Checked}
 use Rattle.line_checks.specs.declared.checked.Checked.TheVariants.{Decide, Order}
 use Rattle.line_checks.specs.declared.checked.CheckedOrder.{CheckedOrder}
@@ -50,11 +51,12 @@ pub record IsCardAtHand (issuer : Setup) (name : CardName) (number : ℕ) : Type
   pub valid : AreCards issuer.cards
   pub number_is : number_of name issuer.cards ≡ Some number
 
--- the request asks to go online; these are its card, and the card's master keys from the key set that the request names
+-- the request asks to go online; these are its card, and the slot of the card's master keys from the key set that the
+-- request names
 pub record HasKeysAtHand (issuer : Setup) (request : Request) (known : KnownCard) : Type 0 where
   pub card_is : IsCardAtHand issuer (card_of request) known.card
   pub online_is : is_arqc request ≡ true
-  pub keys_are : keys_of issuer known.card request ≡ Some known.keys
+  pub slot_is : IsSlotOf issuer known.card request known.slot
 
 -- these are the request's card, the card's master keys from the request's key set, and their session key of the ATC:
 -- EMV 4.3 Book 2, Annex A1.3.1

@@ -8,10 +8,9 @@ ghost use Rattle.line_checks.specs.AtHand.{asked_of, IsAtHand, IsRequestAtHand, 
 
 use crate::checked::{Checked, CheckedRequest};
 use chip_request::{RequestFault, read_request};
-use cryptogram_in::holds_under;
+use cryptogram_in::holds;
 use issuer_base::{MAX_CHIP_BYTES, Refusal, Request};
-use issuer_setup::Issuer;
-use key_derive::LazyKeys;
+use issuer_setup::{Issuer, KeySlot};
 
 /// Parses chip data as a request, and checks it by the issuer's cards and keys.
 #[inline(always)]
@@ -69,16 +68,16 @@ fn check_request_in(issuer: &mut Issuer, request: Request) -> Result<CheckedRequ
     ensures same { issuer.new ≡ issuer.old }
 {
     let known = known_card(issuer, &request)?;
-    issuer.keep(known.card, &request);
+    issuer.keep(known.slot);
     check_cryptogram(issuer, request, known)
 }
 
-/// A card of the issuer, with its master keys from the key set that a request names.
-#[derive(Drop)]
+/// A card of the issuer, and where its master keys are from the key set that a request names.
+#[derive(Clone, Copy)]
 pub(crate) struct KnownCard {
     /// The number of the card.
     pub(crate) card: u32,
-    pub(crate) keys: LazyKeys,
+    pub(crate) slot: KeySlot,
 }
 
 /// Looks up the card and the key set of a request, which must ask to go online.
@@ -94,10 +93,10 @@ fn known_card(issuer: &Issuer, request: &Request) -> Result<KnownCard, Refusal>
     if !request.is_arqc() {
         return Err(Refusal::NotArqc);
     }
-    let Some(keys) = issuer.lazy_keys_of(card, request) else {
+    let Some(slot) = issuer.key_slot(card, request) else {
         return Err(Refusal::UnknownKey(request.dki()));
     };
-    Ok(KnownCard { card, keys })
+    Ok(KnownCard { card, slot })
 }
 
 /// Checks the cryptogram of a known card's request.
@@ -112,17 +111,15 @@ fn check_cryptogram(
     ensures request { result_map_both (λ found. Decide found.request) (λ refusal. refusal) result ≡ checked issuer.now request }
     ensures at_hand { IfOk result (IsRequestAtHand issuer.now) }
 {
-    let KnownCard { card, keys } = known;
-    let Some(session) = issuer.session_of(card, &request) else {
-        return Err(Refusal::UnknownKey(request.dki()));
-    };
-    if !holds_under(&session, &request) {
+    let secrets = issuer.secrets(known.slot);
+    let session = secrets.session(request.parts().atc);
+    if !holds(&session, &request) {
         return Err(Refusal::BadCryptogram);
     }
     Ok(CheckedRequest {
         request,
-        card,
-        keys,
+        card: known.card,
+        keys: secrets.keys(),
         session,
     })
 }

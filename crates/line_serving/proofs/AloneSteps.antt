@@ -141,7 +141,7 @@ module _ {S : Type 0} {G : Ghosts S} where
           let legal = begins-legal issuer ready.shards.stores first.shards.items ready.shards.loaded begun in
           let count = begun.has_run.stand.count_is ∙ shards.count_is in
           let after = subst (λ (i : Setup). AreShards i now.shards.items) (so_far.issuer_is ∙ same) now.are_shards in
-          let one = run-one_history issuer (legal-then issuer sound.table) begun.books last asked so_far.answers legal
+          let one = run-one_history issuer (legal-then issuer) begun.books last asked so_far.answers legal
           (recorded ended.1.stand) run in
           record {
             first = begun.books;

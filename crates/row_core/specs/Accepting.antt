@@ -5,7 +5,6 @@ use Rattle.issuer_base.specs.declared.answer.Method.TheVariants.{Two}
 use Rattle.issuer_base.specs.declared.answer.Reply.{Reply}
 use Rattle.issuer_base.specs.declared.entry.Entry.{Entry}
 use Rattle.issuer_base.specs.declared.request.Request.{Request}
-use Rattle.cryptogram_in.specs.Cryptogram.{application_cryptogram}
 use Rattle.key_derive.specs.declared.card.CardKeys.{CardKeys}
 use Rattle.card_history.specs.Records.{card_of}
 use Rattle.card_history.specs.Scripts.{Scripts, scripts_of}
@@ -30,8 +29,3 @@ pub record IsMade (method : Method) (keys : CardKeys) (scripts : Scripts) (reque
 pub record MayFollow (method : Method) (keys : CardKeys) (history : List Entry) (request : Request) (reply : Reply) : Type 0 where
   pub unused : IsUnused (decided_for request history) request
   pub made : IsMade method keys (scripts_of (card_of request) history) request reply
-
--- besides, the request's cryptogram is the card's
-pub record IsAccepted (method : Method) (keys : CardKeys) (history : List Entry) (request : Request) (reply : Reply) : Type 0 where
-  pub has_valid_ac : request.ac ≡ application_cryptogram keys.ac.0 request
-  pub follows : MayFollow method keys history request reply

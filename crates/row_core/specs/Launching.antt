@@ -1,10 +1,10 @@
 -- How the decision of a request on the newest ATC changes what a row holds of its card's scripts.
-use Rattle.std.specs.Prelude.{◌≡◌, ℕ, ◌+◌, ◌≤◌, if◌then◌else◌, List, length, take, drop, Some, None}
+use Rattle.std.specs.Prelude.{◌≡◌, ℕ, ◌+◌, ◌≤◌, if◌then◌else◌, true, false, List, length, take, drop, Option, Some, None}
 use Rattle.issuer_base.specs.ScriptTemplate.{template_size}
 use Rattle.issuer_base.specs.declared.limits.TheConstants.{MAX_TEMPLATE_BYTES}
 use Rattle.issuer_base.specs.declared.command.Command.{Command}
 use Rattle.issuer_base.specs.declared.request.Request.{Request}
-use Rattle.card_history.specs.Scripts.{Scripts, in_flight, with_newest, with_decision}
+use Rattle.card_history.specs.Scripts.{Scripts, in_flight, is_newest, with_newest, with_decision}
 use Rattle.row_core.specs.CardRow.{CardRow, KeptScripts, kept_of, KeepsScripts}
 use Rattle.row_core.specs.declared.scripts.Launch.{Launch}
 
@@ -29,6 +29,11 @@ pub record IsLaunch (kept : KeptScripts) (request : Request) (launch : Launch) :
       → kept_of (with_newest request scripts) ≡ launched_from kept request.atc launch
   pub batch : (scripts : Scripts) → kept ≡ kept_of scripts → scripts.done ≤ length scripts.queue
       → in_flight (with_newest request scripts) ≡ carried kept launch
+
+-- what the decision of this request begins: a launch if its ATC is the newest, else nothing
+abbrev pub IsLaunchFor : CardRow → Request → Option Launch → Type 0
+IsLaunchFor row request None = is_newest request.atc row.hi ≡ false
+IsLaunchFor row request (Some launch) = (is_newest request.atc row.hi ≡ true) × IsLaunch row.scripts request launch
 
 -- what a row holds changes by the decision of this request, except its slots
 pub record TakesOff (before after : CardRow) (request : Request) : Type 0 where

@@ -9,64 +9,24 @@ ghost use Rattle.key_derive.specs.SessionKey.{session_ac};
 ghost use Rattle.issuer_setup.specs.declared.card.CardInfo.{CardInfo};
 ghost use Rattle.issuer_setup.specs.CardList.{name_of};
 ghost use Rattle.row_core.specs.CardRow.{KeepsWindow, KeepsScripts, StandsFor};
-ghost use Rattle.row_core.specs.Accepting.{told_update, says_approval, IsMade, MayFollow, IsAccepted};
+ghost use Rattle.row_core.specs.Accepting.{told_update, says_approval, IsMade, MayFollow};
+ghost use Rattle.row_core.specs.Launching.{IsLaunchFor};
 
 use crate::row::Row;
+use crate::scripts::Launch;
 use arrayvec::ArrayVec;
-use cryptogram_in::holds_under;
 use issuer_base::{Method, Reply, Request};
-use key_derive::{CardKeys, LazyKeys, SessionKey};
+use key_derive::{LazyKeys, SessionKey};
 use reply_keep::KeptEntry;
 
 impl Row {
-    /// Whether a decision with this reply may be recorded next: the request's cryptogram is the card's, its ATC is in
-    /// the window and unused, and the reply is one that the issuer makes, whatever its decision table was.
+    /// Adopts a recorded decision, whose record is at this index of the card's shard, if it may be recorded next: its
+    /// ATC is in the window and unused, and the reply is one that the issuer makes, whatever its decision table was.
+    /// Returns whether it did.
     ///
-    /// `keys` are the card's master keys from the key set of the request. Derives the session key for cryptograms.
-    pub fn accepts(&self, keys: &CardKeys, request: &Request, reply: &Reply) -> bool
-        ensures exact { (card : CardInfo) (history : List Entry) → StandsFor card self.now history
-            → card_of request.now ≡ name_of card
-            → (IsTrue result ↔ IsAccepted card.method keys.now history request.now reply.now) }
-    {
-        let session = SessionKey::for_cryptograms(&keys.ac, request.parts().atc);
-        let keys = LazyKeys::from(*keys);
-        holds_under(&session, request) && self.accepts_under(&session, &keys, request, reply)
-    }
-
-    /// As `accepts`, of a request whose cryptogram was checked, under the session key for cryptograms of its transaction.
-    pub fn accepts_under(
-        &self,
-        session: &SessionKey,
-        keys: &LazyKeys,
-        request: &Request,
-        reply: &Reply,
-    ) -> bool
-        requires { session.now ≡ session_ac keys.now.ac.0 request.now.atc }
-        ensures exact { (card : CardInfo) (history : List Entry) → StandsFor card self.now history
-            → card_of request.now ≡ name_of card
-            → (IsTrue result ↔ MayFollow card.method keys.now history request.now reply.now) }
-    {
-        self.is_unused(request) && self.is_made(session, keys, request, reply)
-    }
-
-    /// Adopts a recorded decision, whose record is at this index of the card's shard, if `accepts` allows it. Returns
-    /// whether it did.
-    pub fn adopt(&mut self, keys: &CardKeys, request: Request, reply: Reply, place: u64) -> bool
-        ensures exact { (card : CardInfo) (history : List Entry) → StandsFor card self.old history
-            → card_of request ≡ name_of card
-            → (IsTrue result ↔ IsAccepted card.method keys.now history request reply) }
-        ensures adopted { IsTrue result → (card : CardInfo) (history : List Entry) → StandsFor card self.old history
-            → card_of request ≡ name_of card → place ≡ length history
-            → StandsFor card self.new (history ++ Entry.Decided request reply ∷ []) }
-        ensures unchanged { result ≡ false → self.new ≡ self.old }
-    {
-        let session = SessionKey::for_cryptograms(&keys.ac, request.parts().atc);
-        let keys = LazyKeys::from(*keys);
-        holds_under(&session, &request) && self.adopt_under(&session, &keys, request, reply, place)
-    }
-
-    /// As `adopt`, of a request whose cryptogram was checked, under the session key for cryptograms of its transaction.
-    pub fn adopt_under(
+    /// The request's cryptogram was checked under `session`, the session key for the cryptograms of its transaction.
+    /// `keys` are the card's master keys from the key set of the request.
+    pub fn adopt(
         &mut self,
         session: &SessionKey,
         keys: &LazyKeys,
@@ -83,11 +43,30 @@ impl Row {
             → StandsFor card self.new (history ++ Entry.Decided request reply ∷ []) }
         ensures unchanged { result ≡ false → self.new ≡ self.old }
     {
-        if !self.accepts_under(session, keys, &request, &reply) {
+        let launch = self.launch(&request);
+        if !self.accepts(session, keys, &request, launch, &reply) {
             return false;
         }
-        self.apply(&request, &reply, place);
+        self.apply(&request, &reply, launch, place);
         true
+    }
+
+    /// Whether a decision with this reply may be recorded next. `launch` is that of the reply's batch.
+    fn accepts(
+        &self,
+        session: &SessionKey,
+        keys: &LazyKeys,
+        request: &Request,
+        launch: Option<Launch>,
+        reply: &Reply,
+    ) -> bool
+        requires session { session.now ≡ session_ac keys.now.ac.0 request.now.atc }
+        requires launch { IsLaunchFor self.now request.now launch }
+        ensures exact { (card : CardInfo) (history : List Entry) → StandsFor card self.now history
+            → card_of request.now ≡ name_of card
+            → (IsTrue result ↔ MayFollow card.method keys.now history request.now reply.now) }
+    {
+        self.is_unused(request) && self.is_made(session, keys, request, launch, reply)
     }
 
     /// Whether the request's ATC is in the window and unused.
@@ -104,9 +83,11 @@ impl Row {
         session: &SessionKey,
         keys: &LazyKeys,
         request: &Request,
+        launch: Option<Launch>,
         reply: &Reply,
     ) -> bool
-        requires { session.now ≡ session_ac keys.now.ac.0 request.now.atc }
+        requires session { session.now ≡ session_ac keys.now.ac.0 request.now.atc }
+        requires launch { IsLaunchFor self.now request.now launch }
         ensures { (scripts : Scripts) → KeepsScripts self.now scripts
             → (IsTrue result ↔ IsMade self.now.method keys.now scripts request.now reply.now) }
     {
@@ -115,7 +96,9 @@ impl Row {
             return false;
         }
         let mut bytes = ArrayVec::new();
-        self.write_reply(&mut bytes, session, keys, request, reply.arc, update);
+        self.write_reply(
+            &mut bytes, session, keys, request, launch, reply.arc, update,
+        );
         bytes == reply.bytes
     }
 }

@@ -8,3 +8,4 @@ mod scripts;
 
 pub use issuer_setup::{CardInfo, Cards, CardsFault, Issuer, IssuerFault, KeySets, ShardCount};
 pub use row::{Outcome, Row};
+pub use scripts::Launch;

@@ -5,7 +5,7 @@ ghost use Rattle.issuer_base.specs.ScriptTemplate.{template_size};
 ghost use Rattle.tlv_objects.specs.Writing.{is_tag_number, object_text};
 ghost use Rattle.row_core.specs.Replying.{answer_bytes, script_bytes};
 
-use arpc_methods::value91_under;
+use arpc_methods::value91;
 use arrayvec::ArrayVec;
 use issuer_base::{Command, MAX_TEMPLATE_BYTES, Method, Request};
 use key_derive::{LazyKeys, SessionKey, session_sm};
@@ -34,7 +34,7 @@ pub(crate) fn write_answer(
     ensures some { 1 ≤ length bytes.new.items }
 {
     let application_cryptogram = &request.parts().ac;
-    let value = value91_under(method, session.cipher(), application_cryptogram, arc, csu);
+    let value = value91(method, session.cipher(), application_cryptogram, arc, csu);
     write(bytes, RESPONSE_CODE, &arc);
     write(bytes, AUTHENTICATION_DATA, value.as_slice());
 }

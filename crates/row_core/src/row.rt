@@ -13,12 +13,12 @@ ghost use Rattle.issuer_setup.specs.CardList.{name_of};
 ghost use Rattle.issuer_setup.specs.declared.card.CardInfo.{CardInfo};
 ghost use Rattle.row_core.specs.CardRow.{KeepsWindow, KeepsScripts, StandsFor};
 ghost use Rattle.row_core.specs.Known.{IsKnown};
-ghost use Rattle.row_core.specs.Launching.{TakesOff};
+ghost use Rattle.row_core.specs.Launching.{IsLaunch, IsLaunchFor, TakesOff};
 ghost use Rattle.row_core.specs.Replying.{script_bytes, reply_bytes, decided_reply};
-ghost use Rattle.row_core.specs.Plan.{IsPlan, StandsAt, IsNext, with_record, with_command_for, with_status_for};
+ghost use Rattle.row_core.specs.Plan.{IsPlan, IsStep, IsStepped, IsNext, with_record, with_command_for, with_status_for};
 
 use crate::reply::{write_answer, write_scripts};
-use crate::scripts::CardScripts;
+use crate::scripts::{CardScripts, Launch};
 use arrayvec::ArrayVec;
 use card_history::CardView;
 use cvr_settle::Flight;
@@ -27,7 +27,7 @@ use issuer_base::{
     Command, MAX_REPLY_BYTES, MAX_STATUS, MAX_TEMPLATE_BYTES, Method, NoMemory, QueueFull, Reply,
     Request, WINDOW,
 };
-use key_derive::{CardKeys, LazyKeys, SessionKey};
+use key_derive::{LazyKeys, SessionKey};
 use reply_keep::{Kept, KeptEntry};
 use script_queue::Queue;
 use std::alloc::Global;
@@ -36,8 +36,9 @@ use std::marker::Model;
 /// The plan for a request of the row's card.
 #[derive(Drop)]
 pub enum Outcome<'a> {
-    /// Its ATC is in the window and unused: the reply that the table decides, and the index of its record.
-    Fresh(Reply, u64),
+    /// Its ATC is in the window and unused: the reply that the table decides, and the launch of the reply's batch if the
+    /// ATC is the newest.
+    Fresh(Reply, Option<Launch>),
 
     /// The request was decided before: its reply, borrowed from the row, and the index of its record.
     Kept(&'a Reply, u64),
@@ -160,49 +161,38 @@ impl Row {
 
     /// The plan for a request of the row's card: one turn's answer to it.
     ///
-    /// `keys` are the card's master keys from the key set of the request, and `place` is the index of the next
-    /// record of the card's shard. Derives the session key for cryptograms if the request is decided now.
-    pub fn plan(&self, keys: &CardKeys, table: &Table, request: &Request, place: u64) -> Outcome<'_>
-        ensures { IsPlan self.now keys.now table.now request.now place result }
-    {
-        if let Some(outcome) = self.known(request) {
-            return outcome;
-        }
-        let session = SessionKey::for_cryptograms(&keys.ac, request.parts().atc);
-        self.decide(&session, &LazyKeys::from(*keys), table, request, place)
-    }
-
-    /// As `plan`, under the session key for the cryptograms of the request's transaction. The card's key for secure
-    /// messaging is used only if the reply carries a command.
+    /// `session` is the session key for the cryptograms of the request's transaction. `keys` are the card's master keys
+    /// from the key set of the request; the one for secure messaging is used only if the reply carries a command.
     #[inline(always)]
-    pub fn plan_under(
+    pub fn plan(
         &self,
         session: &SessionKey,
         keys: &LazyKeys,
         table: &Table,
         request: &Request,
-        place: u64,
     ) -> Outcome<'_>
         requires { session.now ≡ session_ac keys.now.ac.0 request.now.atc }
-        ensures plan { IsPlan self.now keys.now table.now request.now place result }
+        ensures plan { IsPlan self.now keys.now table.now request.now result }
 
-        // Whatever history the row stands for, a planned record has this index, and its reply has a byte.
-        ensures some { StandsAt place result }
+        // Whatever history the row stands for, a planned reply is whole, and its launch is that of this row.
+        ensures step { IsStepped self.now request.now result }
     {
         if let Some(outcome) = self.known(request) {
             return outcome;
         }
-        self.decide(session, keys, table, request, place)
+        let (reply, launch) = self.decide(session, keys, table, request);
+        Outcome::Fresh(reply, launch)
     }
 
-    /// Applies the decision that a plan on this row, unchanged since, gave for this request. Its record is at this
-    /// index; its reply begins a new flight on a newest ATC.
-    pub fn apply(&mut self, request: &Request, reply: &Reply, place: u64)
+    /// Applies the decision that a plan on this row, unchanged since, gave for this request: its reply, with the launch
+    /// of its batch. Its record is at this index.
+    pub fn apply(&mut self, request: &Request, reply: &Reply, launch: Option<Launch>, place: u64)
+        requires { IsLaunchFor self.old request.now launch }
         ensures { (card : CardInfo) (history : List Entry) → StandsFor card self.old history
             → IsNext card history (record { request = request.now; reply = reply.now; place = place })
             → StandsFor card self.new (with_record history (record { request = request.now; reply = reply.now; place = place })) }
     {
-        self.take_off(request);
+        self.take_off(request, launch);
         self.kept.keep(KeptEntry {
             request: request.copy(),
             reply: reply.copy(),
@@ -232,20 +222,32 @@ impl Row {
         self.status = status;
     }
 
+    /// The launch of the reply to a request that is decided, if its ATC is the newest.
+    #[inline(always)]
+    pub(crate) fn launch(&self, request: &Request) -> Option<Launch>
+        ensures { IsLaunchFor self.now request.now result }
+    {
+        if is_newest(request.parts().atc, self.hi) {
+            Some(self.scripts.launch(request))
+        } else {
+            None
+        }
+    }
+
     /// Settles the old flight and begins that of the reply to a decided request, if its ATC is the newest.
-    fn take_off(&mut self, request: &Request)
+    fn take_off(&mut self, request: &Request, launch: Option<Launch>)
+        requires { IsLaunchFor self.old request.now launch }
         ensures { TakesOff self.old self.new request.now }
     {
-        let counter = request.parts().atc;
-        if !is_newest(counter, self.hi) {
+        let Some(launch) = launch else {
             return;
-        }
-        let launch = self.scripts.launch(request);
+        };
+        let counter = request.parts().atc;
         self.scripts.apply(counter, launch);
         self.hi = Some(counter);
     }
 
-    /// The plan for a request with an unused ATC.
+    /// The reply to a request with an unused ATC, and the launch of its batch.
     #[inline(always)]
     fn decide(
         &self,
@@ -253,44 +255,54 @@ impl Row {
         keys: &LazyKeys,
         table: &Table,
         request: &Request,
-        place: u64,
-    ) -> Outcome<'_>
+    ) -> (Reply, Option<Launch>)
         requires { session.now ≡ session_ac keys.now.ac.0 request.now.atc }
         ensures reply { (scripts : Scripts) → KeepsScripts self.now scripts
-            → let reply = decided_reply self.now.method keys.now table.now scripts self.now.status request.now in
-            result ≡ Outcome.Fresh reply place }
-        ensures some { StandsAt place result }
+            → result.0 ≡ decided_reply self.now.method keys.now table.now scripts self.now.status request.now }
+        ensures step { IsStep self.now request.now result.0 result.1 }
     {
         let row = decide(table, self.status, request);
+        let launch = self.launch(request);
         let mut reply = Reply {
             arc: row.arc,
             approve: row.approve,
             bytes: ArrayVec::new(),
         };
-        self.write_reply(&mut reply.bytes, session, keys, request, row.arc, row.csu);
-        Outcome::Fresh(reply, place)
+        self.write_reply(
+            &mut reply.bytes,
+            session,
+            keys,
+            request,
+            launch,
+            row.arc,
+            row.csu,
+        );
+        (reply, launch)
     }
 
     /// Writes what goes to the card with this response code and, by method 2, this card status update, into empty
-    /// bytes.
+    /// bytes: the issuer's answer, and the batch of the launch.
     pub(crate) fn write_reply(
         &self,
         bytes: &mut ArrayVec<u8, MAX_REPLY_BYTES>,
         session: &SessionKey,
         keys: &LazyKeys,
         request: &Request,
+        launch: Option<Launch>,
         arc: [u8; 2],
         csu: [u8; 4],
     )
         requires empty { bytes.old.items ≡ [] }
         requires session { session.now ≡ session_ac keys.now.ac.0 request.now.atc }
+        requires launch { IsLaunchFor self.now request.now launch }
         ensures bytes { (scripts : Scripts) → KeepsScripts self.now scripts
             → bytes.new.items ≡ reply_bytes self.now.method keys.now scripts request.now arc csu }
         ensures some { 1 ≤ length bytes.new.items }
+        ensures code { length arc ≡ 2 }
     {
         write_answer(bytes, self.method, session, request, arc, csu);
-        if is_newest(request.parts().atc, self.hi) {
-            self.write_batch(bytes, keys, request);
+        if let Some(launch) = launch {
+            self.write_batch(bytes, keys, request, launch);
         }
     }
 
@@ -300,14 +312,15 @@ impl Row {
         bytes: &mut ArrayVec<u8, MAX_REPLY_BYTES>,
         keys: &LazyKeys,
         request: &Request,
+        launch: Launch,
     )
-        requires { length bytes.old.items + MAX_TEMPLATE_BYTES ≤ MAX_REPLY_BYTES }
+        requires room { length bytes.old.items + MAX_TEMPLATE_BYTES ≤ MAX_REPLY_BYTES }
+        requires launch { IsLaunch self.now.scripts request.now launch }
         ensures batch { (scripts : Scripts) → KeepsScripts self.now scripts
             → let batch = in_flight (with_newest request.now scripts) in
             bytes.new.items ≡ bytes.old.items ++ script_bytes keys.now.smi.0 request.now.ac (first_of request.now scripts) batch }
         ensures longer { length bytes.old.items ≤ length bytes.new.items }
     {
-        let launch = self.scripts.launch(request);
         let first = self.scripts.first_number(launch);
         let (front, back) = self.scripts.batch(launch);
         write_scripts(bytes, keys, &request.parts().ac, first, front, back);
@@ -318,7 +331,7 @@ impl Row {
     pub(crate) fn known(&self, request: &Request) -> Option<Outcome<'_>>
         ensures known { (decisions : List Decision) → self.now.hi ≡ greatest decisions → KeepsWindow self.now.slots decisions
             → MatchOption result (IsUnused decisions request.now) (IsKnown decisions request.now) }
-        ensures not_fresh { (place : ℕ) → IfSome result (StandsAt place) }
+        ensures not_fresh { IfSome result (IsStepped self.now request.now) }
     {
         let counter = request.parts().atc;
         if let Some(top) = top_above(self.hi, counter) {

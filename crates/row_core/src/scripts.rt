@@ -14,7 +14,7 @@ use std::marker::Model;
 
 /// How the decision of a request on the newest ATC changes a card's scripts.
 #[derive(Clone, Copy)]
-pub(crate) struct Launch {
+pub struct Launch {
     /// How many of the first undone commands the card ran.
     pub(crate) ran: u8,
 

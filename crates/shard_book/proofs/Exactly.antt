@@ -1,6 +1,6 @@
 -- A text of records has one reading: which history a text loads as, and that a legal one is loaded.
 use Rattle.std.proofs.Common.{◌≡◌, ◌≢◌, ◌⊎◌, ◌<◌, ◌≤◌, ℕ, List, [], ◌∷◌, ◌++◌, length, take, refl, sym, ap, ap₂, subst, ◌∙◌, inl, inr, ⊎_elim, arith}
-use Rattle.std.proofs.Common.{true, false, Option, None, Some, Result, Ok, Err, IfOk, IfErr, IfSome, MatchResult, IsTrue, All}
+use Rattle.std.proofs.Common.{true, false, Option, None, Some, Result, Ok, Err, IfOk, IfErr, IfSome, MatchResult, All}
 use Rattle.std.proofs.Common.{append_assoc, append-nil, length-append}
 use Rattle.std.proofs.lemmas.Bool.{cases_lt}
 use Rattle.std.proofs.lemmas.List.{take_all, take-append-le}
@@ -11,8 +11,6 @@ use Rattle.issuer_base.specs.Tells.{Tells}
 use Rattle.issuer_base.specs.declared.entry.Entry.{Entry}
 use Rattle.issuer_base.specs.declared.outside.store.Store.{Ghosts}
 use Rattle.card_history.specs.LegalRecords.{IsLegal}
-use Rattle.decision_table.specs.declared.row.TableRow.{TableRow}
-use Rattle.decision_table.specs.Tables.{is_table}
 use Rattle.issuer_setup.specs.IssuerSetup.{Setup}
 use Rattle.journal_rec.specs.Record.{IsRecord}
 use Rattle.journal_rec.specs.RecordText.{newline, text_of, texts_of, IsUnbroken}
@@ -24,7 +22,7 @@ use Rattle.shard_book.specs.declared.replay.LoadFault.TheVariants.{BadLine, BadR
 use Rattle.shard_book.specs.declared.replay.Taken.{Taken}
 use Rattle.shard_book.specs.declared.shard.Shard.{Shard}
 use Rattle.shard_book.specs.declared.shard.LoadBack.{LoadBack}
-use Rattle.shard_book.specs.Grounds.{HasTable, grounds_of}
+use Rattle.shard_book.specs.Grounds.{grounds_of}
 use Rattle.shard_book.specs.Loading.{IsOutside, StopsAt, StopsText, ReadsText, is_store_failure}
 use Rattle.shard_book.specs.ShardRows.{ShardRows, StandsFor as RowsStandFor}
 use Rattle.shard_book.specs.Shards.{IsCutToText, IsImageLeft, IsLoaded, IsSettled, IsTextOf, LeavesBytes, LeavesDisk, StandsFor, StandsForLeft}
@@ -308,14 +306,6 @@ pub memory-apart : {X : Type 0} → StoreFault ≡ NoMemory → X
 memory-apart same = absurd (cc)
 
 -- ---- what is opened
-
--- a table whose rows were looked at
-pub has-table : (issuer : Setup) (table rows : List TableRow) → table ≡ issuer.table → rows ≡ table → IsTrue (is_table table)
-    → All (λ row. length row.csu ≡ 4) rows → HasTable issuer
-has-table issuer table rows table_is rows_are valid updates = record {
-  table = subst (λ (rows : List TableRow). IsTrue (is_table rows)) table_is valid;
-  updates = subst (All (λ (row : TableRow). length row.csu ≡ 4)) (rows_are ∙ table_is) updates;
-}
 
 module _ {S : Type 0} {G : Ghosts S} (issuer : Setup) (shard : ℕ) (bytes mid : Option (List ℕ)) (rows : ShardRows) (taken : Taken)
     (reads : ReadsText issuer shard bytes rows taken) where

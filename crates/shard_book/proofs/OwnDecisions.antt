@@ -1,10 +1,7 @@
 -- The issuer's own decision is a reply that it makes for its response code: what a run records, a later run replays.
-use Rattle.std.proofs.Common.{◌≡◌, ◌≤◌, ℕ, true, List, [], ◌∷◌, ◌++◌, length, refl, sym, ap, subst, ◌∙◌, arith}
-use Rattle.std.proofs.Common.{Option, None, Some, All}
-use Rattle.std.proofs.lemmas.List.Sums.{AllPass-from_list_all}
+use Rattle.std.proofs.Common.{◌≡◌, ◌≤◌, ℕ, true, List, [], ◌∷◌, ◌++◌, length, ◌==◌, refl, sym, ap, subst, ◌∙◌, arith}
+use Rattle.std.proofs.Common.{Option, None, Some}
 use Rattle.std.proofs.lemmas.Bool.{and_parts, leb-true}
-use Rattle.std.proofs.lemmas.Option.{slice_get_within, get_or_from_slice_get}
-use Rattle.std.specs.List.{slice_get}
 use Rattle.std.specs.Option.{option_map_or}
 use Rattle.issuer_base.specs.declared.answer.Method.{Method}
 use Rattle.issuer_base.specs.declared.answer.Method.TheVariants.{One, Two}
@@ -19,8 +16,8 @@ use Rattle.arpc_methods.specs.Arpc.{method2, value91}
 use Rattle.arpc_methods.proofs.Lengths.{length-method2}
 use Rattle.decision_table.specs.declared.row.TableRow.{TableRow}
 use Rattle.decision_table.specs.Fitting.{decision}
-use Rattle.decision_table.specs.Tables.{is_table, tells_approval}
-use Rattle.decision_table.proofs.DecisionLemmas.{decides}
+use Rattle.decision_table.specs.Tables.{tells_approval}
+use Rattle.decision_table.proofs.DecisionLemmas.{decision-tells, tells-update}
 use Rattle.card_history.specs.LegalRecords.{IsLegal}
 use Rattle.card_history.specs.Records.{card_of, status_of}
 use Rattle.card_history.specs.Scripts.{Scripts, scripts_of, batch_of, first_of}
@@ -30,7 +27,7 @@ use Rattle.issuer_setup.proofs.CardListLemmas.{number_of-found}
 use Rattle.row_core.specs.Accepting.{IsMade, told_update, says_approval}
 use Rattle.row_core.specs.Replying.{script_bytes, reply_bytes, reply_by, reply_by_row, reply_of_card, no_reply}
 use Rattle.journal_rec.specs.Record.{IsRecord}
-use Rattle.shard_book.specs.Grounds.{HasTable, IsMadeBy, grounds_now, grounds_of}
+use Rattle.shard_book.specs.Grounds.{IsMadeBy, grounds_now, grounds_of}
 
 -- ---- the bytes of a reply
 
@@ -80,59 +77,50 @@ told-update arc mac csu scripts arc_long mac_long csu_long =
     ∙ told-fours two.a two.b first.a first.b first.c first.d last.a last.b last.c last.d scripts
     ∙ sym last.is
 
-module _ (keys : CardKeys) (scripts : Scripts) (request : Request) (row : TableRow) (arc_long : length row.arc ≡ 2) (csu_long : length row.csu ≡ 4)
+module _ (keys : CardKeys) (scripts : Scripts) (request : Request) (row : TableRow) (arc_long : length row.arc ≡ 2)
     (told : tells_approval row ≡ true) where
   bytes-by : Method → List ℕ
   bytes-by method = reply_bytes method keys scripts request row.arc row.csu
 
-  tells-update : told_update (bytes-by Two) ≡ row.csu
+  update-told : told_update (bytes-by Two) ≡ row.csu
   unfolding bytes-by value91 told-of
-  tells-update =
+  update-told =
       told-update row.arc (method2 (session_ac keys.ac.0 request.atc) request.ac row.csu) row.csu
       (script_bytes keys.smi.0 request.ac (first_of request scripts) (batch_of request scripts)) arc_long
-      (length-method2 (session_ac keys.ac.0 request.atc) request.ac row.csu) csu_long
+      (length-method2 (session_ac keys.ac.0 request.atc) request.ac row.csu) (tells-update row told)
 
   approval-told : says_approval row.csu ≡ row.approve
   unfolding tells_approval
-  approval-told = grind (arith, told)
+  approval-told = let said = (and_parts (length row.csu == 4) _ told).1 in grind (arith, said)
 
   -- the reply by a row is made for its response code
   pub row-made : (method : Method) → IsMade method keys scripts request (reply_by_row method keys scripts request row)
   unfolding bytes-by value91
   row-made One = record { bytes_are = refl; agrees = λ two. let no : One ≡ Two = two in absurd (cc) }
   row-made Two = record {
-    bytes_are = ap (λ csu. reply_bytes Two keys scripts request row.arc csu) (sym tells-update);
-    agrees = λ two. ap says_approval tells-update ∙ approval-told;
+    bytes_are = ap (λ csu. reply_bytes Two keys scripts request row.arc csu) (sym update-told);
+    agrees = λ two. ap says_approval update-told ∙ approval-told;
   }
 
 -- ---- the issuer's decision
 
--- the first row that fits is one of a table
-row-known : (rows : List TableRow) (P : TableRow → Type 0) → All P rows → (place : ℕ) (row : TableRow) → slice_get rows place ≡ Some row → P row
-row-known rows P all place row at =
-    subst P (get_or_from_slice_get rows place row row at) (all place row (slice_get_within rows place row at))
-
-decided-made : (issuer : Setup) (card : CardInfo) (keys : CardKeys) (before : List Entry) (request : Request) (reply : Reply) (found : Option TableRow)
-    → HasTable issuer → decision issuer.table (status_of (card_of request) before) request ≡ found → IsRecord (Decided request reply)
+-- the reply of the row that decides is made for its response code
+pub decided-made : (issuer : Setup) (card : CardInfo) (keys : CardKeys) (before : List Entry) (request : Request) (reply : Reply) (found : Option TableRow)
+    → decision issuer.table (status_of (card_of request) before) request ≡ found → 1 ≤ length reply.bytes.items → length reply.arc ≡ 2
     → reply ≡ option_map_or (reply_by_row card.method keys (scripts_of (card_of request) before) request) found no_reply
     → IsMade card.method keys (scripts_of (card_of request) before) request reply
-unfolding is_table
-decided-made issuer card keys before request reply None table is valid made =
+decided-made issuer card keys before request reply None is some code made =
     let empty : length reply.bytes.items ≡ 0 = ap (λ (reply : Reply). length reply.bytes.items) made in
-    let some : 1 ≤ length reply.bytes.items = leb-true 1 (length reply.bytes.items) valid.may_stand in
     absurd (omega (arith, empty, some))
-decided-made issuer card keys before request reply (Some row) table is valid made =
-    let at = decides issuer.table (status_of (card_of request) before) request row is in
-    let tells = row-known issuer.table (λ (row : TableRow). tells_approval row ≡ true)
-    (AllPass-from_list_all tells_approval issuer.table (and_parts _ _ table.table).0) at.place row at.stands in
-    let whole = row-known issuer.table (λ (row : TableRow). length row.csu ≡ 4) table.updates at.place row at.stands in
-    let arc : length row.arc ≡ 2 = ap (λ (reply : Reply). length reply.arc) (sym made) ∙ valid.held.1.arc_size in
+decided-made issuer card keys before request reply (Some row) is some code made =
+    let tells = decision-tells issuer.table (status_of (card_of request) before) request row is in
+    let arc : length row.arc ≡ 2 = ap (λ (reply : Reply). length reply.arc) (sym made) ∙ code in
     subst (IsMade card.method keys (scripts_of (card_of request) before) request) (sym made)
-    (row-made keys (scripts_of (card_of request) before) request row arc whole tells card.method)
+    (row-made keys (scripts_of (card_of request) before) request row arc tells card.method)
 
-own-made : (issuer : Setup) → HasTable issuer → (shard : ℕ) (before : List Entry) (request : Request) (reply : Reply) → IsRecord (Decided request reply)
+own-made : (issuer : Setup) (shard : ℕ) (before : List Entry) (request : Request) (reply : Reply) → IsRecord (Decided request reply)
     → IsLegal (grounds_now issuer) shard before (Decided request reply) → IsMadeBy issuer before request reply
-own-made issuer table shard before request reply valid legal =
+own-made issuer shard before request reply valid legal =
     let keyed = legal.has_its_keys in
     let number_is = keyed.number_is in
     let known = number_of-found (card_of request) issuer.cards keyed.number number_is in
@@ -148,22 +136,22 @@ own-made issuer table shard before request reply valid legal =
       card_is = known.1;
       keys_are = keyed.keys_are;
       made =
-          decided-made issuer known.0 keyed.keys before request reply (decision issuer.table (status_of (card_of request) before) request) table refl valid
-          made;
+          decided-made issuer known.0 keyed.keys before request reply (decision issuer.table (status_of (card_of request) before) request) refl
+          (leb-true 1 (length reply.bytes.items) valid.may_stand) valid.held.1.arc_size made;
     }
 
 -- a record that may come next in this run may come next when it is loaded again
-pub legal-then : (issuer : Setup) → HasTable issuer → (shard : ℕ) (before : List Entry) (entry : Entry) → IsRecord entry
+pub legal-then : (issuer : Setup) (shard : ℕ) (before : List Entry) (entry : Entry) → IsRecord entry
     → IsLegal (grounds_now issuer) shard before entry → IsLegal (grounds_of issuer) shard before entry
-legal-then issuer table shard before (Decided request reply) valid legal = record {
+legal-then issuer shard before (Decided request reply) valid legal = record {
   of_a_card = legal.of_a_card;
   is_for_a_cryptogram_request = legal.is_for_a_cryptogram_request;
   has_its_keys = legal.has_its_keys;
   has_valid_ac = legal.has_valid_ac;
   unrecorded = legal.unrecorded;
   in_window = legal.in_window;
-  is_the_issuers_reply = own-made issuer table shard before request reply valid legal;
+  is_the_issuers_reply = own-made issuer shard before request reply valid legal;
 }
-legal-then issuer table shard before (Queued pan psn command) valid legal =
+legal-then issuer shard before (Queued pan psn command) valid legal =
     record { of_a_card = legal.of_a_card; form = legal.form; room = legal.room }
-legal-then issuer table shard before (Status pan psn status) valid legal = record { of_a_card = legal.of_a_card; within = legal.within }
+legal-then issuer shard before (Status pan psn status) valid legal = record { of_a_card = legal.of_a_card; within = legal.within }

@@ -20,7 +20,7 @@ use Rattle.journal_rec.specs.RecordText.{newline, text_of, texts_of, IsUnbroken}
 use Rattle.journal_rec.proofs.TextLaws.{texts_of-one_reading}
 use Rattle.line_checks.specs.RequestFacts.{HasItsKeys}
 use Rattle.record_store.specs.Images.{IsCutImage}
-use Rattle.shard_book.specs.Grounds.{HasTable, IsCardOfShard, IsMadeBy, IsImageOf, IsTail, grounds_now, grounds_of}
+use Rattle.shard_book.specs.Grounds.{IsCardOfShard, IsMadeBy, IsImageOf, IsTail, grounds_now, grounds_of}
 use Rattle.shard_book.specs.Histories.{GoesOn, IsImageBetween}
 use Rattle.shard_book.specs.Restarts.{IsHeld, LoadsBetween, LoadsPrefix, with_table}
 use Rattle.shard_book.specs.Shards.{IsCutToText, IsLoadImage, IsTextOf}
@@ -92,27 +92,27 @@ module _ (issuer : Setup) (table : List TableRow) where
   same-history shard history legal place entry at = same-legal shard (take place history) entry (legal place entry at)
 
   -- and so is one of this run
-  own-tail : HasTable issuer → (shard : ℕ) (history : List Entry) (tail : List ℕ) → IsTail (grounds_now issuer) shard history tail
+  own-tail : (shard : ℕ) (history : List Entry) (tail : List ℕ) → IsTail (grounds_now issuer) shard history tail
       → IsTail (grounds_of (with_table issuer table)) shard history tail
-  own-tail has shard history tail = ⊎_elim (λ (none : tail ≡ []). inl none)
+  own-tail shard history tail = ⊎_elim (λ (none : tail ≡ []). inl none)
       (λ (one : (entry : Entry) × IsRecord entry × IsLegal (grounds_now issuer) shard history entry × (tail ≡ text_of entry)).
-      inr (one.0, one.1, same-legal shard history one.0 (legal-then issuer has shard history one.0 one.1 one.2), one.3))
+      inr (one.0, one.1, same-legal shard history one.0 (legal-then issuer shard history one.0 one.1 one.2), one.3))
 
-  own-image : HasTable issuer → (shard : ℕ) (history : List Entry) (image : List ℕ) → IsImageOf (grounds_now issuer) shard history image
+  own-image : (shard : ℕ) (history : List Entry) (image : List ℕ) → IsImageOf (grounds_now issuer) shard history image
       → IsImageOf (grounds_of (with_table issuer table)) shard history image
-  own-image has shard history image its = (its.0, own-tail has shard history its.0 its.1, its.2)
+  own-image shard history image its = (its.0, own-tail shard history its.0 its.1, its.2)
 
 -- what a crash may leave of a shard that answers is what a load takes
-pub loads-between : (issuer : Setup) (shard : ℕ) (first last : List Entry) (image : List ℕ) → HasTable issuer → IsHeld issuer shard last
+pub loads-between : (issuer : Setup) (shard : ℕ) (first last : List Entry) (image : List ℕ) → IsHeld issuer shard last
     → IsImageBetween issuer shard first last image → LoadsBetween issuer shard first last image
-loads-between issuer shard first last image has held left = record {
+loads-between issuer shard first last image held left = record {
   between = left.between;
   from_first = left.from_first;
   to_last = left.to_last;
   left = λ table. record {
     image = image;
     told = refl;
-    left = own-image issuer table has shard left.between image left.image_is;
+    left = own-image issuer table shard left.between image left.image_is;
     records = records-prefix left.between last left.to_last held.records;
     legal = same-history issuer table shard left.between (legal-prefix (grounds_of issuer) shard left.between last left.to_last held.legal);
   };

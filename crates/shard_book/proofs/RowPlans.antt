@@ -1,5 +1,6 @@
 -- The plan of a card's row is the answer of its shard.
-use Rattle.std.proofs.Common.{◌≡◌, ℕ, ◌/◌, List, ap, sym, ◌∙◌, Option, Some}
+use Rattle.std.proofs.Common.{◌≡◌, ℕ, ◌/◌, List, length, ap, sym, ◌∙◌, subst, Option, Some}
+use Rattle.std.proofs.lemmas.Option.{same_Some}
 use Rattle.std.specs.List.{slice_get}
 use Rattle.issuer_base.specs.declared.request.Request.{Request}
 use Rattle.issuer_base.specs.declared.answer.Reply.{Reply}
@@ -15,12 +16,14 @@ use Rattle.issuer_setup.specs.IssuerSetup.{Setup, keys_of}
 use Rattle.issuer_setup.proofs.CardListLemmas.{number_of-found}
 use Rattle.row_core.specs.CardRow.{CardRow}
 use Rattle.row_core.specs.declared.row.Outcome.{Outcome}
-use Rattle.row_core.specs.Plan.{answer_of, history_after, IsPlan}
+use Rattle.row_core.specs.declared.row.Outcome.TheVariants.{Fresh, Kept, Below, Taken}
+use Rattle.row_core.specs.Launching.{IsLaunchFor}
+use Rattle.row_core.specs.Plan.{answer_of, history_after, IsPlan, IsStepped}
 use Rattle.row_core.specs.Replying.{reply_after, reply_by, reply_of_card, reply_to}
 use Rattle.line_checks.specs.declared.checked.CheckedRequest.{CheckedRequest}
 use Rattle.line_checks.specs.AtHand.{IsRequestAtHand}
 use Rattle.shard_book.specs.ShardRows.{ShardRows, IsHome}
-use Rattle.shard_book.specs.Steps.{IsPlanFor}
+use Rattle.shard_book.specs.Steps.{IsPlanFor, IsStepFor}
 use Rattle.shard_book.proofs.RowsAfter.{row-there}
 
 -- what is answered by one way to reply is answered by another one that replies the same to this request after this history
@@ -44,12 +47,26 @@ reply-at_hand issuer found card history at_hand card_is =
     ∙ ap (λ (keys : Option CardKeys). reply_by (Some card) keys issuer.table history found.request) at_hand.keys_are
     )
 
--- the plan of the row of the request's card, for the place after the last record, is the shard's answer
-pub row-plan : (issuer : Setup) (rows : ShardRows) (found : CheckedRequest) (row : CardRow) (place : ℕ) (outcome : Outcome) → IsRequestAtHand issuer found
+-- the plan of the row of the request's card is the shard's answer
+pub row-plan : (issuer : Setup) (rows : ShardRows) (found : CheckedRequest) (row : CardRow) (outcome : Outcome) → IsRequestAtHand issuer found
     → IsHome rows found.card → slice_get rows.rows (found.card / rows.shards) ≡ Some row
-    → IsPlan row found.keys issuer.table found.request place outcome → IsPlanFor issuer rows found place outcome
-row-plan issuer rows found row place outcome at_hand home row_is plan history stands at_end =
+    → IsPlan row found.keys issuer.table found.request outcome → IsPlanFor issuer rows found outcome
+row-plan issuer rows found row outcome at_hand home row_is plan history stands =
     let known = number_of-found (card_of found.request) issuer.cards found.card at_hand.card_is.number_is in
-    let answers = plan rows.shard known.0 history (row-there issuer rows history stands found.card home row row_is known.0 known.1) (sym known.2) at_end in
+    let answers = plan rows.shard known.0 history (row-there issuer rows history stands found.card home row row_is known.0 known.1) (sym known.2) in
     answers-alike rows.shard (reply_after known.0.method found.keys issuer.table) (reply_to issuer) history found.request
-    (answer_of rows.shard outcome) (history_after history found.request outcome) (reply-at_hand issuer found known.0 history at_hand known.1) answers
+    (answer_of rows.shard (length history) outcome) (history_after history found.request outcome) (reply-at_hand issuer found known.0 history at_hand known.1)
+    answers
+
+-- and what is planned of a fresh decision is of the card's row
+pub row-step : (rows : ShardRows) (found : CheckedRequest) (row : CardRow) (outcome : Outcome)
+    → slice_get rows.rows (found.card / rows.shards) ≡ Some row
+    → IsStepped row found.request outcome → IsStepFor rows found outcome
+row-step rows found row (Fresh reply launch) row_is step = (
+  step.some,
+  λ other other_is.
+      subst (λ (row : CardRow). IsLaunchFor row found.request launch) (same_Some row other (sym row_is ∙ other_is)) step.launch_is,
+)
+row-step rows found row (Kept reply place) row_is step = tt
+row-step rows found row (Below top) row_is step = tt
+row-step rows found row (Taken place) row_is step = tt

@@ -1,5 +1,5 @@
 -- What an issuer states of the records of its shards, and what may follow the text of a history.
-use Rattle.std.specs.Prelude.{◌≡◌, ◌⊎◌, ℕ, ◌%◌, List, [], length, slice_get, Some, IsTrue, All}
+use Rattle.std.specs.Prelude.{◌≡◌, ◌⊎◌, ℕ, ◌%◌, List, [], slice_get, Some}
 use Rattle.issuer_base.specs.declared.request.Request.{Request}
 use Rattle.issuer_base.specs.declared.answer.Reply.{Reply}
 use Rattle.issuer_base.specs.declared.entry.Entry.{Entry}
@@ -7,7 +7,6 @@ use Rattle.card_history.specs.LegalRecords.{Grounds, IsLegal}
 use Rattle.card_history.specs.Records.{CardName, card_of}
 use Rattle.card_history.specs.Scripts.{scripts_of}
 use Rattle.key_derive.specs.declared.card.CardKeys.{CardKeys}
-use Rattle.decision_table.specs.Tables.{is_table}
 use Rattle.issuer_setup.specs.declared.card.CardInfo.{CardInfo}
 use Rattle.issuer_setup.specs.CardList.{number_of}
 use Rattle.issuer_setup.specs.IssuerSetup.{Setup, keys_of}
@@ -51,11 +50,6 @@ grounds_of issuer = grounds_by issuer (IsMadeBy issuer)
 -- of records of this run: a reply is the issuer's own decision after these records (`reply_to`), by its decision table
 abbrev pub grounds_now : Setup → Grounds
 grounds_now issuer = grounds_by issuer (λ before request reply. reply ≡ reply_to issuer before request)
-
--- the issuer's table is one, and each of its card status updates has four bytes: EMV 4.3 Book 2, section 8.2.2
-pub record HasTable (issuer : Setup) : Type 0 where
-  pub table : IsTrue (is_table issuer.table)
-  pub updates : All (λ row. length row.csu ≡ 4) issuer.table
 
 -- the tail is empty, or the text of a valid successor
 abbrev pub IsTail : Grounds → ℕ → List Entry → List ℕ → Type 0

@@ -5,7 +5,7 @@ ghost use Rattle.issuer_base.specs.Stores.{Moment};
 ghost use Rattle.issuer_setup.specs.IssuerSetup.{Setup};
 ghost use Rattle.journal_rec.specs.RecordText.{texts_of};
 ghost use Rattle.record_store.specs.Images.{IsCutImage};
-ghost use Rattle.shard_book.specs.Grounds.{grounds_of, HasTable};
+ghost use Rattle.shard_book.specs.Grounds.{grounds_of};
 ghost use Rattle.shard_book.specs.Histories.{IsImageBetween};
 ghost use Rattle.shard_book.specs.Restarts.{IsHeld, LoadsBetween, LoadsPrefix};
 ghost use Rattle.shard_book.specs.Shards.{IsLoadImage, IsTextOf};
@@ -18,7 +18,7 @@ ghost use Rattle.shard_book.specs.Shards.{IsLoadImage, IsTextOf};
 pub fn every_image_loads_again()
     // While a shard answers: to the clause `image` of `Shard::load`.
     ensures between { (issuer : Setup) (shard : ℕ) (first last : List Entry) (image : List ℕ)
-        → HasTable issuer → IsHeld issuer shard last → IsImageBetween issuer shard first last image
+        → IsHeld issuer shard last → IsImageBetween issuer shard first last image
         → LoadsBetween issuer shard first last image }
 
     // While a journal is loaded, by `leaves` of `IsLoadedFrom`, or if that fails of `IsNotLoaded`: to `exact`.

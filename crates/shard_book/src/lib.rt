@@ -7,9 +7,7 @@ mod reading;
 mod replay;
 mod rows;
 mod shard;
-mod table;
 
 pub use law::every_image_loads_again;
 pub use replay::LoadFault;
 pub use shard::{LoadBack, Shard};
-pub use table::has_table;

@@ -7,16 +7,15 @@ ghost use Rattle.issuer_base.specs.ScriptCommand.{is_command};
 ghost use Rattle.card_history.specs.LegalRecords.{IsLegal};
 ghost use Rattle.issuer_setup.specs.IssuerSetup.{Setup};
 ghost use Rattle.key_derive.specs.SessionKey.{session_ac};
-ghost use Rattle.row_core.specs.Plan.{StandsAt};
 ghost use Rattle.line_checks.specs.AtHand.{IsRequestAtHand};
 ghost use Rattle.shard_book.specs.ShardRows.{AreRowsOf, AreSame, IsHome, AreEmpty, Covers, Lists, StandsFor};
-ghost use Rattle.shard_book.specs.Steps.{IsPlanFor, Applies, Accepts, Adopts, Queues, TakesCommand, SetsStatus};
+ghost use Rattle.shard_book.specs.Steps.{IsPlanFor, IsLaunchAt, IsStepFor, Applies, Accepts, Adopts, Queues, TakesCommand, SetsStatus};
 
 use counter_bits::CounterBits;
 use issuer_base::{Command, MAX_CARDS, MAX_QUEUED, MAX_STATUS, MAX_UNDONE, NoMemory, Reply};
 use issuer_setup::Issuer;
 use line_checks::CheckedRequest;
-use row_core::{Outcome, Row};
+use row_core::{Launch, Outcome, Row};
 use std::alloc::Global;
 use std::marker::Model;
 
@@ -82,34 +81,35 @@ impl Rows {
         &self.rows[index_of(card, self.shards)]
     }
 
-    /// What is to be done with a request of a card of this shard, whose record would stand at this place.
+    /// The plan for a request of a card of this shard.
     #[inline(always)]
-    pub(crate) fn plan(&self, issuer: &Issuer, found: &CheckedRequest, place: u64) -> Outcome<'_>
+    pub(crate) fn plan(&self, issuer: &Issuer, found: &CheckedRequest) -> Outcome<'_>
         requires rows { AreRowsOf issuer.now self.now }
         requires home { IsHome self.now found.now.card }
         requires at_hand { IsRequestAtHand issuer.now found.now }
-        ensures plan { IsPlanFor issuer.now self.now found.now place result }
-        ensures some { StandsAt place result }
+        ensures plan { IsPlanFor issuer.now self.now found.now result }
+        ensures step { IsStepFor self.now found.now result }
     {
-        self.row(found.card).plan_under(
-            &found.session,
-            &found.keys,
-            issuer.table(),
-            &found.request,
-            place,
-        )
+        self.row(found.card).plan(&found.session, &found.keys, issuer.table(), &found.request)
     }
 
-    /// Adds the record of the decision that a plan gave for this request, which stands at this place, to the row of its card, and its counter to
-    /// the card's.
-    pub(crate) fn apply(&mut self, found: &CheckedRequest, reply: &Reply, place: u64)
-        requires { IsHome self.old found.now.card }
+    /// Adds the record of the decision that a plan gave for this request to the row of its card, and its ATC to the card's
+    /// recorded ones. The rows are unchanged since the plan.
+    pub(crate) fn apply(
+        &mut self,
+        found: &CheckedRequest,
+        reply: &Reply,
+        launch: Option<Launch>,
+        place: u64,
+    )
+        requires home { IsHome self.old found.now.card }
+        requires launch { IsLaunchAt self.old found.now launch }
         ensures applied { Applies self.old found.now (record { request = found.now.request; reply = reply.now; place = place }) self.new }
         ensures same { AreSame self.old self.new }
     {
         let index = index_of(found.card, self.shards);
         self.bits.add(index, found.request.parts().atc);
-        self.rows[index].apply(&found.request, reply, place);
+        self.rows[index].apply(&found.request, reply, launch, place);
     }
 
     /// Replays the decision of a checked request if it is a valid successor. The result is whether it is.
@@ -128,7 +128,7 @@ impl Rows {
         } = found;
         let index = index_of(card, self.shards);
         let counter = request.parts().atc;
-        if !self.rows[index].adopt_under(&session, &keys, request, reply, place) {
+        if !self.rows[index].adopt(&session, &keys, request, reply, place) {
             return false;
         }
         self.bits.add(index, counter);

@@ -19,8 +19,8 @@ ghost use Rattle.issuer_base.specs.Tells.{Tells};
 ghost use Rattle.record_store.specs.Holding.{Holds};
 ghost use Rattle.record_store.specs.Images.{IsCutImage};
 ghost use Rattle.shard_book.specs.Loading.{IsOutside, is_store_failure};
-ghost use Rattle.shard_book.specs.Grounds.{grounds_now, grounds_of, HasTable, IsImageOf};
-ghost use Rattle.shard_book.specs.Steps.{IsCardOf};
+ghost use Rattle.shard_book.specs.Grounds.{grounds_now, grounds_of, IsImageOf};
+ghost use Rattle.shard_book.specs.Steps.{IsCardOf, IsLaunchAt};
 ghost use Rattle.shard_book.specs.Shards.{number_in, IsUnder, HasCard, store_in, sure_in, disk_in, faults_in, places_in, told_in, IsUndoubted, HoldsHistory, StandsFor, HasTail, Adds, IsTextOf, IsImageLeft, IsSettled, StandsForLeft};
 ghost use Rattle.shard_book.specs.Recorded.{AddsRecorded};
 ghost use Rattle.shard_book.specs.Room.{most_of, UsesRoom, LoadsWithin};
@@ -31,7 +31,6 @@ ghost use Rattle.shard_book.specs.Loads.{IsLoadedFrom, IsNotLoaded};
 use crate::reading::take_over;
 use crate::replay::{LoadFault, Taken, TakenOver};
 use crate::rows::Rows;
-use crate::table::has_table;
 use arrayvec::ArrayVec;
 use issuer_base::{
     Answer, Entry, MAX_FAULTS_TOLD, NoMemory, Refusal, Reply, Request, Store, StoreFail,
@@ -40,7 +39,7 @@ use issuer_setup::Issuer;
 use journal_rec::{write_decided, write_entry};
 use line_checks::{CheckedCommand, CheckedOrder, CheckedRequest, CheckedStatus};
 use record_store::Journal;
-use row_core::{Outcome, Row};
+use row_core::{Launch, Outcome, Row};
 use std::alloc::Global;
 
 /// A shard of an issuer over a store: the rows of its cards, and the journal of its records.
@@ -89,9 +88,7 @@ impl<S: Store> Shard<S> {
         // A store that works at its size doesn't fail.
         ensures room { (spare : ℕ) → HasRoom spare (S.size store) (S.room store)
             → IfErr result (λ back. is_store_failure back.fault ≡ false) }
-        ensures table { HasTable issuer.now }
     {
-        has_table(issuer);
         let mut store = store;
         match take_over(alloc, &mut store, issuer, shard) {
             Ok(TakenOver { rows, taken }) => open(store, rows, taken),
@@ -123,12 +120,12 @@ impl<S: Store> Shard<S> {
         ensures kept { KeepsShard issuer.now self.old result self.new }
     {
         let shard = self.rows.shard();
-        match self.rows.plan(issuer, found, self.journal.records()) {
-            Outcome::Fresh(reply, place) => {
+        match self.rows.plan(issuer, found) {
+            Outcome::Fresh(reply, launch) => {
                 if !won {
                     return Answer::Refused(Refusal::Pending);
                 }
-                self.decide(found, reply, place)
+                self.decide(found, reply, launch)
             }
             Outcome::Kept(reply, place) => Answer::Kept {
                 shard,
@@ -264,13 +261,14 @@ impl<S: Store> Shard<S> {
         }
     }
 
-    /// Records the decision of a request, and applies it to the row of its card.
-    fn decide(&mut self, found: &CheckedRequest, reply: Reply, at: u64) -> Answer
+    /// Records the decision of a request, and applies it to the row of its card by the launch of its batch.
+    fn decide(&mut self, found: &CheckedRequest, reply: Reply, launch: Option<Launch>) -> Answer
         requires home { HasCard self.old found.now.card }
         requires some { 1 ≤ length reply.bytes.items }
+        requires launch { IsLaunchAt self.old.rows found.now launch }
         ensures added { (issuer : Setup) (card : CardInfo) (history : List Entry) → StandsFor issuer self.old history
             → IsCardOf issuer found.now.card card
-            → IsNext card history (record { request = found.now.request; reply = reply; place = at })
+            → IsNext card history (record { request = found.now.request; reply = reply; place = length history })
             → IsLegal (grounds_now issuer) (number_in self.old) history (Entry.Decided found.now.request reply)
             → Adds issuer self.new history (Entry.Decided found.now.request reply)
             (Answer.Fresh (number_in self.old) (length history) reply) result }
@@ -289,7 +287,7 @@ impl<S: Store> Shard<S> {
         let Ok(place) = self.put_text(text.as_slice()) else {
             return Answer::Refused(Refusal::StoreFault);
         };
-        self.rows.apply(found, &reply, at);
+        self.rows.apply(found, &reply, launch, place);
         Answer::Fresh {
             shard: self.rows.shard(),
             place,

@@ -216,10 +216,9 @@ module _ {S : Type 0} {G : Ghosts S} (issuer : Setup) (shard first faults : ℕ)
       record {
         number_is = called.keeps.number_is ∙ stands.number_is;
         under = called.keeps.under;
-        table = stands.table;
         stands = subst (StandsFor issuer new) (sym same) stands_new;
         legal = subst (IsLegalHistory (grounds_of issuer) shard) (sym same)
-            (legal-more (grounds_of issuer) shard history entry stands.legal (legal-then issuer stands.table shard history entry recorded next));
+            (legal-more (grounds_of issuer) shard history entry stands.legal (legal-then issuer shard history entry recorded next));
         opened = subst (λ (history : List Entry). first ≤ length history) (sym same) (omega arith);
         by_table = subst (AreOwnFrom issuer shard first) (sym same) (own-more issuer shard first history entry stands.by_table next);
         told_is = told ∙ stands.told_is ∙ sym (ap (λ (counts : List ℕ). length counts) faults_same);
@@ -238,7 +237,6 @@ module _ {S : Type 0} {G : Ghosts S} (issuer : Setup) (shard first faults : ℕ)
   other-step more same after_is told few counts last_is = record {
     number_is = called.keeps.number_is ∙ stands.number_is;
     under = called.keeps.under;
-    table = stands.table;
     stands = subst (StandsFor issuer new) (after_is ∙ sym same) now;
     legal = subst (IsLegalHistory (grounds_of issuer) shard) (sym same) stands.legal;
     opened = subst (λ (history : List Entry). first ≤ length history) (sym same) stands.opened;

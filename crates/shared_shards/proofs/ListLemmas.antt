@@ -11,7 +11,7 @@ use Rattle.issuer_base.specs.declared.outside.store.Store.{Ghosts}
 use Rattle.card_history.specs.LegalRecords.{IsLegalHistory}
 use Rattle.issuer_setup.specs.IssuerSetup.{Setup}
 use Rattle.shard_book.specs.declared.shard.Shard.{Shard}
-use Rattle.shard_book.specs.Grounds.{HasTable, grounds_now, grounds_of}
+use Rattle.shard_book.specs.Grounds.{grounds_now, grounds_of}
 use Rattle.shard_book.specs.Shards.{number_in, disk_in, faults_in, HoldsHistory, StandsFor}
 use Rattle.shard_book.proofs.ShardSteps.{crash-no_call}
 use Rattle.turn_book.specs.declared.logs.Log.{Log}
@@ -68,17 +68,16 @@ module _ {S : Type 0} {G : Ghosts S} where
       ∙ sym (ap (λ (log : Log LogItem LogHead). length log.items) opening.log_is ∙ length-alone opening.loaded.history)
 
   -- a shard that was just loaded stands for its opening log
-  opening-stands_for : (issuer : Setup) (stores : List S) (number : ℕ) (shard : Shard S G) → HasTable issuer → IsJustLoaded issuer stores number shard
+  opening-stands_for : (issuer : Setup) (stores : List S) (number : ℕ) (shard : Shard S G) → IsJustLoaded issuer stores number shard
       → (history : List Entry) → IsLegalHistory (grounds_of issuer) number history → StandsFor issuer shard history
       → number_in shard ≡ number → StandsForLog shard (head_with issuer number (faults_in shard) (length history) (disk_in shard)) (map Record history)
-  opening-stands_for issuer stores number shard table just history legal stands number_is =
+  opening-stands_for issuer stores number shard just history legal stands number_is =
       let same = records-alone history in
       let none = faults-alone history in
       let untold = just.untold in
       record {
         number_is = number_is;
         under = just.under;
-        table = table;
         stands = subst (StandsFor issuer shard) (sym same) stands;
         legal = subst (IsLegalHistory (grounds_of issuer) number) (sym same) legal;
         opened = subst (λ (records : List Entry). length history ≤ length records) (sym same) (omega arith);
@@ -100,11 +99,11 @@ module _ {S : Type 0} {G : Ghosts S} where
       }
 
   pub opening-stands : (issuer : Setup) (stores : List S) (number : ℕ) (shard : Shard S G) (log : Log LogItem LogHead)
-      → HasTable issuer → IsJustLoaded issuer stores number shard
+      → IsJustLoaded issuer stores number shard
       → IsOpeningLog issuer stores number shard log → StandsForLog shard log.head log.items
-  opening-stands issuer stores number shard log table just opening =
+  opening-stands issuer stores number shard log just opening =
       subst (λ (log : Log LogItem LogHead). StandsForLog shard log.head log.items) (sym opening.log_is)
-      (opening-stands_for issuer stores number shard table just opening.loaded.history opening.loaded.legal opening.loaded.stands opening.loaded.number_is)
+      (opening-stands_for issuer stores number shard just opening.loaded.history opening.loaded.legal opening.loaded.stands opening.loaded.number_is)
 
   -- values that stand for logs one by one stand for them all
   pub stand-for : (held : List (HeldShard S G)) (logs : List (Log LogItem LogHead)) → length held ≡ length logs
@@ -119,16 +118,15 @@ module _ {S : Type 0} {G : Ghosts S} where
 
   -- so do those of shards that were just loaded
   pub held-stand : (issuer : Setup) (stores : List S) (shards : List (Shard S G)) (logs : List (Log LogItem LogHead)) (held : List (HeldShard S G))
-      → HasTable issuer
       → AreJustLoaded issuer stores shards → AreOpeningLogs issuer stores shards logs → map (λ (held : HeldShard S G). held.shard) held ≡ shards
       → StandFor (λ (held : HeldShard S G) head items. StandsForLog held.shard head items) held logs
-  held-stand issuer stores shards logs held table just opening are =
+  held-stand issuer stores shards logs held just opening are =
       let long = length-map held (λ (held : HeldShard S G). held.shard) in
       let same = ap (λ (shards : List (Shard S G)). length shards) are in
       let count = opening.count_is in
       stand-for held logs (omega (arith, long, same, count)) (λ number shard log there is.
       let its : slice_get shards number ≡ Some shard = ap (λ (shards : List (Shard S G)). slice_get shards number) (sym are) ∙ there in
-      opening-stands issuer stores number shard log table (just.each number shard its) (opening.each number shard log its is))
+      opening-stands issuer stores number shard log (just.each number shard its) (opening.each number shard log its is))
 
   -- and values that stand for logs stand for each
   pub stand-each : (held : List (HeldShard S G)) (logs : List (Log LogItem LogHead))

@@ -7,7 +7,7 @@ use Rattle.issuer_base.specs.declared.limits.TheConstants.{MAX_FAULTS_TOLD}
 use Rattle.issuer_base.specs.declared.outside.store.Store.{Ghosts}
 use Rattle.card_history.specs.LegalRecords.{IsLegal, IsLegalHistory}
 use Rattle.shard_book.specs.declared.shard.Shard.{Shard}
-use Rattle.shard_book.specs.Grounds.{HasTable, grounds_now, grounds_of}
+use Rattle.shard_book.specs.Grounds.{grounds_now, grounds_of}
 use Rattle.shard_book.specs.Shards.{number_in, IsUnder, disk_in, faults_in, told_in, IsUndoubted, StandsFor}
 use Rattle.shared_shards.specs.declared.logs.LogHead.{LogHead}
 use Rattle.shared_shards.specs.declared.logs.LogItem.{LogItem}
@@ -44,7 +44,6 @@ opening_records head items = take head.records (records_of items)
 pub record StandsForLog {S : Type 0} {G : Ghosts S} (shard : Shard S G) (head : LogHead) (items : List LogItem) : Type 0 where
   pub number_is : number_in shard ≡ head.shard
   pub under : IsUnder head.issuer shard
-  pub table : HasTable head.issuer
   pub stands : StandsFor head.issuer shard (records_of items)
   -- the records are a legal history, and those after the opening ones are the issuer's own decisions
   pub legal : IsLegalHistory (grounds_of head.issuer) head.shard (records_of items)

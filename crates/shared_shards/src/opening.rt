@@ -1,8 +1,6 @@
 //! The logs that shards open with. They exist in proofs alone, so a mark of no bytes shows them.
 ghost use Rattle.std.specs.Prelude.{◌≡◌, ◌<◌, ◌≤◌, List, [], length, map, vec_len, true, IfOk, IfErr};
-ghost use Rattle.issuer_setup.specs.Shards.{are_shards};
 ghost use Rattle.issuer_base.specs.declared.limits.TheConstants.{MAX_SHARDS};
-ghost use Rattle.shard_book.specs.Grounds.{HasTable};
 ghost use Rattle.turn_book.specs.declared.logs.Log.{Log};
 ghost use Rattle.shared_shards.specs.declared.logs.LogItem.{LogItem};
 ghost use Rattle.shared_shards.specs.declared.logs.LogHead.{LogHead};
@@ -17,7 +15,7 @@ use crate::logs::{LogHead, LogItem};
 use atomic_table::{Mark, PerchPlay, PerchRule, RuledPerch, Table, TableRule};
 use issuer_base::{MAX_SHARDS, Store};
 use issuer_setup::Issuer;
-use shard_book::{Shard, has_table};
+use shard_book::Shard;
 use std::alloc::{AllocError, Global};
 use std::collections::LinkedList;
 use std::marker::{Brand, PhantomData};
@@ -136,13 +134,4 @@ fn start_with<J: OpeningLogs<LogItem, LogHead>, S: Store>(
 {
     let _ = logs;
     Turns::load::<J>(alloc, held, counts)
-}
-
-/// The issuer has 1 to 16 shards, and a decision table whose card status updates are whole.
-pub(crate) fn has_parts(issuer: &Issuer)
-    ensures shards { are_shards issuer.now.shards ≡ true }
-    ensures table { HasTable issuer.now }
-{
-    issuer.shards();
-    has_table(issuer);
 }

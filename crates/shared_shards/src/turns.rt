@@ -4,7 +4,6 @@ ghost use Rattle.card_history.specs.declared.decision.Asked.TheVariants.{Decide}
 ghost use Rattle.shared_seats.specs.SeatNames.{IsWhole};
 ghost use Rattle.line_checks.specs.AtHand.{IsRequestAtHand, IsOrderAtHand};
 ghost use Rattle.line_checks.specs.Reading.{checked};
-ghost use Rattle.shard_book.specs.Grounds.{HasTable};
 ghost use Rattle.turn_book.specs.Logs.{items_at, with_items, IsFront, StandFor};
 ghost use Rattle.turn_book.specs.Seats.{view_of};
 ghost use Rattle.turn_book.specs.TurnRule.{between};
@@ -15,7 +14,7 @@ ghost use Rattle.shared_shards.specs.Turned.{DecidesInTurn, OrdersInTurn, ShowsI
 use crate::held::{Call, Called, HeldShard};
 use crate::lists::{Lists, Spare, hold_all, release_all, take_lists};
 use crate::logs::{LogHead, LogItem};
-use crate::opening::{has_parts, opening_logs, start};
+use crate::opening::{opening_logs, start};
 use card_history::CardView;
 use issuer_base::{Answer, Store};
 use issuer_setup::Issuer;
@@ -60,10 +59,9 @@ impl<S: Store> ShardTurns<S> {
         let Ok(logs) = opening_logs(alloc, issuer, stores, &shards) else {
             return Err(shards);
         };
-        let Ok(mut lists) = take_lists(alloc, shards.len()) else {
+        let Ok(mut lists) = take_lists(alloc, usize::from(issuer.shards())) else {
             return Err(shards);
         };
-        has_parts(issuer);
         hold_all(issuer, stores, &logs, shards, &mut lists);
         let Lists {
             held,

@@ -15,8 +15,6 @@ ghost use Rattle.world_net.specs.WorldState.{record_in, shard_at, home_of, histo
 ghost use Rattle.std.specs.Option.{option_map};
 ghost use Rattle.card_history.specs.LegalRecords.{IsLegalDecision};
 ghost use Rattle.card_history.specs.Turns.{IsUnused, decided_for};
-ghost use Rattle.decision_table.specs.Fitting.{decision};
-ghost use Rattle.decision_table.specs.Tables.{is_table};
 ghost use Rattle.issuer_base.specs.declared.entry.Entry.{Entry};
 ghost use Rattle.shard_book.specs.Grounds.{grounds_of};
 ghost use Rattle.world_net.specs.WorldSteps.{Taps, Claims, Releases, Writes, Sends, Authenticates, Runs, Queues, Sets};
@@ -34,7 +32,6 @@ use crate::parts::{Exchange, MadeRequest, OpenClaim};
 use crate::shard::ShardRecords;
 use card_model::{Card, Terminal};
 use chip_request::read_request;
-use decision_table::{Table, TableRow, decide};
 use issuer_base::{
     Command, Entry, MAX_CHIP_BYTES, MAX_QUEUED, MAX_STATUS, MAX_UNDONE, NoMemory, Request,
     are_decimal,
@@ -356,13 +353,9 @@ impl Net {
         let Ok(found) = check_request(&self.issuer, request.copy()) else {
             return None;
         };
-        let home = usize::from(self.issuer.shard_of(found.card));
-        let place = self.shards[home].history().len() as u64;
         let row = &self.rows[found.card as usize];
         let table = self.issuer.table();
-        deciding_row(table, row.status(), request);
-        let outcome = row.plan_under(&found.session, &found.keys, table, &found.request, place);
-        match outcome {
+        match row.plan(&found.session, &found.keys, table, &found.request) {
             Outcome::Fresh(reply, _) => Some(Exchange {
                 request: found.request,
                 reply,
@@ -398,7 +391,7 @@ impl Net {
             reply: exchange.reply.copy(),
         })?;
         let reply = exchange.reply.copy();
-        self.rows[card as usize].adopt_under(&session, &keys, request, reply, place);
+        self.rows[card as usize].adopt(&session, &keys, request, reply, place);
         Ok(())
     }
 
@@ -496,27 +489,6 @@ fn first_doubtful(shards: &[ShardRecords]) -> Option<usize>
     ensures within { IfSome result (λ place. place < length shards.now) }
 {
     shards.iter().position(|shard| shard.is_doubtful())
-}
-
-/// The row of the table that decides a request of a card with this status. It comes from a table in which each row's
-/// card status update states its approval.
-fn deciding_row<'a>(table: &'a Table, status: u8, request: &Request) -> &'a TableRow
-    ensures row { decision table.now status request.now ≡ Some result.now }
-    ensures table { IsTrue (is_table table.now) }
-    ensures widths { (length result.now.arc ≡ 2) × (length result.now.csu ≡ 4) }
-{
-    let _rows = table.rows();
-    let row = decide(table, status, request);
-    widths(row);
-    row
-}
-
-/// A row's response code has two bytes, and its card status update four.
-fn widths(row: &TableRow)
-    ensures { (length row.now.arc ≡ 2) × (length row.now.csu ≡ 4) }
-{
-    let _code = row.arc;
-    let _update = row.csu;
 }
 
 /// A new card for each of the issuer's, under its first key set.

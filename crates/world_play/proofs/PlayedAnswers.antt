@@ -60,16 +60,15 @@ use Rattle.world_play.proofs.PlayedWorlds.{IsPlayed, played-sound, played-writte
 
 record IsWhole (row : TableRow) : Type 0 where
   arc : length row.arc ≡ 2
-  csu : length row.csu ≡ 4
   told : tells_approval row ≡ true
 
 first-whole : IsWhole (row_from 500000 (0x30 ∷ 0x35 ∷ []) false (0 ∷ 0 ∷ 0 ∷ 0 ∷ []))
 unfolding tells_approval
-first-whole = record { arc = refl; csu = refl; told = refl }
+first-whole = record { arc = refl; told = refl }
 
 second-whole : IsWhole (row_from 0 (0x30 ∷ 0x30 ∷ []) true (0x00 ∷ 0x80 ∷ 0x00 ∷ 0x00 ∷ []))
 unfolding tells_approval
-second-whole = record { arc = refl; csu = refl; told = refl }
+second-whole = record { arc = refl; told = refl }
 
 row-whole : (place : ℕ) (row : TableRow) → slice_get table place ≡ Some row → IsWhole row
 row-whole zero row is = subst IsWhole (same_Some _ _ is) first-whole
@@ -87,9 +86,9 @@ found-made : (method : Method) (keys : CardKeys) (history : List Entry) (request
 found-made method keys history request None below is =
     absurd (decision-table table (status_of (card_of request) history) request below table-whole is)
 found-made method keys history request (Some row) below is =
-    let at = decides table (status_of (card_of request) history) request row is in
+    let at = decides table (status_of (card_of request) history) request row table-whole is in
     let whole = row-whole at.place row at.stands in
-    row-made keys (scripts_of (card_of request) history) request row whole.arc whole.csu whole.told method
+    row-made keys (scripts_of (card_of request) history) request row whole.arc whole.told method
 
 module _ (cards number : ℕ) (request : Request) (right : IsRight cards number request) (valid : IsIssuer (issuer cards)) where
   -- the request's card is known

@@ -1,28 +1,12 @@
--- If the cryptogram holds, a reply is accepted exactly if it may follow.
-use Rattle.std.proofs.Common.{◌↔◌, IsTrue, ap, ◌∙◌, subst}
-use Rattle.issuer_base.specs.declared.request.Request.{Request}
-use Rattle.key_derive.specs.declared.card.CardKeys.{CardKeys}
-use Rattle.key_derive.specs.SessionKey.{session_ac}
-use Rattle.row_core.specs.Accepting.{MayFollow}
-use Rattle.row_core.proofs.AcceptLemmas.{accepts-following, accepts-none}
+-- On an unused ATC a reply may follow exactly if the issuer makes it.
+use Rattle.row_core.proofs.AcceptLemmas.{follows-made}
 use Rattle.row_core.proofs.row.Row.accepts.Goals as goal
 
-pub returns-then-holds_under : goal.returns-then-holds_under
-returns-then-holds_under c = record {
+pub returns-then-is_unused : goal.returns-then-is_unused
+returns-then-is_unused c = record {
   exact = λ card history stands named.
-      accepts-following card.method c.args.keys.now history c.args.request.now c.args.reply.now _ _ _
-      (c.for_cryptograms-session.ensures ∙ ap (λ (request : Request). session_ac c.args.keys.now.ac.0 request.atc) c.parts.ensures.same)
-      c.holds_under.ensures
-      c.if-holds_under.true
-      (subst (λ (keys : CardKeys). IsTrue c.accepts_under.result ↔ MayFollow card.method keys history c.args.request.now c.args.reply.now)
-      c.from-keys.ensures (c.accepts_under.ensures.exact card history stands named));
-}
-
-pub returns-else-holds_under : goal.returns-else-holds_under
-returns-else-holds_under c = record {
-  exact = λ card history stands named.
-      accepts-none card.method c.args.keys.now history c.args.request.now c.args.reply.now _ _
-      (c.for_cryptograms-session.ensures ∙ ap (λ (request : Request). session_ac c.args.keys.now.ac.0 request.atc) c.parts.ensures.same)
-      c.holds_under.ensures
-      c.if-holds_under.false;
+      follows-made card c.args.self.now c.args.keys.now history c.args.request.now c.args.reply.now c.is_unused.result c.is_made.result
+      (λ decisions hi window. c.is_unused.ensures decisions hi window)
+      c.is_made.ensures
+      c.if-is_unused.true stands named;
 }

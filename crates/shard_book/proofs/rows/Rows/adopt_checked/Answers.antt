@@ -5,23 +5,23 @@ use Rattle.issuer_base.specs.declared.request.Request.{Request}
 use Rattle.issuer_base.specs.declared.entry.Entry.TheVariants.{Decided}
 use Rattle.shard_book.specs.Steps.{Accepts}
 use Rattle.shard_book.proofs.RowsAfter.{is-read, row-inside, step-more}
-use Rattle.shard_book.proofs.rows.Rows.adopt_checked.Goals.{After-adopt_under}
+use Rattle.shard_book.proofs.rows.Rows.adopt_checked.Goals.{After-adopt}
 use Rattle.shard_book.proofs.rows.Rows.adopt_checked.Goals as goal
 
 -- the row accepts it just where it may come next
-accepts : (c : After-adopt_under) → Accepts c.args.self.now c.args.found c.args.reply c.adopt_under.result
+accepts : (c : After-adopt) → Accepts c.args.self.now c.args.found c.args.reply c.adopt.result
 accepts c issuer card history stands known =
     let read = is-read c.self.view_is c.self.invariant c.requires.home c.index_of-index.ensures c.index_mut.ensures.value in
-    c.adopt_under.ensures.exact card history (row-inside issuer read card history stands known)
+    c.adopt.ensures.exact card history (row-inside issuer read card history stands known)
 
-pub returns-then-not-adopt_under-clause-exact : goal.returns-then-not-adopt_under-clause-exact
-returns-then-not-adopt_under-clause-exact c =
-    subst (Accepts c.args.self.now c.args.found c.args.reply) c.if-not-adopt_under.true
-    (accepts (goal.at.returns-then-not-adopt_under-clause-exact c).After-adopt_under)
+pub returns-then-not-adopt-clause-exact : goal.returns-then-not-adopt-clause-exact
+returns-then-not-adopt-clause-exact c =
+    subst (Accepts c.args.self.now c.args.found c.args.reply) c.if-not-adopt.true
+    (accepts (goal.at.returns-then-not-adopt-clause-exact c).After-adopt)
 
 pub returns-clause-exact : goal.returns-clause-exact
 returns-clause-exact c =
-    subst (Accepts c.args.self.now c.args.found c.args.reply) c.if-not-adopt_under.false (accepts (goal.at.returns-clause-exact c).After-adopt_under)
+    subst (Accepts c.args.self.now c.args.found c.args.reply) c.if-not-adopt.false (accepts (goal.at.returns-clause-exact c).After-adopt)
 
 pub returns-clause-adopted : goal.returns-clause-adopted
 returns-clause-adopted c accepted issuer card history stands known its at_end =
@@ -30,5 +30,5 @@ returns-clause-adopted c accepted issuer card history stands known its at_end =
     let marks = subst (λ (atc : ℕ). (other counter : ℕ)
     → has c.add.new.self other counter ≡ (has c.self.inside.bits other counter || (eqb other c.index_of-index.result && eqb counter atc)))
     on_counter c.add.ensures.added in
-    step-more issuer read card history stands known (Decided c.args.found.request c.args.reply) c.adopt_under.new.self c.add.new.self its marks
-    (λ before. c.adopt_under.ensures.adopted c.if-not-adopt_under.false card history before its at_end)
+    step-more issuer read card history stands known (Decided c.args.found.request c.args.reply) c.adopt.new.self c.add.new.self its marks
+    (λ before. c.adopt.ensures.adopted c.if-not-adopt.false card history before its at_end)

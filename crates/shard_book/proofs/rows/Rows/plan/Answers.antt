@@ -2,12 +2,15 @@
 use Rattle.std.proofs.Common.{List, subst}
 use Rattle.decision_table.specs.declared.row.TableRow.{TableRow}
 use Rattle.row_core.specs.Plan.{IsPlan}
-use Rattle.shard_book.proofs.RowPlans.{row-plan}
+use Rattle.shard_book.proofs.RowPlans.{row-plan, row-step}
 use Rattle.shard_book.proofs.rows.Rows.plan.Goals as goal
 
 pub returns-clause-plan : goal.returns-clause-plan
 returns-clause-plan c =
     let found = c.args.found.now in
-    row-plan c.args.issuer.now c.args.self.now found c.row.result.now c.args.place c.plan_under.result c.requires.at_hand c.requires.home c.row.ensures
-    (subst (λ (table : List TableRow). IsPlan c.row.result.now found.keys table found.request c.args.place c.plan_under.result) c.table.ensures
-    c.plan_under.ensures.plan)
+    row-plan c.args.issuer.now c.args.self.now found c.row.result.now c.plan.result c.requires.at_hand c.requires.home c.row.ensures
+    (subst (λ (table : List TableRow). IsPlan c.row.result.now found.keys table found.request c.plan.result) c.table.ensures
+    c.plan.ensures.plan)
+
+pub returns-clause-step : goal.returns-clause-step
+returns-clause-step c = row-step c.args.self.now c.args.found.now c.row.result.now c.plan.result c.row.ensures c.plan.ensures.step

@@ -6,6 +6,8 @@ use Rattle.journal_rec.specs.RecordText.{text_of}
 use Rattle.journal_rec.specs.declared.limits.TheConstants.{MOST_RECORD_BYTES}
 use Rattle.journal_rec.proofs.TextLaws.{length-text_of}
 use Rattle.shard_book.specs.ShardRows.{ShardRows, StandsFor as RowsStandFor}
+use Rattle.row_core.specs.Plan.{IsNext}
+use Rattle.shard_book.specs.Steps.{IsLaunchAt}
 use Rattle.shard_book.proofs.ShardSteps.{stands-with}
 use Rattle.shard_book.proofs.Rooms.{no-failure, room-less}
 use Rattle.shard_book.proofs.shard.Shard.decide.Goals as goal
@@ -17,6 +19,10 @@ put_text-requires g c =
     let least = (length-text_of entry c.write_decided.ensures.record).0 in
     omega (arith, ap length its, least)
 
+pub apply-requires-clause-launch : goal.apply-requires-clause-launch
+apply-requires-clause-launch g c =
+    subst (λ (rows : ShardRows). IsLaunchAt rows c.args.found.now c.args.launch) (sym c.put_text.ensures.rows) c.requires.launch
+
 pub returns-clause-added : goal.returns-clause-added
 returns-clause-added g c issuer card history stands known next legal =
     let number : ℕ = c.args.self.now.rows.shard in
@@ -26,7 +32,9 @@ returns-clause-added g c issuer card history stands known next legal =
     (c.as_slice.ensures.value ∙ c.write_decided.ensures.text) stands in
     let number_is : c.put_text.new.self.rows.shard ≡ number = ap (λ (rows : ShardRows). rows.shard) c.put_text.ensures.rows in
     let before = subst (λ (rows : ShardRows). RowsStandFor issuer rows history) (sym c.put_text.ensures.rows) stands.rows_stand in
-    let rows = c.apply.ensures.applied issuer card history before known next refl in
+    let next_there : IsNext card history (record { request = request; reply = reply; place = c.in-Ok.place }) =
+    subst (λ (place : ℕ). IsNext card history (record { request = request; reply = reply; place = place })) (sym put.0) next in
+    let rows = c.apply.ensures.applied issuer card history before known next_there refl in
     let shard_is : c.shard.result ≡ number = c.shard.ensures ∙ c.apply.ensures.same.shard_is ∙ number_is in
     inl (
       ap (λ shard. Fresh shard c.in-Ok.place reply) shard_is ∙ ap (λ place. Fresh number place reply) put.0,

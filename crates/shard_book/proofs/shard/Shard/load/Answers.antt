@@ -35,9 +35,6 @@ returns-in-Ok-clause-image g c history left =
     (opens-stopped c.args.issuer.now c.args.shard (g.S.Store.bytes c.args.store) (g.S.Store.bytes c.take_over.new.store) c.in-Ok.field-0.rows
     c.in-Ok.field-0.taken reads c.open.result c.open.ensures.fault)
 
-pub returns-in-Ok-clause-table : goal.returns-in-Ok-clause-table
-returns-in-Ok-clause-table g c = c.has_table.ensures
-
 pub returns-in-Ok-clause-stopped : goal.returns-in-Ok-clause-stopped
 returns-in-Ok-clause-stopped g c =
     fails-from {G = g.S.Store} c.args.issuer.now c.args.shard c.args.store c.take_over.new.store c.in-Ok.ensures.count c.open.result
@@ -65,9 +62,6 @@ returns-in-Err-clause-exact g c history text =
 pub returns-in-Err-clause-image : goal.returns-in-Err-clause-image
 returns-in-Err-clause-image g c history left =
     image-outside c.args.issuer.now c.args.shard (g.S.Store.bytes c.args.store) history left c.in-Err.fault c.in-Err.ensures.stopped
-
-pub returns-in-Err-clause-table : goal.returns-in-Err-clause-table
-returns-in-Err-clause-table g c = c.has_table.ensures
 
 pub returns-in-Err-clause-stopped : goal.returns-in-Err-clause-stopped
 returns-in-Err-clause-stopped g c = record {

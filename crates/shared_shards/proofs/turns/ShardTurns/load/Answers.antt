@@ -10,7 +10,7 @@ use Rattle.shared_shards.proofs.turns.ShardTurns.load.Goals as goal
 pub start-requires-clause-stand : goal.start-requires-clause-stand
 start-requires-clause-stand g c =
     held-stand c.args.issuer.now c.args.stores.now.value.items c.args.shards.items c.in-Ok.logs.view
-    c.hold_all.new.lists.held.items c.has_parts.ensures.table c.requires c.in-Ok.ensures
+    c.hold_all.new.lists.held.items c.requires c.in-Ok.ensures
     c.hold_all.ensures.shards
 
 pub returns-in-Ok-start-clause-turns : goal.returns-in-Ok-start-clause-turns

@@ -54,9 +54,9 @@ returns-clause-rows c =
     let read : c.index.result.now ≡ at world.shards c.from-home.result = shard-read world.shards _ _ within c.index.ensures in
     let at_end : length c.history.result.now ≡ length (at world.shards place).history =
     ap (λ (l : List Entry). length l) (c.history.ensures ∙ ap (λ (s : ShardState). s.history) (read ∙ ap (at world.shards) at_home)) in
-    subst (RowsStand world.issuer (set c.args.self.now.rows.items found.card c.adopt_under.new.self)) (sym shards_are)
+    subst (RowsStand world.issuer (set c.args.self.now.rows.items found.card c.adopt.new.self)) (sym shards_are)
     (rows-join world.issuer c.args.self.now.rows.items world.shards c.requires.rows c.requires.shards found request reply c.copy-reply.result
-    (length c.history.result.now) c.index_mut-2.result.now c.adopt_under.new.self c.adopt_under.result at_hand same c.copy-reply.ensures
+    (length c.history.result.now) c.index_mut-2.result.now c.adopt.new.self c.adopt.result at_hand same c.copy-reply.ensures
     (subst (λ home. home < length world.shards) at_home within)
     (subst (λ shard. IsLegalDecision (grounds_of world.issuer) shard (at world.shards shard).history request reply) home legal)
-    at_end c.index_mut-2.ensures.value c.adopt_under.ensures.exact c.adopt_under.ensures.adopted)
+    at_end c.index_mut-2.ensures.value c.adopt.ensures.exact c.adopt.ensures.adopted)

@@ -1,28 +1,24 @@
 -- The plan of the card's row for a request that the issuer decides.
-use Rattle.std.proofs.Common.{◌≡◌, ℕ, ◌<◌, ◌%◌, List, length, Some, Ok, ap, sym, ◌∙◌, subst, arith, IsTrue}
+use Rattle.std.proofs.Common.{◌≡◌, ◌%◌, List, Some, Ok, ap, sym, ◌∙◌, subst, arith}
 use Rattle.issuer_base.specs.declared.request.Request.{Request}
-use Rattle.issuer_base.specs.declared.entry.Entry.{Entry}
 use Rattle.card_history.specs.declared.decision.Asked.TheVariants.{Decide}
 use Rattle.card_history.specs.LegalRecords.{IsLegalDecision}
 use Rattle.card_history.specs.Records.{card_of}
 use Rattle.card_history.specs.Turns.{IsUnused, decided_for}
 use Rattle.decision_table.specs.declared.row.TableRow.{TableRow}
-use Rattle.decision_table.specs.Fitting.{decision}
-use Rattle.decision_table.specs.Tables.{is_table}
 use Rattle.issuer_setup.specs.CardList.{number_of}
 use Rattle.issuer_setup.specs.IssuerSetup.{keys_of}
 use Rattle.issuer_setup.proofs.CardListLemmas.{number_of-found}
 use Rattle.line_checks.specs.Reading.{checked}
 use Rattle.line_checks.proofs.Numbers.{number-within}
-use Rattle.row_core.specs.Plan.{IsPlan}
+use Rattle.row_core.specs.Plan.{IsPlan, IsStep}
 use Rattle.shard_book.specs.Grounds.{grounds_of}
-use Rattle.world_net.specs.WorldState.{ShardState}
 use Rattle.world_net.specs.Stepping.{world_of}
 use Rattle.world_net.proofs.Hosts.{at}
-use Rattle.world_net.proofs.NetRows.{row-there, row-stands, shard-read}
+use Rattle.world_net.proofs.NetRows.{row-there, row-stands}
 use Rattle.world_net.proofs.NetWrites.{home-card, own-exchange}
 use Rattle.world_net.proofs.Replies.{IsPlanned, planned-legal, planned-own, planned-used}
-use Rattle.world_net.proofs.net.Net.planned.Goals.{After-plan_under-outcome}
+use Rattle.world_net.proofs.net.Net.planned.Goals.{After-plan}
 use Rattle.world_net.proofs.net.Net.planned.Goals as goal
 
 pub index-row-requires : goal.index-row-requires
@@ -33,10 +29,10 @@ index-row-requires c =
     omega (arith, within)
 
 -- the request that was found is the one that was given, and its plan is made on the history of the card's shard
-planned : (c : After-plan_under-outcome) → let world = world_of c.args.self.now in let found = c.in-Ok.found in let request = c.args.request.now in
+planned : (c : After-plan) → let world = world_of c.args.self.now in let found = c.in-Ok.found in let request = c.args.request.now in
     (found.request ≡ request)
     × IsPlanned world.issuer (at world.shards (found.card % world.issuer.shards)).history request found.card found.keys c.index-row.result.now
-    c.plan_under-outcome.result
+    c.plan.result
 planned c =
     let world = world_of c.args.self.now in
     let found = c.in-Ok.found in
@@ -44,8 +40,7 @@ planned c =
     let request = c.args.request.now in
     let place = found.card % world.issuer.shards in
     let row = c.index-row.result.now in
-    let outcome = c.plan_under-outcome.result in
-    let end : ℕ = length c.history.result.now in
+    let outcome = c.plan.result in
     let passed : Ok (Decide found.request) ≡ Ok (Decide request) =
     c.in-Ok.ensures.request ∙ ap (checked world.issuer) c.copy.ensures ∙ c.requires.checked in
     let same : found.request ≡ request = cc in
@@ -53,13 +48,8 @@ planned c =
     ap (λ (q : Request). number_of (card_of q) world.issuer.cards) (sym same) ∙ at_hand.card_is.number_is in
     let info = number_of-found (card_of request) world.issuer.cards found.card number_is in
     let stands = row-stands world.issuer c.args.self.now.rows.items world.shards c.requires.rows found.card info.0 row info.1 c.index-row.ensures in
-    let within : c.from-home.result < length world.shards = omega (arith, c.from-home.ensures, c.shard_of.ensures.below, c.requires.shards) in
-    let read : c.index.result.now ≡ at world.shards c.from-home.result = shard-read world.shards _ _ within c.index.ensures in
-    let at_end : end ≡ length (at world.shards place).history =
-    ap (λ (l : List Entry). length l) (c.history.ensures ∙ ap (λ (s : ShardState). s.history) (read
-    ∙ ap (at world.shards) (c.from-home.ensures ∙ c.shard_of.ensures.number))) in
-    let plan = subst (λ (q : Request). IsPlan row found.keys world.issuer.table q end outcome) same
-    (subst (λ (table : List TableRow). IsPlan row found.keys table found.request end outcome) c.table-table.ensures c.plan_under-outcome.ensures.plan) in (
+    let plan = subst (λ (q : Request). IsPlan row found.keys world.issuer.table q outcome) same
+    (subst (λ (table : List TableRow). IsPlan row found.keys table found.request outcome) c.table-table.ensures c.plan.ensures.plan) in (
       same,
       record {
         passes = c.requires.checked;
@@ -69,7 +59,7 @@ planned c =
         info_is = info.1;
         named = sym info.2;
         stands = stands;
-        answers = plan 0 info.0 (at world.shards place).history stands (sym info.2) at_end;
+        answers = plan 0 info.0 (at world.shards place).history stands (sym info.2);
       },
     )
 
@@ -79,23 +69,20 @@ returns-in-Fresh c =
     let found = c.in-Ok.found in
     let request = c.args.request.now in
     let place = found.card % world.issuer.shards in
-    let its = planned (goal.at.returns-in-Fresh c).After-plan_under-outcome in
+    let its = planned (goal.at.returns-in-Fresh c).After-plan in
     let fresh = subst (IsPlanned world.issuer (at world.shards place).history request found.card found.keys c.index-row.result.now) c.in-Fresh.is its.1 in
     let home = home-card world request found.card fresh.number_is in
-    let decides = ap (λ (table : List TableRow). decision table c.index-row.result.now.status request) (sym c.table-table.ensures)
-    ∙ ap (λ status. decision c.table-table.result.now status request) (sym c.status.ensures) ∙ c.deciding_row.ensures.row in
-    let legal = planned-legal c.in-Fresh.reply c.in-Fresh.field-1 c.deciding_row.result.now fresh decides
-    (subst (λ (table : List TableRow). IsTrue (is_table table)) c.table-table.ensures c.deciding_row.ensures.table)
-    c.deciding_row.ensures.widths.0 c.deciding_row.ensures.widths.1 in (
+    let step = subst (λ (q : Request). IsStep c.index-row.result.now q c.in-Fresh.reply c.in-Fresh.field-1) its.0 c.in-Fresh.ensures.step in
+    let legal = planned-legal c.in-Fresh.reply c.in-Fresh.field-1 fresh step in (
       own-exchange world request found.request c.in-Fresh.reply place its.0 home (planned-own c.in-Fresh.reply c.in-Fresh.field-1 fresh),
       subst (λ shard. IsLegalDecision (grounds_of world.issuer) shard (at world.shards shard).history request c.in-Fresh.reply) (sym home) legal,
     )
 
-pub returns-in_default-outcome : goal.returns-in_default-outcome
-returns-in_default-outcome c =
+pub returns-in_default-plan : goal.returns-in_default-plan
+returns-in_default-plan c =
     let world = world_of c.args.self.now in
     let request = c.args.request.now in
-    let its = planned (goal.at.returns-in_default-outcome c).After-plan_under-outcome in
+    let its = planned (goal.at.returns-in_default-plan c).After-plan in
     subst (λ shard. IsUnused (decided_for request (at world.shards shard).history) request → ⊥)
     (sym (home-card world request c.in-Ok.found.card its.1.number_is))
-    (planned-used c.plan_under-outcome.result c.in_default-outcome.not-Fresh its.1)
+    (planned-used c.plan.result c.in_default-plan.not-Fresh its.1)

@@ -3,7 +3,7 @@ use Rattle.std.proofs.Common.{◌≡◌, length, take, ap, ◌∙◌, arith, rul
 use Rattle.retail_mac.specs.Mac.{retail_mac}
 use Rattle.arpc_methods.specs.Arpc.{method2}
 use Rattle.arpc_methods.proofs.Blocks.{first-four}
-use Rattle.arpc_methods.proofs.method2_under.Goals as goal
+use Rattle.arpc_methods.proofs.method2.Goals as goal
 
 pub returns : goal.returns
 unfolding method2

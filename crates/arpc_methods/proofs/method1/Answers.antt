@@ -3,7 +3,7 @@ use Rattle.std.proofs.Common.{◌≡◌, length, ap, ◌∙◌, rules}
 use Rattle.des_block.specs.Cipher.{tdes_encipher}
 use Rattle.arpc_methods.specs.Arpc.{method1}
 use Rattle.arpc_methods.proofs.Blocks.{first-two-xored}
-use Rattle.arpc_methods.proofs.method1_under.Goals as goal
+use Rattle.arpc_methods.proofs.method1.Goals as goal
 
 pub returns : goal.returns
 unfolding method1
