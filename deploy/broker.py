@@ -17,6 +17,7 @@ RECONNECT_SECONDS = 0.3
 SETUP_SECONDS = 10.0
 
 ACKED, NACKED, RETURNED = "acked", "nacked", "returned"
+NOT_FOUND = 404
 LOCAL = "amqp://127.0.0.1:5672/%2F"
 
 
@@ -112,7 +113,8 @@ class Link:
     def channel_closed(self, channel, reason):
         """The broker closes a channel for a queue that doesn't exist, say: then the connection begins anew."""
         if self.connection.is_open:
-            self.connection.close(200, str(reason)[:200])
+            missing = getattr(reason, "reply_code", 0) == NOT_FOUND
+            self.connection.close(200, f"{str(reason)[:160]}{'; deploy/queues declares what is missing' if missing else ''}")
 
     def lost(self, connection, reason):
         self.channel = None

@@ -33,7 +33,7 @@ def read_folder(folder):
     for number, one in zip(numbers, found):
         named = one.get("partition")
         if named != {"number": number, "of": len(numbers)} or number >= len(numbers):
-            raise Wrong(f"{folder}/{number}.json says that it is {named}, and there are {len(numbers)} configurations: restore the folder as deploy/partition wrote it")
+            raise Wrong(f"{folder}/{number}.json says that it is {named}, among {len(numbers)} configurations: restore the folder as deploy/partition wrote it")
         stray = [it["pan"] for it in one["cards"] if partition_of(it["pan"], len(numbers)) != number]
         if stray:
             raise Wrong(f"{folder}/{number}.json has {len(stray)} cards of other partitions: restore the folder as deploy/partition wrote it")

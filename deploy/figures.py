@@ -24,7 +24,8 @@ class Figures:
             self.begin_without()
 
     def begin_without(self):
-        for name in ("answers", "seconds", "in_flight", "oldest", "starts", "ends", "losses", "bodies", "returned", "bytes", "free", "active"):
+        self.partition = ""
+        for name in ("answers_by", "ends_by", "seconds", "in_flight", "oldest", "starts", "ends", "losses", "bodies", "returned", "bytes", "free", "active"):
             setattr(self, name, Nothing())
 
     def begin(self, partition, port):
@@ -56,14 +57,12 @@ class Figures:
 
     def answered(self, answer, seconds):
         kind, refusal = program.kind_of(answer)
-        if hasattr(self, "answers_by"):
-            self.answers_by.labels(self.partition, kind, refusal).inc()
+        self.answers_by.labels(self.partition, kind, refusal).inc()
         if seconds is not None:
             self.seconds.observe(seconds)
 
     def ended(self, status):
-        if hasattr(self, "ends_by"):
-            self.ends_by.labels(self.partition, str(status)).inc()
+        self.ends_by.labels(self.partition, str(status)).inc()
 
     def look_at_disk(self):
         """Measures the journals and their disk."""
