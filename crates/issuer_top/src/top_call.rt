@@ -8,7 +8,7 @@ ghost use Rattle.desk_host.specs.Journals.{IsReadySolo};
 ghost use Rattle.line_serving.specs.Hosts.{callers_of, IsReady, HasServed, IsIdle};
 ghost use Rattle.issuer_top.specs.Stopping.{EndsServing, GivesStop};
 ghost use Rattle.desk_host.specs.SeenStores.{store_seen};
-ghost use Rattle.issuer_top.specs.Seen.{SeenDesk, SeenInput, IsSameDesk, seen_of, seen_by, desk_seen, input_seen};
+ghost use Rattle.issuer_top.specs.Seen.{SeenDesk, IsSameDesk, seen_of, seen_by, desk_seen, input_seen};
 ghost use Rattle.issuer_top.specs.Seen.{sink_seen};
 ghost use Rattle.command_line.specs.Command.{IsCommand, IsGroup};
 ghost use Rattle.command_line.specs.Pairs.{request_file};
@@ -179,17 +179,7 @@ where
             };
         }
     };
-    let Finished {
-        ending,
-        requests,
-        stores,
-    } = do_command(rt, issuer, names, desk, out, gate);
-    Outcome {
-        ending,
-        config: Some(config),
-        requests,
-        stores,
-    }
+    do_command(rt, issuer, config, names, desk, out, gate)
 }
 
 /// Why a run stops where the desk gives no input.
@@ -202,22 +192,16 @@ fn stop_at(fault: DeskFault) -> Stop
     }
 }
 
-/// How a command ended, and what its host leaves.
-struct Finished<I, J> {
-    ending: Ending,
-    requests: Option<I>,
-    stores: Vec<J>,
-}
-
-/// Loads the journals of an issuer and answers all lines of the request file, or shows all cards where there is none.
+/// Loads the journals of an issuer, and answers all lines of the request file, or shows all cards if there is none.
 fn do_command<R, D, W, G>(
     rt: &R,
     issuer: Issuer,
+    config: D::Input,
     names: Names<'_>,
     desk: &mut D,
     out: &mut W,
     gate: &G,
-) -> Finished<D::Input, D::Journal>
+) -> Outcome<D::Input, D::Journal>
 where
     R: AllocGlobal + Threads + Wait + Sync,
     D: Desk,
@@ -225,9 +209,9 @@ where
     W: Sink,
     G: Gate + Sync,
     requires { IfSome names.requests (λ requests. IsGroup requests.callers) }
-    ensures { (words : List (List ℕ)) (given : D) (config : SeenInput)
+    ensures { (words : List (List ℕ)) (given : D)
         → let seen =
-        seen_of words (desk_seen D.Desk given desk.new) (Some config)
+        seen_of words (desk_seen D.Desk given desk.new) (option_map (input_seen D.Input.Source) result.config)
         (option_map (input_seen D.Input.Source) result.requests)
         (map (store_seen D.Journal.Store) result.stores.items) (sink_seen W.Sink out.old out.new) in
         IsSetUp seen (option_map request_file
@@ -237,28 +221,30 @@ where
     let alloc = rt.alloc();
     match names.requests {
         None => match load_alone(alloc, desk, names.journal, issuer) {
-            Ok(host) => show_cards::<D, W>(host, out),
-            Err(back) => not_loaded(back, out),
+            Ok(host) => show_cards::<D, W>(host, config, out),
+            Err(back) => not_loaded(back, config, out),
         },
         Some(requests) => {
             match load_host(alloc, desk, names.journal, issuer, requests.callers) {
-                Ok(host) => serve_requests(rt, host, desk, requests.file, out, gate),
-                Err(back) => not_loaded(back, out),
+                Ok(host) => serve_requests(rt, host, config, desk, requests.file, out, gate),
+                Err(back) => not_loaded(back, config, out),
             }
         }
     }
 }
 
 /// How a run ends whose journals gave no host.
-fn not_loaded<I, J, W: Sink>(back: NoHost<J>, out: &mut W) -> Finished<I, J>
+fn not_loaded<I, J, W: Sink>(back: NoHost<J>, config: I, out: &mut W) -> Outcome<I, J>
+    ensures config { result.config ≡ Some config }
     ensures requests { result.requests ≡ None }
     ensures stores { result.stores ≡ back.stores }
     ensures ending { GivesStop (W.held out.old) (W.held out.new) (W.faults out.old) (W.faults out.new) back.cause
         result.ending }
 {
     let NoHost { cause, stores } = back;
-    Finished {
+    Outcome {
         ending: stop_with(cause, out),
+        config: Some(config),
         requests: None,
         stores,
     }
@@ -268,11 +254,12 @@ fn not_loaded<I, J, W: Sink>(back: NoHost<J>, out: &mut W) -> Finished<I, J>
 fn serve_requests<R, D, W, G>(
     rt: &R,
     mut host: LineHost<D::Journal>,
+    config: D::Input,
     desk: &mut D,
     name: &str,
     out: &mut W,
     gate: &G,
-) -> Finished<D::Input, D::Journal>
+) -> Outcome<D::Input, D::Journal>
 where
     R: AllocGlobal + Threads + Wait + Sync,
     D: Desk,
@@ -280,9 +267,9 @@ where
     W: Sink,
     G: Gate + Sync,
     requires idle { IsIdle host 0 }
-    ensures { (words : List (List ℕ)) (given : D) (config : SeenInput) (journal : List ℕ) (issuer : Setup)
+    ensures { (words : List (List ℕ)) (given : D) (journal : List ℕ) (issuer : Setup)
         → let seen =
-        seen_of words (desk_seen D.Desk given desk.new) (Some config)
+        seen_of words (desk_seen D.Desk given desk.new) (option_map (input_seen D.Input.Source) result.config)
         (option_map (input_seen D.Input.Source) result.requests)
         (map (store_seen D.Journal.Store) result.stores.items) (sink_seen W.Sink out.old out.new) in
         IsSetUp seen (Some (record { name = name.now; callers = callers_of host })) journal issuer
@@ -292,8 +279,9 @@ where
     let mut server = match Server::new(rt.alloc()) {
         Ok(server) => server,
         Err(NoMemory) => {
-            return Finished {
+            return Outcome {
                 ending: stop_with(Stop::NoMemory, out),
+                config: Some(config),
                 requests: None,
                 stores: host.close(),
             };
@@ -302,16 +290,18 @@ where
     let mut requests = match desk.read(name) {
         Ok(requests) => requests,
         Err(fault) => {
-            return Finished {
+            return Outcome {
                 ending: stop_with(stop_at(fault), out),
+                config: Some(config),
                 requests: None,
                 stores: host.close(),
             };
         }
     };
     let served = server.serve(rt, gate, &mut host, &mut requests, out);
-    Finished {
+    Outcome {
         ending: end_serving(served, out),
+        config: Some(config),
         requests: Some(requests),
         stores: host.close(),
     }
@@ -332,19 +322,22 @@ fn end_serving<W: Sink>(served: Served, out: &mut W) -> Ending
 /// Shows all cards of the host.
 fn show_cards<D: Desk, W: Sink>(
     host: Solo<D::Journal>,
+    config: D::Input,
     out: &mut W,
-) -> Finished<D::Input, D::Journal>
+) -> Outcome<D::Input, D::Journal>
     requires { 0 < host.issuer.shards }
-    ensures { (words : List (List ℕ)) (desk : SeenDesk) (config : SeenInput) (journal : List ℕ) (issuer : Setup)
-        → let seen = seen_of words desk (Some config) (option_map (input_seen D.Input.Source) result.requests)
+    ensures { (words : List (List ℕ)) (desk : SeenDesk) (journal : List ℕ) (issuer : Setup)
+        → let seen = seen_of words desk (option_map (input_seen D.Input.Source) result.config)
+        (option_map (input_seen D.Input.Source) result.requests)
         (map (store_seen D.Journal.Store) result.stores.items) (sink_seen W.Sink out.old out.new) in
         IsSetUp seen None journal issuer → IsReadySolo issuer journal desk.logs host → HasSoundParts issuer
         → desk.faults_after ≡ desk.faults_before
         → EndsBy seen result.ending }
 {
     let ending = end_writing(show(&host, out));
-    Finished {
+    Outcome {
         ending,
+        config: Some(config),
         requests: None,
         stores: host.close(),
     }

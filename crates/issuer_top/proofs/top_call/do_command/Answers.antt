@@ -11,23 +11,24 @@ use Rattle.issuer_top.proofs.EndingSteps.{ends_unloaded, set_up-named}
 use Rattle.issuer_top.proofs.top_call.do_command.Goals as goal
 
 pub returns-in-Ok : goal.returns-in-Ok
-returns-in-Ok g c = λ words given config set_up sound same same_logs.
-    c.show_cards.ensures words _ config _ _ (rw c.in-None.is at set_up)
+returns-in-Ok g c = λ words given set_up sound same same_logs.
+    c.show_cards.ensures words _ _ _ (rw c.in-None.is at set_up)
     (subst (λ (l : Logged). IsReadySolo c.args.issuer c.args.names.journal.now l c.in-Ok.host) same_logs
     c.in-Ok.ensures.ready)
     sound (c.in-Ok.ensures.stood refl ∙ same.faults_are)
 
 pub returns-in-Err : goal.returns-in-Err
-returns-in-Err g c = λ words given config set_up sound same same_logs.
-    ends_unloaded _ _ _ _ _ set_up _ _ _ _ refl
+returns-in-Err g c = λ words given set_up sound same same_logs.
+    ends_unloaded _ _ _ _ _ set_up _ _ _ _
+    (ap (λ input. is_some (option_map (input_seen g.D.Input.Source) input)) c.not_loaded.ensures.config)
     (ap (λ input. is_some (option_map (input_seen g.D.Input.Source) input)) c.not_loaded.ensures.requests)
     (ap (λ stores. map (store_seen g.D.Journal.Store) stores.items) c.not_loaded.ensures.stores) same_logs
     same.faults_are c.in-Err.ensures.none.why
     c.in-Err.ensures.none.left c.not_loaded.ensures.ending
 
 pub returns-in-Ok-load_host : goal.returns-in-Ok-load_host
-returns-in-Ok-load_host g c = λ words given config set_up sound same same_logs.
-    c.serve_requests.ensures words given config c.args.names.journal.now c.args.issuer
+returns-in-Ok-load_host g c = λ words given set_up sound same same_logs.
+    c.serve_requests.ensures words given c.args.names.journal.now c.args.issuer
     (set_up-named _ _ _ _ _ _ (ap (option_map request_file) c.in-Some.is) c.in-Ok-load_host.ensures.fresh.callers_are
     set_up)
     (subst (λ (l : Logged). IsReady c.args.issuer c.args.names.journal.now l c.in-Ok-load_host.host) same_logs
@@ -39,8 +40,9 @@ returns-in-Ok-load_host g c = λ words given config set_up sound same same_logs.
     })
 
 pub returns-in-Err-load_host : goal.returns-in-Err-load_host
-returns-in-Err-load_host g c = λ words given config set_up sound same same_logs.
-    ends_unloaded _ _ _ _ _ set_up _ _ _ _ refl
+returns-in-Err-load_host g c = λ words given set_up sound same same_logs.
+    ends_unloaded _ _ _ _ _ set_up _ _ _ _
+    (ap (λ input. is_some (option_map (input_seen g.D.Input.Source) input)) c.not_loaded-in-Err-load_host.ensures.config)
     (ap (λ input. is_some (option_map (input_seen g.D.Input.Source) input))
     c.not_loaded-in-Err-load_host.ensures.requests)
     (ap (λ stores. map (store_seen g.D.Journal.Store) stores.items) c.not_loaded-in-Err-load_host.ensures.stores)

@@ -32,7 +32,7 @@ returns-in-Err-read_issuer g c = λ words command.
 
 pub returns : goal.returns
 returns g c = λ words command.
-    c.do_command-ending.ensures words _ _
+    c.do_command.ensures words _
     (IsSetUp-from_said _ _ _ _ _ _ command (gives_input _ _ c.in-Ok.ensures.input c.in-Ok.ensures.absent)
     c.in-Ok-read_issuer.ensures.says)
     c.in-Ok-read_issuer.ensures.sound

@@ -7,14 +7,14 @@ use Rattle.issuer_top.proofs.EndingSteps.{gives_input, ends_unserved, ends_no_re
 use Rattle.issuer_top.proofs.top_call.serve_requests.Goals as goal
 
 pub returns-in-Err : goal.returns-in-Err
-returns-in-Err g c = λ words given config journal issuer set_up ready served sound same.
+returns-in-Err g c = λ words given journal issuer set_up ready served sound same.
     ends_unserved _ _ journal issuer set_up _
     (record { config_is = refl; requests_is = refl; desk_stood = same.faults_are })
     (c.close.ensures.loaded issuer journal (g.D.Desk.logs given) ready sound)
     (record { stops = c.stop_with.ensures.ended; count = c.stop_with.ensures.count })
 
 pub returns-in-Err-read : goal.returns-in-Err-read
-returns-in-Err-read g c = λ words given config journal issuer set_up ready served sound same.
+returns-in-Err-read g c = λ words given journal issuer set_up ready served sound same.
     ends_no_requests _ _ journal issuer set_up (Unit {0}) _ _ c.in-Err-read.fault _ refl refl
     (c.close-in-Err-read.ensures.loaded issuer journal (g.D.Desk.logs given) ready sound) same.faults_are
     c.in-Err-read.ensures.count
@@ -25,7 +25,7 @@ returns-in-Err-read g c = λ words given config journal issuer set_up ready serv
     })
 
 pub returns : goal.returns
-returns g c = λ words given config journal issuer set_up ready served sound same.
+returns g c = λ words given journal issuer set_up ready served sound same.
     ends_serving _ _ journal issuer set_up _ _
     (record { config_is = refl; requests_is = refl; desk_stood = c.in-Ok-read.ensures.count.counted ∙ same.faults_are })
     refl

@@ -13,7 +13,7 @@ use Rattle.issuer_top.proofs.EndingSteps.{ends_showing}
 use Rattle.issuer_top.proofs.top_call.show_cards.Goals as goal
 
 pub returns : goal.returns
-returns g c = λ words desk config journal issuer set_up ready sound stood.
+returns g c = λ words desk journal issuer set_up ready sound stood.
     let shards = subst (λ (i : Setup). AreShards i c.args.host.shards.items) ready.issuer_is c.args.host.are_shards in
     let first = begins issuer journal desk.logs c.args.host.shards.items ready.shards shards in
     let kept = keep-journals issuer journal desk.logs _ c.args.host.shards.items c.args.host.shards.items ready.shards
