@@ -1,5 +1,6 @@
 -- A card's state, its requests, and which answers of the issuer it accepts.
-use Rattle.std.specs.Prelude.{ℕ, ◌+◌, ◌*◌, Bool, ◌&&◌, nat_le, if◌then◌else◌, List, [], ◌∷◌, ◌++◌, length, take, drop, replicate}
+use Rattle.std.specs.Prelude.{ℕ, ◌+◌, ◌*◌, Bool, ◌&&◌, nat_le, if◌then◌else◌, List, [], ◌∷◌, ◌++◌, length, take, drop}
+use Rattle.std.specs.Prelude.{replicate}
 use Rattle.std.specs.Prelude.{Option}
 use Rattle.std.specs.Str.{bytes_eq}
 use Rattle.issuer_base.specs.declared.answer.Method.{Method}
@@ -75,4 +76,5 @@ next_request card terminal =
 unfoldable pub is_answer : CardState → Parts → List ℕ → List ℕ → Bool
 is_answer card request value arc =
     nat_le 8 (length value)
-    && bytes_eq value (value91 card.method (session_ac card.keys.ac.0 request.atc) request.ac arc (take 4 (drop 4 value)))
+    && bytes_eq value (value91 card.method (session_ac card.keys.ac.0 request.atc) request.ac arc
+    (take 4 (drop 4 value)))

@@ -1,5 +1,6 @@
 -- The steps of a card: a tap at a terminal, the issuer's answer, and an issuer script command.
-use Rattle.std.specs.Prelude.{◌≡◌, ℕ, ◌+◌, Bool, true, false, ◌==◌, nat_lt, if◌then◌else◌, List, [], ◌∷◌, ◌++◌, Option, Some, None}
+use Rattle.std.specs.Prelude.{◌≡◌, ℕ, ◌+◌, Bool, true, false, ◌==◌, nat_lt, if◌then◌else◌, List, [], ◌∷◌, ◌++◌, Option}
+use Rattle.std.specs.Prelude.{Some, None}
 use Rattle.issuer_base.specs.declared.answer.Method.{Method}
 use Rattle.issuer_base.specs.declared.command.Command.{Command}
 use Rattle.issuer_base.specs.declared.request.Parts.{Parts}
@@ -55,7 +56,12 @@ authenticated card value arc = answered_at card.open_request card.chain card val
 
 -- the card that ran a command, and expects the next one at this chain
 unfoldable pub with_command : CardState → Command → List ℕ → CardState
-with_command card command next = record card { count = card.count + 1; chain = Some next; ran = card.ran ++ command ∷ [] }
+with_command card command next = record card {
+  count = card.count + 1;
+  chain = Some next;
+  ran = card.ran ++ command
+      ∷ [];
+}
 
 -- the card that refused a command
 unfoldable pub with_failure : CardState → CardState

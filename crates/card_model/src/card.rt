@@ -1,6 +1,7 @@
 //! A card, and its three steps.
 
-ghost use Rattle.std.specs.Prelude.{◌≡◌, ◌<◌, ◌↔◌, ◌&&◌, nat_le, length, take, drop, IsNone, IsTrue, IfNone, IfOk, IfSome, OnErr, OnSome};
+ghost use Rattle.std.specs.Prelude.{◌≡◌, ◌<◌, ◌↔◌, ◌&&◌, nat_le, length, take, drop, IsNone, IsTrue, IfNone, IfOk};
+ghost use Rattle.std.specs.Prelude.{IfSome, OnErr, OnSome};
 ghost use Rattle.std.specs.Bool.{OnFalse};
 ghost use Rattle.std.specs.List.{list_all};
 ghost use Rattle.std.specs.Str.{bytes_eq};
@@ -26,8 +27,8 @@ pub const LAST_COUNTER: u16 = 65_535;
 /// How many issuer script commands the card verification results can count.
 pub const MOST_COUNTED: u8 = 15;
 
-/// The application interchange profile of every card, tag 82: DDA, cardholder verification, terminal risk management and
-/// CDA. EMV 4.3 Book 3, Annex C1.
+/// The application interchange profile of every card, tag 82: DDA, cardholder verification, terminal risk management
+/// and CDA. EMV 4.3 Book 3, Annex C1.
 const PROFILE: [u8; 2] = [0x39, 0x00];
 
 /// The cryptogram information data of an ARQC, a request to go online.
@@ -38,7 +39,8 @@ const SCRIPT_FAILED: u8 = 0x08;
 
 /// A chip card.
 ///
-/// A contract sees its `CardState`: what it was issued with, its counters, its open transaction, and the commands that it ran.
+/// A contract sees its `CardState`: what it was issued with, its counters, its open transaction, and the commands that
+/// it ran.
 #[derive(Drop)]
 pub struct Card {
     pan: Pan,
@@ -112,7 +114,8 @@ impl Card {
         ensures step { CardStep self.old (Tap terminal.now result) self.new }
         ensures last { IsNone result ↔ (self.old.atc ≡ LAST_COUNTER) }
         ensures unchanged { IfNone result (self.new ≡ self.old) }
-        ensures has_valid_ac { IfSome result (λ request. request.ac ≡ application_cryptogram self.old.keys.ac.0 request) }
+        ensures has_valid_ac { IfSome result (λ request. request.ac
+            ≡ application_cryptogram self.old.keys.ac.0 request) }
     {
         if self.atc == LAST_COUNTER {
             return None;

@@ -4,7 +4,7 @@ use Rattle.std.specs.Prelude.{List, [], ◌∷◌, length, map, Option, None, So
 use Rattle.std.specs.Fmt.{decimal}
 use Rattle.std.specs.Str.{bytes_eq}
 use Rattle.hex.specs.Hex.{decode_of}
-use Rattle.issuer_base.specs.declared.limits.TheConstants.{MAX_CALLERS, MAX_CHIP_BYTES}
+use Rattle.issuer_base.specs.declared.limits.TheConstants.{MAX_CALLERS, MAX_CARDS, MAX_CHIP_BYTES}
 
 -- a value is a word that isn't empty and doesn't begin with a hyphen
 abbrev pub IsValue : List ℕ → Type 0
@@ -85,7 +85,7 @@ IsShow words config journal = IsCall (codes "show") show_options words (config �
 -- a world may have so many cards and so many steps: no card is in more steps than a card gives requests
 pub record IsSize (cards steps : ℕ) : Type 0 where
   pub some_cards : 1 ≤ cards
-  pub few_cards : cards ≤ 4096
+  pub few_cards : cards ≤ MAX_CARDS
   pub few_steps : steps ≤ 200000
   pub few_each : steps ≤ 65535 * cards
 

@@ -3,6 +3,7 @@ use Rattle.std.specs.Prelude.{◌≡◌, ◌⊎◌, ℕ, ◌*◌, ◌%◌, nat_l
 use Rattle.std.specs.Prelude.{List, [], ◌∷◌, length, drop, slice_get, Option, Some, None, codes}
 use Rattle.std.specs.Fmt.{decimal}
 use Rattle.std.specs.Option.{option_map}
+use Rattle.issuer_base.specs.declared.limits.TheConstants.{MAX_CARDS}
 use Rattle.command_line.specs.declared.words.Command.{Command}
 use Rattle.command_line.specs.declared.words.Command.TheVariants.{Serve, Show, World, Fill}
 use Rattle.command_line.specs.declared.words.Requests.{Requests}
@@ -94,4 +95,4 @@ IsTask words (FillTask texts) = IsFill words texts.dol.items texts.data.items
 
 -- whether a world may have so many cards and steps
 abbrev pub is_within : ℕ → ℕ → Bool
-is_within cards steps = nat_le 1 cards && nat_le cards 4096 && nat_le steps 200000 && nat_le steps (65535 * cards)
+is_within cards steps = nat_le 1 cards && nat_le cards MAX_CARDS && nat_le steps 200000 && nat_le steps (65535 * cards)

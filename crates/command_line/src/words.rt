@@ -11,11 +11,8 @@ ghost use Rattle.command_line.specs.declared.words.Command.TheVariants.{Serve, S
 ghost use Rattle.command_line.specs.declared.words.Task.TheVariants.{Host, Play, Fill as FillTask};
 
 use arrayvec::ArrayVec;
-use issuer_base::{MAX_CALLERS, MAX_CHIP_BYTES, Words};
+use issuer_base::{MAX_CALLERS, MAX_CARDS, MAX_CHIP_BYTES, Words};
 use itoa::Buffer;
-
-/// How many cards a world may have.
-const MOST_CARDS: u32 = 4_096;
 
 /// How many steps a world may have.
 const MOST_STEPS: u32 = 200_000;
@@ -223,7 +220,10 @@ fn bytes_of(word: &str) -> Option<ArrayVec<u8, MAX_CHIP_BYTES>>
 fn is_within(cards: u32, steps: u32) -> bool
     ensures { result ≡ is_within cards steps }
 {
-    1 <= cards && cards <= MOST_CARDS && steps <= MOST_STEPS && steps <= MOST_STEPS_EACH * cards
+    1 <= cards
+        && cards as usize <= MAX_CARDS
+        && steps <= MOST_STEPS
+        && steps <= MOST_STEPS_EACH * cards
 }
 
 /// The number that a word says in decimal digits, without a sign or a zero in front; `None` where it says none below

@@ -15,5 +15,6 @@ ghost use Rattle.request_text.specs.ChipText.{request_line};
 pub fn what_is_written_is_read()
     ensures read { (request : Request) → IsRequest request → request_of (chip_data request) ≡ Ok request }
     ensures short { (request : Request) → IsRequest request → length (chip_data request) ≤ MAX_CHIP_BYTES }
-    ensures asked { (request : Request) → IsRequest request → line_of (request_line request) ≡ Ok (Ask (record { items = chip_data request })) }
+    ensures asked { (request : Request) → IsRequest request
+        → line_of (request_line request) ≡ Ok (Ask (record { items = chip_data request })) }
 {}

@@ -79,7 +79,7 @@ each-shard Holds shards place new within here others shard =
       | inr other ↦ subst (Holds shard) (sym (get_or-set_other shards place shard new no_shard other)) (others shard other)
     ]
 
--- one more record that may come next
+-- one more record that is a valid successor
 pub lawful-record : (issuer : Setup) (shards : List ShardState) (shard : ℕ) (entry : Entry) → IsIssuer issuer → AreLawful issuer shards
     → IsLegal (grounds_of issuer) shard (at shards shard).history entry → AreLawful issuer (recorded shards shard entry)
 lawful-record issuer shards shard entry valid lawful legal =
@@ -97,7 +97,7 @@ lawful-record issuer shards shard entry valid lawful legal =
           (λ exchange is. absurd (none-some exchange is)) (λ other apart. lawful.doubtful other);
     }
 
--- another decision in doubt that may come next, or none
+-- another decision in doubt that is a valid successor, or none
 pub lawful-doubt : (issuer : Setup) (shards : List ShardState) (shard : ℕ) (doubt : Option Exchange) → shard < length shards → AreLawful issuer shards
     → ((exchange : Exchange) → doubt ≡ Some exchange
     → IsLegalDecision (grounds_of issuer) shard (at shards shard).history exchange.request exchange.reply)

@@ -105,7 +105,7 @@ doubt-read shards home doubt old within old_is doubt_is =
     ∙ sym doubt_is
 
 module _ (world : WorldState) (sound : IsSound world) where
-  -- a decision in doubt may come next in the shard of its card, and that shard is where it is in doubt
+  -- a decision in doubt is a valid successor in the shard of its card, and that shard is where it is in doubt
   pub doubt-legal : (home : ℕ) (exchange : Exchange) → (shard_at world home).doubt ≡ Some exchange
       → IsLegalDecision (grounds_of world.issuer) (home_of world exchange.request) (history_for world exchange.request) exchange.request exchange.reply
   doubt-legal home exchange is =

@@ -87,7 +87,7 @@ claims-more : (issuer : Setup) (claims : List OpenClaim) (claim : OpenClaim) →
 claims-more issuer claims claim all passes = All-push (λ claim. checked issuer claim.request ≡ Ok (Decide claim.request)) claims claim all passes
 
 module _ (world : WorldState) (sound : IsSound world) where
-  -- a shard of which a record may come next is one of the shards
+  -- a shard of which a record is a valid successor is one of the shards
   pub shard-within : (shard : ℕ) (entry : Entry) → IsLegal (grounds_of world.issuer) shard (at world.shards shard).history entry
       → shard < length world.shards
   shard-within shard entry legal =

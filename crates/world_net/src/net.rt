@@ -78,19 +78,8 @@ impl Net {
         })
     }
 
-    /// Performs the event if it is allowed.
+    /// Performs the event if it is allowed. If it isn't, or if memory runs out, nothing changes.
     pub(crate) fn step(&mut self, event: &Event) -> Result<bool, NoMemory>
-        requires { IsHeld self.old }
-        ensures taken { IsTaken (IsAllowed (world_of self.old) event.now) (IsStep (world_of self.old) event.now (world_of self.new))
-            (world_of self.old) (world_of self.new) result }
-        ensures own { IfDone (IsOwn (world_of self.old) event.now (world_of self.new)) result }
-        ensures held { IsHeld self.new }
-    {
-        self.take(event)
-    }
-
-    /// As `step`.
-    fn take(&mut self, event: &Event) -> Result<bool, NoMemory>
         requires issuer { IsIssuer self.old.issuer }
         requires reached { IsReached (world_of self.old) }
         requires shards { length self.old.shards.items ≡ self.old.issuer.shards }

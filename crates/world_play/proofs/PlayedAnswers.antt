@@ -205,7 +205,8 @@ module _ (cards number : ℕ) (valid : IsIssuer (issuer cards)) (world : WorldSt
       (own-made cards number request right valid it.old.history))) in
       let here : IsLegalDecision (grounds_of world.issuer) (shard_of world.issuer (card_of request))
       (shard_at world (shard_of world.issuer (card_of request))).history request reply =
-      subst (λ (setup : Setup). IsLegalDecision (grounds_of setup) (shard_of setup (card_of request)) (shard_at world (shard_of setup (card_of request))).history request reply)
+      subst (λ (setup : Setup). IsLegalDecision (grounds_of setup) (shard_of setup (card_of request))
+      (shard_at world (shard_of setup (card_of request))).history request reply)
       (sym played.issuer_is) legal in
       let home = shard_of world.issuer (card_of request) in
       let entry = Decided request reply in

@@ -54,7 +54,8 @@ module _ (cards steps : ℕ) (world : WorldState) (state : State) (valid : IsIss
       let name = name_of (card_info number) in
       let shard = shard_of (issuer cards) name in
       let home : shard ≡ number % world.issuer.shards =
-      shard_of-known (issuer cards) name number (number-known cards number valid below) ∙ ap (λ (setup : Setup). number % setup.shards) (sym it.played.issuer_is) in
+      shard_of-known (issuer cards) name number (number-known cards number valid below)
+      ∙ ap (λ (setup : Setup). number % setup.shards) (sym it.played.issuer_is) in
       ap (λ (histories : List (List Entry)). get_or histories shard []) (sym it.histories)
       ∙ histories-at world.shards shard
       ∙ ap (λ shard. (shard_at world shard).history) home
@@ -72,7 +73,8 @@ module _ (cards steps : ℕ) (world : WorldState) (state : State) (valid : IsIss
       → slice_get state.players number ≡ Some player → (shown (issuer cards) state.books info).done ≤ length player.card.ran
   done-within number info player info_is player_is =
       let known = card-is cards number info info_is in
-      subst (λ (info : CardInfo). (shown (issuer cards) state.books info).done ≤ length player.card.ran) known.1 (ran number info player info_is player_is).at_least
+      subst (λ (info : CardInfo). (shown (issuer cards) state.books info).done ≤ length player.card.ran) known.1
+      (ran number info player info_is player_is).at_least
 
   none-halted : (number : ℕ) (info : CardInfo) → slice_get (issuer cards).cards number ≡ Some info
       → one_if (shown (issuer cards) state.books info).halted ≡ 0
@@ -86,7 +88,8 @@ module _ (cards steps : ℕ) (world : WorldState) (state : State) (valid : IsIss
   pub state-order : CountsInOrder (summed (issuer cards) state)
   state-order = record {
     none_halted = sums-none (λ info. one_if (shown (issuer cards) state.books info).halted) (issuer cards).cards none-halted;
-    done_ran = sums-within (λ info. (shown (issuer cards) state.books info).done) (λ (player : Player). length player.card.ran) (issuer cards).cards state.players
+    done_ran = sums-within (λ info. (shown (issuer cards) state.books info).done) (λ (player : Player). length player.card.ran)
+        (issuer cards).cards state.players
         (cards-count cards ∙ sym it.count) done-within;
   }
 

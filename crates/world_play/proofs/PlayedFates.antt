@@ -57,22 +57,26 @@ module _ (cards number : ℕ) (valid : IsIssuer (issuer cards)) (below : number 
 
   spoils : (moves : List Move) → Goes moves → Goes (AskSpoiled ∷ moves)
   spoils moves rest world before after request asking made =
-      and-then number world (AsksAt made.0 request) (IdleAt after) (spoil-move cards number valid below (most + 1) step world before made.0 request asking made.1)
+      and-then number world (AsksAt made.0 request) (IdleAt after) (spoil-move cards number valid below
+      (most + 1) step world before made.0 request asking made.1)
       (λ later now. rest later made.0 after request now made.2)
 
   hands : (moves : List Move) → Goes moves → Goes (Hand ∷ moves)
   hands moves rest world before after request asking made =
-      and-then number world (AsksAt made.0 request) (IdleAt after) (hand-move cards number valid below (most + 1) step world before made.0 request asking made.1)
+      and-then number world (AsksAt made.0 request) (IdleAt after) (hand-move cards number valid below
+      (most + 1) step world before made.0 request asking made.1)
       (λ later now. rest later made.0 after request now made.2)
 
   firsts : (moves : List Move) → Goes moves → Goes (HandFirst ∷ moves)
   firsts moves rest world before after request asking made =
-      and-then number world (AsksAt made.0 request) (IdleAt after) (first-move cards number valid below (most + 1) step world before made.0 request asking made.1)
+      and-then number world (AsksAt made.0 request) (IdleAt after) (first-move cards number valid below
+      (most + 1) step world before made.0 request asking made.1)
       (λ later now. rest later made.0 after request now made.2)
 
   wrongs : (moves : List Move) → Goes moves → Goes (HandSpoiled ∷ moves)
   wrongs moves rest world before after request asking made =
-      and-then number world (AsksAt made.0 request) (IdleAt after) (wrong-move cards number valid below (most + 1) step world before made.0 request asking made.1)
+      and-then number world (AsksAt made.0 request) (IdleAt after) (wrong-move cards number valid below
+      (most + 1) step world before made.0 request asking made.1)
       (λ later now. rest later made.0 after request now made.2)
 
   holds : Goes (Hold ∷ [])
@@ -133,7 +137,8 @@ module _ (cards number : ℕ) (valid : IsIssuer (issuer cards)) (below : number 
       (queues 0 (Queue 1 ∷ Queue 2 ∷ Tap ∷ Ask ∷ []) (omega arith) (queues 1 (Queue 2 ∷ Tap ∷ Ask ∷ []) (omega arith)
       (queues 2 (Tap ∷ Ask ∷ []) (omega arith) (taps (Ask ∷ []) (asks [] done)))) world before after idle)
       (either Goal Holds (fate == 1) (Tap ∷ []) _ (taps [] done world before after idle)
-      (either Goal Holds (fate == 2) (Tap ∷ Ask ∷ HandFirst ∷ []) _ (taps (Ask ∷ HandFirst ∷ []) (asks (HandFirst ∷ []) (firsts [] done)) world before after idle)
+      (either Goal Holds (fate == 2) (Tap ∷ Ask ∷ HandFirst ∷ []) _ (taps (Ask ∷ HandFirst ∷ [])
+      (asks (HandFirst ∷ []) (firsts [] done)) world before after idle)
       (either Goal Holds (fate == 3) (Tap ∷ Ask ∷ Ask ∷ Hand ∷ []) _
       (taps (Ask ∷ Ask ∷ Hand ∷ []) (asks (Ask ∷ Hand ∷ []) (asks (Hand ∷ []) (hands [] done))) world before after idle)
       (either Goal Holds (fate == 4) (Tap ∷ Hold ∷ []) _ (taps (Hold ∷ []) holds world before after idle)

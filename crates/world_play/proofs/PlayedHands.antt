@@ -225,7 +225,8 @@ module _ (cards number : ℕ) (valid : IsIssuer (issuer cards)) (world : WorldSt
         decides = λ shard place other told is. played.records shard place (Decided other told) is;
         accepts = λ right. absurd (false≢true right);
       }) (played.issued number card card_is) refl refl in
-      subst (λ (found : Bool × CardState). IsHanded cards number world card request (where_right found commands)) (sym (found-by card value arc false card step))
+      subst (λ (found : Bool × CardState). IsHanded cards number world card request (where_right found commands))
+      (sym (found-by card value arc false card step))
       (record { has = (with_card world number card, one); still = opening })
 
   module _ (request : Request) (reply : Reply) (right : IsRight cards number request) (sent : Contains world.sent (record { request = request; reply = reply }))
@@ -279,7 +280,8 @@ module _ (cards number : ℕ) (valid : IsIssuer (issuer cards)) (world : WorldSt
         let behind : drop moved.count told.batch ≡ told.batch = ap (λ n. drop n told.batch) stays.3 in
         let ran = run-all cards number valid request told.batch k request.ac (with_card world number moved) moved told.place told.first told.batch
         (master_keys number).smi.0 one.played one.card_is can keys told.sent told.sent_is behind told.fit in
-        subst (λ (found : Bool × CardState). IsRunning cards number world card (where_right found (take k sealed))) (sym (found-by card value arc true moved step))
+        subst (λ (found : Bool × CardState). IsRunning cards number world card (where_right found (take k sealed)))
+        (sym (found-by card value arc true moved step))
         (record {
           has = moved-then cards number world (with_card world number moved) card moved (after_commands moved (take k sealed)) one ran.has;
           chain = ran.chain;

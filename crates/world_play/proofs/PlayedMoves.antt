@@ -53,7 +53,8 @@ use Rattle.world_play.proofs.PlayedWorlds.{IsPlayed, IsLater, later-same, later-
 use Rattle.world_play.proofs.PlayedAnswers.{book-history, right-known, IsAfterAnswer, answered-world}
 use Rattle.world_play.proofs.PlayedQueues.{line-queues, queued_command, command-sendable, queued-world}
 use Rattle.world_play.proofs.PlayedRuns.{IsMoved, IsRunning}
-use Rattle.world_play.proofs.PlayedHands.{IsOpen, IsHanded, value_to, sealed_to, reply-made, value-found, sealed-found, handed-first, handed-some, handed-spoiled}
+use Rattle.world_play.proofs.PlayedHands.{IsOpen, IsHanded, value_to, sealed_to, reply-made, value-found, sealed-found, handed-first, handed-some}
+use Rattle.world_play.proofs.PlayedHands.{handed-spoiled}
 
 -- ---- a world and a stage
 
@@ -419,7 +420,8 @@ module _ (cards number : ℕ) (valid : IsIssuer (issuer cards)) (below : number 
     )
 
     -- all commands, or the first alone
-    hands : (choose : List (List ℕ) → List (List ℕ)) (count : List (List ℕ) → ℕ) → ((commands : List (List ℕ)) → choose commands ≡ take (count commands) commands)
+    hands : (choose : List (List ℕ) → List (List ℕ)) (count : List (List ℕ) → ℕ)
+        → ((commands : List (List ℕ)) → choose commands ≡ take (count commands) commands)
         → (reply : Option Reply) → before.player.reply ≡ reply → after ≡ handed (λ answer. answer) choose reply before → Gives
     hands choose count picks None reply_is is =
         (world, later-same number world, subst (λ (stage : Stage). IsAsking cards number most world stage request) (sym is) asking)
@@ -432,7 +434,8 @@ module _ (cards number : ℕ) (valid : IsIssuer (issuer cards)) (below : number 
         let value_is = value-found cards number valid world asking.idle.played card asking.idle.card_is request reply right sent told in
         let sealed_is = sealed-found cards number valid world asking.idle.played card asking.idle.card_is request reply right sent told in
         let some = handed-some cards number valid world asking.idle.played card asking.idle.card_is request reply right sent told (count sealed) asking.still in
-        let given_is : given_card (λ answer. answer) choose reply (answer_in reply.bytes.items) card ≡ after_answer card value reply.arc (take (count sealed) sealed) =
+        let given_is : given_card (λ answer. answer) choose reply (answer_in reply.bytes.items) card
+        ≡ after_answer card value reply.arc (take (count sealed) sealed) =
         given-is (λ answer. answer) choose reply value sealed card value_is sealed_is
         ∙ ap (λ (commands : List (List ℕ)). after_answer card value reply.arc commands) (picks sealed) in
         gives (λ answer. answer) choose reply
@@ -493,7 +496,8 @@ module _ (cards number : ℕ) (valid : IsIssuer (issuer cards)) (below : number 
       let it = subst (λ (moved : CardState). IsRunning cards number world card moved) (sym given_is) ran in
       let stage_is : after ≡ handed (λ answer. answer) (λ commands. commands) (Some reply) before =
       made ∙ ap (λ (reply : Option Reply). handed (λ answer. answer) (λ commands. commands) reply before) first.reply_is in
-      let asks = handed-stage most world it.has.0 before given (given_tally (λ answer. answer) reply (answer_in reply.bytes.items) card before.tally) request asking it.has.1 (inr (it.chain, it.chained)) in (
+      let asks = handed-stage most world it.has.0 before given (given_tally (λ answer. answer) reply
+      (answer_in reply.bytes.items) card before.tally) request asking it.has.1 (inr (it.chain, it.chained)) in (
         it.has.0,
         it.has.1.later,
         (

@@ -136,7 +136,8 @@ module _ (cards number : ℕ) (valid : IsIssuer (issuer cards)) (below : number 
       let told = it.changes in
       let room : TakesOneMore (waiting (scripts_of name (shard_at world (number % 4)).history)) =
       subst (λ shard. TakesOneMore (waiting (scripts_of name (shard_at world shard).history))) home
-      (subst (λ (history : List Entry). TakesOneMore (waiting (scripts_of name history))) (sym (book-history world books same shard it.old it.old_is)) told.0) in
+      (subst (λ (history : List Entry). TakesOneMore (waiting (scripts_of name history)))
+      (sym (book-history world books same shard it.old it.old_is)) told.0) in
       let at_issuer : CanAt (issuer cards) =
       (card-at cards number below, record { of_a_card = record { number = number; number_is = known; home = refl }; form = sendable.form; room = room }) in
       let here = subst CanAt (sym played.issuer_is) at_issuer in

@@ -76,7 +76,8 @@ template-found : (arc value inner : List ℕ) → value_of 0x72 (reply_text arc 
 template-found arc value inner =
     let text = two-objects arc value (object_text 0x72 inner) in
     ap (first_value 0x72) text.2
-    ∙ ap (λ (scripts : List ℕ). first_value 0x72 (objects_from 0 (text.1 + length (object_text 0x91 value)) scripts)) (sym (append-nil (object_text 0x72 inner)))
+    ∙ ap (λ (scripts : List ℕ). first_value 0x72 (objects_from 0 (text.1 + length (object_text 0x91 value)) scripts))
+    (sym (append-nil (object_text 0x72 inner)))
     ∙ ap (first_value 0x72) (objects_behind_text 0x72 inner [] (text.1 + length (object_text 0x91 value)) refl)
 
 -- no scripts are found where there are none

@@ -280,7 +280,8 @@ module _ (number : ℕ) (card : CardState) (issued : IsIssued number card) (regi
       ∙ ap (λ (keys : Option CardKeys). under_keys keys (with-ac step ac)) (keys-known cards below step ac)
 
   -- the cryptogram doesn't count itself
-  ac-alone : (step : Step) (ac other : List ℕ) → application_cryptogram card.keys.ac.0 (with-ac step ac) ≡ application_cryptogram card.keys.ac.0 (with-ac step other)
+  ac-alone : (step : Step) (ac other : List ℕ) → application_cryptogram card.keys.ac.0 (with-ac step ac)
+      ≡ application_cryptogram card.keys.ac.0 (with-ac step other)
   unfolding with-ac application_cryptogram cryptogram_under input
   ac-alone step ac other = refl
 
@@ -324,11 +325,13 @@ changed-apart ac eight same =
 
 either-refused : (right : Bool) (request : Parts) → right ≡ false
     → let passed : Result Asked Refusal = Ok (Decide request) in (if right then passed else Err BadCryptogram) ≡ Err BadCryptogram
-either-refused right request wrong = ap (λ (right : Bool). let passed : Result Asked Refusal = Ok (Decide request) in if right then passed else Err BadCryptogram) wrong
+either-refused right request wrong = ap (λ (right : Bool). let passed : Result Asked Refusal = Ok
+    (Decide request) in if right then passed else Err BadCryptogram) wrong
 
 either-passed : (right : Bool) (request : Parts) → right ≡ true
     → let refused : Result Asked Refusal = Err BadCryptogram in (if right then Ok (Decide request) else refused) ≡ Ok (Decide request)
-either-passed right request is = ap (λ (right : Bool). let refused : Result Asked Refusal = Err BadCryptogram in if right then Ok (Decide request) else refused) is
+either-passed right request is = ap (λ (right : Bool). let refused : Result Asked Refusal = Err BadCryptogram in if right then Ok
+    (Decide request) else refused) is
 
 module _ (cards number : ℕ) (card : CardState) (step : Step) (valid : IsIssuer (issuer cards)) (below : number < cards) (issued : IsIssued number card)
     (register : card.register ≤ 65535) (more : card.atc < 65535) where
@@ -360,7 +363,8 @@ module _ (cards number : ℕ) (card : CardState) (step : Step) (valid : IsIssuer
       let held = request-held number card issued register step ac bytes.0 bytes.1 more in
       let bad = changed ac in
       let small : bit_xor (slice_index ac 7) 0x01 < 256 = xor_lt 8 (slice_index ac 7) 1 (bytes.0.each 7) (lit< tt) in
-      let bad_held = request-held number card issued register step bad (record { each = bytes-set ac 7 _ bytes.0.each small }) (length-set ac 7 _ ∙ bytes.1) more in
+      let bad_held = request-held number card issued register step bad (record { each = bytes-set ac 7 _ bytes.0.each small })
+      (length-set ac 7 _ ∙ bytes.1) more in
       let checks : checked (issuer cards) (made-with ac) ≡ Ok (Decide (made-with ac)) =
       ac-checked number card issued register cards valid below step ac ∙ either-passed _ (made-with ac) right-cryptogram in
       let fails : checked (issuer cards) (made-with bad) ≡ Err BadCryptogram =

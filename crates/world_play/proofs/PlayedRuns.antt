@@ -101,7 +101,8 @@ within-full : (count : ℕ) (key chain bytes : List ℕ) → nat_lt count 15 ≡
 unfolding opened_within
 within-full count key chain bytes full = sym (cond-false (nat_lt count 15) (opened_command key chain bytes) None full)
 
-step-moved : (card : CardState) (bytes : List ℕ) (right : Bool) (moved : CardState) → CardStep card (IsRun bytes right) moved → (after_command card bytes).1 ≡ moved
+step-moved : (card : CardState) (bytes : List ℕ) (right : Bool) (moved : CardState) → CardStep card (IsRun bytes right) moved
+    → (after_command card bytes).1 ≡ moved
 unfolding CardStep
 step-moved card bytes right moved step = ap (λ (p : Bool × CardState). p.1) (sym step)
 
@@ -189,9 +190,12 @@ module _ (cards number : ℕ) (valid : IsIssuer (issuer cards)) (request : Reque
       (within-full card.count (session_sm card.keys.smi.0 request.ac) chain bytes full) in
       let one = fails world card chain bytes played card_is can step in
       let still : nat_lt (with_failure card).count 15 ≡ false = ap (λ n. nat_lt n 15) (failure-stays card).2 ∙ full in
-      let rest = all-fail list (with_card world number (with_failure card)) (with_failure card) chain one.played one.card_is (can-fail number card request chain can) still in
-      subst (λ (next : CardState). IsRunning cards number world card (after_commands next list)) (sym (step-moved card bytes false (with_failure card) step)) (record {
-        has = moved-then cards number world (with_card world number (with_failure card)) card (with_failure card) (after_commands (with_failure card) list) one rest.has;
+      let rest = all-fail list (with_card world number (with_failure card)) (with_failure card) chain one.played one.card_is
+      (can-fail number card request chain can) still in
+      subst (λ (next : CardState). IsRunning cards number world card (after_commands next list)) (sym (step-moved card bytes false (with_failure card) step))
+      (record {
+        has = moved-then cards number world (with_card world number (with_failure card)) card (with_failure card)
+            (after_commands (with_failure card) list) one rest.has;
         chain = rest.chain;
         chained = rest.chained;
       })
@@ -244,7 +248,8 @@ module _ (cards number : ℕ) (valid : IsIssuer (issuer cards)) (request : Reque
             let behind' : drop moved.count batch ≡ rest = ap (λ n. drop n batch) stays.3 ∙ read.1 in
             let others = run-all rest k next (with_card world number moved) moved place first batch smi one.played one.card_is
             (can-run number card request chain command next few can) (ap (λ keys. keys.smi.0) stays.2 ∙ keys) sent sent_is behind' fit.1 in
-            subst (λ (after : CardState). IsRunning cards number world card (after_commands after later)) (sym (step-moved card bytes true moved step)) (record {
+            subst (λ (after : CardState). IsRunning cards number world card (after_commands after later)) (sym (step-moved card bytes true moved step))
+            (record {
               has = moved-then cards number world (with_card world number moved) card moved (after_commands moved later) one others.has;
               chain = others.chain;
               chained = others.chained;

@@ -163,7 +163,8 @@ next-state cards seed steps valid some few world before after state step =
     let first : Stage = record { player = player; books = before.books; tally = before.tally } in
     let idle : IsIdle cards number player.card.atc world first =
     record { played = state.played; card_is = it.card_is; histories = state.histories; held = it.held; counter = omega arith } in
-    let done = fated cards number valid below player.card.atc (omega arith) (step_of steps cards seed) refl (fate_of steps cards seed) world first last idle step.moves in
+    let done = fated cards number valid below player.card.atc (omega arith) (step_of steps cards seed) refl
+    (fate_of steps cards seed) world first last idle step.moves in
     let later = done.0 in
     let now = done.2 in
     let counter = now.counter in

@@ -310,7 +310,8 @@ module _ (cards : ℕ) (valid : IsIssuer (issuer cards)) (world : WorldState) (p
                   checked = checks;
                   free = record {
                     unrecorded = legal.unrecorded;
-                    unclaimed = subst (λ (claims : List OpenClaim). All (λ claim. card_of claim.request ≡ card_of request → claim.request.atc ≢ request.atc) claims)
+                    unclaimed = subst (λ (claims : List OpenClaim). All (λ claim. card_of claim.request ≡ card_of request
+                        → claim.request.atc ≢ request.atc) claims)
                         (sym played.claims) (λ place claim below. absurd (omega arith));
                   };
                 };

@@ -1,5 +1,6 @@
 -- The turns of a run: each step finds the room of its moves, and place for its counts.
-use Rattle.std.proofs.Common.{◌≡◌, ℕ, zero, suc, ◌+◌, ◌*◌, ◌-◌, ◌%◌, ◌<◌, ◌≤◌, ◌==◌, Bool, true, false, List, [], ◌∷◌, length, map, take, None, Some, refl, sym, ap, subst, ◌∙◌, inl, inr, arith}
+use Rattle.std.proofs.Common.{◌≡◌, ℕ, zero, suc, ◌+◌, ◌*◌, ◌-◌, ◌%◌, ◌<◌, ◌≤◌, ◌==◌, Bool, true, false, List, [], ◌∷◌, length, map, take, None, Some, refl, sym}
+use Rattle.std.proofs.Common.{ap, subst, ◌∙◌, inl, inr, arith}
 use Rattle.std.specs.Prelude.{if◌then◌else◌, sum_by, slice_get, slice_set}
 use Rattle.std.specs.List.{range_with_len}
 use Rattle.std.proofs.lemmas.List.Sums.{sum_by-cons}
@@ -18,7 +19,8 @@ use Rattle.world_play.specs.declared.summary.Summary.{Summary}
 use Rattle.world_play.specs.Moves.{moves_of}
 use Rattle.world_play.specs.Play.{State, new_player}
 use Rattle.world_play.specs.Reaching.{IsAt}
-use Rattle.world_play.specs.Room.{RoomFor, UsesAtMost, CountsWithin, CountsAtMost, CanCount, moved_bytes, most_counted, step_room, one_of, steps_of, IsOf, StaysOf, IsTurn}
+use Rattle.world_play.specs.Room.{RoomFor, UsesAtMost, CountsWithin, CountsAtMost, CanCount, moved_bytes, most_counted, step_room, one_of, steps_of, IsOf}
+use Rattle.world_play.specs.Room.{StaysOf, IsTurn}
 use Rattle.world_play.specs.Setting.{step_of}
 use Rattle.world_play.proofs.PlayedCards.{issuer-valid}
 use Rattle.world_play.proofs.PlayedRequests.{issued-new}
@@ -181,7 +183,8 @@ module _ (step : Step) (moves : List Move) (made : ℕ) (old : House) (before : 
       ≤ added_at (step.card % 4) (sum_by moved_bytes (take (suc made) moves)) number
   both next is number =
       let sum = sum_next moved_bytes moves made next is in
-      by-both (number == step.card % 4) (sum_by moved_bytes (take made moves)) (moved_bytes next) (sum_by moved_bytes (take (suc made) moves)) (omega (arith, sum))
+      by-both (number == step.card % 4) (sum_by moved_bytes (take made moves)) (moved_bytes next) (sum_by moved_bytes (take (suc made) moves))
+      (omega (arith, sum))
 
   -- there is room for the next move
   pub room-goes : (next : Move) → slice_get moves made ≡ Some next → RoomFor (added_at (step.card % 4) (sum_by moved_bytes moves)) old
@@ -213,7 +216,8 @@ module _ (step : Step) (moves : List Move) (made : ℕ) (old : House) (before : 
         (uses-less
         (λ number. added_at (step.card % 4) (sum_by moved_bytes (take made moves)) number + added_at (step.card % 4) (moved_bytes next) number)
         (added_at (step.card % 4) (sum_by moved_bytes (take (suc made) moves))) old new (both next is)
-        (uses-then (added_at (step.card % 4) (sum_by moved_bytes (take made moves))) (added_at (step.card % 4) (moved_bytes next)) old now new within.used used));
+        (uses-then (added_at (step.card % 4) (sum_by moved_bytes (take made moves)))
+        (added_at (step.card % 4) (moved_bytes next)) old now new within.used used));
     counts = λ most all.
         counts-more (most + made + 1) (most + (made + 1)) new.tally (omega arith) (counts (most + made) (within.counts most all));
   }

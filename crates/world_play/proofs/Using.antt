@@ -1,5 +1,6 @@
 -- The room and the counts that a move uses.
-use Rattle.std.proofs.Common.{◌≡◌, ℕ, ◌+◌, ◌%◌, ◌<◌, ◌≤◌, ◌==◌, Bool, true, false, List, [], ◌∷◌, Option, None, Some, Result, Ok, Err, refl, sym, ap, ap₂, subst, ◌∙◌, arith}
+use Rattle.std.proofs.Common.{◌≡◌, ℕ, ◌+◌, ◌%◌, ◌<◌, ◌≤◌, ◌==◌, Bool, true, false, List, [], ◌∷◌, Option, None, Some, Result, Ok, Err, refl, sym, ap, ap₂}
+use Rattle.std.proofs.Common.{subst, ◌∙◌, arith}
 use Rattle.std.specs.Prelude.{if◌then◌else◌, IfOk, nat_lt}
 use Rattle.std.proofs.lemmas.Bool.{ltb-true, eqb-false}
 use Rattle.card_model.specs.declared.card.TheConstants.{MOST_COUNTED}
@@ -13,7 +14,8 @@ use Rattle.journal_rec.specs.declared.limits.TheConstants.{MOST_QUEUED_BYTES, MO
 use Rattle.card_history.specs.declared.decision.Asked.{Asked}
 use Rattle.card_history.specs.Records.{CardName, named, card_of}
 use Rattle.card_model.specs.Application.{CardState, next_request, is_answer}
-use Rattle.card_model.specs.CardSteps.{CardStep, Tap as TapEvent, tapped, authenticated, answered_at, after_command, command_at, after_opening, opened_within, with_open, with_answer, with_command, with_failure}
+use Rattle.card_model.specs.CardSteps.{CardStep, Tap as TapEvent, tapped, authenticated, answered_at, after_command, command_at, after_opening, opened_within}
+use Rattle.card_model.specs.CardSteps.{with_open, with_answer, with_command, with_failure}
 use Rattle.card_model.specs.declared.terminal.Terminal.{Terminal}
 use Rattle.issuer_base.specs.declared.command.Command.{Command}
 use Rattle.key_derive.specs.SessionKey.{session_sm}
@@ -114,41 +116,173 @@ turn-queues step house player k small turn number =
 counts-answer : (tally : Summary) (answer : Answer) (most : ℕ) → CountsWithin most tally → CountsWithin (most + 1) (with_answered tally answer)
 counts-answer tally (Fresh shard place reply) most all = elim reply.approve as (λ approves. CountsWithin (most + 1)
     (record tally { fresh = tally.fresh + 1; approved = if approves then tally.approved + 1 else tally.approved })) [
-      | true ↦ record { taps = omega (arith, all.taps); fresh = omega (arith, all.fresh); approved = omega (arith, all.approved); kept = omega (arith, all.kept); refused = omega (arith, all.refused); authenticated = omega (arith, all.authenticated); unauthenticated = omega (arith, all.unauthenticated); queued = omega (arith, all.queued) }
-      | false ↦ record { taps = omega (arith, all.taps); fresh = omega (arith, all.fresh); approved = omega (arith, all.approved); kept = omega (arith, all.kept); refused = omega (arith, all.refused); authenticated = omega (arith, all.authenticated); unauthenticated = omega (arith, all.unauthenticated); queued = omega (arith, all.queued) }
+      | true ↦ record {
+        taps = omega (arith, all.taps);
+        fresh = omega (arith, all.fresh);
+        approved = omega (arith, all.approved);
+        kept = omega
+            (arith, all.kept);
+        refused = omega (arith, all.refused);
+        authenticated = omega (arith, all.authenticated);
+        unauthenticated = omega
+            (arith, all.unauthenticated);
+        queued = omega (arith, all.queued);
+      }
+      | false ↦ record {
+        taps = omega (arith, all.taps);
+        fresh = omega (arith, all.fresh);
+        approved = omega (arith, all.approved);
+        kept = omega
+            (arith, all.kept);
+        refused = omega (arith, all.refused);
+        authenticated = omega (arith, all.authenticated);
+        unauthenticated = omega
+            (arith, all.unauthenticated);
+        queued = omega (arith, all.queued);
+      }
     ]
 counts-answer tally (Kept shard place reply) most all =
-    record { taps = omega (arith, all.taps); fresh = omega (arith, all.fresh); approved = omega (arith, all.approved); kept = omega (arith, all.kept); refused = omega (arith, all.refused); authenticated = omega (arith, all.authenticated); unauthenticated = omega (arith, all.unauthenticated); queued = omega (arith, all.queued) }
+    record {
+      taps = omega (arith, all.taps);
+      fresh = omega (arith, all.fresh);
+      approved = omega (arith, all.approved);
+      kept = omega
+          (arith, all.kept);
+      refused = omega (arith, all.refused);
+      authenticated = omega (arith, all.authenticated);
+      unauthenticated = omega
+          (arith, all.unauthenticated);
+      queued = omega (arith, all.queued);
+    }
 counts-answer tally (Queued shard place) most all =
-    record { taps = omega (arith, all.taps); fresh = omega (arith, all.fresh); approved = omega (arith, all.approved); kept = omega (arith, all.kept); refused = omega (arith, all.refused); authenticated = omega (arith, all.authenticated); unauthenticated = omega (arith, all.unauthenticated); queued = omega (arith, all.queued) }
+    record {
+      taps = omega (arith, all.taps);
+      fresh = omega (arith, all.fresh);
+      approved = omega (arith, all.approved);
+      kept = omega
+          (arith, all.kept);
+      refused = omega (arith, all.refused);
+      authenticated = omega (arith, all.authenticated);
+      unauthenticated = omega
+          (arith, all.unauthenticated);
+      queued = omega (arith, all.queued);
+    }
 counts-answer tally (Set shard place) most all =
-    record { taps = omega (arith, all.taps); fresh = omega (arith, all.fresh); approved = omega (arith, all.approved); kept = omega (arith, all.kept); refused = omega (arith, all.refused); authenticated = omega (arith, all.authenticated); unauthenticated = omega (arith, all.unauthenticated); queued = omega (arith, all.queued) }
+    record {
+      taps = omega (arith, all.taps);
+      fresh = omega (arith, all.fresh);
+      approved = omega (arith, all.approved);
+      kept = omega
+          (arith, all.kept);
+      refused = omega (arith, all.refused);
+      authenticated = omega (arith, all.authenticated);
+      unauthenticated = omega
+          (arith, all.unauthenticated);
+      queued = omega (arith, all.queued);
+    }
 counts-answer tally (Refused refusal) most all =
-    record { taps = omega (arith, all.taps); fresh = omega (arith, all.fresh); approved = omega (arith, all.approved); kept = omega (arith, all.kept); refused = omega (arith, all.refused); authenticated = omega (arith, all.authenticated); unauthenticated = omega (arith, all.unauthenticated); queued = omega (arith, all.queued) }
+    record {
+      taps = omega (arith, all.taps);
+      fresh = omega (arith, all.fresh);
+      approved = omega (arith, all.approved);
+      kept = omega
+          (arith, all.kept);
+      refused = omega (arith, all.refused);
+      authenticated = omega (arith, all.authenticated);
+      unauthenticated = omega
+          (arith, all.unauthenticated);
+      queued = omega (arith, all.queued);
+    }
 
 counts-finding : (tally : Summary) (found : Bool) (most : ℕ) → CountsWithin most tally → CountsWithin (most + 1) (with_finding tally found)
 counts-finding tally true most all =
-    record { taps = omega (arith, all.taps); fresh = omega (arith, all.fresh); approved = omega (arith, all.approved); kept = omega (arith, all.kept); refused = omega (arith, all.refused); authenticated = omega (arith, all.authenticated); unauthenticated = omega (arith, all.unauthenticated); queued = omega (arith, all.queued) }
+    record {
+      taps = omega (arith, all.taps);
+      fresh = omega (arith, all.fresh);
+      approved = omega (arith, all.approved);
+      kept = omega
+          (arith, all.kept);
+      refused = omega (arith, all.refused);
+      authenticated = omega (arith, all.authenticated);
+      unauthenticated = omega
+          (arith, all.unauthenticated);
+      queued = omega (arith, all.queued);
+    }
 counts-finding tally false most all =
-    record { taps = omega (arith, all.taps); fresh = omega (arith, all.fresh); approved = omega (arith, all.approved); kept = omega (arith, all.kept); refused = omega (arith, all.refused); authenticated = omega (arith, all.authenticated); unauthenticated = omega (arith, all.unauthenticated); queued = omega (arith, all.queued) }
+    record {
+      taps = omega (arith, all.taps);
+      fresh = omega (arith, all.fresh);
+      approved = omega (arith, all.approved);
+      kept = omega
+          (arith, all.kept);
+      refused = omega (arith, all.refused);
+      authenticated = omega (arith, all.authenticated);
+      unauthenticated = omega
+          (arith, all.unauthenticated);
+      queued = omega (arith, all.queued);
+    }
 
 counts-found : (tally : Summary) (request : Option Parts) (most : ℕ) → CountsWithin most tally → CountsWithin (most + 1) (with_tap tally request)
 counts-found tally None most all =
-    record { taps = omega (arith, all.taps); fresh = omega (arith, all.fresh); approved = omega (arith, all.approved); kept = omega (arith, all.kept); refused = omega (arith, all.refused); authenticated = omega (arith, all.authenticated); unauthenticated = omega (arith, all.unauthenticated); queued = omega (arith, all.queued) }
+    record {
+      taps = omega (arith, all.taps);
+      fresh = omega (arith, all.fresh);
+      approved = omega (arith, all.approved);
+      kept = omega
+          (arith, all.kept);
+      refused = omega (arith, all.refused);
+      authenticated = omega (arith, all.authenticated);
+      unauthenticated = omega
+          (arith, all.unauthenticated);
+      queued = omega (arith, all.queued);
+    }
 counts-found tally (Some request) most all =
-    record { taps = omega (arith, all.taps); fresh = omega (arith, all.fresh); approved = omega (arith, all.approved); kept = omega (arith, all.kept); refused = omega (arith, all.refused); authenticated = omega (arith, all.authenticated); unauthenticated = omega (arith, all.unauthenticated); queued = omega (arith, all.queued) }
+    record {
+      taps = omega (arith, all.taps);
+      fresh = omega (arith, all.fresh);
+      approved = omega (arith, all.approved);
+      kept = omega
+          (arith, all.kept);
+      refused = omega (arith, all.refused);
+      authenticated = omega (arith, all.authenticated);
+      unauthenticated = omega
+          (arith, all.unauthenticated);
+      queued = omega (arith, all.queued);
+    }
 
 counts-given : (change : List ℕ → List ℕ) (reply : Reply) (found : Option (List ℕ)) (card : CardState) (tally : Summary) (most : ℕ)
     → CountsWithin most tally → CountsWithin (most + 1) (given_tally change reply found card tally)
 counts-given change reply None card tally most all =
-    record { taps = omega (arith, all.taps); fresh = omega (arith, all.fresh); approved = omega (arith, all.approved); kept = omega (arith, all.kept); refused = omega (arith, all.refused); authenticated = omega (arith, all.authenticated); unauthenticated = omega (arith, all.unauthenticated); queued = omega (arith, all.queued) }
+    record {
+      taps = omega (arith, all.taps);
+      fresh = omega (arith, all.fresh);
+      approved = omega (arith, all.approved);
+      kept = omega
+          (arith, all.kept);
+      refused = omega (arith, all.refused);
+      authenticated = omega (arith, all.authenticated);
+      unauthenticated = omega
+          (arith, all.unauthenticated);
+      queued = omega (arith, all.queued);
+    }
 counts-given change reply (Some answer) card tally most all = counts-finding tally (authenticated card (change answer) reply.arc).0 most all
 
 -- counts as they were
 pub counts-stay : (old new : House) → new.tally ≡ old.tally → CountsAtMost 1 old new
 counts-stay old new same most all =
     subst (λ (tally : Summary). CountsWithin (most + 1) tally) (sym same)
-    (record { taps = omega (arith, all.taps); fresh = omega (arith, all.fresh); approved = omega (arith, all.approved); kept = omega (arith, all.kept); refused = omega (arith, all.refused); authenticated = omega (arith, all.authenticated); unauthenticated = omega (arith, all.unauthenticated); queued = omega (arith, all.queued) })
+    (record {
+      taps = omega (arith, all.taps);
+      fresh = omega (arith, all.fresh);
+      approved = omega (arith, all.approved);
+      kept = omega
+          (arith, all.kept);
+      refused = omega (arith, all.refused);
+      authenticated = omega (arith, all.authenticated);
+      unauthenticated = omega
+          (arith, all.unauthenticated);
+      queued = omega (arith, all.queued);
+    })
 
 -- an answer is counted
 pub counts-answered : (old new : House) (answer : Answer) → new.tally ≡ with_answered old.tally answer → CountsAtMost 1 old new
@@ -370,7 +504,8 @@ queue-adds step next house player k line is small turn line_is number =
 pub ask-adds : (step : Step) (next : Move) (house : House) (player : Player) → next ≡ Ask → IsTurn step house player → (number : ℕ)
     → asked_bytes house.host.issuer (λ request. request) player.request number ≤ added_at (step.card % 4) (moved_bytes next) number
 ask-adds step next house player is turn number =
-    subst (λ (next : Move). asked_bytes house.host.issuer (λ request. request) player.request number ≤ added_at (step.card % 4) (moved_bytes next) number) (sym is)
+    subst (λ (next : Move). asked_bytes house.host.issuer (λ request. request) player.request number ≤ added_at (step.card % 4) (moved_bytes next) number)
+    (sym is)
     (asks-within step house player turn number player.request turn.own.asks)
 
 pub spoil-adds : (step : Step) (next : Move) (house : House) (player : Player) → next ≡ AskSpoiled → IsTurn step house player → (number : ℕ)

@@ -1,4 +1,5 @@
--- The played runs among the runs of worlds: what may be played, where its state is the end of a genuine run, and which counts are in order.
+-- The played runs among the runs of worlds: what may be played, where its state is the end of a genuine run, and which
+-- counts are in order.
 use Rattle.std.specs.Prelude.{◌≡◌, ◌≤◌, ℕ, ◌*◌, List, map}
 use Rattle.issuer_base.specs.declared.limits.TheConstants.{MAX_CARDS}
 use Rattle.card_model.specs.declared.card.TheConstants.{LAST_COUNTER}
@@ -10,7 +11,8 @@ use Rattle.world_play.specs.declared.summary.Summary.{Summary}
 use Rattle.world_play.specs.Play.{State}
 use Rattle.world_play.specs.Setting.{issuer}
 
--- so many cards and steps may be played: there is a card, the issuer takes so many, and no card takes more steps than it has counters
+-- so many cards and steps may be played: there is a card, the issuer takes so many, and no card takes more steps than
+-- it has counters
 pub record CanBePlayed (cards steps : ℕ) : Type 0 where
   pub some : 1 ≤ cards
   pub few : cards ≤ MAX_CARDS

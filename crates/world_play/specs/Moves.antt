@@ -1,7 +1,8 @@
 -- What happens at a step, by its fate.
 use Rattle.std.specs.Prelude.{ℕ, ◌==◌, List, [], ◌∷◌, if◌then◌else◌}
 use Rattle.world_play.specs.declared.moves.Move.{Move}
-use Rattle.world_play.specs.declared.moves.Move.TheVariants.{Queue, Tap, Ask, AskSpoiled, Hold, TakeHeld, Hand, HandFirst, HandSpoiled}
+use Rattle.world_play.specs.declared.moves.Move.TheVariants.{Queue, Tap, Ask, AskSpoiled, Hold, TakeHeld, Hand}
+use Rattle.world_play.specs.declared.moves.Move.TheVariants.{HandFirst, HandSpoiled}
 
 -- the moves of each fate, 0 to 7
 abbrev pub moves_of : ℕ → List Move

@@ -1,5 +1,6 @@
 -- A run of many cards: what each move does, and what the whole run comes to.
-use Rattle.std.specs.Prelude.{◌≡◌, ℕ, zero, suc, ◌+◌, ◌%◌, Bool, true, false, if◌then◌else◌, List, [], ◌∷◌, length, take, map, replicate}
+use Rattle.std.specs.Prelude.{◌≡◌, ℕ, zero, suc, ◌+◌, ◌%◌, Bool, true, false, if◌then◌else◌, List, [], ◌∷◌, length}
+use Rattle.std.specs.Prelude.{take, map, replicate}
 use Rattle.std.specs.Prelude.{Option, None, Some, slice_get, slice_set, slice_index, slice_index_or, bit_xor, sum_by}
 use Rattle.std.specs.List.{range_with_len}
 use Rattle.issuer_base.specs.declared.answer.Answer.{Answer}
@@ -22,7 +23,8 @@ use Rattle.one_caller.specs.Turns.{Turn}
 use Rattle.card_history.specs.CardViews.{card_shown}
 use Rattle.world_net.specs.Fate.{fate_of}
 use Rattle.world_play.specs.declared.moves.Move.{Move}
-use Rattle.world_play.specs.declared.moves.Move.TheVariants.{Queue, Tap, Ask, AskSpoiled, Hold, TakeHeld, Hand, HandFirst, HandSpoiled}
+use Rattle.world_play.specs.declared.moves.Move.TheVariants.{Queue, Tap, Ask, AskSpoiled, Hold, TakeHeld, Hand}
+use Rattle.world_play.specs.declared.moves.Move.TheVariants.{HandFirst, HandSpoiled}
 use Rattle.world_play.specs.declared.player.Player.{Player}
 use Rattle.world_play.specs.declared.setting.Step.{Step}
 use Rattle.world_play.specs.declared.summary.Summary.{Summary}
@@ -93,11 +95,13 @@ after_tap step stage =
       tally = with_tap stage.tally next.0;
     }
 
--- the card that is given the issuer's answer of a reply, changed so, and the commands of the reply that are chosen so; nothing, where no
--- answer is in it
-abbrev pub given_card : (List ℕ → List ℕ) → (List (List ℕ) → List (List ℕ)) → Reply → Option (List ℕ) → CardState → CardState
+-- the card after it was given the issuer's answer of a reply, changed so, and the chosen commands of the reply; as it
+-- was, if the reply has no answer
+abbrev pub given_card : (List ℕ → List ℕ) → (List (List ℕ) → List (List ℕ)) → Reply → Option (List ℕ) → CardState
+    → CardState
 given_card change choose reply None card = card
-given_card change choose reply (Some answer) card = after_answer card (change answer) reply.arc (choose (commands_in reply.bytes.items))
+given_card change choose reply (Some answer) card = after_answer card (change answer) reply.arc
+    (choose (commands_in reply.bytes.items))
 
 -- and the counts then
 abbrev pub given_tally : (List ℕ → List ℕ) → Reply → Option (List ℕ) → CardState → Summary → Summary
@@ -108,7 +112,10 @@ given_tally change reply (Some answer) card tally = with_finding tally (authenti
 abbrev pub handed : (List ℕ → List ℕ) → (List (List ℕ) → List (List ℕ)) → Option Reply → Stage → Stage
 handed change choose None stage = stage
 handed change choose (Some reply) stage = record stage {
-  player = record stage.player { card = given_card change choose reply (answer_in reply.bytes.items) stage.player.card };
+  player = record stage.player {
+    card = given_card change choose reply
+        (answer_in reply.bytes.items) stage.player.card;
+  };
   tally = given_tally change reply (answer_in reply.bytes.items) stage.player.card stage.tally;
 }
 
@@ -186,23 +193,31 @@ pub record IsStep (cards seed index : ℕ) (before after : State) : Type 0 where
   pub player_is : slice_get before.players (index % cards) ≡ Some player
   pub moves : MakesAll (issuer cards) (step_of index cards seed) (moves_of (fate_of index cards seed))
       (record { player = player; books = before.books; tally = before.tally }) last
-  pub after_is : after ≡ record { players = slice_set before.players (index % cards) last.player; books = last.books; tally = last.tally }
+  pub after_is : after ≡ record {
+    players = slice_set before.players
+        (index % cards) last.player;
+    books = last.books;
+    tally = last.tally;
+  }
 
 -- the run is in this state after so many steps
 abbrev pub IsAfter : ℕ → ℕ → ℕ → State → Type 0
 IsAfter cards seed zero state = state ≡ first_state cards
-IsAfter cards seed (suc steps) state = (before : State) × IsAfter cards seed steps before × IsStep cards seed steps before state
+IsAfter cards seed (suc steps) state = (before : State) × IsAfter cards seed steps before
+    × IsStep cards seed steps before state
 
 -- what the host shows of a card
 abbrev pub shown : Setup → List Book → CardInfo → CardView
-shown setup books info = card_shown (name_of info) (slice_index_or (histories_of books) (shard_of setup (name_of info)) [])
+shown setup books info = card_shown (name_of info) (slice_index_or (histories_of books)
+    (shard_of setup (name_of info)) [])
 
 -- one where it is so, and else none
 abbrev pub one_if : Bool → ℕ
 one_if true = 1
 one_if false = 0
 
--- the counts at the end: the commands that are done and the halted cards as the host shows them, and the commands that the cards ran
+-- the counts at the end: the commands that are done and the halted cards as the host shows them, and the commands that
+-- the cards ran
 abbrev pub summed : Setup → State → Summary
 summed setup state = record state.tally {
   done = sum_by (λ info. (shown setup state.books info).done) setup.cards;

@@ -12,10 +12,12 @@ abbrev pub stage_at : House → Player → List Book → Stage
 stage_at house player books = record { player = player; books = books; tally = house.tally }
 
 -- whatever the books of the host are, it goes from their stage to one that is so related to it
-pub record Reaches (Leads : Stage → Stage → Type 0) (old : House) (before : Player) (new : House) (after : Player) : Type 0 where
+pub record Reaches (Leads : Stage → Stage → Type 0) (old : House) (before : Player) (new : House)
+    (after : Player) : Type 0 where
   pub issuer_is : new.host.issuer ≡ old.host.issuer
   pub leads : (books : List Book) → Stand old.host.issuer old.host.shards.items books
-      → (last : List Book) × Stand new.host.issuer new.host.shards.items last × Leads (stage_at old before books) (stage_at new after last)
+      → (last : List Book) × Stand new.host.issuer new.host.shards.items last
+      × Leads (stage_at old before books) (stage_at new after last)
 
 -- the host and the cards are as they are in a run after so many steps
 pub record IsAt (cards seed steps : ℕ) (house : House) (players : List Player) : Type 0 where

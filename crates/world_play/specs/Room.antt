@@ -54,7 +54,8 @@ UsesAtMost bytes old new = (spare : ℕ → ℕ) → RoomFor (λ number. bytes n
 -- how many bytes the answer to the line of a request in hand, changed so, adds at most, by the shard's number
 abbrev pub asked_bytes : Setup → (Parts → Parts) → Option Parts → ℕ → ℕ
 asked_bytes issuer change None number = 0
-asked_bytes issuer change (Some request) number = added_by issuer (reading issuer (request_line (change request))) number
+asked_bytes issuer change (Some request) number = added_by issuer
+    (reading issuer (request_line (change request))) number
 
 -- how many bytes a move adds to its card's shard at most
 abbrev pub moved_bytes : Move → ℕ
@@ -103,7 +104,8 @@ IsOf cards number player = IsOwn cards number player.card player.request player.
 
 -- whichever card of a run it was, it is that one
 abbrev pub StaysOf : Player → Player → Type 0
-StaysOf before after = (cards number : ℕ) → IsIssuer (issuer cards) → number < cards → IsOf cards number before → IsOf cards number after
+StaysOf before after = (cards number : ℕ) → IsIssuer (issuer cards) → number < cards → IsOf cards number before
+    → IsOf cards number after
 
 -- the host is that of a run, and it is the turn of one of its cards
 pub record IsTurn (step : Step) (house : House) (player : Player) : Type 0 where
@@ -114,7 +116,8 @@ pub record IsTurn (step : Step) (house : House) (player : Player) : Type 0 where
   pub own : IsOf cards step.card player
 
 -- a move is made within its bytes, and each count is at most one greater
-pub record IsMade (step : Step) (next : Move) (old : House) (before : Player) (new : House) (after : Player) : Type 0 where
+pub record IsMade (step : Step) (next : Move) (old : House) (before : Player) (new : House)
+    (after : Player) : Type 0 where
   pub reached : Reaches (Makes old.host.issuer step next) old before new after
   pub own : StaysOf before after
   pub room : UsesAtMost (added_at (step.card % 4) (moved_bytes next)) old new

@@ -1,5 +1,7 @@
--- What a run is set up with: its own issuer, the issuer's cards, what its terminals give, and the lines that queue commands.
-use Rattle.std.specs.Prelude.{ℕ, ◌+◌, ◌/◌, ◌%◌, ◌^◌, ◌==◌, Bool, false, true, if◌then◌else◌, List, [], ◌∷◌, ◌++◌, map, replicate, codes, None}
+-- What a run is set up with: its own issuer, the issuer's cards, what its terminals give, and the lines that queue
+-- commands.
+use Rattle.std.specs.Prelude.{ℕ, ◌+◌, ◌/◌, ◌%◌, ◌^◌, ◌==◌, Bool, false, true, if◌then◌else◌, List, [], ◌∷◌, ◌++◌, map}
+use Rattle.std.specs.Prelude.{replicate, codes, None}
 use Rattle.std.specs.Int.{w32, to_be_bytes}
 use Rattle.std.specs.List.{range_with_len}
 use Rattle.hex.specs.Hex.{encode_lower}
@@ -16,7 +18,12 @@ use Rattle.world_play.specs.declared.setting.Step.{Step}
 
 -- the only key set: index 1, option A, the bytes 00 to 0F for application cryptograms and 10 to 1F for secure messaging
 abbrev pub key_set : KeySet
-key_set = record { dki = 1; option = A; ac = record { 0 = range_with_len 0x00 16 }; smi = record { 0 = range_with_len 0x10 16 } }
+key_set = record {
+  dki = 1;
+  option = A;
+  ac = record { 0 = range_with_len 0x00 16 };
+  smi = record { 0 = range_with_len 0x10 16 };
+}
 
 -- a row for every terminal, card and status, for amounts from this one on
 abbrev pub row_from : ℕ → List ℕ → Bool → List ℕ → TableRow
@@ -44,7 +51,8 @@ table =
 abbrev pub six_digits : ℕ → List ℕ
 six_digits n = n / 100000 % 10 ∷ n / 10000 % 10 ∷ n / 1000 % 10 ∷ n / 100 % 10 ∷ n / 10 % 10 ∷ n % 10 ∷ []
 
--- the card with this number: account number 4000000000 and the number in six digits, sequence number 00, method 1 where the number is even
+-- the card with this number: account number 4000000000 and the number in six digits, sequence number 00, method 1 where
+-- the number is even
 abbrev pub card_info : ℕ → CardInfo
 card_info number = record {
   pan = 4 ∷ replicate 9 0 ++ six_digits number;
@@ -83,4 +91,5 @@ queued_bytes step number = 0x04 ∷ 0xDA ∷ 0x00 ∷ number ∷ to_be_bytes w32
 abbrev pub queue_line : Step → ℕ → List ℕ
 queue_line step number =
     let card = card_info step.card in
-    spaced (codes "Q" ∷ digits_text card.pan ∷ digits_text (digits_of card.psn) ∷ encode_lower (queued_bytes step number) ∷ [])
+    spaced (codes "Q" ∷ digits_text card.pan ∷ digits_text (digits_of card.psn)
+    ∷ encode_lower (queued_bytes step number) ∷ [])

@@ -10,11 +10,13 @@ use crate::summary::Summary;
 use card_model::Card;
 use issuer_base::{NoMemory, Reply};
 
-/// The card is given the issuer's answer in the reply and, where it found that right, all commands.
+/// The card gets the issuer's answer in the reply and, if it accepts that, all commands.
 pub(crate) fn hand(card: &mut Card, tally: &mut Summary, reply: &Reply) -> Result<(), NoMemory>
     requires { CountsWithin most_counted tally.old }
-    ensures card { IfOk result (λ _. card.new ≡ given_card (λ answer. answer) (λ commands. commands) reply.now (answer_in reply.now.bytes.items) card.old) }
-    ensures tally { IfOk result (λ _. tally.new ≡ given_tally (λ answer. answer) reply.now (answer_in reply.now.bytes.items) card.old tally.old) }
+    ensures card { IfOk result (λ _. card.new ≡ given_card (λ answer. answer) (λ commands. commands) reply.now
+        (answer_in reply.now.bytes.items) card.old) }
+    ensures tally { IfOk result (λ _. tally.new ≡ given_tally (λ answer. answer) reply.now
+        (answer_in reply.now.bytes.items) card.old tally.old) }
 {
     let bytes = reply.bytes.as_slice();
     let Some(answer) = answer_in(bytes) else {
@@ -26,15 +28,17 @@ pub(crate) fn hand(card: &mut Card, tally: &mut Summary, reply: &Reply) -> Resul
     run_all(card, bytes)
 }
 
-/// The card is given the issuer's answer and, where it found that right, the first command.
+/// The card gets the issuer's answer in the reply and, if it accepts that, the first command.
 pub(crate) fn hand_first(
     card: &mut Card,
     tally: &mut Summary,
     reply: &Reply,
 ) -> Result<(), NoMemory>
     requires { CountsWithin most_counted tally.old }
-    ensures card { IfOk result (λ _. card.new ≡ given_card (λ answer. answer) (take 1) reply.now (answer_in reply.now.bytes.items) card.old) }
-    ensures tally { IfOk result (λ _. tally.new ≡ given_tally (λ answer. answer) reply.now (answer_in reply.now.bytes.items) card.old tally.old) }
+    ensures card { IfOk result (λ _. card.new ≡ given_card (λ answer. answer) (take 1) reply.now
+        (answer_in reply.now.bytes.items) card.old) }
+    ensures tally { IfOk result (λ _. tally.new ≡ given_tally (λ answer. answer) reply.now
+        (answer_in reply.now.bytes.items) card.old tally.old) }
 {
     let bytes = reply.bytes.as_slice();
     let Some(answer) = answer_in(bytes) else {
@@ -46,15 +50,17 @@ pub(crate) fn hand_first(
     run_first(card, bytes)
 }
 
-/// The card is given a spoiled answer and, where it found that right, all commands.
+/// The card gets a spoiled answer and, if it accepts that, all commands.
 pub(crate) fn hand_spoiled(
     card: &mut Card,
     tally: &mut Summary,
     reply: &Reply,
 ) -> Result<(), NoMemory>
     requires { CountsWithin most_counted tally.old }
-    ensures card { IfOk result (λ _. card.new ≡ given_card spoil_first (λ commands. commands) reply.now (answer_in reply.now.bytes.items) card.old) }
-    ensures tally { IfOk result (λ _. tally.new ≡ given_tally spoil_first reply.now (answer_in reply.now.bytes.items) card.old tally.old) }
+    ensures card { IfOk result (λ _. card.new ≡ given_card spoil_first (λ commands. commands) reply.now
+        (answer_in reply.now.bytes.items) card.old) }
+    ensures tally { IfOk result (λ _. tally.new ≡ given_tally spoil_first reply.now
+        (answer_in reply.now.bytes.items) card.old tally.old) }
 {
     let bytes = reply.bytes.as_slice();
     let Some(answer) = answer_in(bytes) else {
@@ -66,7 +72,7 @@ pub(crate) fn hand_spoiled(
     run_all(card, bytes)
 }
 
-/// Whether the card found the issuer's answer right, which is counted.
+/// Whether the card accepts the issuer's answer, which is counted.
 #[tactic(auto, unfolding(card_model::specs::CardSteps::CardStep))]
 fn is_right(card: &mut Card, tally: &mut Summary, answer: &[u8], arc: [u8; 2]) -> bool
     requires { CountsWithin most_counted tally.old }

@@ -29,7 +29,8 @@ impl House {
             → (after : List Book) × Stand self.new.host.issuer self.new.host.shards.items after
             × Turn self.old.host.issuer books (reading self.old.host.issuer line.now) result after }
         ensures works { is_store_fault result ≡ false }
-        ensures room { UsesAtMost (added_by self.old.host.issuer (reading self.old.host.issuer line.now)) self.old self.new }
+        ensures room { UsesAtMost (added_by self.old.host.issuer
+            (reading self.old.host.issuer line.now)) self.old self.new }
         ensures tally { self.new.tally ≡ with_answer self.old.tally result }
         ensures issuer { self.new.host.issuer ≡ self.old.host.issuer }
     {

@@ -20,10 +20,10 @@ pub enum Move {
     /// The request in hand is held back.
     Hold,
 
-    /// The request that is held back is in hand; nothing is, where none is held.
+    /// The request that is held back is in hand; nothing is, if none is held.
     TakeHeld,
 
-    /// The last reply arrives: the card is given the issuer's answer and, where it found that right, all commands.
+    /// The last reply arrives: the card gets the issuer's answer and, if it accepts that, all commands.
     Hand,
 
     /// The last reply arrives, with the first of its commands alone.

@@ -40,7 +40,7 @@ pub(crate) fn new_players(alloc: Global, cards: u32) -> Result<Vec<Player>, NoMe
     Ok(players)
 }
 
-/// The player of the card with this number, which did nothing yet.
+/// The player of the card with this number, before any step.
 #[tactic(auto, unfolding(issuer_base::specs::ChipData::is_bcd))]
 fn new_player(alloc: Global, ciphers: &MasterCiphers, number: u32) -> Player
     requires { ciphers.now ≡ key_set }
@@ -63,7 +63,8 @@ pub(crate) fn new_house(alloc: Global, cards: u32, steps: u32) -> Result<House, 
     ensures issuer { IfOk result (λ house. house.host.issuer ≡ issuer cards) }
     ensures books { IfOk result (λ house. Stand house.host.issuer house.host.shards.items (replicate 4 empty_book)) }
     ensures tally { IfOk result (λ house. house.tally ≡ no_counts) }
-    ensures room { IfOk result (λ house. HaveRoom (λ shard. step_room * steps_of cards shard steps) house.host.shards.items) }
+    ensures room { IfOk result (λ house. HaveRoom
+        (λ shard. step_room * steps_of cards shard steps) house.host.shards.items) }
 {
     let stores = stores(alloc, cards, steps)?;
     let issuer = issuer(alloc, cards)?;
@@ -73,14 +74,15 @@ pub(crate) fn new_house(alloc: Global, cards: u32, steps: u32) -> Result<House, 
     })
 }
 
-/// The host of an issuer over empty stores: they work at their size, so only memory can be wanting.
+/// The host of an issuer over empty stores. The stores have room, so loading fails only out of memory.
 fn load(alloc: Global, stores: Vec<RoomStore>, issuer: Issuer) -> Result<Solo<RoomStore>, NoMemory>
     requires count { length stores.items ≡ issuer.shards }
     requires empty { (shard : ℕ) (store : RoomState) → slice_get stores.items shard ≡ Some store → store.held ≡ [] }
     requires works { StoresHaveRoom (λ store. length store.held) (λ store. Some store.room) (λ _. 0) stores.items }
     ensures issuer { IfOk result (λ host. host.issuer ≡ issuer) }
     ensures loaded { IfOk result (λ host. AreLoaded issuer stores.items host.shards.items) }
-    ensures room { IfOk result (λ host. (spare : ℕ → ℕ) → StoresHaveRoom (λ store. length store.held) (λ store. Some store.room) spare stores.items
+    ensures room { IfOk result (λ host. (spare : ℕ → ℕ)
+        → StoresHaveRoom (λ store. length store.held) (λ store. Some store.room) spare stores.items
         → HaveRoom spare host.shards.items) }
 {
     match Solo::load(alloc, stores, issuer) {
@@ -91,12 +93,12 @@ fn load(alloc: Global, stores: Vec<RoomStore>, issuer: Issuer) -> Result<Solo<Ro
                 shard: _,
                 stores: _,
             },
-        ) => Err(want_of_memory(fault)),
+        ) => Err(out_of_memory(fault)),
     }
 }
 
-/// The error for stores that can't be loaded for want of memory.
-fn want_of_memory(fault: LoadFault) -> NoMemory
+/// The error of stores that can't be loaded: out of memory.
+fn out_of_memory(fault: LoadFault) -> NoMemory
     requires { fault ≡ LacksMemory }
 {
     match fault {
@@ -109,7 +111,8 @@ fn want_of_memory(fault: LoadFault) -> NoMemory
 fn stores(alloc: Global, cards: u32, steps: u32) -> Result<Vec<RoomStore>, NoMemory>
     requires { 1 ≤ cards }
     ensures count { IfOk result (λ made. length made.items ≡ 4) }
-    ensures opened { IfOk result (λ made. (shard : ℕ) (store : RoomState) → slice_get made.items shard ≡ Some store → IsOpened cards steps shard store) }
+    ensures opened { IfOk result (λ made. (shard : ℕ) (store : RoomState) → slice_get made.items shard ≡ Some store
+        → IsOpened cards steps shard store) }
 {
     let mut stores = Vec::with_capacity(alloc, usize::from(SHARDS))?;
     for shard in 0..SHARDS {

@@ -7,7 +7,8 @@ ghost use Rattle.world_play.specs.declared.moves.Move.TheVariants.{Tap};
 ghost use Rattle.world_play.specs.Handing.{spoil_first};
 ghost use Rattle.world_play.specs.Play.{Makes, MakesAll, IsAnswered, IsAsked, handed, spoiled};
 ghost use Rattle.world_play.specs.Reaching.{Reaches};
-ghost use Rattle.world_play.specs.Room.{RoomFor, UsesAtMost, CountsWithin, CountsAtMost, CanCount, StaysOf, IsTurn, IsMade, asked_bytes, moved_bytes, most_counted};
+ghost use Rattle.world_play.specs.Room.{RoomFor, UsesAtMost, CountsWithin, CountsAtMost, CanCount, StaysOf, IsTurn};
+ghost use Rattle.world_play.specs.Room.{IsMade, asked_bytes, moved_bytes, most_counted};
 
 use crate::handing::{hand, hand_first, hand_spoiled};
 use crate::house::{House, count_tap};
@@ -38,9 +39,11 @@ impl Player {
         requires turn { IsTurn step.now house.old self.old }
         requires room { RoomFor (added_at (step.now.card % 4) (sum_by moved_bytes moves.now)) house.old }
         requires counts { CanCount (length moves.now) house.old.tally }
-        ensures reached { IfOk result (λ _. Reaches (MakesAll house.old.host.issuer step.now moves.now) house.old self.old house.new self.new) }
+        ensures reached { IfOk result (λ _. Reaches
+            (MakesAll house.old.host.issuer step.now moves.now) house.old self.old house.new self.new) }
         ensures own { IfOk result (λ _. StaysOf self.old self.new) }
-        ensures used { IfOk result (λ _. UsesAtMost (added_at (step.now.card % 4) (sum_by moved_bytes moves.now)) house.old house.new
+        ensures used { IfOk result (λ _. UsesAtMost (added_at (step.now.card % 4)
+            (sum_by moved_bytes moves.now)) house.old house.new
             × CountsAtMost (length moves.now) house.old house.new) }
     {
         for next in moves {
@@ -75,7 +78,8 @@ impl Player {
         requires room { RoomFor (added_by house.old.host.issuer (reading house.old.host.issuer line.now)) house.old }
         requires counts { CountsWithin most_counted house.old.tally }
         ensures reached { Reaches (IsAnswered house.old.host.issuer line.now) house.old self.old house.new self.new }
-        ensures room { UsesAtMost (added_by house.old.host.issuer (reading house.old.host.issuer line.now)) house.old house.new }
+        ensures room { UsesAtMost (added_by house.old.host.issuer
+            (reading house.old.host.issuer line.now)) house.old house.new }
         ensures counts { CountsAtMost 1 house.old house.new }
         ensures own { StaysOf self.old self.new }
     {
@@ -101,8 +105,10 @@ impl Player {
     fn ask(&mut self, house: &mut House)
         requires room { RoomFor (asked_bytes house.old.host.issuer (λ request. request) self.old.request) house.old }
         requires counts { CountsWithin most_counted house.old.tally }
-        ensures reached { Reaches (λ before. IsAsked house.old.host.issuer (λ request. request) before.player.request before) house.old self.old house.new self.new }
-        ensures room { UsesAtMost (asked_bytes house.old.host.issuer (λ request. request) self.old.request) house.old house.new }
+        ensures reached { Reaches (λ before. IsAsked house.old.host.issuer
+            (λ request. request) before.player.request before) house.old self.old house.new self.new }
+        ensures room { UsesAtMost (asked_bytes house.old.host.issuer
+            (λ request. request) self.old.request) house.old house.new }
         ensures counts { CountsAtMost 1 house.old house.new }
         ensures own { StaysOf self.old self.new }
     {
@@ -117,7 +123,8 @@ impl Player {
     fn ask_spoiled(&mut self, house: &mut House)
         requires room { RoomFor (asked_bytes house.old.host.issuer spoiled self.old.request) house.old }
         requires counts { CountsWithin most_counted house.old.tally }
-        ensures reached { Reaches (λ before. IsAsked house.old.host.issuer spoiled before.player.request before) house.old self.old house.new self.new }
+        ensures reached { Reaches (λ before. IsAsked house.old.host.issuer spoiled before.player.request before)
+            house.old self.old house.new self.new }
         ensures room { UsesAtMost (asked_bytes house.old.host.issuer spoiled self.old.request) house.old house.new }
         ensures counts { CountsAtMost 1 house.old house.new }
         ensures own { StaysOf self.old self.new }
@@ -136,7 +143,7 @@ impl Player {
         self.held = self.request.take();
     }
 
-    /// The request that is held back is in hand; nothing is, where none is held.
+    /// The request that is held back is in hand; nothing is, if none is held.
     fn take_held(&mut self)
         ensures { self.new ≡ record self.old { request = self.old.held; reply = None; held = None } }
     {
@@ -147,7 +154,9 @@ impl Player {
     /// The last reply arrives.
     fn hand(&mut self, house: &mut House) -> Result<(), NoMemory>
         requires { CountsWithin most_counted house.old.tally }
-        ensures reached { IfOk result (λ _. Reaches (λ before after. after ≡ handed (λ answer. answer) (λ commands. commands) before.player.reply before) house.old self.old house.new self.new) }
+        ensures reached { IfOk result (λ _. Reaches (λ before after. after
+            ≡ handed (λ answer. answer) (λ commands. commands) before.player.reply before)
+            house.old self.old house.new self.new) }
         ensures host { house.new.host ≡ house.old.host }
         ensures counts { IfOk result (λ _. CountsAtMost 1 house.old house.new) }
         ensures own { IfOk result (λ _. StaysOf self.old self.new) }
@@ -161,7 +170,8 @@ impl Player {
     /// The last reply arrives, with its first command alone.
     fn hand_first(&mut self, house: &mut House) -> Result<(), NoMemory>
         requires { CountsWithin most_counted house.old.tally }
-        ensures reached { IfOk result (λ _. Reaches (λ before after. after ≡ handed (λ answer. answer) (take 1) before.player.reply before) house.old self.old house.new self.new) }
+        ensures reached { IfOk result (λ _. Reaches (λ before after. after
+            ≡ handed (λ answer. answer) (take 1) before.player.reply before) house.old self.old house.new self.new) }
         ensures host { house.new.host ≡ house.old.host }
         ensures counts { IfOk result (λ _. CountsAtMost 1 house.old house.new) }
         ensures own { IfOk result (λ _. StaysOf self.old self.new) }
@@ -175,7 +185,9 @@ impl Player {
     /// The last reply arrives, with a spoiled answer.
     fn hand_spoiled(&mut self, house: &mut House) -> Result<(), NoMemory>
         requires { CountsWithin most_counted house.old.tally }
-        ensures reached { IfOk result (λ _. Reaches (λ before after. after ≡ handed spoil_first (λ commands. commands) before.player.reply before) house.old self.old house.new self.new) }
+        ensures reached { IfOk result (λ _. Reaches (λ before after. after
+            ≡ handed spoil_first (λ commands. commands) before.player.reply before)
+            house.old self.old house.new self.new) }
         ensures host { house.new.host ≡ house.old.host }
         ensures counts { IfOk result (λ _. CountsAtMost 1 house.old house.new) }
         ensures own { IfOk result (λ _. StaysOf self.old self.new) }

@@ -16,7 +16,7 @@ const TEMPLATE: u32 = 0x72;
 /// The tag of a script command.
 const COMMAND: u32 = 0x86;
 
-/// The value of the first object with this tag; none where there is no such object.
+/// The value of the first object with this tag, or none.
 fn value_of(bytes: &[u8], tag: u32) -> Option<&[u8]>
     ensures { option_map (λ value. value.now) result ≡ value_of tag bytes.now }
 {

@@ -20,12 +20,12 @@ use world_net::fate;
 /// How many steps a run has at most.
 pub const MAX_STEPS: u32 = 200_000;
 
-/// Plays so many steps of so many cards: what it comes to, and that its counts are in order. The seed turns the fates of
-/// the steps, and stands in their unpredictable numbers.
+/// Plays so many steps of so many cards, and returns its counts, which are in order. The seed shifts the fates of the
+/// steps, and is in their unpredictable numbers.
 ///
-/// Returns nothing of a run if an allocation is refused. The stores' memory is allocated at first and suffices for every
-/// step, so no store fails, and each count of the steps has a place. Later only what the cards run allocates. Two more
-/// causes stand in the code: an answer longer than a reply, and more than 2^64 commands that were run.
+/// Returns `NoMemory` if an allocation is refused. The stores' memory is allocated first and suffices for every step,
+/// so no store fails. Later only the commands that cards run allocate. The code has two more causes of `NoMemory`: an
+/// answer longer than a reply, and more than 2^64 commands that were run.
 pub fn play(alloc: Global, cards: u32, steps: u32, seed: u32) -> Result<Summary, NoMemory>
     requires cards { (1 ≤ cards) × (cards ≤ MAX_CARDS) }
     requires steps { steps ≤ MAX_STEPS }

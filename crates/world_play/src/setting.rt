@@ -123,7 +123,7 @@ pub(crate) fn six_digits(number: u32) -> [u8; 6]
 }
 
 /// The card with this number: its account number ends with the number, and it takes the issuer's answer by
-/// method 1 where that is even.
+/// method 1 if that is even.
 #[tactic(auto, using(crate::proofs::Numbers::number_pan))]
 pub(crate) fn card_info(number: u32) -> CardInfo
     ensures { result ≡ card_info number }

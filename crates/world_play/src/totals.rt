@@ -1,4 +1,4 @@
-//! What host and cards tell at the end of a run.
+//! What host and cards report at the end of a run.
 ghost use Rattle.std.specs.Prelude.{◌≡◌, ℕ, ◌<◌, List, length, sum_by, IfOk};
 ghost use Rattle.one_caller.specs.Books.{Book};
 ghost use Rattle.one_caller.specs.Hosts.{Stand};
@@ -12,10 +12,11 @@ use issuer_base::NoMemory;
 use one_caller::Solo;
 use store_edge::RoomStore;
 
-/// The counts at the end: those so far, and what host and cards tell then.
+/// The counts at the end: those so far, and what host and cards report then.
 pub(crate) fn sum_up(house: &House, players: &[Player]) -> Result<Summary, NoMemory>
     requires { 0 < house.now.host.issuer.shards }
-    ensures { IfOk result (λ summary. (cards steps seed : ℕ) → IsAt cards seed steps house.now players.now → ComesTo cards steps seed summary) }
+    ensures { IfOk result (λ summary. (cards steps seed : ℕ) → IsAt cards seed steps house.now players.now
+        → ComesTo cards steps seed summary) }
 {
     let Shown { done, halted } = count_shown(&house.host);
     let ran = count_ran(players)?;

@@ -4,8 +4,8 @@ use Rattle.store_edge.specs.MemoryStores.{RoomState}
 use Rattle.world_play.proofs.EmptyBooks.{lacks_memory}
 use Rattle.world_play.proofs.opening.load.Goals as goal
 
-pub want_of_memory-requires : goal.want_of_memory-requires
-want_of_memory-requires c =
+pub out_of_memory-requires : goal.out_of_memory-requires
+out_of_memory-requires c =
     lacks_memory (λ (store : RoomState). Some store.held) _ _ c.args.issuer c.args.stores.items c.in-Err.field-0.shard c.in-Err.field-0.fault
     c.in-Err.field-0.stores.items (λ number store is. ap Some (c.requires.empty number store is)) (c.in-Err.ensures.room c.requires.works)
     c.in-Err.ensures.stopped

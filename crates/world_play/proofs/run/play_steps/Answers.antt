@@ -54,7 +54,8 @@ loop-index-preserved c =
       room = c.in_ok-play.ensures.used.0 (left_from c.args.cards c.args.steps (c.loop-index.index + 1))
           (room-turn c.args.cards c.args.seed c.args.steps c.loop-index.index c.loop-index.house step moves fate (omega arith) c.step_of-step.ensures moves_are
           c.loop-index.invariant.room);
-      counts = counts-next c.args.cards c.args.seed c.args.steps c.loop-index.index c.loop-index.house step moves fate (omega arith) c.step_of-step.ensures moves_are
+      counts = counts-next c.args.cards c.args.seed c.args.steps c.loop-index.index c.loop-index.house step moves fate
+          (omega arith) c.step_of-step.ensures moves_are
           c.play.new.house c.in_ok-play.ensures.used.1 c.loop-index.invariant.counts;
     }
 

@@ -13,7 +13,8 @@ returns-in_default-clause-room c =
 pub say-requires-clause-room : goal.say-requires-clause-room
 say-requires-clause-room c =
     let house = c.args.house.now in
-    less-room (asked_bytes house.host.issuer (λ request. request) c.args.self.now.request) (added_by house.host.issuer (reading house.host.issuer c.as_slice.result.now)) house
+    less-room (asked_bytes house.host.issuer (λ request. request) c.args.self.now.request)
+    (added_by house.host.issuer (reading house.host.issuer c.as_slice.result.now)) house
     (asked-line house.host.issuer (λ request. request) c.args.self.now.request c.in-Some.request c.as_slice.result.now c.in-Some.is
     (c.as_slice.ensures.value ∙ c.request_line-line.ensures))
     c.requires.room
@@ -21,7 +22,8 @@ say-requires-clause-room c =
 pub returns-clause-room : goal.returns-clause-room
 returns-clause-room c =
     let house = c.args.house.now in
-    uses-less (added_by house.host.issuer (reading house.host.issuer c.as_slice.result.now)) (asked_bytes house.host.issuer (λ request. request) c.args.self.now.request) house
+    uses-less (added_by house.host.issuer (reading house.host.issuer c.as_slice.result.now))
+    (asked_bytes house.host.issuer (λ request. request) c.args.self.now.request) house
     c.say.new.house
     (asked-line house.host.issuer (λ request. request) c.args.self.now.request c.in-Some.request c.as_slice.result.now c.in-Some.is
     (c.as_slice.ensures.value ∙ c.request_line-line.ensures))

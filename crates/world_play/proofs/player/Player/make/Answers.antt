@@ -13,7 +13,8 @@ pub say-requires-clause-room : goal.say-requires-clause-room
 say-requires-clause-room c =
     let house = c.args.house.now in
     let small : c.in-Queue.number < 256 = omega arith in
-    less-room (added_at (c.args.step.now.card % 4) (moved_bytes c.args.next)) (added_by house.host.issuer (reading house.host.issuer c.as_slice.result.now)) house
+    less-room (added_at (c.args.step.now.card % 4) (moved_bytes c.args.next))
+    (added_by house.host.issuer (reading house.host.issuer c.as_slice.result.now)) house
     (queue-adds c.args.step.now c.args.next house c.args.self.now c.in-Queue.number c.as_slice.result.now c.in-Queue.is small c.requires.turn
     (c.as_slice.ensures.value ∙ c.queue_line.ensures)) c.requires.room
 
@@ -24,7 +25,8 @@ returns-in-Queue c =
     made c.args.step.now c.args.next (Queue c.in-Queue.number) house c.args.self.now c.say.new.house c.say.new.self c.in-Queue.is
     (subst (λ (line : List ℕ). Reaches (IsAnswered house.host.issuer line) house c.args.self.now c.say.new.house c.say.new.self)
     (c.as_slice.ensures.value ∙ c.queue_line.ensures) c.say.ensures.reached) c.say.ensures.own
-    (uses-less (added_by house.host.issuer (reading house.host.issuer c.as_slice.result.now)) (added_at (c.args.step.now.card % 4) (moved_bytes c.args.next)) house
+    (uses-less (added_by house.host.issuer (reading house.host.issuer c.as_slice.result.now))
+    (added_at (c.args.step.now.card % 4) (moved_bytes c.args.next)) house
     c.say.new.house
     (queue-adds c.args.step.now c.args.next house c.args.self.now c.in-Queue.number c.as_slice.result.now c.in-Queue.is small c.requires.turn
     (c.as_slice.ensures.value ∙ c.queue_line.ensures)) c.say.ensures.room) c.say.ensures.counts
@@ -50,7 +52,8 @@ pub returns-in-Ask : goal.returns-in-Ask
 returns-in-Ask c =
     let house = c.args.house.now in
     made c.args.step.now c.args.next Ask house c.args.self.now c.ask.new.house c.ask.new.self c.in-Ask.is c.ask.ensures.reached c.ask.ensures.own
-    (uses-less (asked_bytes house.host.issuer (λ request. request) c.args.self.now.request) (added_at (c.args.step.now.card % 4) (moved_bytes c.args.next)) house c.ask.new.house
+    (uses-less (asked_bytes house.host.issuer (λ request. request) c.args.self.now.request)
+    (added_at (c.args.step.now.card % 4) (moved_bytes c.args.next)) house c.ask.new.house
     (ask-adds c.args.step.now c.args.next house c.args.self.now c.in-Ask.is c.requires.turn) c.ask.ensures.room) c.ask.ensures.counts
 
 pub ask_spoiled-requires-clause-room : goal.ask_spoiled-requires-clause-room
@@ -63,7 +66,8 @@ pub returns-in-AskSpoiled : goal.returns-in-AskSpoiled
 returns-in-AskSpoiled c =
     let house = c.args.house.now in
     made c.args.step.now c.args.next AskSpoiled house c.args.self.now c.ask_spoiled.new.house c.ask_spoiled.new.self c.in-AskSpoiled.is c.ask_spoiled.ensures.reached c.ask_spoiled.ensures.own
-    (uses-less (asked_bytes house.host.issuer spoiled c.args.self.now.request) (added_at (c.args.step.now.card % 4) (moved_bytes c.args.next)) house c.ask_spoiled.new.house
+    (uses-less (asked_bytes house.host.issuer spoiled c.args.self.now.request)
+    (added_at (c.args.step.now.card % 4) (moved_bytes c.args.next)) house c.ask_spoiled.new.house
     (spoil-adds c.args.step.now c.args.next house c.args.self.now c.in-AskSpoiled.is c.requires.turn) c.ask_spoiled.ensures.room) c.ask_spoiled.ensures.counts
 
 pub returns-in-Hand : goal.returns-in-Hand
