@@ -1,0 +1,259 @@
+//! The rounds of DES (FIPS 46-3) in lanes, under a key for each lane.
+
+ghost use Rattle.std.specs.Prelude.{◌≡◌, ℕ, map, take, drop, ◌++◌, bit_xor};
+ghost use Rattle.des_block.specs.Bits.{picked, xor_bits};
+ghost use Rattle.des_block.specs.Tables.{expansion, s_boxes};
+ghost use Rattle.des_block.specs.Cipher.{substituted, cipher_function, ciphered, word_bytes, des_encipher, des_decipher};
+ghost use Rattle.des_lanes.specs.Lanes.{lane_bit, lane_bits, lane_word, bits_at};
+ghost use mathlib.Core.Bool.{xor};
+
+use crate::boxes::{box_1, box_2, box_3, box_4, box_5, box_6, box_7, box_8};
+use std::simd::prelude::*;
+
+/// IP. This table and those below number bits from 0.
+const INITIAL_PERMUTATION: [u8; 64] = [
+    57, 49, 41, 33, 25, 17, 9, 1, 59, 51, 43, 35, 27, 19, 11, 3, 61, 53, 45, 37, 29, 21, 13, 5, 63,
+    55, 47, 39, 31, 23, 15, 7, 56, 48, 40, 32, 24, 16, 8, 0, 58, 50, 42, 34, 26, 18, 10, 2, 60, 52,
+    44, 36, 28, 20, 12, 4, 62, 54, 46, 38, 30, 22, 14, 6,
+];
+
+/// The inverse of IP.
+const INVERSE_PERMUTATION: [u8; 64] = [
+    39, 7, 47, 15, 55, 23, 63, 31, 38, 6, 46, 14, 54, 22, 62, 30, 37, 5, 45, 13, 53, 21, 61, 29,
+    36, 4, 44, 12, 52, 20, 60, 28, 35, 3, 43, 11, 51, 19, 59, 27, 34, 2, 42, 10, 50, 18, 58, 26,
+    33, 1, 41, 9, 49, 17, 57, 25, 32, 0, 40, 8, 48, 16, 56, 24,
+];
+
+/// E.
+const EXPANSION: [u8; 48] = [
+    31, 0, 1, 2, 3, 4, 3, 4, 5, 6, 7, 8, 7, 8, 9, 10, 11, 12, 11, 12, 13, 14, 15, 16, 15, 16, 17,
+    18, 19, 20, 19, 20, 21, 22, 23, 24, 23, 24, 25, 26, 27, 28, 27, 28, 29, 30, 31, 0,
+];
+
+/// P.
+const BOX_PERMUTATION: [u8; 32] = [
+    15, 6, 19, 20, 28, 11, 27, 16, 0, 14, 22, 25, 4, 17, 30, 9, 1, 7, 23, 13, 31, 26, 2, 8, 18, 12,
+    29, 5, 21, 10, 3, 24,
+];
+
+/// The bits of a key in each round key: by PC-1, the rotations and PC-2.
+const KEY_PLACES: [[u8; 48]; 16] = [
+    [
+        9, 50, 33, 59, 48, 16, 32, 56, 1, 8, 18, 41, 2, 34, 25, 24, 43, 57, 58, 0, 35, 26, 17, 40,
+        21, 27, 38, 53, 36, 3, 46, 29, 4, 52, 22, 28, 60, 20, 37, 62, 14, 19, 44, 13, 12, 61, 54,
+        30,
+    ],
+    [
+        1, 42, 25, 51, 40, 8, 24, 48, 58, 0, 10, 33, 59, 26, 17, 16, 35, 49, 50, 57, 56, 18, 9, 32,
+        13, 19, 30, 45, 28, 62, 38, 21, 27, 44, 14, 20, 52, 12, 29, 54, 6, 11, 36, 5, 4, 53, 46,
+        22,
+    ],
+    [
+        50, 26, 9, 35, 24, 57, 8, 32, 42, 49, 59, 17, 43, 10, 1, 0, 48, 33, 34, 41, 40, 2, 58, 16,
+        60, 3, 14, 29, 12, 46, 22, 5, 11, 28, 61, 4, 36, 27, 13, 38, 53, 62, 20, 52, 19, 37, 30, 6,
+    ],
+    [
+        34, 10, 58, 48, 8, 41, 57, 16, 26, 33, 43, 1, 56, 59, 50, 49, 32, 17, 18, 25, 24, 51, 42,
+        0, 44, 54, 61, 13, 27, 30, 6, 52, 62, 12, 45, 19, 20, 11, 60, 22, 37, 46, 4, 36, 3, 21, 14,
+        53,
+    ],
+    [
+        18, 59, 42, 32, 57, 25, 41, 0, 10, 17, 56, 50, 40, 43, 34, 33, 16, 1, 2, 9, 8, 35, 26, 49,
+        28, 38, 45, 60, 11, 14, 53, 36, 46, 27, 29, 3, 4, 62, 44, 6, 21, 30, 19, 20, 54, 5, 61, 37,
+    ],
+    [
+        2, 43, 26, 16, 41, 9, 25, 49, 59, 1, 40, 34, 24, 56, 18, 17, 0, 50, 51, 58, 57, 48, 10, 33,
+        12, 22, 29, 44, 62, 61, 37, 20, 30, 11, 13, 54, 19, 46, 28, 53, 5, 14, 3, 4, 38, 52, 45,
+        21,
+    ],
+    [
+        51, 56, 10, 0, 25, 58, 9, 33, 43, 50, 24, 18, 8, 40, 2, 1, 49, 34, 35, 42, 41, 32, 59, 17,
+        27, 6, 13, 28, 46, 45, 21, 4, 14, 62, 60, 38, 3, 30, 12, 37, 52, 61, 54, 19, 22, 36, 29, 5,
+    ],
+    [
+        35, 40, 59, 49, 9, 42, 58, 17, 56, 34, 8, 2, 57, 24, 51, 50, 33, 18, 48, 26, 25, 16, 43, 1,
+        11, 53, 60, 12, 30, 29, 5, 19, 61, 46, 44, 22, 54, 14, 27, 21, 36, 45, 38, 3, 6, 20, 13,
+        52,
+    ],
+    [
+        56, 32, 51, 41, 1, 34, 50, 9, 48, 26, 0, 59, 49, 16, 43, 42, 25, 10, 40, 18, 17, 8, 35, 58,
+        3, 45, 52, 4, 22, 21, 60, 11, 53, 38, 36, 14, 46, 6, 19, 13, 28, 37, 30, 62, 61, 12, 5, 44,
+    ],
+    [
+        40, 16, 35, 25, 50, 18, 34, 58, 32, 10, 49, 43, 33, 0, 56, 26, 9, 59, 24, 2, 1, 57, 48, 42,
+        54, 29, 36, 19, 6, 5, 44, 62, 37, 22, 20, 61, 30, 53, 3, 60, 12, 21, 14, 46, 45, 27, 52,
+        28,
+    ],
+    [
+        24, 0, 48, 9, 34, 2, 18, 42, 16, 59, 33, 56, 17, 49, 40, 10, 58, 43, 8, 51, 50, 41, 32, 26,
+        38, 13, 20, 3, 53, 52, 28, 46, 21, 6, 4, 45, 14, 37, 54, 44, 27, 5, 61, 30, 29, 11, 36, 12,
+    ],
+    [
+        8, 49, 32, 58, 18, 51, 2, 26, 0, 43, 17, 40, 1, 33, 24, 59, 42, 56, 57, 35, 34, 25, 16, 10,
+        22, 60, 4, 54, 37, 36, 12, 30, 5, 53, 19, 29, 61, 21, 38, 28, 11, 52, 45, 14, 13, 62, 20,
+        27,
+    ],
+    [
+        57, 33, 16, 42, 2, 35, 51, 10, 49, 56, 1, 24, 50, 17, 8, 43, 26, 40, 41, 48, 18, 9, 0, 59,
+        6, 44, 19, 38, 21, 20, 27, 14, 52, 37, 3, 13, 45, 5, 22, 12, 62, 36, 29, 61, 60, 46, 4, 11,
+    ],
+    [
+        41, 17, 0, 26, 51, 48, 35, 59, 33, 40, 50, 8, 34, 1, 57, 56, 10, 24, 25, 32, 2, 58, 49, 43,
+        53, 28, 3, 22, 5, 4, 11, 61, 36, 21, 54, 60, 29, 52, 6, 27, 46, 20, 13, 45, 44, 30, 19, 62,
+    ],
+    [
+        25, 1, 49, 10, 35, 32, 48, 43, 17, 24, 34, 57, 18, 50, 41, 40, 59, 8, 9, 16, 51, 42, 33,
+        56, 37, 12, 54, 6, 52, 19, 62, 45, 20, 5, 38, 44, 13, 36, 53, 11, 30, 4, 60, 29, 28, 14, 3,
+        46,
+    ],
+    [
+        17, 58, 41, 2, 56, 24, 40, 35, 9, 16, 26, 49, 10, 42, 33, 32, 51, 0, 1, 8, 43, 34, 25, 48,
+        29, 4, 46, 61, 44, 11, 54, 37, 12, 60, 30, 36, 5, 28, 45, 3, 22, 27, 52, 21, 20, 6, 62, 38,
+    ],
+];
+
+/// The pairs at these places.
+fn permuted(places: &[u8; 64], pairs: &[u64x2; 64]) -> [u64x2; 64]
+    ensures { (lane : ℕ) → lane_bits lane result ≡ bits_at places.now (lane_bits lane pairs.now) }
+{
+    let mut out = [u64x2::splat(0); 64];
+    for (i, place) in places.iter().enumerate() {
+        out[i] = pairs[(place & 63) as usize];
+    }
+    out
+}
+
+/// The xor of two pairs.
+#[inline]
+fn xored(a: u64x2, b: u64x2) -> u64x2
+    ensures { (lane : ℕ) → lane_bit lane result ≡ xor (lane_bit lane a) (lane_bit lane b) }
+{
+    a ^ b
+}
+
+/// The xor of the blocks of each lane.
+pub(crate) fn xored_blocks(a: &[u64x2; 64], b: &[u64x2; 64]) -> [u64x2; 64]
+    ensures { (lane : ℕ) → lane_word lane result ≡ bit_xor (lane_word lane a.now) (lane_word lane b.now) }
+{
+    let mut out = [u64x2::splat(0); 64];
+    for i in 0..64 {
+        out[i] = xored(a[i], b[i]);
+    }
+    out
+}
+
+/// E of the right half, xored with the round key at these places.
+#[inline]
+fn expanded(right: &[u64x2; 32], keys: &[u64x2; 64], places: &[u8; 48]) -> [u64x2; 48]
+    ensures { (lane : ℕ) → lane_bits lane result
+        ≡ xor_bits (picked expansion (lane_bits lane right.now)) (bits_at places.now (lane_bits lane keys.now)) }
+{
+    let mut out = [u64x2::splat(0); 48];
+    for i in 0..48 {
+        out[i] = xored(
+            right[(EXPANSION[i] & 31) as usize],
+            keys[(places[i] & 63) as usize],
+        );
+    }
+    out
+}
+
+/// The outputs of the S boxes for six pairs each.
+#[inline]
+fn substituted(six: &[u64x2; 48]) -> [u64x2; 32]
+    ensures { (lane : ℕ) → lane_bits lane result ≡ substituted s_boxes (lane_bits lane six.now) }
+{
+    let a = box_1(six[0], six[1], six[2], six[3], six[4], six[5]);
+    let b = box_2(six[6], six[7], six[8], six[9], six[10], six[11]);
+    let c = box_3(six[12], six[13], six[14], six[15], six[16], six[17]);
+    let d = box_4(six[18], six[19], six[20], six[21], six[22], six[23]);
+    let e = box_5(six[24], six[25], six[26], six[27], six[28], six[29]);
+    let f = box_6(six[30], six[31], six[32], six[33], six[34], six[35]);
+    let g = box_7(six[36], six[37], six[38], six[39], six[40], six[41]);
+    let h = box_8(six[42], six[43], six[44], six[45], six[46], six[47]);
+    [
+        a.0, a.1, a.2, a.3, b.0, b.1, b.2, b.3, c.0, c.1, c.2, c.3, d.0, d.1, d.2, d.3, e.0, e.1,
+        e.2, e.3, f.0, f.1, f.2, f.3, g.0, g.1, g.2, g.3, h.0, h.1, h.2, h.3,
+    ]
+}
+
+/// The left half xored with the cipher function of the right half and the round key at these places.
+#[inline]
+fn next_half(
+    left: &[u64x2; 32],
+    right: &[u64x2; 32],
+    keys: &[u64x2; 64],
+    places: &[u8; 48],
+) -> [u64x2; 32]
+    ensures { (lane : ℕ) → lane_bits lane result
+        ≡ xor_bits (lane_bits lane left.now) (cipher_function (lane_bits lane right.now) (bits_at places.now (lane_bits lane keys.now))) }
+{
+    let outputs = substituted(&expanded(right, keys, places));
+    let mut out = [u64x2::splat(0); 32];
+    for i in 0..32 {
+        out[i] = xored(left[i], outputs[(BOX_PERMUTATION[i] & 31) as usize]);
+    }
+    out
+}
+
+/// The first half of a block.
+fn left_half(block: &[u64x2; 64]) -> [u64x2; 32]
+    ensures { result ≡ take 32 block.now }
+{
+    let mut half = [u64x2::splat(0); 32];
+    half.copy_from_slice(&block[..32]);
+    half
+}
+
+/// The second half of a block.
+fn right_half(block: &[u64x2; 64]) -> [u64x2; 32]
+    ensures { result ≡ drop 32 block.now }
+{
+    let mut half = [u64x2::splat(0); 32];
+    half.copy_from_slice(&block[32..]);
+    half
+}
+
+/// The block of two halves.
+fn joined(first: &[u64x2; 32], second: &[u64x2; 32]) -> [u64x2; 64]
+    ensures { result ≡ first.now ++ second.now }
+{
+    let mut block = [u64x2::splat(0); 64];
+    block[..32].copy_from_slice(first);
+    block[32..].copy_from_slice(second);
+    block
+}
+
+/// The blocks through the sixteen rounds, under the round keys at these places of the keys.
+fn ciphered(order: &[[u8; 48]; 16], keys: &[u64x2; 64], block: &[u64x2; 64]) -> [u64x2; 64]
+    ensures { (lane : ℕ) → lane_bits lane result
+        ≡ ciphered (map (λ places. bits_at places (lane_bits lane keys.now)) order.now) (lane_bits lane block.now) }
+{
+    let mixed = permuted(&INITIAL_PERMUTATION, block);
+    let mut left = left_half(&mixed);
+    let mut right = right_half(&mixed);
+    for places in order {
+        let next = next_half(&left, &right, keys, places);
+        left = right;
+        right = next;
+    }
+    permuted(&INVERSE_PERMUTATION, &joined(&right, &left))
+}
+
+/// Enciphers the block of each lane under the key of the lane.
+pub(crate) fn encipher(keys: &[u64x2; 64], block: &[u64x2; 64]) -> [u64x2; 64]
+    ensures { (lane : ℕ) → word_bytes (lane_word lane result)
+        ≡ des_encipher (word_bytes (lane_word lane keys.now)) (word_bytes (lane_word lane block.now)) }
+{
+    ciphered(&KEY_PLACES, keys, block)
+}
+
+/// Deciphers the block of each lane under the key of the lane.
+pub(crate) fn decipher(keys: &[u64x2; 64], block: &[u64x2; 64]) -> [u64x2; 64]
+    ensures { (lane : ℕ) → word_bytes (lane_word lane result)
+        ≡ des_decipher (word_bytes (lane_word lane keys.now)) (word_bytes (lane_word lane block.now)) }
+{
+    let mut order = KEY_PLACES;
+    order.reverse();
+    ciphered(&order, keys, block)
+}
