@@ -8,7 +8,8 @@ import time
 
 # Debian's command at /usr/sbin changes to the user of the installed broker; this one doesn't.
 COMMAND = "/usr/lib/rabbitmq/bin/rabbitmq-server"
-START_SECONDS = 60
+# (on a busy machine with the lowest share it takes more than a minute)
+START_SECONDS = 240
 
 
 def why_absent():
