@@ -5,8 +5,8 @@ use Rattle.card_history.specs.declared.card_view.CardView.{CardView}
 use Rattle.card_history.specs.Records.{CardName, decided, greatest, status_of}
 use Rattle.card_history.specs.Scripts.{scripts_of}
 
--- a card after the history of its shard: its greatest counter, its status, how many commands were ever queued for it and are done, what is in flight,
--- and whether its scripts are halted
+-- a card after the history of its shard: its greatest ATC, its status, how many commands were ever queued for it and
+-- are done, its batch in flight, and whether its scripts are halted
 abbrev pub card_shown : CardName → List Entry → CardView
 card_shown card history = record {
   hi = greatest (decided card history);

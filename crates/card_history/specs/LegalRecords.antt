@@ -39,24 +39,27 @@ pub record IsLegalDecision (grounds : Grounds) (shard : ℕ) (before : List Entr
   pub in_window : IsBelow (greatest (decided_for request before)) request.atc → ⊥
   pub is_the_issuers_reply : grounds.IsReply before request reply
 
--- a command may come next: it is for one of the shard's cards, it is one that the host sends, and the card's queue takes it
-pub record IsLegalCommand (grounds : Grounds) (shard : ℕ) (before : List Entry) (card : CardName) (command : Command) : Type 0 where
+-- a command is a valid successor: it is for one of the shard's cards, the host sends such commands, and the card's
+-- queue takes it
+pub record IsLegalCommand (grounds : Grounds) (shard : ℕ) (before : List Entry) (card : CardName)
+    (command : Command) : Type 0 where
   pub of_a_card : grounds.IsCardOfShard shard card
   pub form : IsTrue (is_command command)
   pub room : TakesOneMore (waiting (scripts_of card before))
 
--- a status may come next: it is for one of the shard's cards, and 0 to 9
+-- a status is a valid successor: it is for one of the shard's cards, and 0 to 9
 pub record IsLegalStatus (grounds : Grounds) (shard : ℕ) (card : CardName) (status : ℕ) : Type 0 where
   pub of_a_card : grounds.IsCardOfShard shard card
   pub within : status ≤ MAX_STATUS
 
--- a record may come next after these of this shard
+-- a record is a valid successor of these of this shard
 abbrev pub IsLegal : Grounds → ℕ → List Entry → Entry → Type 0
 IsLegal grounds shard before (Decided request reply) = IsLegalDecision grounds shard before request reply
 IsLegal grounds shard before (Queued pan psn command) = IsLegalCommand grounds shard before (named pan psn) command
 IsLegal grounds shard before (Status pan psn status) = IsLegalStatus grounds shard (named pan psn) status
 
--- a history is legal where each record may come next after those before it
+-- a history is legal if each record is a valid successor of those before it
 abbrev pub IsLegalHistory : Grounds → ℕ → List Entry → Type 0
 IsLegalHistory grounds shard history =
-    (place : ℕ) (entry : Entry) → slice_get history place ≡ Some entry → IsLegal grounds shard (take place history) entry
+    (place : ℕ) (entry : Entry) → slice_get history place ≡ Some entry
+    → IsLegal grounds shard (take place history) entry

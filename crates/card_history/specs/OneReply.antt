@@ -28,6 +28,8 @@ reply_in _ = None
 
 -- if the answer has a reply, the record at its shard and index decides this request with this reply
 abbrev pub IsOfItsRecord : List (List Entry) → Request → Answer → Type 0
-IsOfItsRecord histories request (Fresh shard place reply) = record_at histories shard place ≡ Some (Decided request reply)
-IsOfItsRecord histories request (Kept shard place reply) = record_at histories shard place ≡ Some (Decided request reply)
+IsOfItsRecord histories request (Fresh shard place reply) =
+    record_at histories shard place ≡ Some (Decided request reply)
+IsOfItsRecord histories request (Kept shard place reply) =
+    record_at histories shard place ≡ Some (Decided request reply)
 IsOfItsRecord histories request _ = Unit {0}

@@ -54,9 +54,17 @@ with_command command scripts = record {
 -- for good
 abbrev pub settled_by : Settled → Scripts → Scripts
 settled_by (Ran count) scripts =
-    record { queue = scripts.queue; hi = scripts.hi; done = scripts.done + count; flight = None; halted = scripts.halted }
-settled_by Nothing scripts = record { queue = scripts.queue; hi = scripts.hi; done = scripts.done; flight = None; halted = scripts.halted }
-settled_by Halt scripts = record { queue = scripts.queue; hi = scripts.hi; done = scripts.done; flight = None; halted = true }
+    record {
+      queue = scripts.queue;
+      hi = scripts.hi;
+      done = scripts.done + count;
+      flight = None;
+      halted = scripts.halted;
+    }
+settled_by Nothing scripts =
+    record { queue = scripts.queue; hi = scripts.hi; done = scripts.done; flight = None; halted = scripts.halted }
+settled_by Halt scripts =
+    record { queue = scripts.queue; hi = scripts.hi; done = scripts.done; flight = None; halted = true }
 
 -- the flight of the reply on this ATC: the longest prefix of the undone commands that one template carries, possibly
 -- empty; there is none if the card's scripts are halted
@@ -89,8 +97,10 @@ with_decision request scripts = if is_newest request.atc scripts.hi then with_ne
 
 -- the card's scripts after one more record of the shard
 abbrev pub after_record : CardName → Scripts → Entry → Scripts
-after_record card scripts (Decided request reply) = if is_of card request then with_decision request scripts else scripts
-after_record card scripts (Queued pan psn command) = if has_numbers card pan psn then with_command command scripts else scripts
+after_record card scripts (Decided request reply) =
+    if is_of card request then with_decision request scripts else scripts
+after_record card scripts (Queued pan psn command) =
+    if has_numbers card pan psn then with_command command scripts else scripts
 after_record card scripts (Status pan psn status) = scripts
 
 -- a card's scripts after the history of its shard

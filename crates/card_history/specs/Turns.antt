@@ -34,21 +34,25 @@ pub record IsTooOld (decisions : List Decision) (request : Request) (top : ℕ) 
 abbrev pub decided_for : Request → List Entry → List Decision
 decided_for request history = decided (card_of request) history
 
--- what shard number `shard` may answer to a request, and its history afterwards; `reply_to` is the issuer's decision after a history
+-- what shard number `shard` may answer to a request, and its history afterwards; `reply_to` is the issuer's decision
+-- after a history
 abbrev pub Answers : ℕ → (List Entry → Request → Reply) → List Entry → Request → Answer → List Entry → Type 0
 -- an unused ATC is decided, and its record has the index after the last
 Answers shard reply_to before request (Fresh at place reply) after =
-    IsUnused (decided_for request before) request × (at ≡ shard) × (place ≡ length before) × (reply ≡ reply_to before request)
+    IsUnused (decided_for request before) request × (at ≡ shard) × (place ≡ length before)
+    × (reply ≡ reply_to before request)
     × (after ≡ before ++ Decided request reply ∷ [])
 -- a repeat gets its stored reply
 Answers shard reply_to before request (Kept at place reply) after =
-    IsUsed (decided_for request before) request (record { request = request; reply = reply; place = place }) × (at ≡ shard) × (after ≡ before)
+    IsUsed (decided_for request before) request (record { request = request; reply = reply; place = place })
+    × (at ≡ shard) × (after ≡ before)
 -- an ATC below the window is too old
 Answers shard reply_to before request (Refused (Below top)) after =
     IsTooOld (decided_for request before) request top × (after ≡ before)
--- an ATC on which another request was decided is taken
+-- an ATC on which another request was decided is already decided
 Answers shard reply_to before request (Refused (Taken at place)) after =
-    ((decision : Decision) × IsUsed (decided_for request before) request decision × (decision.place ≡ place) × (decision.request ≢ request))
+    ((decision : Decision) × IsUsed (decided_for request before) request decision × (decision.place ≡ place)
+    × (decision.request ≢ request))
     × (at ≡ shard) × (after ≡ before)
 -- no other answer is possible
 Answers shard reply_to before request _ after = ⊥

@@ -17,7 +17,7 @@ pub struct CardView {
     /// How many of them are done: the card ran them.
     pub done: u32,
 
-    /// What the last reply on a newest counter carried of them; none before the first, and where the scripts are halted.
+    /// The batch in flight, in the last reply on a greatest ATC; none before the first, and if the scripts are halted.
     pub flight: Option<Flight>,
 
     /// Whether the card's scripts are halted for good.

@@ -25,7 +25,7 @@ is_byte byte first = cond (first == byte) (Some 0) None
 pub is_byte-same : (byte first v : ℕ) → is_byte byte first ≡ Some v → first ≡ byte
 is_byte-same byte first v has = eqb-true _ _ (cond_some _ _ _ has).0
 
--- a byte, and a text with a meaning behind it
+-- a byte, and a text with a meaning after it
 abbrev pub BehindByte : {K : Type 0} → ℕ → (List ℕ → K → Type 0) → List ℕ → K → Type 0
 BehindByte byte F = Behind (is_byte byte) (λ v. F)
 
@@ -185,7 +185,7 @@ Number-ended {K} so_far F example may text next blocked reads =
     by_number false valid =
         stops_here _ (Number-example so_far F example may) text (Number-none so_far F text blocked (λ others alike number. absurd (cc (valid, number))))
 
--- a digit in front of those that may follow
+-- a digit before those that may follow
 Number-more : {K : Type 0} (so_far : List ℕ) (F : List ℕ → List ℕ → K → Type 0) (byte digit : ℕ) (rest : List ℕ) (read : Part K)
     → byte ≡ 48 + digit → Reads (Number (so_far ++ digit ∷ []) F) rest read → Reads (Number so_far F) (byte ∷ rest) read
 Number-more {K} so_far F byte digit rest read spells reads = Reads-after (Number (so_far ++ digit ∷ []) F) (Number so_far F) byte to from rest read reads
@@ -265,13 +265,13 @@ Number-room {K} F example next reads (suc room) so_far long decimal (byte ∷ re
         (append_assoc so_far (digit ∷ []) others.0)
         (Number-more so_far F byte digit rest _ value.0 (further (so_far ++ digit ∷ []) (omega arith) decimals rest))
 
--- an account number and the space behind it
+-- an account number and the space after it
 pub Reads-number : {K : Type 0} (F : List ℕ → List ℕ → K → Type 0) → ((pan : List ℕ) → Example (F pan)) → (next : List ℕ → List ℕ → Part K)
     → ((pan rest : List ℕ) → Reads (F pan) rest (next pan rest)) → (text : List ℕ) → Reads (Number [] F) text (account_number_at text >>= after_number next)
 unfolding account_number_at
 Reads-number F example next reads text = Number-room F example next reads MAX_PAN_DIGITS [] refl refl text
 
--- a card between spaces, and a text with a meaning behind it
+-- a card between spaces, and a text with a meaning after it
 abbrev pub BehindCard : {K : Type 0} → (List ℕ → ℕ → List ℕ → K → Type 0) → List ℕ → K → Type 0
 BehindCard F =
     BehindByte 32 (Number [] (λ pan. Behind decimal_digit_value (λ high. Behind decimal_digit_value (λ low. BehindByte 32 (F pan (16 * high + low))))))
@@ -294,7 +294,7 @@ number_then : {K : Type 0} (read : Part (List ℕ × List ℕ)) (f : List ℕ �
 number_then (Ok number) f next = then_then (byte_at 32 number.1) (f number.0) next
 number_then (Err rest) f next = refl
 
--- a card between spaces, and what is behind it
+-- a card between spaces, and what is after it
 pub Reads-card : {K : Type 0} (F : List ℕ → ℕ → List ℕ → K → Type 0) → ((pan : List ℕ) (psn : ℕ) → Example (F pan psn))
     → (text : List ℕ) (next : CardPart → Part K)
     → ((pan : List ℕ) (psn : ℕ) (rest : List ℕ) → Reads (F pan psn) rest (next (record { pan = pan; psn = psn; rest = rest })))
@@ -342,7 +342,7 @@ Reads-card {K} F example text next reads =
         subst (Reads (after_pan pan) rest) (sym (then_then (value_at decimal_digit_value rest) (low_behind pan) next))
         (Reads-behind decimal_digit_value (after_high pan) (pan_example pan) rest _ (high_reads pan))
 
--- the text of a card between spaces, and a text with a meaning behind it
+-- the text of a card between spaces, and a text with a meaning after it
 pub record SpellsCard {K : Type 0} (F : List ℕ → ℕ → List ℕ → K → Type 0) (text : List ℕ) (kind : K) : Type 0 where
   pub pan : List ℕ
   pub psn : ℕ

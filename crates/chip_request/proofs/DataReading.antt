@@ -24,7 +24,7 @@ Reads-pair {K} F example text next reads =
     high_at : ℕ × List ℕ → Part (ℕ × List ℕ)
     high_at high = value_at hex_digit_value high.1 >>= low_at high.0
 
--- what stands behind a byte of data: the end, or more of it
+-- what follows a byte of data: the end, or more of it
 abbrev pub More : ℕ → ℕ → List ℕ → List ℕ → Type 0
 More room byte [] bytes = bytes ≡ byte ∷ []
 More room byte (digit ∷ rest) bytes = Made (λ others. byte ∷ others) (SpellsData room) (digit ∷ rest) bytes

@@ -113,7 +113,7 @@ queue-Says letter here text (Queue pan psn bytes) says =
     (record { pan = pan; psn = psn; rest = says.0; spelled = (heads _ _ _ _ says.1).1; card = says.2; means = (bytes.items, says.3, refl) })
 queue-Says letter here text (Set pan psn status) says = let other = (heads _ _ _ _ says.0).0 in absurd (omega arith)
 
--- a status behind its card
+-- a status after its card
 set_from : (letter : ℕ) (text : List ℕ) (kind : LineKind) (pan : List ℕ) (psn : ℕ) (rest : List ℕ) → letter ≡ 83
     → text ≡ 32 ∷ digits_text pan ++ 32 ∷ (48 + psn / 16) ∷ (48 + psn % 16) ∷ 32 ∷ rest → IsCard pan psn → (status : ℕ)
     → Behind decimal_digit_value Ends rest status → kind ≡ Set pan psn status → Says (letter ∷ text) kind

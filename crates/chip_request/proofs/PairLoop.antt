@@ -100,7 +100,7 @@ is_more : (n : ℕ) (text : List ℕ) → n < length text → (length (drop n te
 is_more n text more =
     ne_eqb (length (drop n text)) 0 (λ none. let same : length text - n ≡ 0 = sym (length-drop n text) ∙ none in absurd (omega arith))
 
--- a text that goes on behind its front
+-- a text that goes on after its front
 pub goes_beyond : (n : ℕ) (text : List ℕ) → (length (take (length text - n) (drop n text)) == 0) ≡ false → n < length text
 goes_beyond n text is_not =
     let rest : length (take (length text - n) (drop n text)) ≡ length text - n = ap length (take_rest text n) ∙ length-drop n text in

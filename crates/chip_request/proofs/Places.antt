@@ -35,7 +35,7 @@ every_small = refl
 pub small_place : (byte : ℕ) → byte < 256 → get_or PLACES byte 0 < 15
 small_place byte below = ltb-true _ _ (list_all-at (λ place. nat_lt place 15) PLACES every_small byte below)
 
--- the field at a place has the tag that is looked for
+-- the field at a place has the tag that is searched
 tag_there : (tag : ℕ) (fs : List Field) (i : ℕ) (f : Field) → place_of tag fs ≡ Some i → (get_or fs i f).tag ≡ tag
 unfolding place_of
 tag_there tag [] i f here = absurd cc
@@ -51,7 +51,7 @@ place_below tag (field ∷ fs) (suc i) here = let behind = place_below tag fs i 
 tag_here : (tag i : ℕ) (d : declared_field.Field) → place_of tag fields ≡ Some i → (get_or FIELDS i d).tag ≡ tag
 tag_here tag i d here = ap (λ (field : Field). field.tag) (sym (get_or-map field_in FIELDS i d)) ∙ tag_there tag fields i (field_in d) here
 
--- a field with the tag at its place is the one that is looked for
+-- a field with the tag at its place is the one that is searched
 pub place_found : (tag i : ℕ) (d : declared_field.Field) → i < 15 → (get_or FIELDS i d).tag ≡ tag → Some i ≡ place_of tag fields
 place_found tag i d below same =
     is_at-true i (place_of (get_or FIELDS i d).tag fields)

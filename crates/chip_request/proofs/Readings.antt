@@ -15,7 +15,7 @@ pub record Example {K : Type 0} (F : List ℕ → K → Type 0) : Type 0 where
   pub kind : K
   pub means : F text kind
 
--- reading stops in front of a rest: some text with a meaning begins with what is in front of it, and none goes on as the rest does
+-- reading stops before a remainder: some text with a meaning begins with what is before it, and none goes on as the rest does
 pub record Stops {K : Type 0} (F : List ℕ → K → Type 0) (text rest : List ℕ) : Type 0 where
   pub front : List ℕ
   pub joined : text ≡ front ++ rest
@@ -67,12 +67,12 @@ Reads-made make F text (Err rest) stops = record {
   no_other = λ other kind alike means. stops.no_other other means.0 alike means.1;
 }
 
--- a byte with a value, and a text with a meaning behind it
+-- a byte with a value, and a text with a meaning after it
 abbrev pub Behind : {K : Type 0} → (ℕ → Option ℕ) → (ℕ → List ℕ → K → Type 0) → List ℕ → K → Type 0
 Behind value F [] kind = ⊥
 Behind value F (byte ∷ rest) kind = (v : ℕ) × (value byte ≡ Some v) × F v rest kind
 
--- a byte with a value in front of an example
+-- a byte with a value before an example
 pub behind_example : {K : Type 0} (value : ℕ → Option ℕ) (F : ℕ → List ℕ → K → Type 0) (byte v : ℕ) → value byte ≡ Some v → Example (F v)
     → Example (Behind value F)
 behind_example value F byte v has example = record { text = byte ∷ example.text; kind = example.kind; means = (v, has, example.means) }
@@ -80,7 +80,7 @@ behind_example value F byte v has example = record { text = byte ∷ example.tex
 some_same : (a b : Option ℕ) (v w : ℕ) → a ≡ b → a ≡ Some v → b ≡ Some w → v ≡ w
 some_same a b v w same here there = cc
 
--- reading behind a byte in front, which says no more than that the others have a meaning behind it
+-- reading after a first byte, which says no more than that the others have a meaning after it
 pub Reads-after : {K : Type 0} (F G : List ℕ → K → Type 0) (byte : ℕ) → ((text : List ℕ) (kind : K) → F text kind → G (byte ∷ text) kind)
     → ((text : List ℕ) (kind : K) → G (byte ∷ text) kind → F text kind) → (text : List ℕ) (read : Part K) → Reads F text read → Reads G (byte ∷ text) read
 Reads-after F G byte to from text (Ok kind) finds = record { here = to text kind finds.here; only = λ other means. finds.only other (from text other means) }
@@ -93,7 +93,7 @@ Reads-after F G byte to from text (Err rest) stops = record {
   no_other = λ other kind alike means. stops.no_other other kind alike (from (stops.front ++ other) kind means);
 }
 
--- reading a byte's value, and then what is behind it
+-- reading a byte's value, and then what is after it
 pub Reads-behind : {K : Type 0} (value : ℕ → Option ℕ) (F : ℕ → List ℕ → K → Type 0) → Example (Behind value F)
     → (text : List ℕ) (next : ℕ × List ℕ → Part K) → ((v : ℕ) (rest : List ℕ) → Reads (F v) rest (next (v, rest)))
     → Reads (Behind value F) text (value_at value text >>= next)

@@ -61,7 +61,7 @@ only_here tag field fs distinct here =
     let equal : field.tag ≡ tag = eqb-true _ _ same in
     (same, ap (λ t. place_of t fs) (sym equal) ∙ none_at _ parts.0)
 
--- at a place behind it isn't
+-- at a place after it isn't
 only_behind : (tag i : ℕ) (field : Field) (fs : List Field) → are_distinct (field ∷ fs) ≡ true → place_of tag (field ∷ fs) ≡ Some (suc i)
     → (field.tag == tag ≡ false) × (place_of tag fs ≡ Some i) × (are_distinct fs ≡ true)
 unfolding place_of are_distinct

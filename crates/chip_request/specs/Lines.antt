@@ -44,15 +44,18 @@ pub record IsCard (pan : List ℕ) (psn : ℕ) : Type 0 where
   pub number : IsTrue (is_pan pan)
   pub sequence : IsTrue (is_bcd psn)
 
--- What a line says. `A` and chip data ask for the check of a request. `Q`, a card's two numbers and bytes give a command
--- for the card's queue. `S`, a card's two numbers and a digit set the card's status.
+-- What a line says. `A` and chip data ask for the check of a request. `Q`, a card's two numbers and bytes give a
+-- command for the card's queue. `S`, a card's two numbers and a digit set the card's status.
 abbrev pub Says : List ℕ → LineKind → Type 0
-Says line (Ask bytes) = (text : List ℕ) × (line ≡ spaced (codes "A" ∷ text ∷ [])) × SpellsData MAX_CHIP_BYTES text bytes.items
+Says line (Ask bytes) =
+    (text : List ℕ) × (line ≡ spaced (codes "A" ∷ text ∷ [])) × SpellsData MAX_CHIP_BYTES text bytes.items
 Says line (Queue pan psn bytes) =
-    (text : List ℕ) × (line ≡ spaced (codes "Q" ∷ digits_text pan ∷ digits_text (digits_of psn) ∷ text ∷ [])) × IsCard pan psn
+    (text : List ℕ) × (line ≡ spaced (codes "Q" ∷ digits_text pan ∷ digits_text (digits_of psn) ∷ text ∷ []))
+    × IsCard pan psn
     × SpellsData MAX_QUEUE_BYTES text bytes.items
 Says line (Set pan psn status) =
-    (line ≡ spaced (codes "S" ∷ digits_text pan ∷ digits_text (digits_of psn) ∷ digits_text (status ∷ []) ∷ [])) × IsCard pan psn
+    (line ≡ spaced (codes "S" ∷ digits_text pan ∷ digits_text (digits_of psn) ∷ digits_text (status ∷ []) ∷ []))
+    × IsCard pan psn
     × (status ≤ 9)
 
 -- the text is a prefix of some line of these forms

@@ -19,7 +19,8 @@ pub record Found : Type 0 where
 
 -- after one more value of the field
 abbrev pub with_value : Found → List ℕ → Found
-with_value found value = if is_some found.first then record found { is_repeated = true } else record found { first = Some value }
+with_value found value =
+    if is_some found.first then record found { is_repeated = true } else record found { first = Some value }
 
 -- after one more object
 abbrev pub with_object : TlvObject → Found → Found
@@ -65,11 +66,13 @@ fault_among founds =
 -- the index in a table of the first field with a tag
 unfoldable pub place_of : ℕ → List Field → Option ℕ
 place_of tag [] = None
-place_of tag (field ∷ others) = if field.tag == tag then Some 0 else option_map (λ place. place + 1) (place_of tag others)
+place_of tag (field ∷ others) =
+    if field.tag == tag then Some 0 else option_map (λ place. place + 1) (place_of tag others)
 
 -- what was found of each field of a table: its first value, and whether there is another
 unfoldable pub founds_of : List Field → List (Option (List ℕ)) → List Bool → List Found
-founds_of (field ∷ others) (first ∷ firsts) (is ∷ are) = record { field = field; first = first; is_repeated = is } ∷ founds_of others firsts are
+founds_of (field ∷ others) (first ∷ firsts) (is ∷ are) =
+    record { field = field; first = first; is_repeated = is } ∷ founds_of others firsts are
 founds_of _ _ _ = []
 
 -- the first value of the field with a tag

@@ -48,7 +48,7 @@ pub(crate) fn account_number(value: &[u8]) -> Option<Pan>
     if let Some(pan) = Pan::new(nibbles) {
         return Some(pan);
     }
-    let (digits, filling) = nibbles.split_at(digits_in_front(nibbles));
+    let (digits, filling) = nibbles.split_at(decimal_prefix_length(nibbles));
     if !is_filling(filling) {
         return None;
     }
@@ -68,7 +68,7 @@ fn nibbles_of(value: &[u8]) -> [u8; 20]
     nibbles
 }
 
-fn digits_in_front(nibbles: &[u8]) -> usize
+fn decimal_prefix_length(nibbles: &[u8]) -> usize
     ensures count { result ≡ length (take_while (λ nibble. nat_le nibble 9) nibbles.now) }
     ensures within { result ≤ length nibbles.now }
 {

@@ -23,7 +23,8 @@ pub(crate) fn read_byte(text: &[u8], byte: u8) -> Result<&[u8], &[u8]>
 /// Reads a card's account number and sequence number, each between spaces.
 #[tactic(auto, unfolding(crate::specs::LineParts::card_at))]
 pub(crate) fn read_card(text: &[u8]) -> Result<(Pan, u8, &[u8]), &[u8]>
-    ensures { result_map_both (λ found. record { pan = found.0; psn = found.1; rest = found.2.now }) (λ rest. rest.now) result
+    ensures { result_map_both (λ found. record { pan = found.0; psn = found.1; rest = found.2.now })
+        (λ rest. rest.now) result
         ≡ card_at text.now }
 {
     let rest = read_byte(text, b' ')?;
@@ -40,12 +41,12 @@ pub(crate) fn read_card(text: &[u8]) -> Result<(Pan, u8, &[u8]), &[u8]>
 fn read_account_number(text: &[u8]) -> Result<(Pan, &[u8]), &[u8]>
     ensures { result_map_both (λ found. (found.0, found.1.now)) (λ rest. rest.now) result ≡ account_number_at text.now }
 {
-    let (digits, rest) = leading_digits(text);
+    let (digits, rest) = read_digits(text);
     let pan = Pan::new(digits.as_slice()).ok_or(rest)?;
     Ok((pan, rest))
 }
 
-fn leading_digits(text: &[u8]) -> (ArrayVec<u8, MAX_PAN_DIGITS>, &[u8])
+fn read_digits(text: &[u8]) -> (ArrayVec<u8, MAX_PAN_DIGITS>, &[u8])
     ensures { (result.0.items, result.1.now) ≡ digits_at MAX_PAN_DIGITS text.now }
 {
     let mut digits = ArrayVec::new();

@@ -121,7 +121,7 @@ impl<'a> Slots<'a> {
 
     /// Whether a field is present, and its value has `count` bytes.
     #[inline(always)]
-    fn has_bytes(&self, tag: u32, count: usize) -> bool
+    fn is_sized(&self, tag: u32, count: usize) -> bool
         ensures { result ≡ is_sized count (first_with_tag tag (founds_in self.now)) }
     {
         let Some(value) = self.first_value(tag) else {
@@ -132,7 +132,7 @@ impl<'a> Slots<'a> {
 
     /// Whether a field is absent, or its value has `count` bytes.
     #[inline(always)]
-    fn is_absent_or_has_bytes(&self, tag: u32, count: usize) -> bool
+    fn is_absent_or_sized(&self, tag: u32, count: usize) -> bool
         ensures { result ≡ is_absent_or_sized count (first_with_tag tag (founds_in self.now)) }
     {
         let Some(value) = self.first_value(tag) else {
@@ -147,20 +147,20 @@ impl<'a> Slots<'a> {
     pub(crate) fn have_sizes(&self) -> bool
         ensures { result ≡ have_sizes (founds_in self.now) }
     {
-        self.is_absent_or_has_bytes(0x5F34, 1)
-            && self.has_bytes(0x82, 2)
-            && self.has_bytes(0x95, 5)
-            && self.has_bytes(0x9A, 3)
-            && self.has_bytes(0x9C, 1)
-            && self.has_bytes(0x9F02, 6)
-            && self.is_absent_or_has_bytes(0x9F03, 6)
-            && self.has_bytes(0x9F10, 32)
-            && self.has_bytes(0x9F1A, 2)
-            && self.has_bytes(0x5F2A, 2)
-            && self.has_bytes(0x9F26, 8)
-            && self.has_bytes(0x9F27, 1)
-            && self.has_bytes(0x9F36, 2)
-            && self.has_bytes(0x9F37, 4)
+        self.is_absent_or_sized(0x5F34, 1)
+            && self.is_sized(0x82, 2)
+            && self.is_sized(0x95, 5)
+            && self.is_sized(0x9A, 3)
+            && self.is_sized(0x9C, 1)
+            && self.is_sized(0x9F02, 6)
+            && self.is_absent_or_sized(0x9F03, 6)
+            && self.is_sized(0x9F10, 32)
+            && self.is_sized(0x9F1A, 2)
+            && self.is_sized(0x5F2A, 2)
+            && self.is_sized(0x9F26, 8)
+            && self.is_sized(0x9F27, 1)
+            && self.is_sized(0x9F36, 2)
+            && self.is_sized(0x9F37, 4)
     }
 
     /// Whether no field is repeated. If also each field has its length and the values make a request, every field is
@@ -170,7 +170,8 @@ impl<'a> Slots<'a> {
         ensures right { list_all is_right (founds_in self.now) ≡ true → result ≡ true }
         ensures sized { list_all is_right (founds_in self.now) ≡ true → have_sizes (founds_in self.now) ≡ true }
         ensures makes { result ≡ true → have_sizes (founds_in self.now) ≡ true
-            → (made : Parts) → request_in (founds_in self.now) ≡ Some made → list_all is_right (founds_in self.now) ≡ true }
+            → (made : Parts) → request_in (founds_in self.now) ≡ Some made
+            → list_all is_right (founds_in self.now) ≡ true }
     {
         are_single(&self.firsts, &self.are_repeated)
     }
@@ -206,7 +207,11 @@ impl<'a> Slots<'a> {
 impl Field {
     fn is_wrong(&self, wrong: Wrong, first: Option<&[u8]>, is_repeated: bool) -> bool
         ensures { result ≡ is_wrong wrong
-            (record { field = field_in self.now; first = option_map (λ value. value.now) first.entry; is_repeated = is_repeated }) }
+            (record {
+              field = field_in self.now;
+              first = option_map (λ value. value.now) first.entry;
+              is_repeated = is_repeated;
+            }) }
     {
         match wrong {
             Wrong::Missing => self.is_required && first.is_none(),
@@ -225,7 +230,8 @@ fn first_wrong_among(
     are_repeated: &[bool; 15],
     wrong: Wrong,
 ) -> Option<u32>
-    ensures { result ≡ first_wrong_found wrong (founds_of fields (map (option_map (λ value. value.now)) firsts.now) are_repeated.now) }
+    ensures { result ≡ first_wrong_found wrong
+        (founds_of fields (map (option_map (λ value. value.now)) firsts.now) are_repeated.now) }
 {
     for (place, field) in table().iter().enumerate() {
         if field.is_wrong(wrong, firsts[place], are_repeated[place]) {
@@ -238,13 +244,19 @@ fn first_wrong_among(
 // Only the contract uses the values.
 #[inline(always)]
 fn are_single(_firsts: &[Option<&[u8]>; 15], are_repeated: &[bool; 15]) -> bool
-    ensures right { list_all is_right (founds_of fields (map (option_map (λ value. value.now)) _firsts.now) are_repeated.now) ≡ true
+    ensures right { list_all is_right
+        (founds_of fields (map (option_map (λ value. value.now)) _firsts.now) are_repeated.now) ≡ true
         → result ≡ true }
-    ensures sized { list_all is_right (founds_of fields (map (option_map (λ value. value.now)) _firsts.now) are_repeated.now) ≡ true
+    ensures sized { list_all is_right
+        (founds_of fields (map (option_map (λ value. value.now)) _firsts.now) are_repeated.now) ≡ true
         → have_sizes (founds_of fields (map (option_map (λ value. value.now)) _firsts.now) are_repeated.now) ≡ true }
-    ensures makes { result ≡ true → have_sizes (founds_of fields (map (option_map (λ value. value.now)) _firsts.now) are_repeated.now) ≡ true
-        → (made : Parts) → request_in (founds_of fields (map (option_map (λ value. value.now)) _firsts.now) are_repeated.now) ≡ Some made
-        → list_all is_right (founds_of fields (map (option_map (λ value. value.now)) _firsts.now) are_repeated.now) ≡ true }
+    ensures makes { result ≡ true → have_sizes
+        (founds_of fields (map (option_map (λ value. value.now)) _firsts.now) are_repeated.now) ≡ true
+        → (made : Parts) →
+        request_in (founds_of fields (map (option_map (λ value. value.now)) _firsts.now) are_repeated.now)
+        ≡ Some made
+        → list_all is_right (founds_of fields (map (option_map (λ value. value.now)) _firsts.now) are_repeated.now)
+        ≡ true }
 {
     *are_repeated == [false; 15]
 }

@@ -46,7 +46,7 @@ length-words : (pairs : List Pair) → length (words_of pairs) ≡ 2 * length pa
 length-words [] = refl
 length-words (pair ∷ pairs) = let rest = length-words pairs in omega (arith, rest)
 
--- the words from a place on are the word there and those behind it
+-- the words from a place on are the word there and those after it
 drop-at : (words : List (List ℕ)) (i : ℕ) (word : List ℕ)
     → slice_get words i ≡ Some word → drop i words ≡ word ∷ drop (i + 1) words
 drop-at words i word is =
@@ -54,7 +54,7 @@ drop-at words i word is =
     drop-cons words i word within ∙ ap (λ w. w ∷ drop (suc i) words) (get_or_from_slice_get words i word word is)
     ∙ ap (λ n. word ∷ drop n words) (sym (add-one i))
 
--- the pairs from a place on are the pair there and those behind it
+-- the pairs from a place on are the pair there and those after it
 pub pairs-at : (words : List (List ℕ)) (here next : ℕ) (option value : List ℕ) → next ≡ here + 1
     → slice_get words (2 * here + 1) ≡ Some option → slice_get words (2 * here + 2) ≡ Some value
     → pairs_of (drop (2 * here + 1) words) ≡ record { option = option; value = value }
@@ -121,7 +121,7 @@ module _ (words : List (List ℕ)) (left : ℕ) (some : 0 < left) (option value 
       let rest = values_of asked (pairs_of (drop (2 * left + 1) words)) in
       values-step asked ∙ ap (λ b. if b then value ∷ rest else rest) other
 
--- no pairs stand behind the last word
+-- no pairs follow the last word
 pub pairs-past : (words : List (List ℕ)) (n : ℕ) → length words ≤ n → pairs_of (drop n words) ≡ []
 pairs-past words n past = ap pairs_of (drop_all n words past)
 
@@ -556,7 +556,7 @@ gives-group words word (Some callers) values said = inr (values ∙ ap (λ (w : 
 
 -- ---- one command
 
--- the words of a command begin with it, and behind it are pairs of its options
+-- the words of a command begin with it, and after it are pairs of its options
 asks-words : (words : List (List ℕ)) (command : Command) → Asks command words → AreWordsOf command words
 asks-words words Serve asks = (serve-gives words asks.0 asks.1 asks.2 asks.3).are
 asks-words words Show asks = (parted (codes "show") show_options words (asks.0 ∷ asks.1 ∷ []) asks.2).are

@@ -4,7 +4,7 @@ use Rattle.std.specs.Prelude.{List, [], ◌∷◌, length, map, Option, None, So
 use Rattle.std.specs.Fmt.{decimal}
 use Rattle.std.specs.Str.{bytes_eq}
 use Rattle.hex.specs.Hex.{decode_of}
-use Rattle.issuer_base.specs.declared.limits.TheConstants.{MAX_CALLERS, MAX_CARDS, MAX_CHIP_BYTES}
+use Rattle.issuer_base.specs.declared.limits.TheConstants.{MAX_CALLERS, MAX_CARD_REQUESTS, MAX_CARDS, MAX_CHIP_BYTES, MAX_STEPS}
 
 -- a value is a word that isn't empty and doesn't begin with a hyphen
 abbrev pub IsValue : List ℕ → Type 0
@@ -69,7 +69,7 @@ pub record IsGroup (callers : ℕ) : Type 0 where
   pub few : callers ≤ MAX_CALLERS
 
 -- the words are the command to serve, with the names of the configuration, of the request file and of the journals; and
--- with the number of its callers in decimal digits without a sign or a zero in front, or without it, and then there is
+-- with the number of its callers in decimal digits without a sign or a leading zero, or without it, and then there is
 -- one
 abbrev pub IsServe : List (List ℕ) → List ℕ → RequestFile → List ℕ → Type 0
 IsServe words config requests journal =
@@ -82,15 +82,15 @@ IsServe words config requests journal =
 abbrev pub IsShow : List (List ℕ) → List ℕ → List ℕ → Type 0
 IsShow words config journal = IsCall (codes "show") show_options words (config ∷ journal ∷ [])
 
--- a world may have so many cards and so many steps: no card is in more steps than a card gives requests
+-- a world may have so many cards and so many steps: no card takes more steps than it makes requests
 pub record IsSize (cards steps : ℕ) : Type 0 where
   pub some_cards : 1 ≤ cards
   pub few_cards : cards ≤ MAX_CARDS
-  pub few_steps : steps ≤ 200000
-  pub few_each : steps ≤ 65535 * cards
+  pub few_steps : steps ≤ MAX_STEPS
+  pub few_each : steps ≤ MAX_CARD_REQUESTS * cards
 
 -- the words are the command to play a world, with its numbers of cards and steps and its seed, in decimal digits
--- without a sign or a zero in front
+-- without a sign or a leading zero
 pub record IsWorld (words : List (List ℕ)) (cards steps seed : ℕ) : Type 0 where
   pub call : IsCall (codes "world") world_options words (decimal cards ∷ decimal steps ∷ decimal seed ∷ [])
   pub size : IsSize cards steps

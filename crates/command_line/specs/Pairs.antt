@@ -1,9 +1,9 @@
--- The pairs that the words behind a command make, and what the words ask for.
+-- The pairs that the words after a command make, and what the words ask for.
 use Rattle.std.specs.Prelude.{◌≡◌, ◌⊎◌, ℕ, ◌*◌, ◌%◌, nat_le, Bool, true, false, not, ◌==◌, ◌&&◌, if◌then◌else◌}
 use Rattle.std.specs.Prelude.{List, [], ◌∷◌, length, drop, slice_get, Option, Some, None, codes}
 use Rattle.std.specs.Fmt.{decimal}
 use Rattle.std.specs.Option.{option_map}
-use Rattle.issuer_base.specs.declared.limits.TheConstants.{MAX_CARDS}
+use Rattle.issuer_base.specs.declared.limits.TheConstants.{MAX_CARDS, MAX_CARD_REQUESTS, MAX_STEPS}
 use Rattle.command_line.specs.declared.words.Command.{Command}
 use Rattle.command_line.specs.declared.words.Command.TheVariants.{Serve, Show, World, Fill}
 use Rattle.command_line.specs.declared.words.Requests.{Requests}
@@ -52,20 +52,20 @@ only [] = None
 only (value ∷ []) = Some value
 only (value ∷ next ∷ values) = None
 
--- the values that the words behind the first one give the option, and the value where they give it once
+-- the values that the words after the first one give the option, and the value if they give it once
 abbrev pub values_in : List (List ℕ) → List ℕ → List (List ℕ)
 values_in words option = values_of option (pairs_of (drop 1 words))
 
 abbrev pub value_in : List (List ℕ) → List ℕ → Option (List ℕ)
 value_in words option = only (values_in words option)
 
--- the words begin with this one, and behind it are pairs of these options
+-- the first word is this one, and pairs of these options follow it
 pub record AreWordsWith (command : List ℕ) (options words : List (List ℕ)) : Type 0 where
   pub odd : length words % 2 ≡ 1
   pub first : slice_get words 0 ≡ Some command
   pub pairs : are_pairs options (pairs_of (drop 1 words)) ≡ true
 
--- the words begin with the command, and behind it are pairs of its options
+-- the first word is the command, and pairs of its options follow it
 abbrev pub AreWordsOf : Command → List (List ℕ) → Type 0
 AreWordsOf command words = AreWordsWith (first_word command) (options_of command) words
 
@@ -95,4 +95,5 @@ IsTask words (FillTask texts) = IsFill words texts.dol.items texts.data.items
 
 -- whether a world may have so many cards and steps
 abbrev pub is_within : ℕ → ℕ → Bool
-is_within cards steps = nat_le 1 cards && nat_le cards MAX_CARDS && nat_le steps 200000 && nat_le steps (65535 * cards)
+is_within cards steps =
+    nat_le 1 cards && nat_le cards MAX_CARDS && nat_le steps MAX_STEPS && nat_le steps (MAX_CARD_REQUESTS * cards)

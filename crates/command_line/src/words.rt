@@ -11,14 +11,8 @@ ghost use Rattle.command_line.specs.declared.words.Command.TheVariants.{Serve, S
 ghost use Rattle.command_line.specs.declared.words.Task.TheVariants.{Host, Play, Fill as FillTask};
 
 use arrayvec::ArrayVec;
-use issuer_base::{MAX_CALLERS, MAX_CARDS, MAX_CHIP_BYTES, Words};
+use issuer_base::{MAX_CALLERS, MAX_CARD_REQUESTS, MAX_CARDS, MAX_CHIP_BYTES, MAX_STEPS, Words};
 use itoa::Buffer;
-
-/// How many steps a world may have.
-const MOST_STEPS: u32 = 200_000;
-
-/// How many steps a world may have for each of its cards: no card gives more requests.
-const MOST_STEPS_EACH: u32 = 65_535;
 
 /// The words that a command begins with.
 #[derive(Clone, Copy)]
@@ -51,7 +45,7 @@ pub struct Names<'a> {
     pub config: &'a str,
     /// The request file, where the command is to serve.
     pub requests: Option<Requests<'a>>,
-    /// What the names of the journals begin with.
+    /// The prefix of the journals' names.
     pub journal: &'a str,
 }
 
@@ -97,7 +91,7 @@ pub fn read_words(words: &Words) -> Option<Task<'_>>
     }
 }
 
-/// The command that the words begin with, where pairs of its options and their values stand behind it.
+/// The command that is the first word, if pairs of its options and their values follow it.
 fn command_in(words: &Words) -> Option<Command>
     ensures { MatchOption result ((command : Command) → AreWordsOf command words.now → ⊥)
         (λ command. AreWordsOf command words.now) }
@@ -216,17 +210,17 @@ fn bytes_of(word: &str) -> Option<ArrayVec<u8, MAX_CHIP_BYTES>>
     }
 }
 
-/// Whether a world may have so many cards and steps.
+/// Whether a world may have so many cards and steps: no card takes more steps than it makes requests.
 fn is_within(cards: u32, steps: u32) -> bool
     ensures { result ≡ is_within cards steps }
 {
     1 <= cards
         && cards as usize <= MAX_CARDS
-        && steps <= MOST_STEPS
-        && steps <= MOST_STEPS_EACH * cards
+        && steps <= MAX_STEPS
+        && steps <= MAX_CARD_REQUESTS * cards
 }
 
-/// The number that a word says in decimal digits, without a sign or a zero in front; `None` where it says none below
+/// The number that a word says in decimal digits, without a sign or a leading zero; `None` where it says none below
 /// 2^32.
 fn number_of(word: &str) -> Option<u32>
     ensures { MatchOption result ((number : ℕ) → number < 2 ^ 32 → word.now ≢ decimal number)
@@ -261,7 +255,7 @@ fn command_of(word: &str) -> Option<Command>
     }
 }
 
-/// Whether the words behind the first one are pairs, each of an option of the command and its value.
+/// Whether the words after the first one are pairs, each of an option of the command and its value.
 fn are_pairs(words: &Words, command: Command) -> bool
     requires { length words.now % 2 ≡ 1 }
     ensures { result ≡ are_pairs (options_of command) (pairs_of (drop 1 words.now)) }
@@ -302,7 +296,7 @@ fn is_value(word: &str) -> bool
     !word.is_empty() && !word.starts_with('-')
 }
 
-/// The value that the words behind the first one give the option, where they give it once.
+/// The value that the words after the first one give the option, if they give it once.
 fn value_of<'a>(words: &'a Words, option: &str) -> Option<&'a str>
     requires { length words.now % 2 ≡ 1 }
     ensures { option_map (λ value. value.now) result ≡ value_in words.now option.now }
@@ -311,7 +305,7 @@ fn value_of<'a>(words: &'a Words, option: &str) -> Option<&'a str>
     if given.times == 1 { given.first } else { None }
 }
 
-/// What the words behind the first one give an option.
+/// What the words after the first one give an option.
 #[derive(Clone, Copy)]
 struct Given<'a> {
     /// How often they give it a value.

@@ -17,7 +17,8 @@ word_of cards index counter = counter / WORD_COUNTERS * cards + index
 unfoldable pub has : CounterSets → ℕ → ℕ → Bool
 has sets index counter =
     nat_lt index sets.cards
-    && (nat_lt counter COUNTERS && bit_at (slice_index sets.words (word_of sets.cards index counter)) (counter % WORD_COUNTERS) == 1)
+    && (nat_lt counter COUNTERS
+    && bit_at (slice_index sets.words (word_of sets.cards index counter)) (counter % WORD_COUNTERS) == 1)
 
 -- how often the ATC of the card with this number occurs in a list
 unfoldable pub times : ℕ → ℕ → List (ℕ × ℕ) → ℕ

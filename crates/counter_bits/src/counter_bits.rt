@@ -60,7 +60,8 @@ impl CounterBits {
     pub fn add(&mut self, index: usize, counter: u16)
         requires { index < self.old.cards }
         ensures added { (other_index other : ℕ)
-            → has self.new other_index other ≡ (has self.old other_index other || (other_index == index && other == counter)) }
+            → has self.new other_index other ≡ (has self.old other_index other
+            || (other_index == index && other == counter)) }
         ensures cards { self.new.cards ≡ self.old.cards }
     {
         let word = word_of(self.cards, index, counter);
@@ -86,9 +87,11 @@ impl CounterBits {
         list: &mut Vec<(u32, u16)>,
     ) -> Result<(), NoMemory>
         requires { index < self.now.cards }
-        ensures kept { (length list.old.items ≤ length list.new.items) × (take (length list.old.items) list.new.items ≡ list.old.items) }
+        ensures kept { (length list.old.items ≤ length list.new.items)
+            × (take (length list.old.items) list.new.items ≡ list.old.items) }
         ensures listed { IfOk result (λ _. (other counter : ℕ)
-            → times other counter list.new.items ≡ times other counter list.old.items + one_if (number == other && has self.now index counter)) }
+            → times other counter list.new.items ≡ times other counter list.old.items
+            + one_if (number == other && has self.now index counter)) }
     {
         for block in 0..CARD_WORDS {
             self.list_word(index, block, number, list)?;
@@ -106,9 +109,11 @@ impl CounterBits {
     ) -> Result<(), NoMemory>
         requires card { index < self.now.cards }
         requires word { block < CARD_WORDS }
-        ensures kept { (length list.old.items ≤ length list.new.items) × (take (length list.old.items) list.new.items ≡ list.old.items) }
+        ensures kept { (length list.old.items ≤ length list.new.items)
+            × (take (length list.old.items) list.new.items ≡ list.old.items) }
         ensures listed { IfOk result (λ _. (other counter : ℕ) → times other counter list.new.items
-            ≡ times other counter list.old.items + one_if (number == other && (block == counter / WORD_COUNTERS && has self.now index counter))) }
+            ≡ times other counter list.old.items
+            + one_if (number == other && (block == counter / WORD_COUNTERS && has self.now index counter))) }
     {
         if self.is_empty(index, block) {
             return Ok(());
@@ -138,9 +143,11 @@ impl CounterBits {
         list: &mut Vec<(u32, u16)>,
     ) -> Result<(), NoMemory>
         requires { index < self.now.cards }
-        ensures kept { (length list.old.items ≤ length list.new.items) × (take (length list.old.items) list.new.items ≡ list.old.items) }
+        ensures kept { (length list.old.items ≤ length list.new.items)
+            × (take (length list.old.items) list.new.items ≡ list.old.items) }
         ensures listed { IfOk result (λ _. (other other_counter : ℕ) → times other other_counter list.new.items
-            ≡ times other other_counter list.old.items + one_if (number == other && (counter == other_counter && has self.now index other_counter))) }
+            ≡ times other other_counter list.old.items
+            + one_if (number == other && (counter == other_counter && has self.now index other_counter))) }
     {
         if self.has(index, counter) {
             list.push((number, counter))?;

@@ -7,7 +7,7 @@ use Rattle.std.specs.List.{list_all}
 use Rattle.decision_table.specs.declared.row.TableRow.{TableRow}
 use Rattle.decision_table.specs.Tables.{tells_approval, takes_all, ends_in_all, is_table, may_stand, first_bad_from, first_bad_row}
 
--- of rows that are there, none is bad exactly where each tells its approval and the last one takes all
+-- of rows that are there, none is bad exactly if each states its approval and the last one takes all
 bad_from-none : (place : ℕ) (row : TableRow) (rows : List TableRow)
     → is_none (first_bad_from place (row ∷ rows)) ≡ (list_all tells_approval (row ∷ rows) && ends_in_all (row ∷ rows))
 unfolding may_stand

@@ -36,4 +36,5 @@ pub record IsDecision (rows : List TableRow) (status : ℕ) (request : Parts) (r
   pub place : ℕ
   pub stands : slice_get rows place ≡ Some row
   pub fitting : IsTrue (fits status request row)
-  pub first : (before : ℕ) (other : TableRow) → before < place → slice_get rows before ≡ Some other → fits status request other ≡ false
+  pub first : (before : ℕ) (other : TableRow) → before < place → slice_get rows before ≡ Some other
+      → fits status request other ≡ false

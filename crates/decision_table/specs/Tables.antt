@@ -5,12 +5,13 @@ use Rattle.std.specs.List.{list_all}
 use Rattle.decision_table.specs.declared.row.TableRow.{TableRow}
 use Rattle.decision_table.specs.declared.row.TheConstants.{MAX_AMOUNT}
 
--- the row's card status update has four bytes (EMV 4.3 Book 2, section 8.2.2), and bit 8 of its byte 2 is set exactly if
--- the row approves; that layout is this project's profile
+-- the row's card status update has four bytes (EMV 4.3 Book 2, section 8.2.2), and bit 8 of its byte 2 is set exactly
+-- if the row approves; that layout is this project's profile
 unfoldable pub tells_approval : TableRow → Bool
 tells_approval row =
     length row.csu == 4
-    && (if row.approve then bit_and (slice_index row.csu 1) 0x80 == 0x80 else not (bit_and (slice_index row.csu 1) 0x80 == 0x80))
+    && (if row.approve then bit_and (slice_index row.csu 1) 0x80 == 0x80
+    else not (bit_and (slice_index row.csu 1) 0x80 == 0x80))
 
 -- the row has zero masks and values, amounts from 0 to 999,999,999,999 and no status
 unfoldable pub takes_all : TableRow → Bool

@@ -59,7 +59,8 @@ unfolding retail_mac padded_blocks
 mac_is key text n chain word mixed out left right en el er so_far is_block em end =
     let inner : List ℕ = des_encipher left (word_bytes mixed) in
     let next : ℕ = from_be_bytes w64 inner in
-    let is_next : word_bytes next ≡ inner = word_bytes-from_be_bytes inner next (length-des_encipher left (word_bytes mixed)) (des_encipher_small left (word_bytes mixed)) refl in
+    let is_next : word_bytes next ≡ inner = word_bytes-from_be_bytes inner next (length-des_encipher left (word_bytes mixed))
+    (des_encipher_small left (word_bytes mixed)) refl in
     let last : word_bytes next ≡ fold (chained (take 8 key)) zero_block (blocks (n + 1) (padded text)) =
     chain_step key text n chain word mixed next left el so_far is_block em is_next in
     let all : inner ≡ fold (chained (take 8 key)) zero_block (blocks (length text / 8 + 1) (padded text)) =

@@ -33,7 +33,8 @@ expanded_bit table right keys places lane k =
     xor (get_or (lane_bits lane right) (bit_and (get_or table k 0) 31) false) (bit_at_place places (lane_bits lane keys) k)
 
 pub expanded_step : (table : List ℕ) (right keys : List (List ℕ)) (places : List ℕ) (lane k : ℕ) (next : List ℕ)
-    → lane_bit lane next ≡ xor (lane_bit lane (get_or right (bit_and (get_or table k 0) 31) [])) (lane_bit lane (get_or keys (bit_and (get_or places k 0) 63) []))
+    → lane_bit lane next ≡ xor (lane_bit lane (get_or right (bit_and (get_or table k 0) 31) []))
+    (lane_bit lane (get_or keys (bit_and (get_or places k 0) 63) []))
     → lane_bit lane next ≡ expanded_bit table right keys places lane k
 unfolding expanded_bit bit_at_place
 expanded_step table right keys places lane k next e = e ∙ ap₂ xor (lane-at lane right _) (lane-at lane keys _)
@@ -58,7 +59,8 @@ pub next_step : (table : List ℕ) (left outputs : List (List ℕ)) (lane k : �
 unfolding next_bit
 next_step table left outputs lane k next e = e ∙ ap₂ xor (lane-at lane left _) (lane-at lane outputs _)
 
-pub next_is : (table : List ℕ) (left right keys : List (List ℕ)) (places : List ℕ) (mixed outputs out : List (List ℕ)) → Fills (next_bit table left outputs) 32 32 out
+pub next_is : (table : List ℕ) (left right keys : List (List ℕ)) (places : List ℕ) (mixed outputs out : List (List ℕ))
+    → Fills (next_bit table left outputs) 32 32 out
     → length left ≡ 32
     → ((bs : List Bool) → map (λ k. get_or bs (bit_and (get_or table k 0) 31) false) (range_with_len 0 32) ≡ picked box_permutation bs)
     → ((lane : ℕ) → lane_bits lane mixed ≡ xor_bits (picked expansion (lane_bits lane right)) (bits_at places (lane_bits lane keys)))
@@ -67,7 +69,8 @@ pub next_is : (table : List ℕ) (left right keys : List (List ℕ)) (places : L
 unfolding next_bit cipher_function lane_bits
 next_is table left right keys places mixed outputs out done len is expands boxes lane =
     Fills_all (next_bit table left outputs) 32 out done lane
-    ∙ xor_bits-map (λ k. get_or (lane_bits lane left) k false) (λ k. get_or (lane_bits lane outputs) (bit_and (get_or table k 0) 31) false) (range_with_len 0 32)
+    ∙ xor_bits-map (λ k. get_or (lane_bits lane left) k false) (λ k. get_or (lane_bits lane outputs) (bit_and (get_or table k 0) 31) false)
+    (range_with_len 0 32)
     ∙ ap₂ xor_bits (sym (tabulated false (lane_bits lane left) 32 (length-map left (lane_bit lane) ∙ len)))
     (is (lane_bits lane outputs) ∙ ap (picked box_permutation) (boxes lane ∙ ap (substituted s_boxes) (expands lane)))
 
@@ -83,7 +86,8 @@ lane_keys lane keys order = map (λ places. bits_at places (lane_bits lane keys)
 pub record Rounds (order keys left right : List (List ℕ)) (i : ℕ) (l r : List (List ℕ)) : Type 0 where
   pub left_len : length l ≡ 32
   pub right_len : length r ≡ 32
-  pub joined : (lane : ℕ) → fold round (lane_halves lane l r) (lane_keys lane keys (drop i order)) ≡ fold round (lane_halves lane left right) (lane_keys lane keys order)
+  pub joined : (lane : ℕ) → fold round (lane_halves lane l r) (lane_keys lane keys (drop i order))
+      ≡ fold round (lane_halves lane left right) (lane_keys lane keys order)
 
 pub Rounds_none : (order keys left right : List (List ℕ)) → length left ≡ 32 → length right ≡ 32 → Rounds order keys left right 0 left right
 Rounds_none order keys left right left_len right_len = record { left_len = left_len; right_len = right_len; joined = λ lane. refl }
@@ -116,7 +120,8 @@ Rounds_all order keys block mixed left right l r both out i done all is_left is_
     ap (λ ks. fold round (lane_halves lane l r) (lane_keys lane keys ks)) (sym none) ∙ done.joined lane in
     let start : lane_halves lane left right ≡ halves (picked initial_permutation (lane_bits lane block)) =
     ap₂ (lane_halves lane) is_left is_right
-    ∙ ap₂ (λ (a b : List Bool). let h : Halves = record { left = a; right = b } in h) (sym (take-map (lane_bit lane) 32 mixed)) (sym (drop-map (lane_bit lane) 32 mixed)) ∙ ap halves (starts lane) in
+    ∙ ap₂ (λ (a b : List Bool). let h : Halves = record { left = a; right = b } in h)
+    (sym (take-map (lane_bit lane) 32 mixed)) (sym (drop-map (lane_bit lane) 32 mixed)) ∙ ap halves (starts lane) in
     let whole : lane_bits lane both ≡ lane_bits lane r ++ lane_bits lane l = ap (lane_bits lane) is_both ∙ map-append (lane_bit lane) r l in
     ends lane ∙ ap (picked inverse_permutation) whole
     ∙ ap (λ (h : Halves). picked inverse_permutation (h.right ++ h.left)) (end ∙ ap (λ h. fold round h (lane_keys lane keys order)) start)

@@ -28,7 +28,8 @@ chosen_bit false false true = refl
 chosen_bit false false false = refl
 
 pub chosen_is : (lane : ℕ) (mask a b : List ℕ) → IsPair mask → IsPair a → IsPair b
-    → lane_bit lane (zip2 bit_or (zip2 bit_and a mask) (zip2 bit_and b (map (bit_not w64) mask))) ≡ (if lane_bit lane mask then lane_bit lane a else lane_bit lane b)
+    → lane_bit lane (zip2 bit_or (zip2 bit_and a mask) (zip2 bit_and b (map (bit_not w64) mask)))
+    ≡ (if lane_bit lane mask then lane_bit lane a else lane_bit lane b)
 chosen_is lane mask a b pm pa pb =
     let kept : IsPair (zip2 bit_and a mask) = IsPair-zip2 bit_and (λ x y p q. and_lt 64 x y p q) a mask pa pm in
     let rest : IsPair (zip2 bit_and b (map (bit_not w64) mask)) =
@@ -60,7 +61,8 @@ bit_moved x n j low high =
     sym (bit_at_cat_low (y / 2 ^ 64) 64 (y % 2 ^ 64) j high) ∙ ap (λ k. k / 2 ^ j % 2) (split ∙ omega arith)
     ∙ bit_at_cat_high x n 0 j (omega (arith, pow_pos n)) low
 
-pub moved_left_is : (a : List ℕ) (n lane : ℕ) → IsPair a → lane % 64 + n < 64 → lane_bit lane (zip2 (λ x k. x * 2 ^ k % 2 ^ 64) a (n ∷ n ∷ [])) ≡ lane_bit (lane + n) a
+pub moved_left_is : (a : List ℕ) (n lane : ℕ) → IsPair a → lane % 64 + n < 64
+    → lane_bit lane (zip2 (λ x k. x * 2 ^ k % 2 ^ 64) a (n ∷ n ∷ [])) ≡ lane_bit (lane + n) a
 unfolding lane_bit
 moved_left_is a n lane p h =
     let i : ℕ = lane / 64 % 2 in
@@ -202,7 +204,8 @@ unfolding exchanged_bit
 exchanged_step rows k lane row next e = e
 
 pub exchanged_is : (rows : List (List ℕ)) (k : ℕ) (out : List (List ℕ)) → Fills (exchanged_bit rows k) 64 64 out
-    → (lane row : ℕ) → row < 64 → lane_bit lane (get_or out row []) ≡ lane_bit (with_digit k lane (digit k row)) (get_or rows (with_digit k row (digit k lane)) [])
+    → (lane row : ℕ) → row < 64 → lane_bit lane (get_or out row [])
+    ≡ lane_bit (with_digit k lane (digit k row)) (get_or rows (with_digit k row (digit k lane)) [])
 unfolding exchanged_bit
 exchanged_is rows k out done lane row h = done.at lane row h
 
@@ -234,7 +237,8 @@ Turns_none rows = record {
 }
 
 pub Turns_more : (rows : List (List ℕ)) (k : ℕ) (out next : List (List ℕ)) → Turns rows k out → k < 6
-    → ((lane row : ℕ) → row < 64 → lane_bit lane (get_or next row []) ≡ lane_bit (with_digit k lane (digit k row)) (get_or out (with_digit k row (digit k lane)) []))
+    → ((lane row : ℕ) → row < 64 → lane_bit lane (get_or next row [])
+    ≡ lane_bit (with_digit k lane (digit k row)) (get_or out (with_digit k row (digit k lane)) []))
     → Turns rows (k + 1) next
 Turns_more rows k out next done h step = record {
   at = λ lane row small.

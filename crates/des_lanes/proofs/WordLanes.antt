@@ -36,7 +36,8 @@ cell_back : (lane row : ℕ) → row < 64 → cell lane row - cell lane row % 64
 unfolding cell
 cell_back lane row small = omega arith
 
-word_of_row : (words : List ℕ) (lane : ℕ) → lane < 128 → get_or (get_or words (lane % 64) 0 ∷ get_or words (64 + lane % 64) 0 ∷ []) (lane / 64) 0 ≡ get_or words lane 0
+word_of_row : (words : List ℕ) (lane : ℕ) → lane < 128 → get_or (get_or words (lane % 64) 0 ∷ get_or words (64 + lane % 64) 0 ∷ []) (lane / 64) 0
+    ≡ get_or words lane 0
 word_of_row words lane h =
     let pair : List ℕ = get_or words (lane % 64) 0 ∷ get_or words (64 + lane % 64) 0 ∷ [] in
     ⊎_elim
@@ -70,7 +71,13 @@ pub record Splits (rows : List (List ℕ)) (i : ℕ) (words : List ℕ) : Type 0
   pub high_fits : (k : ℕ) → k < i → get_or words (64 + k) 0 < 2 ^ 64
 
 pub Splits_none : (rows : List (List ℕ)) (words : List ℕ) → length words ≡ 128 → Splits rows 0 words
-Splits_none rows words len = record { len = len; first = λ k h. absurd (omega arith); second = λ k h. absurd (omega arith); low_fits = λ k h. absurd (omega arith); high_fits = λ k h. absurd (omega arith) }
+Splits_none rows words len = record {
+  len = len;
+  first = λ k h. absurd (omega arith);
+  second = λ k h. absurd (omega arith);
+  low_fits = λ k h. absurd (omega arith);
+  high_fits = λ k h. absurd (omega arith);
+}
 
 pub Splits_more : (rows : List (List ℕ)) (i a b : ℕ) (words : List ℕ) → Splits rows i words → i < 64
     → a ≡ get_or (get_or rows i []) 0 0 → b ≡ get_or (get_or rows i []) 1 0 → a < 2 ^ 64 → b < 2 ^ 64 → Splits rows (i + 1) (set (set words i a) (64 + i) b)

@@ -37,7 +37,8 @@ pub fn des_encipher(keys: &[[u8; 8]], blocks: &[[u8; 8]]) -> ArrayVec<[u8; 8], 1
 /// Triple DES of the block in each lane, under the halves of the lane's key.
 fn tripled(left: &[u64x2; 64], right: &[u64x2; 64], block: &[u64x2; 64]) -> [u64x2; 64]
     ensures { (lane : ℕ) → word_bytes (lane_word lane result) ≡ des_encipher (word_bytes (lane_word lane left.now))
-        (des_decipher (word_bytes (lane_word lane right.now)) (des_encipher (word_bytes (lane_word lane left.now)) (word_bytes (lane_word lane block.now)))) }
+        (des_decipher (word_bytes (lane_word lane right.now))
+        (des_encipher (word_bytes (lane_word lane left.now)) (word_bytes (lane_word lane block.now)))) }
 {
     encipher(left, &decipher(right, &encipher(left, block)))
 }

@@ -186,7 +186,8 @@ fn next_half(
     places: &[u8; 48],
 ) -> [u64x2; 32]
     ensures { (lane : ℕ) → lane_bits lane result
-        ≡ xor_bits (lane_bits lane left.now) (cipher_function (lane_bits lane right.now) (bits_at places.now (lane_bits lane keys.now))) }
+        ≡ xor_bits (lane_bits lane left.now) (cipher_function (lane_bits lane right.now)
+        (bits_at places.now (lane_bits lane keys.now))) }
 {
     let outputs = substituted(&expanded(right, keys, places));
     let mut out = [u64x2::splat(0); 32];

@@ -18,7 +18,8 @@ fn word_from(block: [u8; 8]) -> u64
 /// The word of each block.
 pub(crate) fn words_of(blocks: &[[u8; 8]]) -> [u64; 128]
     requires { length blocks.now ≤ 128 }
-    ensures { (lane : ℕ) → lane < length blocks.now → word_bytes (slice_index result lane) ≡ slice_index_or blocks.now lane [] }
+    ensures { (lane : ℕ) → lane < length blocks.now
+        → word_bytes (slice_index result lane) ≡ slice_index_or blocks.now lane [] }
 {
     let mut words = [0; 128];
     for (lane, block) in blocks.iter().enumerate() {
@@ -30,8 +31,10 @@ pub(crate) fn words_of(blocks: &[[u8; 8]]) -> [u64; 128]
 /// The words of the left and the right half of each key.
 pub(crate) fn half_words(keys: &[Key16]) -> ([u64; 128], [u64; 128])
     requires { length keys.now ≤ 128 }
-    ensures left { (lane : ℕ) → lane < length keys.now → word_bytes (slice_index result.0 lane) ≡ take 8 (key_at keys.now lane) }
-    ensures right { (lane : ℕ) → lane < length keys.now → word_bytes (slice_index result.1 lane) ≡ drop 8 (key_at keys.now lane) }
+    ensures left { (lane : ℕ) → lane < length keys.now
+        → word_bytes (slice_index result.0 lane) ≡ take 8 (key_at keys.now lane) }
+    ensures right { (lane : ℕ) → lane < length keys.now
+        → word_bytes (slice_index result.1 lane) ≡ drop 8 (key_at keys.now lane) }
 {
     let mut left = [0; 128];
     let mut right = [0; 128];

@@ -77,7 +77,7 @@ Tells-whole None now bytes read end = tt
 Tells-whole (Some file) None bytes read end = absurd read
 Tells-whole (Some file) (Some rest) bytes read end = read ∙ ap (λ xs. bytes ++ xs) end ∙ append-nil bytes
 
--- what an input that a desk gave has left is what the desk tells of its name
+-- what an input that a desk gave has left is what the desk exposes of its name
 pub Tells-from_left : (told : Option (Option (List ℕ))) (left : Option (List ℕ)) (content : List ℕ) → (told ≡ Some None → ⊥)
     → Tells told left → Tells left content → Tells told (Some content)
 Tells-from_left None left content stands given left_is = tt

@@ -136,7 +136,7 @@ MayLeave-length moment image left =
     let most = length-take (length image) moment.bytes in
     omega arith
 
--- where a text is safe a crash leaves it, and a front of what stands behind it
+-- where a text is durable a crash leaves it, and a prefix of what follows it
 pub MayLeave-behind : (moment : Moment) (text tail image : List ℕ) → moment.bytes ≡ text ++ tail → length text ≤ moment.safe → MayLeave moment image
     → (kept : ℕ) × (kept ≤ length tail) × (image ≡ text ++ take kept tail)
 MayLeave-behind moment text tail image is safe left =

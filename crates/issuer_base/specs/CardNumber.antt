@@ -6,7 +6,8 @@ use Rattle.issuer_base.specs.declared.limits.TheConstants.{MIN_PAN_DIGITS, MAX_P
 -- a primary account number has 8 to 19 decimal digits; that there are at least 8 is this project's profile
 unfoldable pub is_pan : List ℕ → Bool
 is_pan digits =
-    nat_le MIN_PAN_DIGITS (length digits) && nat_le (length digits) MAX_PAN_DIGITS && list_all (λ digit. nat_le digit 9) digits
+    nat_le MIN_PAN_DIGITS (length digits) && nat_le (length digits) MAX_PAN_DIGITS
+    && list_all (λ digit. nat_le digit 9) digits
 
 -- these digits, if they are an account number, or none
 unfoldable pub pan_from : List ℕ → Option (List ℕ)

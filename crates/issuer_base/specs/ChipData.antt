@@ -1,5 +1,5 @@
 -- The fields of a request: EMV 4.3 Book 3 Annex A, with this project's profile of the issuer application data.
-use Rattle.std.specs.Prelude.{ℕ, ◌+◌, ◌*◌, ◌/◌, ◌%◌, Bool, ◌&&◌, ◌==◌, nat_le, if◌then◌else◌}
+use Rattle.std.specs.Prelude.{ℕ, ◌+◌, ◌*◌, ◌/◌, ◌%◌, Bool, ◌&&◌, ◌||◌, ◌==◌, nat_le, if◌then◌else◌}
 use Rattle.std.specs.Prelude.{List, [], ◌∷◌, take, drop, slice_index, fold, bit_and, Option, Some, None}
 use Rattle.std.specs.List.{list_all, flat_map}
 use Rattle.issuer_base.specs.declared.request.Parts.{Parts}
@@ -10,9 +10,14 @@ use Rattle.issuer_base.specs.declared.request.Suite.TheVariants.{TripleDes, Aes}
 unfoldable pub is_bcd : ℕ → Bool
 is_bcd byte = nat_le (byte / 16) 9 && nat_le (byte % 16) 9
 
--- the profile of the issuer application data: 0F, the common core identifier A5, and 0F before the discretionary data
+-- the common core identifiers: A5 for triple DES, A6 for AES
+abbrev pub is_core_identifier : ℕ → Bool
+is_core_identifier byte = byte == 0xA5 || byte == 0xA6
+
+-- the profile of the issuer application data: 0F, a common core identifier, and 0F before the discretionary data
 unfoldable pub has_profile : List ℕ → Bool
-has_profile iad = slice_index iad 0 == 0x0F && slice_index iad 1 == 0xA5 && slice_index iad 16 == 0x0F
+has_profile iad =
+    slice_index iad 0 == 0x0F && is_core_identifier (slice_index iad 1) && slice_index iad 16 == 0x0F
 
 -- a request's fields: the sequence number and the amount are decimal, and the application data has the profile
 unfoldable pub is_request : Parts → Bool

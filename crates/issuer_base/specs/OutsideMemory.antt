@@ -22,7 +22,11 @@ one_more count = min (count + 1) (2 ^ 64 - 1)
 
 -- the calls after one more, which failed or not
 abbrev pub after_call : Calls → Bool → Calls
-after_call calls failed = record { fails = calls.fails; made = one_more calls.made; faults = if failed then one_more calls.faults else calls.faults }
+after_call calls failed = record {
+  fails = calls.fails;
+  made = one_more calls.made;
+  faults = if failed then one_more calls.faults else calls.faults;
+}
 
 -- a source in memory: the unread bytes, how many of them a read returns at most, and its calls
 pub record SourceState : Type 0 where

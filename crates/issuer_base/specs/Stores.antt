@@ -27,7 +27,8 @@ pub record MayLeave (moment : Moment) (image : List ℕ) : Type 0 where
 
 -- a crash at some moment since the one of this number may leave the image
 abbrev pub MayLeaveSince : ℕ → Disk → List ℕ → Type 0
-MayLeaveSince number disk image = (moment : Moment) × Contains (drop number (timeline disk)) moment × MayLeave moment image
+MayLeaveSince number disk image =
+    (moment : Moment) × Contains (drop number (timeline disk)) moment × MayLeave moment image
 
 -- whatever a crash since the moment of this number may leave has P
 pub record LeavesSince (P : List ℕ → Type 0) (number : ℕ) (disk : Disk) : Type 0 where
@@ -88,7 +89,8 @@ pub record SyncsDisk (failed : Bool) (old new : Disk) : Type 0 where
 
 -- how an append changes the bytes: the whole piece follows them, or after a fault a prefix of it
 abbrev pub AppendsToBytes : List ℕ → Bool → List ℕ → List ℕ → Type 0
-AppendsToBytes piece failed old new = MatchBool failed ((taken : ℕ) × (new ≡ old ++ take taken piece)) (new ≡ old ++ piece)
+AppendsToBytes piece failed old new =
+    MatchBool failed ((taken : ℕ) × (new ≡ old ++ take taken piece)) (new ≡ old ++ piece)
 
 -- how a truncation changes the bytes: they are truncated, or after a fault truncated or not
 abbrev pub CutsBytes : ℕ → Bool → List ℕ → List ℕ → Type 0
@@ -101,13 +103,13 @@ BothTold R None (Some new) = ⊥
 BothTold R (Some old) None = ⊥
 BothTold R (Some old) (Some new) = R old new
 
--- a store of this size tells its room, the size up to which it works, and so many more bytes are within it
+-- a store of this size states its room, the size up to which it works, and so many more bytes are within it
 pub record HasRoom (bytes size : ℕ) (room : Option ℕ) : Type 0 where
   pub most : ℕ
   pub told : room ≡ Some most
   pub within : size + bytes ≤ most
 
--- a call that adds so many bytes leaves the room that is told, and doesn't fail where there is room for them
+-- a call that adds so many bytes leaves the stated room, and doesn't fail if there is room for them
 pub record WorksWithin (bytes : ℕ) (failed : Bool) (size : ℕ) (old new : Option ℕ) : Type 0 where
   pub stays : new ≡ old
   pub works : HasRoom bytes size old → failed ≡ false

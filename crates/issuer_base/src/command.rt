@@ -1,8 +1,16 @@
 //! An issuer script command, before it is sealed.
 ghost use Rattle.std.specs.Prelude.{◌≡◌, ◌↔◌, IsTrue};
+ghost use Rattle.issuer_base.specs.ScriptCommand.{is_command};
 
 use crate::limits::MAX_BODY_BYTES;
 use arrayvec::ArrayVec;
+
+/// The class byte's low nibble under secure messaging of the host's format: EMV 4.3 Book 3, section 6.3.2.
+const SECURE_MESSAGING: u8 = 0x04;
+
+/// The instructions of card block, application unblock, application block, PIN change or unblock, put data and update
+/// record.
+const INSTRUCTIONS: [u8; 6] = [0x16, 0x18, 0x1E, 0x24, 0xDA, 0xDC];
 
 /// An issuer script command for a card, before it is sealed: EMV 4.3 Book 3, section 6.3.2.
 #[derive(PartialEq, Eq, Drop)]
@@ -40,6 +48,14 @@ impl Command {
             .try_extend_from_slice(self.body.as_slice())
             .unwrap();
         command
+    }
+
+    /// Whether the host sends such a command: it has secure messaging, and one of the host's instructions.
+    #[tactic(auto, unfolding(crate::specs::ScriptCommand::is_command))]
+    pub fn is_sendable(&self) -> bool
+        ensures { result ≡ is_command self.now }
+    {
+        self.cla & 0x0F == SECURE_MESSAGING && INSTRUCTIONS.contains(&self.ins)
     }
 
     /// Whether the two are the same, as `==` is.

@@ -18,7 +18,7 @@ pub const MAX_TABLE_ROWS: usize = 64;
 /// How many bytes the chip data of a request line have at most.
 pub const MAX_CHIP_BYTES: usize = 1_024;
 
-/// How many bytes of a line are kept: no valid line is longer, and the bytes after them change no answer.
+/// How many bytes of a line are read at most: no valid line is longer, and the bytes after them change no answer.
 pub const KEPT_BYTES: usize = 2 * MAX_CHIP_BYTES + 3;
 
 /// The greatest status of a card; 0 is the status of a card that was given none.
@@ -48,13 +48,19 @@ pub const MAX_TEMPLATE_BYTES: usize = 128;
 /// How many commands may ever be queued for a card: their numbers have four bytes, and end before the last such number.
 pub const MAX_QUEUED: u32 = 4_294_967_295;
 
-/// How many bytes a script template takes beside its commands: tag 72 and its length, tag 9F18 and its length, and a number
-/// of four bytes.
+/// How many bytes a script template takes beside its commands: tag 72 and its length, tag 9F18 and its length, and a
+/// number of four bytes.
 pub const BARE_TEMPLATE_BYTES: usize = 2 + 3 + 4;
 
-/// How many bytes a sealed command takes in a template beside its data: tag 86 and its length, a head of four bytes, Lc, and
-/// a MAC of eight bytes.
+/// How many bytes a sealed command takes in a template beside its data: tag 86 and its length, a head of four bytes,
+/// Lc, and a MAC of eight bytes.
 pub const BARE_COMMAND_BYTES: usize = 2 + 4 + 1 + 8;
+
+/// How many requests a card makes at most: its ATC has two bytes, and is 1 in the first request.
+pub const MAX_CARD_REQUESTS: u32 = 65_535;
+
+/// How many steps a world of cards takes at most.
+pub const MAX_STEPS: u32 = 200_000;
 
 /// How many bytes a store holds at most.
 pub const MAX_STORE_BYTES: u64 = 1 << 62;

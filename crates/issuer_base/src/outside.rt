@@ -126,7 +126,8 @@ pub trait Desk {
     ///
     /// What the other names hold doesn't change. If the call fails, neither does what this name holds.
     fn log(&mut self, name: &str) -> Result<Self::Journal, DeskFault>
-        ensures journal { IfOk result (λ journal. IfSome (logs self.old name.now) (λ held. Self.Journal.bytes journal ≡ Some held)) }
+        ensures journal { IfOk result (λ journal. IfSome (logs self.old name.now)
+            (λ held. Self.Journal.bytes journal ≡ Some held)) }
         ensures untouched { IfOk result (λ journal. IfSome (Self.Journal.disk journal) (λ disk. disk.past ≡ [])) }
         ensures new { IfOk result (λ journal. Self.Journal.faults journal ≡ 0) }
         ensures kept { holds self.new ≡ holds self.old }

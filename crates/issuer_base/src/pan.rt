@@ -72,10 +72,10 @@ fn is_account_number(digits: &[u8]) -> bool
     ensures exact { result ≡ is_pan digits.now }
     ensures fits { IsTrue result → length digits.now ≤ MAX_PAN_DIGITS }
 {
-    (MIN_PAN_DIGITS..=MAX_PAN_DIGITS).contains(&digits.len()) && are_decimal(digits)
+    (MIN_PAN_DIGITS..=MAX_PAN_DIGITS).contains(&digits.len()) && are_digits(digits)
 }
 
-fn are_decimal(digits: &[u8]) -> bool
+fn are_digits(digits: &[u8]) -> bool
     ensures { result ≡ list_all (λ digit. nat_le digit 9) digits.now }
 {
     digits.iter().all(|digit| *digit <= 9)

@@ -9,7 +9,7 @@ use std::marker::Model;
 
 /// The algorithms of a card's keys, cryptograms and secure messaging. The common core identifier of a request's issuer
 /// application data names it.
-#[derive(Clone, Copy)]
+#[derive(Clone, Copy, PartialEq, Eq, Debug)]
 pub enum Suite {
     /// Triple DES and the retail MAC, EMV 4.3 Book 2, Annexes A1 and B1: the identifier A5.
     TripleDes,
@@ -124,7 +124,7 @@ impl Model for Request {
 impl Request {
     /// The request with these fields. `None` where the sequence number or the amount isn't decimal, or
     /// the issuer application data isn't of the profile's form: 0F first, then the common core
-    /// identifier A5, and 0F before the issuer's discretionary data.
+    /// identifier A5 or A6, and 0F before the issuer's discretionary data.
     #[tactic(auto, unfolding(crate::specs::ChipData::request_from))]
     pub fn new(parts: Parts) -> Option<Request>
         ensures { result ≡ request_from parts }

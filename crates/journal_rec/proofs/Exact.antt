@@ -3,7 +3,7 @@ use Rattle.std.proofs.Common.{◌≡◌, ℕ, List, [], ◌∷◌, ◌++◌, Opt
 use Rattle.std.proofs.lemmas.Option.{same_Some}
 use Rattle.journal_rec.specs.Reading.{Reader, given, ◌>>=◌, ◌>>◌}
 
--- a reader reads the text of each valid value and gives the value, and reads no other text; `follows` says what may stand behind it
+-- a reader reads the text of each valid value and gives the value, and reads no other text; `follows` says what may follow it
 pub record Exact {X : Type 0} (read : Reader X) (valid : X → Type 0) (text : X → List ℕ) (follows : List ℕ → Type 0) : Type 0 where
   pub again : (x : X) (rest : List ℕ) → valid x → follows rest → read (text x ++ rest) ≡ Some (x, rest)
   pub takes : (left : List ℕ) (x : X) (rest : List ℕ) → read left ≡ Some (x, rest) → valid x × (left ≡ text x ++ rest) × follows rest
@@ -78,7 +78,7 @@ exact_map {A} {B} read made valid text follows made_valid back first forth only 
       );
 }
 
--- a mark in front
+-- a mark at the start
 pub exact_behind : {B : Type 0} (mark : Reader (Unit {0})) (next : Reader B) (byte : ℕ) (valid : B → Type 0) (text : B → List ℕ) (follows : List ℕ → Type 0)
     → Exact mark (λ _. Unit {0}) (λ _. byte ∷ []) anything
     → Exact next valid text follows

@@ -62,7 +62,7 @@ digits_either : (digit : ℕ) (text : List ℕ) (test : Bool) → is_ascii_digit
 digits_either digit text true test rest = ap₂ (λ d (ds : List ℕ). d ∷ ds) (digit_back digit test) rest
 digits_either digit text false test rest = refl
 
--- the digits in front write themselves
+-- the digits at the start write themselves
 pub digits_back : (text : List ℕ) → map glyph (map (λ d. d - 48) (take_while is_ascii_digit text)) ≡ take_while is_ascii_digit text
 digits_back [] = refl
 digits_back (digit ∷ text) =
@@ -73,7 +73,7 @@ split_either : (byte : ℕ) (text : List ℕ) (test : Bool) → text ≡ take_wh
 split_either byte text true rest = ap (λ (ds : List ℕ). byte ∷ ds) rest
 split_either byte text false rest = refl
 
--- a text is the digits in front and the rest
+-- a text is the digits at the start and the rest
 pub digits_and_rest : (text : List ℕ) → text ≡ take_while is_ascii_digit text ++ drop (length (take_while is_ascii_digit text)) text
 digits_and_rest [] = refl
 digits_and_rest (byte ∷ text) =

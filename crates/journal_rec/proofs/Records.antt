@@ -269,7 +269,7 @@ exact_status =
 
 -- ---- a record
 
--- nothing stands behind what was read
+-- nothing follows what was read
 exact_last : {X : Type 0} (read : Reader X) (valid : X → Type 0) (text : X → List ℕ) (follows : List ℕ → Type 0)
     → Exact read valid text follows → follows [] → Exact (read >>= λ x. end_at >> given (Some x)) valid text nothing
 exact_last {X} read valid text follows exact may_end = record {
@@ -294,7 +294,7 @@ exact_last {X} read valid text follows exact may_end = record {
       );
 }
 
--- what stands behind the letter of a record
+-- what follows the letter of a record
 abbrev behind_text : Entry → List ℕ
 behind_text (Decided request reply) = decided_text (Decided request reply)
 behind_text (Queued pan psn command) = queued_text (Queued pan psn command)
@@ -370,7 +370,7 @@ module _ (letter : ℕ) where
   other_letter (Queued pan psn command) no_d no_q no_s is = absurd cc (no_q, eq-eqb letter 113 (sym is))
   other_letter (Status pan psn status) no_d no_q no_s is = absurd cc (no_s, eq-eqb letter 115 (sym is))
 
-  -- what stands behind a letter, by what the letter is
+  -- what follows a letter, by what the letter is
   by_tests : (is_d is_q is_s : Bool) → (letter == 100) ≡ is_d → (letter == 113) ≡ is_q → (letter == 115) ≡ is_s
       → Exact (finished (if is_d then decided_at else if is_q then queued_at else if is_s then status_at else given None))
       (IsLettered letter) behind_text nothing
@@ -399,7 +399,7 @@ regroup : (pan psn last : List ℕ)
     → (space ∷ (pan ++ (space ∷ (psn ++ (space ∷ []))))) ++ last ≡ space ∷ (pan ++ (space ∷ (psn ++ (space ∷ last))))
 regroup pan psn last = simp append_assoc
 
--- a letter and what stands behind it
+-- a letter and what follows it
 card_line : (letter : ℕ) (pan : List ℕ) (psn : ℕ) (last : List ℕ)
     → letter ∷ (card_text (pan, psn) ++ last)
     ≡ letter ∷ space ∷ (encode_lower (pan_bytes pan) ++ (space ∷ (encode_lower (psn ∷ []) ++ (space ∷ last))))

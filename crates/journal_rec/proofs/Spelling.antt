@@ -7,7 +7,7 @@ use Rattle.std.proofs.Math.Seq.{take-append_seam}
 use borrow.Author.Tests.{lt-leb}
 use Rattle.journal_rec.specs.Reading.{byte_of, spelled, spelled_within}
 
--- bytes in front of those that are spelled behind them
+-- bytes before those that are spelled after them
 abbrev pub behind : List ℕ → Option (List ℕ) → Option (List ℕ)
 behind front bytes = option_map (λ more. front ++ more) bytes
 

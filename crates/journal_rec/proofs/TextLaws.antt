@@ -83,12 +83,12 @@ text_of-IsLine entry record_is =
     let inner = AllPass-from_list_all is_inner (line_of entry) (line-inner entry record_is) in
     (line_of entry, (λ k d below. let passes = inner k d below in grind arith), refl)
 
--- ---- texts are told apart
+-- ---- texts differ
 
 inner_newline : (byte : ℕ) → byte ≡ newline → is_inner byte ≡ true → ⊥
 inner_newline byte is inner = grind arith
 
--- two lines in front of anything
+-- two lines before anything
 lines_apart : (front other rest behind : List ℕ) → has_no_newline front ≡ true → has_no_newline other ≡ true
     → front ++ newline ∷ rest ≡ other ++ newline ∷ behind → (front ≡ other) × (rest ≡ behind)
 lines_apart [] [] rest behind inner other_inner same = (refl, append_cancel_left (newline ∷ []) rest behind same)
@@ -114,7 +114,7 @@ line_of-same entry other record_is other_is same =
     let both : Some (entry, []) ≡ Some (other, []) = sym first ∙ ap (λ (l : List ℕ). entry_at (l ++ [])) same ∙ second in
     ap (λ (p : Entry × List ℕ). p.0) (same_Some _ _ both)
 
--- whatever stands behind two texts, they are alike only where the records are, and what stands behind them
+-- whatever follows two texts, they are alike only where the records are, and what follows them
 pub text_of-apart : (entry other : Entry) (rest behind : List ℕ) → IsRecord entry → IsRecord other
     → text_of entry ++ rest ≡ text_of other ++ behind → (entry ≡ other) × (rest ≡ behind)
 unfolding text_of

@@ -46,11 +46,13 @@ byte_of high low = option_and_then (λ h. option_map (λ l. h * 16 + l) (digit_v
 unfoldable pub spelled : List ℕ → Option (List ℕ)
 spelled [] = Some []
 spelled (digit ∷ []) = None
-spelled (high ∷ low ∷ digits) = option_and_then (λ byte. option_map (λ bytes. byte ∷ bytes) (spelled digits)) (byte_of high low)
+spelled (high ∷ low ∷ digits) =
+    option_and_then (λ byte. option_map (λ bytes. byte ∷ bytes) (spelled digits)) (byte_of high low)
 
 -- the bytes that pairs of digits spell, if they are at most this many
 abbrev pub spelled_within : ℕ → List ℕ → Option (List ℕ)
-spelled_within most digits = option_and_then (λ bytes. if nat_le (length bytes) most then Some bytes else None) (spelled digits)
+spelled_within most digits =
+    option_and_then (λ bytes. if nat_le (length bytes) most then Some bytes else None) (spelled digits)
 
 -- this many bytes of the line, undecoded
 unfoldable pub piece_at : ℕ → Reader (List ℕ)
@@ -98,7 +100,8 @@ rest_at most left = option_map (λ bytes. (bytes, [])) (spelled_within most left
 unfoldable pub pan_of : List ℕ → Option (List ℕ)
 pan_of text =
     let digits = take_while is_ascii_digit text in
-    if list_all (λ byte. byte == 102) (drop (length digits) text) then pan_from (map (λ digit. digit - 48) digits) else None
+    if list_all (λ byte. byte == 102) (drop (length digits) text)
+    then pan_from (map (λ digit. digit - 48) digits) else None
 
 -- an account number in a line
 unfoldable pub pan_at : Reader (List ℕ)
@@ -107,7 +110,8 @@ pan_at = do
   given (pan_of text)
 
 -- the fields of a request, in the order of a line, together
-abbrev pub parts_of : List ℕ → ℕ → List ℕ → ℕ → List ℕ → List ℕ → ℕ → List ℕ → List ℕ → List ℕ → List ℕ → List ℕ → ℕ → List ℕ → List ℕ → Parts
+abbrev pub parts_of : List ℕ → ℕ → List ℕ → ℕ → List ℕ → List ℕ → ℕ → List ℕ → List ℕ → List ℕ → List ℕ → List ℕ → ℕ
+    → List ℕ → List ℕ → Parts
 parts_of pan psn aip atc tvr date kind amount other country currency un cid iad ac = record {
   pan = pan;
   psn = psn;
@@ -166,7 +170,8 @@ reply_at = do
   approve ← approval_at
   mark_at space
   bytes ← rest_at MAX_REPLY_BYTES
-  given (if nat_le 1 (length bytes) then Some (record { arc = arc; approve = approve; bytes = record { items = bytes } }) else None)
+  given (if nat_le 1 (length bytes)
+      then Some (record { arc = arc; approve = approve; bytes = record { items = bytes } }) else None)
 
 -- a decided request, after its letter
 unfoldable pub decided_at : Reader Entry
@@ -208,8 +213,8 @@ status_at = do
   given (if is_ascii_digit digit then Some (Status card.0 card.1 (digit - 48)) else None)
 
 -- a record after its letter: 100 is `d`, 113 is `q` and 115 is `s`
-abbrev pub behind_letter : ℕ → Reader Entry
-behind_letter letter =
+abbrev pub after_letter : ℕ → Reader Entry
+after_letter letter =
     if letter == 100 then decided_at
     else if letter == 113 then queued_at
     else if letter == 115 then status_at
@@ -219,6 +224,6 @@ behind_letter letter =
 unfoldable pub entry_at : Reader Entry
 entry_at = do
   letter ← next_at
-  entry ← behind_letter letter
+  entry ← after_letter letter
   end_at
   given (Some entry)

@@ -35,7 +35,7 @@ fn value(digit: u8) -> u16
     VALUES[usize::from(digit)]
 }
 
-fn byte(high: u8, low: u8) -> Option<u8>
+fn byte_of(high: u8, low: u8) -> Option<u8>
     ensures { result ≡ byte_of high low }
 {
     let byte = value(high) * 16 + value(low);
@@ -52,7 +52,7 @@ pub(crate) fn decode_into(digits: &[u8], out: &mut [u8]) -> bool
     ensures { (if result then Some out.new else None) ≡ spelled digits.now }
 {
     'bytes: for i in 0..out.len() {
-        let Some(byte) = byte(digits[2 * i], digits[2 * i + 1]) else {
+        let Some(byte) = byte_of(digits[2 * i], digits[2 * i + 1]) else {
             return false;
         };
         out[i] = byte;

@@ -16,14 +16,14 @@ pub(crate) fn read_pan(text: &[u8]) -> Option<Pan>
     requires { length text.now ≡ PAN_DIGITS }
     ensures { result ≡ pan_of text.now }
 {
-    let (digits, filling) = text.split_at(digits_in_front(text));
+    let (digits, filling) = text.split_at(decimal_prefix_length(text));
     if !is_filling(filling) {
         return None;
     }
     Pan::new(values(digits).as_slice())
 }
 
-fn digits_in_front(text: &[u8]) -> usize
+fn decimal_prefix_length(text: &[u8]) -> usize
     ensures count { result ≡ length (take_while is_ascii_digit text.now) }
     ensures within { result ≤ length text.now }
 {

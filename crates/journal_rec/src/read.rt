@@ -2,7 +2,7 @@
 ghost use Rattle.std.specs.Prelude.{◌≡◌, ◌↔◌, option_map};
 ghost use Rattle.issuer_base.specs.declared.entry.Entry.{Entry};
 ghost use Rattle.journal_rec.specs.Record.{IsLineOf};
-ghost use Rattle.journal_rec.specs.Reading.{approval_at, behind_letter, card_at, decided_at, entry_at, parts_at, psn_at, queued_at, reply_at, status_at};
+ghost use Rattle.journal_rec.specs.Reading.{approval_at, after_letter, card_at, decided_at, entry_at, parts_at, psn_at, queued_at, reply_at, status_at};
 
 use crate::limits::COMMAND_BYTES;
 use crate::line::Line;
@@ -21,14 +21,14 @@ fn entry(line: &mut Line) -> Option<Entry>
     ensures { option_map (λ entry. (entry, line.new)) result ≡ entry_at line.old }
 {
     let letter = line.next()?;
-    let entry = behind_letter(line, letter)?;
+    let entry = after_letter(line, letter)?;
     line.end()?;
     Some(entry)
 }
 
 // Each kind of line has a call of its own, since inlined, each line would pay for the values of all three.
-fn behind_letter(line: &mut Line, letter: u8) -> Option<Entry>
-    ensures { option_map (λ entry. (entry, line.new)) result ≡ behind_letter letter line.old }
+fn after_letter(line: &mut Line, letter: u8) -> Option<Entry>
+    ensures { option_map (λ entry. (entry, line.new)) result ≡ after_letter letter line.old }
 {
     match letter {
         b'd' => decided(line),

@@ -38,7 +38,8 @@ pub record StaysWithinLimits (lines bytes : ℕ) (more : List ℕ) : Type 0 wher
 -- newline
 abbrev pub PassesLimit : ℕ → ℕ → List ℕ → Type 0
 PassesLimit lines bytes more =
-    ((lines ≡ MAX_LINES) × (more ≢ [])) ⊎ (IsUnbroken (take (MAX_BYTES - bytes) more) × (MAX_BYTES - bytes < length more))
+    ((lines ≡ MAX_LINES) × (more ≢ [])) ⊎ (IsUnbroken (take (MAX_BYTES - bytes) more)
+    × (MAX_BYTES - bytes < length more))
 
 -- the reader has returned these whole lines of the text read so far; the remainder is unread
 pub record HasGivenLines (reading : Reading) (text : List ℕ) (whole : List (List ℕ)) : Type 0 where

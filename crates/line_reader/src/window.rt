@@ -111,7 +111,8 @@ impl Window {
 
     /// Whether the unread bytes have a newline.
     pub(crate) fn has_newline(&self) -> bool
-        ensures { MatchBool result ((place : ℕ) × IsFirstNewline (ahead_of self.now) place) (IsUnbroken (ahead_of self.now)) }
+        ensures { MatchBool result ((place : ℕ) × IsFirstNewline (ahead_of self.now) place)
+            (IsUnbroken (ahead_of self.now)) }
     {
         self.start < self.last_end
     }
@@ -155,7 +156,8 @@ impl Window {
 fn last_end(bytes: &[u8]) -> usize
     ensures within { result ≤ length bytes.now }
     ensures newline { 0 < result → slice_index bytes.now (result - 1) ≡ NEWLINE }
-    ensures none_behind { (place : ℕ) → result ≤ place → place < length bytes.now → slice_index bytes.now place ≢ NEWLINE }
+    ensures none_behind { (place : ℕ) → result ≤ place → place < length bytes.now
+        → slice_index bytes.now place ≢ NEWLINE }
 {
     match memrchr(NEWLINE, bytes) {
         Some(place) => place + 1,

@@ -14,7 +14,7 @@ take-nothing : (kept : ℕ) → take kept (let none : List ℕ = [] in none) ≡
 take-nothing zero = refl
 take-nothing (suc kept) = refl
 
--- with nothing behind it an image is the text
+-- with nothing after it an image is the text
 pub image-alone : (text image : List ℕ) → IsImage text [] image → image ≡ text
 image-alone text image is = is.1 ∙ ap (λ l. text ++ l) (take-nothing is.0) ∙ append-nil text
 
@@ -124,7 +124,7 @@ module _ (text tail : List ℕ) where
   told-append_bytes failed (Some old) (Some new) c is told same =
       subst (λ (c : Option (List ℕ)). IfSome c (IsImage text tail)) (sym same) (append-bytes text tail failed old new is told)
 
--- a record that is put ends the text, and nothing stands behind it
+-- an appended record ends the text, and nothing follows it
 put-image : (text piece old new : List ℕ) → IsImage text [] old → new ≡ old ++ piece → IsImage (text ++ piece) [] new
 put-image text piece old new is put = image-text (text ++ piece) [] new (put ∙ ap (λ l. l ++ piece) (image-alone text old is))
 

@@ -35,7 +35,7 @@ reads-more a b c = BothTold-then OnlyReads KeepsDisk OnlyReads a b c (λ x y z p
 pub reads-then : (a b c : Option Disk) → BothTold OnlyReads a b → BothTold OnlyReads b c → BothTold OnlyReads a c
 reads-then a b c = BothTold-then OnlyReads OnlyReads OnlyReads a b c only-then
 
--- what is read stands behind what was read
+-- what is read follows what was read
 read-more : (at count n k : ℕ) (into piece told : List ℕ) → count ≤ length into → n ≤ length piece → HasRead at count into told
     → take n piece ≡ take n (drop (at + count) told) → HasRead at (count + n) (put_mid count k into piece) told
 read-more at count n k into piece told within short before read =

@@ -4,12 +4,12 @@ use Rattle.std.proofs.Common.{◌∙◌, arith, refl}
 use Rattle.std.proofs.lemmas.Bool.{false≢true}
 use Rattle.issuer_base.specs.Stores.{HasRoom, WorksWithin}
 
--- room that was told is told still, and no more is used of it than is given up
+-- room that was stated is stated still, and no more of it is used than is freed
 pub room-left : (had left size later : ℕ) (old new : Option ℕ) → HasRoom had size old → new ≡ old → later + left ≤ size + had → HasRoom left later new
 room-left had left size later old new has stays less =
     record { most = has.most; told = stays ∙ has.told; within = let within = has.within in omega (arith, within, less) }
 
--- a call that adds nothing works within the room that was told before other such calls
+-- a call that adds nothing works within the room that was stated before other such calls
 pub works-later : (failed : Bool) (size later : ℕ) (old between new : Option ℕ) → later ≡ size → between ≡ old → WorksWithin 0 failed later between new
     → WorksWithin 0 failed size old new
 works-later failed size later old between new same stays call = record {

@@ -15,13 +15,13 @@ use issuer_base::{Store, StoreFail};
 pub struct Journal<S: Store> {
     store: S,
 
-    /// How many bytes of the store are sure: those of the text.
+    /// How many bytes of the store are durable and acknowledged: those of the text.
     sure: u64,
 
     /// How many records the text has.
     records: u64,
 
-    /// Whether more than the text may stand in the store.
+    /// Whether the store may hold more than the text.
     in_doubt: bool,
     ghost within: { sure ≤ S.size store },
     ghost exact: { in_doubt ≡ false → S.size store ≡ sure },
@@ -32,8 +32,8 @@ pub struct Journal<S: Store> {
 impl<S: Store> Journal<S> {
     ghost use Rattle.record_store.specs.Holding.{Holds};
 
-    /// The journal of a store whose first `sure` bytes are the text of so many records. What stands behind them is cut away,
-    /// and the text is made safe. Where the store fails it is given back.
+    /// The journal of a store whose first `sure` bytes are the text of so many records. The store is truncated to them,
+    /// and they are made durable. If the store fails it is returned.
     pub fn open(store: S, sure: u64, records: u64) -> Result<Journal<S>, S>
         requires within { sure ≤ S.size store }
         requires few { records ≤ sure }
@@ -42,9 +42,11 @@ impl<S: Store> Journal<S> {
         ensures sure { IfOk result (λ journal. journal.sure ≡ sure) }
         ensures records { IfOk result (λ journal. journal.records ≡ records) }
         ensures settled { IfOk result (λ journal. journal.in_doubt ≡ false) }
-        ensures opened { IfOk result (λ journal. BothTold (λ old new. LeavesOnly (IsCutImage sure old.now) old new) (S.disk store) (S.disk journal.store)) }
+        ensures opened { IfOk result (λ journal. BothTold (λ old new. LeavesOnly (IsCutImage sure old.now) old new)
+            (S.disk store) (S.disk journal.store)) }
         ensures kept { IfErr result (λ back. BothTold (CutsBytes sure true) (S.bytes store) (S.bytes back)) }
-        ensures crash { IfErr result (λ back. BothTold (λ old new. LeavesOnly (IsCutImage sure old.now) old new) (S.disk store) (S.disk back)) }
+        ensures crash { IfErr result (λ back. BothTold (λ old new. LeavesOnly (IsCutImage sure old.now) old new)
+            (S.disk store) (S.disk back)) }
         ensures room { (spare : ℕ) → HasRoom spare (S.size store) (S.room store)
             → IsOkAnd result (λ journal. HasRoom spare (S.size journal.store) (S.room journal.store)) }
         ensures count { IfOk result (λ journal. CountsFaults (S.faults store) (S.faults journal.store) false) }
@@ -69,7 +71,7 @@ impl<S: Store> Journal<S> {
         self.records
     }
 
-    /// The store, with the text and what may be in doubt behind it.
+    /// The store, with the text and, after it, what may be in doubt.
     pub fn into_store(self) -> S
         ensures { result ≡ self.store }
     {
@@ -82,7 +84,7 @@ impl<S: Store> Journal<S> {
         store
     }
 
-    /// Puts a record behind the text and makes it safe, and gives its place. A record that is in doubt is cut away first.
+    /// Appends a record and makes it durable, and returns its index. A record that is in doubt is truncated first.
     pub fn put(&mut self, piece: &[u8]) -> Result<u64, StoreFail>
         requires { 0 < length piece.now }
         ensures put { (count : ℕ) (text tail : List ℕ) → Holds self.old count text tail
@@ -91,9 +93,10 @@ impl<S: Store> Journal<S> {
             → IsErr result → Holds self.new count text tail ⊎ Holds self.new count text piece.now }
         ensures settled { OnOk result (self.new.in_doubt ≡ false) }
 
-        // A crash since the start of the call leaves the text, and behind it a front of what was in doubt or of the record.
+        // A crash since the start of the call leaves the text and a prefix of what was in doubt, or of the record.
         ensures crash { (count : ℕ) (text tail : List ℕ) → Holds self.old count text tail
-            → BothTold (LeavesOnly (IsEitherImage text tail piece.now)) (S.disk self.old.store) (S.disk self.new.store) }
+            → BothTold (LeavesOnly (IsEitherImage text tail piece.now)) (S.disk self.old.store)
+            (S.disk self.new.store) }
 
         // With room for the record and so much more the store doesn't fail, and the room for the more is left.
         ensures room { (spare : ℕ) → HasRoom (length piece.now + spare) (S.size self.old.store) (S.room self.old.store)
@@ -107,8 +110,10 @@ impl<S: Store> Journal<S> {
     /// Cuts away what is in doubt.
     fn clear(&mut self) -> Result<(), StoreFail>
         ensures cleared { OnOk result (self.new.in_doubt ≡ false) }
-        ensures holds { (count : ℕ) (text tail : List ℕ) → Holds self.old count text tail → OnOk result (Holds self.new count text []) }
-        ensures failed { (count : ℕ) (text tail : List ℕ) → Holds self.old count text tail → IsErr result → Holds self.new count text tail }
+        ensures holds { (count : ℕ) (text tail : List ℕ) → Holds self.old count text tail
+            → OnOk result (Holds self.new count text []) }
+        ensures failed { (count : ℕ) (text tail : List ℕ) → Holds self.old count text tail → IsErr result
+            → Holds self.new count text tail }
         ensures passes { (count : ℕ) (text tail : List ℕ) → Holds self.old count text tail
             → BothTold (Passes (HasSafeText text tail)) (S.disk self.old.store) (S.disk self.new.store) }
         ensures room { (spare : ℕ) → HasRoom spare (S.size self.old.store) (S.room self.old.store)
@@ -123,13 +128,14 @@ impl<S: Store> Journal<S> {
         Ok(())
     }
 
-    /// Puts a record behind the text, where nothing is in doubt.
+    /// Appends a record, where nothing is in doubt.
     fn write(&mut self, piece: &[u8]) -> Result<u64, StoreFail>
         requires some { 0 < length piece.now }
         requires cleared { self.old.in_doubt ≡ false }
         ensures put { (count : ℕ) (text : List ℕ) → Holds self.old count text []
             → IfOk result (λ place. (place ≡ count) × Holds self.new (count + 1) (text ++ piece.now) []) }
-        ensures failed { (count : ℕ) (text : List ℕ) → Holds self.old count text [] → IsErr result → Holds self.new count text piece.now }
+        ensures failed { (count : ℕ) (text : List ℕ) → Holds self.old count text [] → IsErr result
+            → Holds self.new count text piece.now }
         ensures settled { OnOk result (self.new.in_doubt ≡ false) }
         ensures passes { (count : ℕ) (text : List ℕ) → Holds self.old count text []
             → BothTold (Passes (HasSafeText text piece.now)) (S.disk self.old.store) (S.disk self.new.store) }

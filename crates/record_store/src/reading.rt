@@ -11,7 +11,8 @@ use issuer_base::{Store, StoreFail};
 pub fn read_from<S: Store>(store: &mut S, at: u64, into: &mut [u8]) -> Result<usize, StoreFail>
     requires { at ≤ S.size store.old }
     ensures all { IfOk result (λ count. count ≡ min (length into.new) (S.size store.old - at)) }
-    ensures given { IfOk result (λ count. IfSome (S.bytes store.old) (λ told. take count into.new ≡ take count (drop at told))) }
+    ensures given { IfOk result (λ count. IfSome (S.bytes store.old)
+        (λ told. take count into.new ≡ take count (drop at told))) }
     ensures size { S.size store.new ≡ S.size store.old }
     ensures bytes { S.bytes store.new ≡ S.bytes store.old }
     ensures disk { BothTold OnlyReads (S.disk store.old) (S.disk store.new) }
@@ -35,7 +36,8 @@ pub(crate) fn settle<S: Store>(store: &mut S, sure: u64) -> Result<(), StoreFail
     ensures disk { (text rest : List ℕ) → length text ≡ sure → Tells (S.bytes store.old) (text ++ rest)
         → OnOk result (IfSome (S.disk store.new) (λ disk. HasSafeText text [] disk.now)) }
     ensures kept { BothTold (CutsBytes sure true) (S.bytes store.old) (S.bytes store.new) }
-    ensures crash { BothTold (λ old new. LeavesOnly (IsCutImage sure old.now) old new) (S.disk store.old) (S.disk store.new) }
+    ensures crash { BothTold (λ old new. LeavesOnly (IsCutImage sure old.now) old new) (S.disk store.old)
+        (S.disk store.new) }
     ensures room { (spare : ℕ) → HasRoom spare (S.size store.old) (S.room store.old)
         → IsOkAnd result (λ _. HasRoom spare (S.size store.new) (S.room store.new)) }
     ensures count { CountsFaults (S.faults store.old) (S.faults store.new) (is_err result) }

@@ -19,7 +19,8 @@ in_slot slot slots = slice_index_or slots slot None
 -- the stored decision on an ATC: that in the ATC's slot, if it is on just this ATC
 abbrev pub kept_on : ℕ → List (Option Decision) → Option Decision
 kept_on counter slots =
-    option_and_then (λ decision. if decision.request.atc == counter then Some decision else None) (in_slot (slot_of counter) slots)
+    option_and_then (λ decision. if decision.request.atc == counter then Some decision else None)
+    (in_slot (slot_of counter) slots)
 
 -- the slots with this decision in its own, which overwrites what was there
 abbrev pub with_kept : Decision → List (Option Decision) → List (Option Decision)

@@ -1,5 +1,5 @@
 //! The queue of a card: its undone commands in a ring buffer of fixed size, and the count of all.
-ghost use Rattle.std.specs.Prelude.{◌≡◌, ◌+◌, ◌<◌, ◌≤◌, ◌↔◌, [], ◌∷◌, ◌++◌, length, take, drop, slice_get, Some, IfOk, IsOk, OnErr};
+ghost use Rattle.std.specs.Prelude.{◌≡◌, ◌+◌, ◌<◌, ◌≤◌, ◌↔◌, [], ◌∷◌, ◌++◌, length, take, drop, slice_get, Some, IfOk, IsOk, IsTrue, OnErr};
 ghost use Rattle.script_queue.specs.CommandQueue.{no_commands, TakesOneMore};
 ghost use Rattle.script_queue.specs.ScriptTemplate.{fitting_front};
 
@@ -60,11 +60,19 @@ impl Queue {
         self.queued
     }
 
+    /// Whether one more command may be queued.
+    pub fn takes_one_more(&self) -> bool
+        ensures { IsTrue result ↔ TakesOneMore self.now }
+    {
+        self.undone() < MAX_UNDONE && self.queued < MAX_QUEUED
+    }
+
     /// Appends a command, and returns its number: the first command that was ever queued has the number 0.
     pub fn push(&mut self, command: Command) -> Result<u32, QueueFull>
         ensures taken { IsOk result ↔ TakesOneMore self.old }
         ensures number { IfOk result (λ number. number ≡ self.old.queued) }
-        ensures queued { IfOk result (λ number. self.new ≡ record { queued = number + 1; undone = self.old.undone ++ command ∷ [] }) }
+        ensures queued { IfOk result (λ number. self.new
+            ≡ record { queued = number + 1; undone = self.old.undone ++ command ∷ [] }) }
         ensures unchanged { OnErr result (self.new ≡ self.old) }
     {
         if self.queued == MAX_QUEUED {

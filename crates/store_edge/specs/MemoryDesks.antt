@@ -12,7 +12,8 @@ pub record HeldInput : Type 0 where
   pub bytes : List ℕ
   pub fails : List ℕ
 
--- a journal of a desk in memory: its name, its bytes, how many it has room for, and the numbers of the calls of its store that fail
+-- a journal of a desk in memory: its name, its bytes, how many it has room for, and the numbers of the calls of its
+-- store that fail
 pub record HeldJournal : Type 0 where
   pub name : List ℕ
   pub bytes : List ℕ

@@ -19,7 +19,8 @@ opened_store bytes room fails = record { disk = opened_disk bytes; room = room; 
 -- the piece goes past the room, or past what any store holds
 abbrev pub is_too_long : StoreState → List ℕ → Bool
 is_too_long store piece =
-    nat_lt store.room (length store.disk.now.bytes + length piece) || nat_lt MAX_STORE_BYTES (length store.disk.now.bytes + length piece)
+    nat_lt store.room (length store.disk.now.bytes + length piece)
+    || nat_lt MAX_STORE_BYTES (length store.disk.now.bytes + length piece)
 
 -- the next call fails, if it appends this piece
 abbrev pub append_fails : StoreState → List ℕ → Bool
@@ -35,7 +36,8 @@ taken store piece = if append_fails store piece then front_taken store piece els
 
 -- the store after a call that fails or not, with this disk
 abbrev pub called : StoreState → Bool → Disk → StoreState
-called store failed disk = record { disk = disk; room = store.room; calls = after_call store.calls failed; starved = store.starved }
+called store failed disk =
+    record { disk = disk; room = store.room; calls = after_call store.calls failed; starved = store.starved }
 
 -- the store after a read
 abbrev pub after_read : StoreState → StoreState
@@ -43,12 +45,14 @@ after_read store = called store (is_next_listed store.calls) store.disk
 
 -- the store after an append
 abbrev pub after_append : StoreState → List ℕ → StoreState
-after_append store piece = called store (append_fails store piece) (goes_to store.disk (appended (taken store piece) store.disk.now))
+after_append store piece =
+    called store (append_fails store piece) (goes_to store.disk (appended (taken store piece) store.disk.now))
 
 -- the store after a truncation, which changes nothing if it fails
 abbrev pub after_cut : StoreState → ℕ → StoreState
 after_cut store len =
-    called store (is_next_listed store.calls) (if is_next_listed store.calls then store.disk else goes_to store.disk (cut_to len store.disk.now))
+    called store (is_next_listed store.calls)
+    (if is_next_listed store.calls then store.disk else goes_to store.disk (cut_to len store.disk.now))
 
 -- the store after a sync, which changes nothing if it fails
 abbrev pub after_sync : StoreState → StoreState
@@ -58,7 +62,13 @@ after_sync store =
 
 -- the store after a call that ran out of memory to record it: the call failed, and changed no byte
 abbrev pub after_starved : StoreState → StoreState
-after_starved store = record { disk = store.disk; room = store.room; calls = after_call store.calls true; starved = one_more store.starved }
+after_starved store =
+    record {
+      disk = store.disk;
+      room = store.room;
+      calls = after_call store.calls true;
+      starved = one_more store.starved;
+    }
 
 -- a call left this store and failed as it had to, or it ran out of memory
 abbrev pub EndsAs : StoreState → StoreState → Bool → StoreState → Bool → Type 0

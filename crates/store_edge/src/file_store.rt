@@ -72,7 +72,7 @@ impl Store for FileStore {
     }
 
     fn cut(&mut self, len: u64) -> Result<(), StoreFail> {
-        match cut_to(&self.file, &mut self.len, len) {
+        match set_length(&self.file, &mut self.len, len) {
             Ok(()) => Ok(()),
             Err(_) => Err(self.fault()),
         }
@@ -108,7 +108,7 @@ fn write_behind(file: &File, len: &mut u64, piece: &[u8]) -> io::Result<()>
 }
 
 /// Sets the length of a file, and syncs it.
-fn cut_to(file: &File, len: &mut u64, new_len: u64) -> io::Result<()>
+fn set_length(file: &File, len: &mut u64, new_len: u64) -> io::Result<()>
     ensures ok { OnOk result (len.new ≡ new_len) }
     ensures err { (len.new ≡ len.old) ⊎ (len.new ≡ new_len) }
 {

@@ -36,7 +36,12 @@ impl Model for MemoryDesk {
 
     ghost Value = { DeskState };
 
-    ghost view = { λ d. record { inputs = d.inputs.items; journals = d.journals.items; calls = d.calls; last_fault = d.last_fault } };
+    ghost view = { λ d. record {
+      inputs = d.inputs.items;
+      journals = d.journals.items;
+      calls = d.calls;
+      last_fault = d.last_fault;
+    } };
 }
 
 /// An input of a desk in memory.
@@ -205,8 +210,10 @@ impl Desk for MemoryDesk {
         ensures count { CountsFaults self.old.calls.faults self.new.calls.faults (is_fault result) }
         ensures last { self.new.last_fault ≡ last_after Read name.now (is_fault result) self.old.last_fault }
         ensures ok { OnOk result (is_next_listed self.old.calls ≡ false) }
-        ensures given { IfOk result (λ input. option_map source_over (input_under self.old.inputs name.now) ≡ Some input) }
-        ensures fault { IsErrOf result DeskFault.Fault → (is_next_listed self.old.calls ≡ true) ⊎ IsNone (input_under self.old.inputs name.now) }
+        ensures given { IfOk result (λ input. option_map source_over (input_under self.old.inputs name.now)
+            ≡ Some input) }
+        ensures fault { IsErrOf result DeskFault.Fault
+            → (is_next_listed self.old.calls ≡ true) ⊎ IsNone (input_under self.old.inputs name.now) }
         ensures inputs { self.new.inputs ≡ self.old.inputs }
         ensures journals { self.new.journals ≡ self.old.journals }
         ensures counted { OnOk result (self.new.calls ≡ after_call self.old.calls false) }
@@ -228,11 +235,13 @@ impl Desk for MemoryDesk {
     ///
     /// A call that runs out of memory is not counted, and leaves the desk as it was.
     fn log(&mut self, name: &str) -> Result<MemoryStore, DeskFault>
-        ensures journal { IfOk result (λ journal. IfSome (logs_under self.old.journals name.now) (λ held. Some journal.disk.now.bytes ≡ Some held)) }
+        ensures journal { IfOk result (λ journal. IfSome (logs_under self.old.journals name.now)
+            (λ held. Some journal.disk.now.bytes ≡ Some held)) }
         ensures untouched { IfOk result (λ journal. journal.disk.past ≡ []) }
         ensures new { IfOk result (λ journal. journal.calls.faults ≡ 0) }
         ensures kept { bytes_under self.new.inputs ≡ bytes_under self.old.inputs }
-        ensures others { (other : List ℕ) → (other ≡ name.now → ⊥) → logs_under self.new.journals other ≡ logs_under self.old.journals other }
+        ensures others { (other : List ℕ) → (other ≡ name.now → ⊥)
+            → logs_under self.new.journals other ≡ logs_under self.old.journals other }
         ensures refused { OnErr result (logs_under self.new.journals ≡ logs_under self.old.journals) }
         ensures count { CountsFaults self.old.calls.faults self.new.calls.faults (is_fault result) }
         ensures last { self.new.last_fault ≡ last_after Log name.now (is_fault result) self.old.last_fault }

@@ -72,7 +72,8 @@ impl MemoryStore {
     /// What a crash now may leave with this length: `None` exactly where the length is below the
     /// durable length or above the store's.
     pub fn image(&self, len: u64) -> Result<Option<Vec<u8>>, ImageFault>
-        ensures none { IfOk result (λ image. IsNone image ↔ ((len < self.now.disk.now.safe) ⊎ (length self.now.disk.now.bytes < len))) }
+        ensures none { IfOk result (λ image. IsNone image ↔ ((len < self.now.disk.now.safe)
+            ⊎ (length self.now.disk.now.bytes < len))) }
         ensures left { IfOk result (λ image. IfSome image (λ left. MayLeave self.now.disk.now left.items)) }
         ensures length { IfOk result (λ image. IfSome image (λ left. length left.items ≡ len)) }
     {
@@ -194,12 +195,14 @@ impl Store for MemoryStore {
     /// first two cases it appends the first half of the piece, as far as there is room.
     fn append(&mut self, piece: &[u8]) -> Result<(), StoreFail>
         ensures limit { OnOk result (length self.new.disk.now.bytes ≤ MAX_STORE_BYTES) }
-        ensures size { OnOk result (length self.new.disk.now.bytes ≡ length self.old.disk.now.bytes + length piece.now) }
+        ensures size { OnOk result (length self.new.disk.now.bytes
+            ≡ length self.old.disk.now.bytes + length piece.now) }
         ensures size_err { OnErr result (length self.old.disk.now.bytes ≤ length self.new.disk.now.bytes) }
         ensures bytes { AppendsToBytes piece.now (is_err result) self.old.disk.now.bytes self.new.disk.now.bytes }
         ensures disk { AppendsToDisk piece.now (is_err result) self.old.disk self.new.disk }
         ensures count { CountsFaults self.old.calls.faults self.new.calls.faults (is_err result) }
-        ensures ends { EndsAs self.old self.new (is_err result) (after_append self.old piece.now) (append_fails self.old piece.now) }
+        ensures ends { EndsAs self.old self.new (is_err result) (after_append self.old piece.now)
+            (append_fails self.old piece.now) }
     {
         let fails = self.append_fails(piece);
         let taken = self.taken(piece);
@@ -213,11 +216,13 @@ impl Store for MemoryStore {
     fn cut(&mut self, len: u64) -> Result<(), StoreFail>
         requires { len ≤ length self.old.disk.now.bytes }
         ensures size { OnOk result (length self.new.disk.now.bytes ≡ len) }
-        ensures size_err { OnErr result ((length self.new.disk.now.bytes ≡ length self.old.disk.now.bytes) ⊎ (length self.new.disk.now.bytes ≡ len)) }
+        ensures size_err { OnErr result ((length self.new.disk.now.bytes ≡ length self.old.disk.now.bytes)
+            ⊎ (length self.new.disk.now.bytes ≡ len)) }
         ensures bytes { CutsBytes len (is_err result) self.old.disk.now.bytes self.new.disk.now.bytes }
         ensures disk { CutsDisk len (is_err result) self.old.disk self.new.disk }
         ensures count { CountsFaults self.old.calls.faults self.new.calls.faults (is_err result) }
-        ensures ends { EndsAs self.old self.new (is_err result) (after_cut self.old len) (is_next_listed self.old.calls) }
+        ensures ends { EndsAs self.old self.new (is_err result) (after_cut self.old len)
+            (is_next_listed self.old.calls) }
     {
         if self.calls.is_next_listed() {
             return self.end_call(true);

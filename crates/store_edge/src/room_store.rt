@@ -30,7 +30,8 @@ impl Model for RoomStore {
 
     ghost view = { λ s. record { held = s.bytes.items; room = s.room; faults = s.faults } };
 
-    ghost invariant = { λ s. (vec_len s.bytes ≤ s.room) × (s.room ≤ vec_capacity s.bytes) × (s.room ≤ MAX_STORE_BYTES) };
+    ghost invariant = { λ s. (vec_len s.bytes ≤ s.room) × (s.room ≤ vec_capacity s.bytes)
+        × (s.room ≤ MAX_STORE_BYTES) };
 }
 
 impl RoomStore {
@@ -91,7 +92,8 @@ impl Store for RoomStore {
         ensures size { OnOk result (length self.new.held ≡ length self.old.held + length piece.now) }
         ensures size_err { OnErr result (length self.old.held ≤ length self.new.held) }
         ensures bytes { AppendsToBytes piece.now (is_err result) self.old.held self.new.held }
-        ensures told { WorksWithin (length piece.now) (is_err result) (length self.old.held) (Some self.old.room) (Some self.new.room) }
+        ensures told { WorksWithin (length piece.now) (is_err result) (length self.old.held) (Some self.old.room)
+            (Some self.new.room) }
         ensures count { CountsFaults self.old.faults self.new.faults (is_err result) }
         ensures fails { is_err result ≡ nat_lt self.old.room (length self.old.held + length piece.now) }
         ensures err { OnErr result (self.new.held ≡ self.old.held) }

@@ -42,7 +42,7 @@ bind_some : {A B : Type 0} (o : Option A) (f : A → Option B) (y : B) → optio
 bind_some None f y h = absurd cc
 bind_some (Some x) f y h = (x, refl, h)
 
--- an entry that is read is spelled by a byte and some more, in front of what it leaves
+-- an entry that is read is spelled by a byte and some more, before what it leaves
 front_leaves : (byte : ℕ) (bytes : List ℕ) (front : FrontEntry) → front_entry (byte ∷ bytes) ≡ Some front
     → (spelling : List ℕ) × (bytes ≡ spelling ++ front.rest)
 unfolding front_entry
@@ -99,7 +99,7 @@ is_front (byte ∷ bytes) at front h =
 
 -- THE WALK
 
--- entries in front of a list
+-- entries before a list
 abbrev pub behind_entries : List DolEntry → DolText → DolText
 behind_entries entries text = record { entries = entries ++ text.entries; torn = text.torn }
 

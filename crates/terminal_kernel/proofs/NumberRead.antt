@@ -22,13 +22,13 @@ pub digits-pan : (pan : List ℕ) → IsTrue (is_pan pan) → are_digits pan
 unfolding is_pan
 digits-pan pan valid = (and_parts _ _ valid).1
 
--- what stands behind the digits: a nibble F behind an odd number of them
+-- what follows the digits: a nibble F behind an odd number of them
 abbrev filling : List ℕ → List ℕ
 filling [] = []
 filling (digit ∷ []) = 15 ∷ []
 filling (high ∷ low ∷ digits) = filling digits
 
--- the nibbles of the bytes are the digits, and what stands behind them
+-- the nibbles of the bytes are the digits, and what follows them
 nibbles-number_bytes : (digits : List ℕ) → are_digits digits → flat_map digits_of (number_bytes digits) ≡ digits ++ filling digits
 unfolding number_bytes
 nibbles-number_bytes [] decimal = refl

@@ -28,7 +28,8 @@ pub record DolText : Type 0 where
 abbrev pub with_entry : DolEntry → DolText → DolText
 with_entry entry text = record { entries = entry ∷ text.entries; torn = text.torn }
 
--- the entries of the list at an offset, of which so many bytes belong to an entry that was parsed already and are skipped
+-- the entries of the list at an offset, of which so many bytes belong to an entry that was already parsed: these are
+-- skipped
 unfoldable pub entries_from : (inside at : ℕ) → List ℕ → DolText
 entries_from inside at [] = record { entries = []; torn = None }
 entries_from (suc inside) at (byte ∷ rest) = entries_from inside (at + 1) rest
@@ -51,7 +52,8 @@ is_within count total = nat_le count MAX_ENTRIES && nat_le total MAX_FILLED_BYTE
 unfoldable pub first_beyond : (count total : ℕ) → List DolEntry → Option ℕ
 first_beyond count total [] = None
 first_beyond count total (entry ∷ entries) =
-    if is_within (count + 1) (total + entry.length) then first_beyond (count + 1) (total + entry.length) entries else Some entry.at
+    if is_within (count + 1) (total + entry.length) then first_beyond (count + 1) (total + entry.length) entries
+    else Some entry.at
 
 -- a refusal at an offset, where there is one; otherwise what was parsed
 abbrev pub unless_bad : {A E : Type 0} → Option ℕ → (ℕ → E) → Result A E → Result A E

@@ -26,7 +26,8 @@ value_of tag (object ∷ objects) = if object.tag == tag then Some object.value 
 -- whether an object may follow these: they are fewer than 64, its value has at most 64 bytes, and none has its tag
 abbrev pub may_follow : List DataObject → TlvObject → Bool
 may_follow before object =
-    nat_lt (length before) MAX_OBJECTS && nat_le (length object.value) MAX_VALUE_BYTES && is_none (value_of object.tag before)
+    nat_lt (length before) MAX_OBJECTS && nat_le (length object.value) MAX_VALUE_BYTES
+    && is_none (value_of object.tag before)
 
 -- the offset of the first object that may not follow these and those before it
 unfoldable pub first_unfit : List DataObject → List TlvObject → Option ℕ

@@ -10,8 +10,8 @@ pub record HasBytes (count : ℕ) (field : List ℕ) : Type 0 where
   pub size : length field ≡ count
   pub bytes : IsBytes field
 
--- a request as a program holds it; a law over all requests ranges over lists of any length and numbers of any size, and so
--- says which of them are values of the program
+-- a request as a program holds it. A law over all requests ranges over lists of any length and numbers of any size:
+-- this states which of them are values of the program
 pub record IsHeld (request : Parts) : Type 0 where
   pub has_form : IsTrue (is_request request)
   pub pan : IsTrue (is_pan request.pan)

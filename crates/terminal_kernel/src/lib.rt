@@ -1,5 +1,5 @@
 //! What a terminal does with data objects: it reads a list of them (DOL), reads their values, and fills the list
-//! (EMV 4.3 Book 3, section 5.4); and the objects of a request. No call takes memory.
+//! (EMV 4.3 Book 3, section 5.4); and the objects of a request. No call allocates.
 #![tactic(auto)]
 
 mod dol;

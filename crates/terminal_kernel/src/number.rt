@@ -6,7 +6,7 @@ ghost use Rattle.terminal_kernel.specs.Requested.{number_bytes};
 use arrayvec::ArrayVec;
 use issuer_base::Pan;
 
-/// The most bytes of an account number, whose digits stand two a byte.
+/// The most bytes of an account number, with two digits a byte.
 pub(crate) const MAX_NUMBER_BYTES: usize = 10;
 
 /// The nibble after an odd last digit.

@@ -21,7 +21,7 @@ not_true : (b : Bool) → not b ≡ true → b ≡ false
 not_true true h = absurd cc
 not_true false h = refl
 
--- the text is a tag and what stands behind it
+-- the text is a tag and what follows it
 pub record TakesTag (text : List ℕ) (found : ℕ × List ℕ) : Type 0 where
   pub tag_bytes : List ℕ
   pub joined : text ≡ tag_bytes ++ found.1
@@ -63,7 +63,7 @@ takes_tag a rest found h = choose (opens_long_tag (suc a)) _ _ _ h
       number = omega arith;
     }))
 
--- the text is a spelling of a length and what stands behind it
+-- the text is a spelling of a length and what follows it
 pub record TakesLength (text : List ℕ) (found : ℕ × List ℕ) : Type 0 where
   pub length_bytes : List ℕ
   pub joined : text ≡ length_bytes ++ found.1
@@ -106,7 +106,7 @@ bind_some : {A B : Type 0} (o : Option A) (f : A → Option B) (y : B) → optio
 bind_some None f y h = absurd cc
 bind_some (Some x) f y h = (x, refl, h)
 
--- the text is a spelling of the object and what stands behind it
+-- the text is a spelling of the object and what follows it
 pub record TakesObject (text : List ℕ) (front : FrontObject) : Type 0 where
   pub spelling : List ℕ
   pub joined : text ≡ spelling ++ front.rest
@@ -115,7 +115,7 @@ pub record TakesObject (text : List ℕ) (front : FrontObject) : Type 0 where
 regrouped : (a b c d : List ℕ) → a ++ (b ++ (c ++ d)) ≡ (a ++ (b ++ c)) ++ d
 regrouped a b c d = simp append_assoc
 
--- a value that is cut off behind its tag and length is spelled with them
+-- a value that is cut off after its tag and length is spelled with them
 takes_value : (text : List ℕ) (tag len : ℕ × List ℕ) → TakesTag text tag → TakesLength tag.1 len → len.0 ≤ length len.1
     → TakesObject text (record { tag = tag.0; value = take len.0 len.1; rest = drop len.0 len.1 })
 takes_value text tag len t l fits = record {
@@ -171,7 +171,7 @@ reads_length (a ∷ b ∷ []) rest n h = grind (arith, nat_tests)
 reads_length (a ∷ b ∷ c ∷ []) rest n h = grind (arith, nat_tests)
 reads_length (a ∷ b ∷ c ∷ d ∷ more) rest n h = absurd h
 
--- an object that is spelled at the front is read there, and what stands behind it is left
+-- an object that is spelled at the front is read there, and what follows it is left
 pub reads_object : (spelling rest : List ℕ) (tag : ℕ) (value : List ℕ) → Spells spelling tag value
     → front_object (spelling ++ rest) ≡ Some (record { tag = tag; value = value; rest = rest })
 unfolding front_object

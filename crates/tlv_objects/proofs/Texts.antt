@@ -89,7 +89,7 @@ no_object a rest h = record {
   none = λ spelling more tag value s e. let read = reads_object spelling more tag value s in cc;
 }
 
--- one 00 byte more in front
+-- one 00 byte more at the start
 covers_behind_zero : (at : ℕ) (text : List ℕ) (objects : List TlvObject) (torn : Option ℕ) → Covers (at + 1) text objects torn
     → Covers at (0 ∷ text) objects torn
 covers_behind_zero at text [] None h = (suc h.0, ap (λ (xs : List ℕ). 0 ∷ xs) h.1)
@@ -101,7 +101,7 @@ covers_behind_zero at text (object ∷ objects) torn h =
 abbrev IsCovered : ℕ → List ℕ → TlvText → Type 0
 IsCovered at text found = Covers at text found.objects found.torn
 
--- an object in front
+-- an object at the start
 covers_behind_object : (at : ℕ) (spelling rest : List ℕ) (tag : ℕ) (value : List ℕ) → Spells spelling tag value
     → IsCovered (at + length spelling) rest (objects_from 0 (at + length spelling) rest)
     → IsCovered at (spelling ++ rest) (objects_from 0 at (spelling ++ rest))

@@ -55,7 +55,8 @@ long_length (high ∷ low ∷ rest) = Some (256 * high + low, rest)
 unfoldable pub length_at : List ℕ → Option (ℕ × List ℕ)
 length_at [] = None
 length_at (byte ∷ rest) =
-    if nat_lt byte 128 then Some (byte, rest) else (if byte == 129 then short_length rest else (if byte == 130 then long_length rest else None))
+    if nat_lt byte 128 then Some (byte, rest)
+    else (if byte == 129 then short_length rest else (if byte == 130 then long_length rest else None))
 
 -- an object at the start of a text: its tag, its value, and the bytes after it
 pub record FrontObject : Type 0 where
@@ -68,7 +69,8 @@ unfoldable pub front_object : List ℕ → Option FrontObject
 front_object bytes = do
   tag ← tag_at bytes
   len ← length_at tag.1
-  if nat_lt (length len.1) len.0 then None else Some (record { tag = tag.0; value = take len.0 len.1; rest = drop len.0 len.1 })
+  if nat_lt (length len.1) len.0 then None
+      else Some (record { tag = tag.0; value = take len.0 len.1; rest = drop len.0 len.1 })
 
 -- nothing more
 abbrev pub no_more : TlvText
@@ -91,7 +93,8 @@ objects_from (suc inside) at (byte ∷ rest) = objects_from inside (at + 1) rest
 objects_from zero at (zero ∷ rest) = objects_from 0 (at + 1) rest
 objects_from zero at (suc byte ∷ rest) = elim (front_object (suc byte ∷ rest)) [
   | None ↦ torn_at at
-  | Some front ↦ in_front (record { tag = front.tag; value = front.value; at = at }) (objects_from (length rest - length front.rest) (at + 1) rest)
+  | Some front ↦ in_front (record { tag = front.tag; value = front.value; at = at })
+      (objects_from (length rest - length front.rest) (at + 1) rest)
 ]
 
 -- the objects of a text

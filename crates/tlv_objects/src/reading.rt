@@ -9,7 +9,7 @@ pub(crate) fn zeros_in_front(bytes: &[u8]) -> usize
     bytes.iter().take_while(|byte| **byte == 0).count()
 }
 
-/// The tag at the start of a text as a number, as 0x9F02, and the bytes after it. `None` where the tag ends early or has
+/// The tag at the start of a text as a number, as 0x9F02, and the bytes after it. `None` if the tag ends early or has
 /// more than three bytes.
 #[tactic(auto, unfolding(crate::specs::Tlv::tag_at))]
 #[inline(always)]

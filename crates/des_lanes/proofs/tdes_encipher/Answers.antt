@@ -11,7 +11,8 @@ unfolding key_at
 returns c =
     let none : Key16 = record { 0 = [] } in
     c.bytes_of.ensures
-    ∙ paired (λ (key : Key16) (block : List ℕ). tdes_encipher key.0 block) c.args.keys.now c.args.blocks.now c.from_lanes.result none (omega arith) c.requires.paired
+    ∙ paired (λ (key : Key16) (block : List ℕ). tdes_encipher key.0 block) c.args.keys.now c.args.blocks.now c.from_lanes.result none
+    (omega arith) c.requires.paired
     (λ lane h.
     let room : lane < 128 = omega arith in
     ap word_bytes (c.from_lanes.ensures lane room) ∙ c.tripled.ensures lane

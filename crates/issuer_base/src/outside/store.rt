@@ -16,26 +16,26 @@ pub trait Store {
     // How many bytes it has.
     ghost size: { Self → ℕ };
 
-    // Its bytes, where the store tells.
+    // Its bytes, `None` where the store doesn't expose them.
     ghost bytes: { Self → Option (List ℕ) } = { λ _. None };
 
-    // The moments that it was through and the present one, where the store tells: what a crash may leave.
+    // Its past moments and the present one, from which follows what a crash may leave; `None` where it exposes none.
     ghost disk: { Self → Option Disk } = { λ _. None };
 
-    // Up to which size it works, where the store tells: no call fails but an append that would go past it.
+    // The size up to which no call fails but an append past it; `None` where the store states none.
     ghost room: { Self → Option ℕ } = { λ _. None };
 
     // How many of its calls failed, counted up to 2^64 - 1.
     ghost faults: { Self → ℕ };
 
-    /// How many bytes it has. The safe ones are among them.
+    /// How many bytes it has, the durable ones included.
     fn len(&self) -> u64
         ensures size { result ≡ size self.now }
         ensures safe { IfSome (disk self.now) (λ told. told.now.safe ≤ length told.now.bytes) };
 
-    /// Gives the bytes that stand from `at` on, as many as it answers, in the front of `into`.
+    /// Reads bytes from offset `at` on into a prefix of `into`, and returns how many.
     ///
-    /// At least one is given where `at` is below the length, and none where it isn't.
+    /// At least one is read if `at` is below the length, and none if it isn't.
     fn read_at(&mut self, at: u64, into: &mut [u8]) -> Result<usize, StoreFail>
         requires { 0 < length into.old }
         ensures bound { ReadsAtMost result into.new }
@@ -48,7 +48,7 @@ pub trait Store {
         ensures room { WorksWithin 0 (is_err result) (size self.old) (room self.old) (room self.new) }
         ensures count { CountsFaults (faults self.old) (faults self.new) (is_err result) };
 
-    /// Puts a piece behind the bytes. A fault may leave a front of it there.
+    /// Appends a piece. A fault may leave a prefix of it appended.
     ///
     /// A piece that would go past [`MAX_STORE_BYTES`] is a fault.
     fn append(&mut self, piece: &[u8]) -> Result<(), StoreFail>
@@ -60,7 +60,7 @@ pub trait Store {
         ensures room { WorksWithin (length piece.now) (is_err result) (size self.old) (room self.old) (room self.new) }
         ensures count { CountsFaults (faults self.old) (faults self.new) (is_err result) };
 
-    /// Cuts the bytes to a length, and makes them safe. A fault may leave them cut or not.
+    /// Truncates the bytes to a length, and makes them durable. A fault may leave them truncated or not.
     fn cut(&mut self, len: u64) -> Result<(), StoreFail>
         requires { len ≤ size self.old }
         ensures size { OnOk result (size self.new ≡ len) }
@@ -70,7 +70,7 @@ pub trait Store {
         ensures room { WorksWithin 0 (is_err result) (size self.old) (room self.old) (room self.new) }
         ensures count { CountsFaults (faults self.old) (faults self.new) (is_err result) };
 
-    /// Makes all bytes safe.
+    /// Makes all bytes durable.
     fn sync(&mut self) -> Result<(), StoreFail>
         ensures size { size self.new ≡ size self.old }
         ensures bytes { bytes self.new ≡ bytes self.old }
@@ -78,9 +78,9 @@ pub trait Store {
         ensures room { WorksWithin 0 (is_err result) (size self.old) (room self.old) (room self.new) }
         ensures count { CountsFaults (faults self.old) (faults self.new) (is_err result) };
 
-    // Told bytes are as many as the size says.
+    // Exposed bytes are as many as the size.
     ghost told_size: { (store : Self) → IfSome (bytes store) (λ told. size store ≡ length told) };
 
-    // Where the disk is told, so are the bytes, and they are those of the present moment.
+    // A store that exposes its disk exposes its bytes, which are those of the present moment.
     ghost told_bytes: { (store : Self) → IfSome (disk store) (λ told. bytes store ≡ Some told.now.bytes) };
 }

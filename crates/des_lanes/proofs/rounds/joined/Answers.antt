@@ -11,5 +11,6 @@ put_second first second rest lf lr ls =
 
 pub returns : goal.returns
 returns c =
-    put_second c.copy_from_slice.new.self c.copy_from_slice-2.new.self _ (omega (arith, c.copy_from_slice.ensures.len)) refl (omega (arith, c.copy_from_slice-2.ensures.len))
+    put_second c.copy_from_slice.new.self c.copy_from_slice-2.new.self _ (omega (arith, c.copy_from_slice.ensures.len)) refl
+    (omega (arith, c.copy_from_slice-2.ensures.len))
     ∙ ap₂ (λ x y. x ++ y) c.copy_from_slice.ensures.after c.copy_from_slice-2.ensures.after

@@ -15,4 +15,5 @@ loop-i-preserved c =
 pub returns : goal.returns
 returns c =
     let all : c.loop-i.i ≡ 64 = omega arith in
-    exchanged_is c.args.rows.now c.args.k c.loop-i.out (subst (λ (i : ℕ). Fills (exchanged_bit c.args.rows.now c.args.k) 64 i c.loop-i.out) all c.loop-i.invariant)
+    exchanged_is c.args.rows.now c.args.k c.loop-i.out (subst
+    (λ (i : ℕ). Fills (exchanged_bit c.args.rows.now c.args.k) 64 i c.loop-i.out) all c.loop-i.invariant)

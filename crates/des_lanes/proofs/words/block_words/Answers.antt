@@ -16,7 +16,8 @@ loop-lane-preserved g c =
     record {
       block = Words_more _ lane c.block_word.result c.loop-lane.words c.loop-lane.invariant.block (omega arith)
           (c.block_word.ensures.block ∙ ap (λ t. take 8 (drop (8 * c.args.i) (padded t))) text);
-      sized = below_more (λ k. length (get_or c.args.texts.now k []) ≡ g.row.N) _ c.loop-lane.invariant.sized (sym (ap length text) ∙ c.block_word.ensures.sized);
+      sized =
+          below_more (λ k. length (get_or c.args.texts.now k []) ≡ g.row.N) _ c.loop-lane.invariant.sized (sym (ap length text) ∙ c.block_word.ensures.sized);
     }
 
 pub returns-clause-block : goal.returns-clause-block

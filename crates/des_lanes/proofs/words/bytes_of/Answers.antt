@@ -8,4 +8,5 @@ pub loop-word-preserved : goal.loop-word-preserved
 unfolding word_bytes
 loop-word-preserved c =
     bytes_more c.args.words.now c.loop-word.out.items c.push.new.self.items c.loop-word.word-index c.to_be_bytes.result (omega arith)
-    c.loop-word.invariant (c.to_be_bytes.ensures ∙ ap word_bytes (get_or-take c.args.count c.args.words.now c.loop-word.word-index 0 (omega arith))) c.push.ensures.items
+    c.loop-word.invariant (c.to_be_bytes.ensures ∙ ap word_bytes
+    (get_or-take c.args.count c.args.words.now c.loop-word.word-index 0 (omega arith))) c.push.ensures.items

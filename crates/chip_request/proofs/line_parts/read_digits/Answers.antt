@@ -2,7 +2,7 @@
 use Rattle.std.proofs.Common.{◌-◌, sym, ◌∙◌, arith}
 use Rattle.issuer_base.specs.declared.limits.TheConstants.{MAX_PAN_DIGITS}
 use Rattle.chip_request.proofs.LoopsOfParts.{behind_digits-one, digits_at-full, digits_at-stopped}
-use Rattle.chip_request.proofs.line_parts.leading_digits.Goals as goal
+use Rattle.chip_request.proofs.line_parts.read_digits.Goals as goal
 
 pub returns-in-Err : goal.returns-in-Err
 returns-in-Err c =
