@@ -1,3 +1,4 @@
 -- The laws of this crate.
 pub mod Blocks
+pub mod Suites
 pub mod Lengths

@@ -1,32 +1,70 @@
-//! The ARPC, and the issuer authentication data: EMV 4.3 Book 2, section 8.2.
+//! The ARPC, and the issuer authentication data: EMV 4.3 Book 2, section 8.2, for triple DES. Those with AES are this
+//! project's profile.
 #![tactic(auto)]
 
-ghost use Rattle.std.specs.Prelude.{◌≡◌, ℕ, ◌+◌, ◌≤◌, List, ◌++◌, length};
-ghost use Rattle.des_block.specs.Keyed.{HasKeyPair};
-ghost use Rattle.arpc_methods.specs.Arpc.{method1, method2, value91};
+ghost use Rattle.std.specs.Prelude.{◌≡◌, ℕ, ◌+◌, ◌≤◌, List, ◌++◌, length, take, replicate};
+ghost use Rattle.issuer_base.specs.declared.request.Suite.{Suite};
+ghost use Rattle.retail_mac.specs.Mac.{xor_bytes};
+ghost use Rattle.suite_mac.specs.SuiteMac.{HasMacKey};
+ghost use Rattle.arpc_methods.specs.Arpc.{eight_of, method1, method2, value91};
 
 use arrayvec::ArrayVec;
-use des_block::Tdes;
 use issuer_base::Method;
-use retail_mac::mac_under;
+use suite_mac::MacKey;
 
-/// The ARPC by method 1: triple DES, under the session key for cryptograms, of the application cryptogram with the
-/// response code xored into its first two bytes. EMV 4.3 Book 2, section 8.2.1.
-pub fn method1(cipher: &Tdes, ac: &[u8; 8], arc: [u8; 2]) -> [u8; 8]
-    ensures { (key : List ℕ) → HasKeyPair cipher.now key → result ≡ method1 key ac.now arc }
+/// The ARPC by method 1: the application cryptogram, with the response code xored into its first two bytes, enciphered
+/// under the session key for cryptograms. EMV 4.3 Book 2, section 8.2.1. With AES zeros fill the block, and the ARPC is
+/// the first half of the result.
+pub fn method1(key: &MacKey, ac: &[u8; 8], arc: [u8; 2]) -> [u8; 8]
+    ensures { (suite : Suite) (sk : List ℕ) → HasMacKey key.now suite sk → result ≡ method1 suite sk ac.now arc }
+{
+    enciphered(key, with_code(ac, arc))
+}
+
+/// The application cryptogram with the response code xored into its first two bytes.
+fn with_code(ac: &[u8; 8], arc: [u8; 2]) -> [u8; 8]
+    ensures { result ≡ xor_bytes ac.now (arc ++ replicate 6 0) }
 {
     let mut block = *ac;
     block[0] ^= arc[0];
     block[1] ^= arc[1];
-    cipher.encipher(block)
+    block
 }
 
-/// The ARPC by method 2: the first four bytes of the MAC, under the session key for cryptograms, of the application
-/// cryptogram and the card status update. EMV 4.3 Book 2, section 8.2.2, without proprietary authentication data.
-pub fn method2(cipher: &Tdes, ac: &[u8; 8], csu: [u8; 4]) -> [u8; 4]
-    ensures { (key : List ℕ) → HasKeyPair cipher.now key → result ≡ method2 key ac.now csu }
+/// The first eight bytes of eight bytes enciphered, which for AES zeros fill up to a block.
+fn enciphered(key: &MacKey, block: [u8; 8]) -> [u8; 8]
+    ensures { (suite : Suite) (sk : List ℕ) → HasMacKey key.now suite sk → result ≡ eight_of suite sk block }
 {
-    let [a, b, c, d, ..] = mac_under(cipher, &text_of(ac, csu));
+    match key {
+        MacKey::TripleDes(cipher) => cipher.encipher(block),
+        MacKey::Aes(mac) => first_half(mac.cipher().encipher(with_zeros(block))),
+    }
+}
+
+/// Eight bytes, and eight zeros.
+fn with_zeros(bytes: [u8; 8]) -> [u8; 16]
+    ensures { result ≡ bytes ++ replicate 8 0 }
+{
+    let mut block = [0; 16];
+    block[..8].copy_from_slice(&bytes);
+    block
+}
+
+/// The first eight of sixteen bytes.
+fn first_half(bytes: [u8; 16]) -> [u8; 8]
+    ensures { result ≡ take 8 bytes }
+{
+    let [a, b, c, d, e, f, g, h, ..] = bytes;
+    [a, b, c, d, e, f, g, h]
+}
+
+/// The ARPC by method 2: the first four bytes of the MAC of the key's suite, under the session key for cryptograms, of the
+/// application cryptogram and the card status update. EMV 4.3 Book 2, section 8.2.2, without proprietary authentication
+/// data.
+pub fn method2(key: &MacKey, ac: &[u8; 8], csu: [u8; 4]) -> [u8; 4]
+    ensures { (suite : Suite) (sk : List ℕ) → HasMacKey key.now suite sk → result ≡ method2 suite sk ac.now csu }
+{
+    let [a, b, c, d, ..] = key.mac(&text_of(ac, csu));
     [a, b, c, d]
 }
 
@@ -40,19 +78,19 @@ fn text_of(ac: &[u8; 8], csu: [u8; 4]) -> [u8; 12]
 }
 
 /// The issuer authentication data, the value of tag 91: the ARPC and, by method 1, the response code or, by method 2,
-/// the card status update. `cipher` is the session key for cryptograms with its key schedule.
+/// the card status update. `key` is the session key for cryptograms with its key schedules.
 pub fn value91(
     method: Method,
-    cipher: &Tdes,
+    key: &MacKey,
     ac: &[u8; 8],
     arc: [u8; 2],
     csu: [u8; 4],
 ) -> ArrayVec<u8, 16>
-    ensures { (key : List ℕ) → HasKeyPair cipher.now key → result.items ≡ value91 method key ac.now arc csu }
+    ensures { (suite : Suite) (sk : List ℕ) → HasMacKey key.now suite sk → result.items ≡ value91 suite method sk ac.now arc csu }
 {
     match method {
-        Method::One => joined(&method1(cipher, ac, arc), &arc),
-        Method::Two => joined(&method2(cipher, ac, csu), &csu),
+        Method::One => joined(&method1(key, ac, arc), &arc),
+        Method::Two => joined(&method2(key, ac, csu), &csu),
     }
 }
 

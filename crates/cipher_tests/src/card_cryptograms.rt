@@ -1,14 +1,14 @@
 //! The data of a request, and the cryptogram over them: a request that was encoded by hand, with a cryptogram by
-//! OpenSSL, and two requests of another program, which was compared with OpenSSL.
+//! OpenSSL, and four requests of another program, two of them with AES, which was compared with OpenSSL.
 
 use chip_request::{LineKind, read_line, read_request};
 use cryptogram_in::{expected, holds, input};
 use des_block::Key16;
-use key_derive::SessionKey;
+use key_derive::{CardKeys, SessionKey};
 use std::test::Fail;
 
 /// The card's key, the request's line, the data, the cryptogram.
-const REQUESTS: [(u128, &[u8], [u8; 65], u64); 3] = [
+const REQUESTS: [(u128, &[u8], [u8; 65], u64); 5] = [
     (
         0x00010203_04050607_08090A0B_0C0D0E0F,
         b"A 5a08400000000000000282023900950500000080009a032601159c01009f02060000000123459f03060000000000009f10200fa501a00000000000000000000000000f0000000000000000000000000000009f1a0202765f2a0209789f26087ca3dd3ac118b3589f2701809f360200079f37041a2b3c4d",
@@ -45,6 +45,30 @@ const REQUESTS: [(u128, &[u8], [u8; 65], u64); 3] = [
         ],
         0xF5DC771B_9AA7FD57,
     ),
+    (
+        0xD5B7342B_B571E13A_B551D4DB_CEC35394,
+        b"A 5a07885552493224585f340126820232379505b8680b2c949a03da2e4b9c01769f02069302342594799f0306aea98996cb339f10200fa6aa554fae58a1575d1e04a11ef2160fc2c78e7592a22ce53c8426bf48e1609f1a020a895f2a0294169f260860b7e311bf5c8c629f2701619f36026ee99f37047bfa8777",
+        [
+            0x93, 0x02, 0x34, 0x25, 0x94, 0x79, 0xAE, 0xA9, 0x89, 0x96, 0xCB, 0x33, 0x0A, 0x89,
+            0xB8, 0x68, 0x0B, 0x2C, 0x94, 0x94, 0x16, 0xDA, 0x2E, 0x4B, 0x76, 0x7B, 0xFA, 0x87,
+            0x77, 0x32, 0x37, 0x6E, 0xE9, 0x0F, 0xA6, 0xAA, 0x55, 0x4F, 0xAE, 0x58, 0xA1, 0x57,
+            0x5D, 0x1E, 0x04, 0xA1, 0x1E, 0xF2, 0x16, 0x0F, 0xC2, 0xC7, 0x8E, 0x75, 0x92, 0xA2,
+            0x2C, 0xE5, 0x3C, 0x84, 0x26, 0xBF, 0x48, 0xE1, 0x60,
+        ],
+        0x60B7E311_BF5C8C62,
+    ),
+    (
+        0xF4101DFD_F359F736_28866F3E_D2FDEE5B,
+        b"A 5a04357649105f340157820264899505ce5d46ce489a03f306d49c018f9f02067641315344849f03063f0b6fdabe949f10200fa6104b3b88fe465c6074a778f7088f0f2608170a75de6fabb7938d950e8b5a9f1a025a7f5f2a026f7d9f2608f41fb705cb9434229f2701a39f360212539f3704e4031b7b",
+        [
+            0x76, 0x41, 0x31, 0x53, 0x44, 0x84, 0x3F, 0x0B, 0x6F, 0xDA, 0xBE, 0x94, 0x5A, 0x7F,
+            0xCE, 0x5D, 0x46, 0xCE, 0x48, 0x6F, 0x7D, 0xF3, 0x06, 0xD4, 0x8F, 0xE4, 0x03, 0x1B,
+            0x7B, 0x64, 0x89, 0x12, 0x53, 0x0F, 0xA6, 0x10, 0x4B, 0x3B, 0x88, 0xFE, 0x46, 0x5C,
+            0x60, 0x74, 0xA7, 0x78, 0xF7, 0x08, 0x8F, 0x0F, 0x26, 0x08, 0x17, 0x0A, 0x75, 0xDE,
+            0x6F, 0xAB, 0xB7, 0x93, 0x8D, 0x95, 0x0E, 0x8B, 0x5A,
+        ],
+        0xF41FB705_CB943422,
+    ),
 ];
 
 #[test]
@@ -59,10 +83,19 @@ fn cryptograms_are_those_of_another_program(rt: HostRuntime) -> Result<(), Fail>
         let mk = Key16(mk.to_be_bytes());
         let want = want.to_be_bytes();
         assert_eq!(rt; input(&request), data);
-        let session = SessionKey::for_cryptograms(&mk, request.parts().atc);
+        let keys = CardKeys {
+            suite: request.suite(),
+            ac: mk,
+            smi: Key16([7; 16]),
+        };
+        let session = SessionKey::for_cryptograms(&keys, request.parts().atc);
         assert_eq!(rt; expected(&session, &request), want);
         assert!(rt; holds(&session, &request));
-        let other = SessionKey::for_cryptograms(&Key16([7; 16]), request.parts().atc);
+        let swapped = CardKeys {
+            ac: keys.smi,
+            ..keys
+        };
+        let other = SessionKey::for_cryptograms(&swapped, request.parts().atc);
         assert!(rt; !holds(&other, &request));
     }
     Ok(())

@@ -2,10 +2,10 @@
 //! numbers, the first byte the highest.
 
 use des_block::Key16;
-use issuer_base::{MasterOption, Pan};
+use issuer_base::{MasterOption, Pan, Suite};
 use key_derive::{
-    CardKeys, CardSecrets, KeySet, LazyKeys, MasterCiphers, SessionKey, card_keys, decimal16,
-    master_key, option_a, option_b, session_ac, session_sm,
+    AesPair, CardKeys, CardSecrets, KeySet, LazyKeys, MasterCiphers, SessionKey, aes_master,
+    card_keys, decimal16, master_key, option_a, option_b, session_ac, session_sm,
 };
 use std::test::Fail;
 
@@ -80,6 +80,40 @@ const MASTER_KEYS: [(MasterOption, u128, &[u8], u8, u128); 10] = [
         &[1, 8, 4, 9, 8, 6, 6, 9, 6, 0, 8, 7, 5, 2, 9, 4, 6, 3, 8],
         0x18,
         0x9849FE7A_7A102F32_7C649D31_DF257C70,
+    ),
+];
+
+/// Issuer's AES key, account number, sequence number, card's key. The first row is OpenSSL's.
+const AES_MASTER_KEYS: [(u128, &[u8], u8, u128); 5] = [
+    (
+        0x2B7E1516_28AED2A6_ABF71588_09CF4F3C,
+        &[0, 0, 0, 0, 0, 0, 0, 0],
+        0x00,
+        0x7DF76B0C_1AB899B3_3E42F047_B91B546F,
+    ),
+    (
+        0x5A11AC55_A1C225C2_E376D792_94F15654,
+        &[1, 8, 9, 5, 9, 1, 5, 0],
+        0x11,
+        0x178A76B8_E4DEAD26_477686B2_9EE1E287,
+    ),
+    (
+        0xF60EEBF1_EF8DE894_CDD9D874_56091C6D,
+        &[0, 8, 3, 6, 6, 5, 4, 3, 0, 4, 0, 6, 2, 9, 1, 4, 2, 6, 7],
+        0x40,
+        0xC84F0BA5_1B0062CA_682A71E4_90B987B2,
+    ),
+    (
+        0xF3FFA7DA_6A9BF432_F480AEF9_6664CC6B,
+        &[9, 8, 6, 3, 3, 7, 6, 4, 2, 4, 9],
+        0x32,
+        0x29E53A85_4D6A154B_A2DD4C42_E7F16315,
+    ),
+    (
+        0x48AA50FC_DD67E5D3_88E50331_1050D89E,
+        &[3, 8, 0, 1, 9, 1, 4, 5, 5, 6, 4, 4, 6, 5, 3],
+        0x99,
+        0x265FB928_100430C2_F653C73C_6A536D67,
     ),
 ];
 
@@ -170,41 +204,71 @@ const DIGESTS: [([u8; 20], u64); 6] = [
     ),
 ];
 
-/// Card's key, transaction counter, session key for cryptograms.
-const FOR_CRYPTOGRAMS: [(u128, u16, u128); 3] = [
+/// Suite, card's key, transaction counter, session key for cryptograms. The rows with AES are OpenSSL's.
+const FOR_CRYPTOGRAMS: [(Suite, u128, u16, u128); 5] = [
     (
+        Suite::TripleDes,
         0x66F34B8B_63DE5D9B_4AD38727_165B88B5,
         0x97F4,
         0x2F627D02_5908E291_05F9BABF_F06E8031,
     ),
     (
+        Suite::TripleDes,
         0x7C061AF3_7BEFE6A2_D339D7D2_4FF53515,
         0x7227,
         0x3F508B4D_EBAED7F4_C80C2512_D18C3C1B,
     ),
     (
+        Suite::TripleDes,
         0x47E44D40_9D09CFE2_7EC04B63_43A7D4F0,
         0x81E9,
         0xCD24F01B_C129FD07_72AFF17E_F78A5628,
     ),
+    (
+        Suite::Aes,
+        0x2B7E1516_28AED2A6_ABF71588_09CF4F3C,
+        0x0000,
+        0x7DF76B0C_1AB899B3_3E42F047_B91B546F,
+    ),
+    (
+        Suite::Aes,
+        0x47E44D40_9D09CFE2_7EC04B63_43A7D4F0,
+        0x81E9,
+        0x5F92F085_4521D5F3_1F5A04A5_AC0BAE14,
+    ),
 ];
 
-/// Card's key, application cryptogram, session key for secure messaging.
-const FOR_MESSAGES: [(u128, u64, u128); 3] = [
+/// Suite, card's key, application cryptogram, session key for secure messaging. The rows with AES are OpenSSL's.
+const FOR_MESSAGES: [(Suite, u128, u64, u128); 5] = [
     (
+        Suite::TripleDes,
         0xAF147C25_665AC967_943B01F7_62EEAAD7,
         0xFF0CEAA7_09B8B765,
         0xC404C258_421045F5_8BBDBB90_C8FADDEF,
     ),
     (
+        Suite::TripleDes,
         0xB82232EA_3794DE6F_578633FE_9165E23B,
         0x0F4D271B_8439518F,
         0x47C714F0_E9F9CCA4_79AFA145_C6E15B8C,
     ),
     (
+        Suite::TripleDes,
         0xED5FF18E_B455B0FA_9D80842E_80C83F37,
         0x1E96EC92_EE006558,
         0x32D9B6F5_805FCDB4_42B9491F_7BDCC7E2,
+    ),
+    (
+        Suite::Aes,
+        0x2B7E1516_28AED2A6_ABF71588_09CF4F3C,
+        0x00000000_00000000,
+        0x7DF76B0C_1AB899B3_3E42F047_B91B546F,
+    ),
+    (
+        Suite::Aes,
+        0xB82232EA_3794DE6F_578633FE_9165E23B,
+        0x0F4D271B_8439518F,
+        0xA79E82A0_92E2EFDA_B409709C_F3887C2C,
     ),
 ];
 
@@ -223,6 +287,26 @@ fn master_keys_are_those_of_another_program(rt: HostRuntime) -> Result<(), Fail>
     Ok(())
 }
 
+/// Whether each way to a card's keys gives these, and a cached key the same session key.
+fn gives(set: &KeySet, pan: &Pan, psn: u8, want: CardKeys) -> bool {
+    let suite = want.suite;
+    let ciphers = MasterCiphers::new(set);
+    let mut secrets = CardSecrets::of(set, pan, psn);
+    let (Some(lazy), Some(own)) = (LazyKeys::of(set, suite, pan, psn), secrets.keys(suite)) else {
+        return false;
+    };
+    let derived = secrets.session(suite, 7).mac_key().mac(&[]);
+    secrets.keep_by(&ciphers);
+    secrets.keep(suite);
+    let cached = secrets.session(suite, 7).mac_key().mac(&[]);
+    lazy.pair() == want
+        && own.pair() == want
+        && card_keys(set, suite, pan, psn) == Some(want)
+        && ciphers.card_keys(suite, pan, psn) == Some(want)
+        && derived == SessionKey::for_cryptograms(&want, 7).mac_key().mac(&[])
+        && derived == cached
+}
+
 #[test]
 fn card_keys_are_those_of_another_program(rt: HostRuntime) -> Result<(), Fail> {
     for (option, imk_ac, imk_smi, digits, psn, ac, smi) in CARDS {
@@ -231,25 +315,38 @@ fn card_keys_are_those_of_another_program(rt: HostRuntime) -> Result<(), Fail> {
             option,
             ac: Key16(imk_ac.to_be_bytes()),
             smi: Key16(imk_smi.to_be_bytes()),
+            aes: None,
         };
         let want = CardKeys {
+            suite: Suite::TripleDes,
             ac: Key16(ac.to_be_bytes()),
             smi: Key16(smi.to_be_bytes()),
         };
         let pan = Pan::new(digits).ok_or("an account number")?;
-        assert_eq!(rt; card_keys(&set, &pan, psn), want);
-        assert_eq!(rt; LazyKeys::of(&set, &pan, psn).pair(), want);
-        let ciphers = MasterCiphers::new(&set);
-        assert_eq!(rt; ciphers.card_keys(&pan, psn), want);
-        let mut secrets = CardSecrets::of(&set, &pan, psn);
-        secrets.keep_by(&ciphers);
-        secrets.keep();
-        assert_eq!(rt; secrets.keys().pair(), want);
-        let session = SessionKey::for_cryptograms(&want.ac, 7);
-        assert_eq!(rt;
-            secrets.session(7).cipher().encipher([0; 8]),
-            session.cipher().encipher([0; 8])
-        );
+        assert!(rt; gives(&set, &pan, psn, want));
+        assert!(rt; card_keys(&set, Suite::Aes, &pan, psn).is_none());
+    }
+    Ok(())
+}
+
+#[test]
+fn aes_keys_are_those_of_another_program(rt: HostRuntime) -> Result<(), Fail> {
+    for (imk, digits, psn, want) in AES_MASTER_KEYS {
+        let imk = Key16(imk.to_be_bytes());
+        let smi = Key16([0x11; 16]);
+        let pan = Pan::new(digits).ok_or("an account number")?;
+        let ac = aes_master(&imk, &pan, psn);
+        assert_eq!(rt; ac.0, want.to_be_bytes());
+        let set = KeySet {
+            aes: Some(AesPair { ac: imk, smi }),
+            ..KeySet::default()
+        };
+        let want = CardKeys {
+            suite: Suite::Aes,
+            ac,
+            smi: aes_master(&smi, &pan, psn),
+        };
+        assert!(rt; gives(&set, &pan, psn, want));
     }
     Ok(())
 }
@@ -263,12 +360,15 @@ fn digests_give_sixteen_decimal_digits(rt: HostRuntime) {
 
 #[test]
 fn session_keys_are_those_of_another_program(rt: HostRuntime) {
-    for (mk, atc, want) in FOR_CRYPTOGRAMS {
+    for (suite, mk, atc, want) in FOR_CRYPTOGRAMS {
         let mk = Key16(mk.to_be_bytes());
-        assert_eq!(rt; session_ac(&mk, atc).0, want.to_be_bytes());
+        assert_eq!(rt; session_ac(suite, &mk, atc).0, want.to_be_bytes());
     }
-    for (mk, ac, want) in FOR_MESSAGES {
+    for (suite, mk, ac, want) in FOR_MESSAGES {
         let mk = Key16(mk.to_be_bytes());
-        assert_eq!(rt; session_sm(&mk, &ac.to_be_bytes()).0, want.to_be_bytes());
+        assert_eq!(rt;
+            session_sm(suite, &mk, &ac.to_be_bytes()).0,
+            want.to_be_bytes()
+        );
     }
 }

@@ -2,12 +2,14 @@
 //! and chaining values are numbers, the first byte the highest.
 
 use des_block::Key16;
+use issuer_base::Suite;
 use secure_msg::{is_batch, read_command, seal, template, template_of, unseal};
 use std::test::Fail;
 
-/// The key, the chaining value, the command, and the sealed command.
-const SEALED: [(u128, u64, &[u8], &[u8]); 3] = [
+/// The suite, the key, the chaining value, the command, and the sealed command.
+const SEALED: [(Suite, u128, u64, &[u8], &[u8]); 5] = [
     (
+        Suite::TripleDes,
         0xD5425974_581B7413_F9A4D059_6E4D1CA1,
         0x11F9A128_1B7E0AE0,
         &[0xD4, 0xDC, 0xDC, 0xC3],
@@ -16,6 +18,7 @@ const SEALED: [(u128, u64, &[u8], &[u8]); 3] = [
         ],
     ),
     (
+        Suite::TripleDes,
         0xCE39960F_4E0884B8_36C3C0AF_05EAC8A8,
         0xA9ADCC5E_A69BD271,
         &[
@@ -29,6 +32,7 @@ const SEALED: [(u128, u64, &[u8], &[u8]); 3] = [
         ],
     ),
     (
+        Suite::TripleDes,
         0xA8B147DF_44047B17_CDAA4F86_0F2917B2,
         0x46389847_027F35A6,
         &[
@@ -47,11 +51,35 @@ const SEALED: [(u128, u64, &[u8], &[u8]); 3] = [
             0x64, 0x99, 0x3F, 0x19, 0x8B, 0x8E, 0x59,
         ],
     ),
+    (
+        Suite::Aes,
+        0x00B73C1B_4731C39E_596946E7_0614B979,
+        0xD1EA1631_C4D5AEA1,
+        &[0x34, 0xDA, 0x2E, 0x88],
+        &[
+            0x34, 0xDA, 0x2E, 0x88, 0x08, 0x69, 0x1E, 0x85, 0xFA, 0xFB, 0x74, 0xC3, 0x84,
+        ],
+    ),
+    (
+        Suite::Aes,
+        0x9BF49514_7EB713CA_A6FC40EA_8B946FC1,
+        0xD05DABFC_742C7EAB,
+        &[
+            0x44, 0xDA, 0xFB, 0xC3, 0x8E, 0xE0, 0x94, 0x12, 0x3D, 0x91, 0x43, 0x1B, 0xD2, 0x2A,
+            0xAE, 0xF6, 0xCF, 0x98, 0x35, 0xD7, 0xD9, 0x9C, 0xBB, 0x36, 0xDA, 0xA0, 0x5D, 0x2A,
+        ],
+        &[
+            0x44, 0xDA, 0xFB, 0xC3, 0x20, 0x8E, 0xE0, 0x94, 0x12, 0x3D, 0x91, 0x43, 0x1B, 0xD2,
+            0x2A, 0xAE, 0xF6, 0xCF, 0x98, 0x35, 0xD7, 0xD9, 0x9C, 0xBB, 0x36, 0xDA, 0xA0, 0x5D,
+            0x2A, 0x24, 0x58, 0xD6, 0x10, 0x13, 0x94, 0x13, 0x3D,
+        ],
+    ),
 ];
 
-/// The key, the application cryptogram, the first number, the commands, and the template.
-const TEMPLATES: [(u128, u64, u32, &[&[u8]], &[u8]); 3] = [
+/// The suite, the key, the application cryptogram, the first number, the commands, and the template.
+const TEMPLATES: [(Suite, u128, u64, u32, &[&[u8]], &[u8]); 5] = [
     (
+        Suite::TripleDes,
         0x2177E4F5_457EC045_00D154C3_70A8F453,
         0x0C1B902A_3D8ABDFA,
         0xFFFFFFFE,
@@ -80,6 +108,7 @@ const TEMPLATES: [(u128, u64, u32, &[&[u8]], &[u8]); 3] = [
         ],
     ),
     (
+        Suite::TripleDes,
         0x01010101_01010101_01010101_01010101,
         0x00000000_00000000,
         0x00000000,
@@ -101,6 +130,7 @@ const TEMPLATES: [(u128, u64, u32, &[&[u8]], &[u8]); 3] = [
         ],
     ),
     (
+        Suite::TripleDes,
         0x01010101_01010101_01010101_01010101,
         0x00000000_00000000,
         0x00000000,
@@ -130,29 +160,68 @@ const TEMPLATES: [(u128, u64, u32, &[&[u8]], &[u8]); 3] = [
             0x9D, 0x2E,
         ],
     ),
+    (
+        Suite::Aes,
+        0xFE5E31B0_84979697_2C0F84C1_2ECB2A9E,
+        0xD612D44A_CCF61E31,
+        0x00000001,
+        &[
+            &[0x54, 0x1E, 0x03, 0x59],
+            &[
+                0x44, 0x18, 0xD7, 0x15, 0x50, 0xCA, 0x92, 0xC2, 0xC3, 0x8D, 0xC6, 0xEF, 0x58, 0x64,
+                0x8E, 0xD0, 0x3C, 0xD0, 0x3B, 0x36, 0x38, 0xD8, 0xBD, 0x92, 0x14, 0xDB, 0x5A, 0xCD,
+                0x29, 0xD8, 0x2D, 0xD7, 0xB3, 0xE9, 0x39, 0xC1, 0xAE, 0x6C, 0x44, 0x71, 0x55, 0x1A,
+                0x11, 0x7E, 0x33, 0xE6, 0x79, 0x1E, 0xEF, 0xEE, 0x8D, 0x24, 0x3A, 0x17, 0xD4, 0xD5,
+                0x58, 0x9C, 0x8D, 0x65, 0xFC, 0xDC, 0x14, 0x45, 0xDD, 0x35, 0xD4,
+            ],
+            &[0x84, 0x16, 0x53, 0x2A],
+        ],
+        &[
+            0x72, 0x73, 0x9F, 0x18, 0x04, 0x00, 0x00, 0x00, 0x01, 0x86, 0x0D, 0x54, 0x1E, 0x03,
+            0x59, 0x08, 0x5E, 0x4F, 0x99, 0x65, 0x42, 0xA4, 0x0A, 0x70, 0x86, 0x4C, 0x44, 0x18,
+            0xD7, 0x15, 0x47, 0x50, 0xCA, 0x92, 0xC2, 0xC3, 0x8D, 0xC6, 0xEF, 0x58, 0x64, 0x8E,
+            0xD0, 0x3C, 0xD0, 0x3B, 0x36, 0x38, 0xD8, 0xBD, 0x92, 0x14, 0xDB, 0x5A, 0xCD, 0x29,
+            0xD8, 0x2D, 0xD7, 0xB3, 0xE9, 0x39, 0xC1, 0xAE, 0x6C, 0x44, 0x71, 0x55, 0x1A, 0x11,
+            0x7E, 0x33, 0xE6, 0x79, 0x1E, 0xEF, 0xEE, 0x8D, 0x24, 0x3A, 0x17, 0xD4, 0xD5, 0x58,
+            0x9C, 0x8D, 0x65, 0xFC, 0xDC, 0x14, 0x45, 0xDD, 0x35, 0xD4, 0x64, 0x18, 0x92, 0x56,
+            0xE5, 0x9B, 0x66, 0xB2, 0x86, 0x0D, 0x84, 0x16, 0x53, 0x2A, 0x08, 0x01, 0x02, 0x7F,
+            0xE4, 0xD7, 0x56, 0xD7, 0x0C,
+        ],
+    ),
+    (
+        Suite::Aes,
+        0xAF437706_274B36F8_F7C9DAFE_96AEC87C,
+        0xB5950BFE_EFE759E4,
+        0x000000FF,
+        &[&[0x94, 0xDA, 0x89, 0x80]],
+        &[
+            0x72, 0x16, 0x9F, 0x18, 0x04, 0x00, 0x00, 0x00, 0xFF, 0x86, 0x0D, 0x94, 0xDA, 0x89,
+            0x80, 0x08, 0x85, 0x25, 0x5B, 0x8D, 0xBE, 0x68, 0x8E, 0xB5,
+        ],
+    ),
 ];
 
 #[test]
 fn seals_and_opens(rt: HostRuntime) -> Result<(), Fail> {
-    for (key, chain, text, expected) in SEALED {
+    for (suite, key, chain, text, expected) in SEALED {
         let key = Key16(key.to_be_bytes());
         let chain = chain.to_be_bytes();
         let command = read_command(text)?;
-        let (sealed, next) = seal(&key, &chain, &command);
+        let (sealed, next) = seal(suite, &key, &chain, &command);
         assert_eq!(rt; sealed.as_slice(), expected);
         assert_eq!(rt;
             next.as_slice(),
             &expected[expected.len().saturating_sub(8)..]
         );
-        assert!(rt; unseal(&key, &chain, expected) == Some((command, next)));
-        assert!(rt; unseal(&key, &next, expected).is_none());
+        assert!(rt; unseal(suite, &key, &chain, expected) == Some((command, next)));
+        assert!(rt; unseal(suite, &key, &next, expected).is_none());
     }
     Ok(())
 }
 
 #[test]
 fn carries_a_batch(rt: HostRuntime) -> Result<(), Fail> {
-    for (key, ac, first, texts, expected) in TEMPLATES {
+    for (suite, key, ac, first, texts, expected) in TEMPLATES {
         let key = Key16(key.to_be_bytes());
         let mut commands = Vec::new(rt.alloc());
         for text in texts {
@@ -161,10 +230,13 @@ fn carries_a_batch(rt: HostRuntime) -> Result<(), Fail> {
         let commands = commands.as_slice();
         assert!(rt; is_batch(commands));
         let ac = ac.to_be_bytes();
-        assert_eq!(rt; template(&key, &ac, first, commands).as_slice(), expected);
+        assert_eq!(rt;
+            template(suite, &key, &ac, first, commands).as_slice(),
+            expected
+        );
         let (front, back) = commands.split_at(commands.len() / 2);
         assert_eq!(rt;
-            template_of(&key, &ac, first, front, back).as_slice(),
+            template_of(suite, &key, &ac, first, front, back).as_slice(),
             expected
         );
     }

@@ -1,16 +1,16 @@
-//! A card's application cryptogram, and the check of it: EMV 4.3 Book 2, section 8.1.
+//! A card's application cryptogram, and the check of it: EMV 4.3 Book 2, section 8.1. With AES it is this project's
+//! profile.
 #![tactic(auto)]
 
 mod joined;
 
-ghost use Rattle.std.specs.Prelude.{◌≡◌, ◌↔◌, IsTrue};
+ghost use Rattle.std.specs.Prelude.{◌≡◌, ◌↔◌, length, IsTrue};
 ghost use Rattle.key_derive.specs.SessionKey.{counter_bytes};
 ghost use Rattle.cryptogram_in.specs.Cryptogram.{input, cryptogram_under};
 
 use issuer_base::Request;
 use joined::Joined;
 use key_derive::SessionKey;
-use retail_mac::mac_under;
 
 /// The data under the application cryptogram: the ten data elements that EMV 4.3 Book 2, section 8.1.1
 /// recommends, and the whole issuer application data, which is this project's profile.
@@ -39,17 +39,18 @@ fn counter_bytes(atc: u16) -> [u8; 2]
     atc.to_be_bytes()
 }
 
-/// The application cryptogram that a card computes over the request under this session key: EMV 4.3 Book 2,
-/// section 8.1.2. Eleven block operations of DES, for the MAC of nine blocks, and no key schedule.
+/// The application cryptogram that a card computes over the request under this session key: the MAC of its suite, EMV
+/// 4.3 Book 2, section 8.1.2. Eleven block operations of DES or five of AES, and no key schedule.
 pub fn expected(session: &SessionKey, request: &Request) -> [u8; 8]
     ensures { result ≡ cryptogram_under session.now request.now }
 {
-    mac_under(session.cipher(), &input(request))
+    session.mac_key().mac(&input(request))
 }
 
 /// Whether the request's cryptogram is the expected one under this session key, in all eight bytes.
 pub fn holds(session: &SessionKey, request: &Request) -> bool
-    ensures { IsTrue result ↔ (request.now.ac ≡ cryptogram_under session.now request.now) }
+    ensures right { IsTrue result ↔ (request.now.ac ≡ cryptogram_under session.now request.now) }
+    ensures len { length (cryptogram_under session.now request.now) ≡ 8 }
 {
     expected(session, request) == request.parts().ac
 }

@@ -1,6 +1,4 @@
 -- The laws of this crate.
-pub mod Blocks
-pub mod Nibbles
-pub mod Options
-pub mod Packing
-pub mod Taking
+pub use Rattle.master_keys.proofs.Blocks
+pub mod Lengths
+pub mod Sessions

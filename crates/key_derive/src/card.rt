@@ -1,36 +1,53 @@
 //! The keys of a card from those of its issuer.
 
 ghost use Rattle.std.specs.Prelude.{◌≡◌};
-ghost use Rattle.des_block.specs.Keyed.{HasKeyPair};
 ghost use Rattle.key_derive.specs.CardKey.{card_keys};
 
-use crate::master::{block_of, diversified};
-use des_block::{Key16, Tdes};
-use issuer_base::{MasterOption, Pan};
-use std::marker::Model;
+use crate::lazy::LazyKeys;
+use des_block::Key16;
+use issuer_base::{MasterOption, Pan, Suite};
 
-/// The issuer's master keys that a derivation key index names.
+/// The issuer's master keys for cards with AES.
+#[derive(Clone, Copy)]
+pub struct AesPair {
+    /// For application cryptograms.
+    pub ac: Key16,
+
+    /// For secure messaging for integrity.
+    pub smi: Key16,
+}
+
+/// The issuer's master keys that a derivation key index names: for triple DES, and possibly for AES.
 #[derive(Clone, Copy)]
 pub struct KeySet {
     /// The derivation key index.
     pub dki: u8,
 
-    /// The option by which a card's keys are derived from these.
+    /// The option by which a card's triple DES keys are derived from these.
     pub option: MasterOption,
 
-    /// The issuer's master key for application cryptograms.
+    /// The issuer's triple DES master key for application cryptograms.
     pub ac: Key16,
 
-    /// The issuer's master key for secure messaging for integrity.
+    /// The issuer's triple DES master key for secure messaging for integrity.
     pub smi: Key16,
+
+    /// The issuer's AES master keys, if it has cards with AES under this index.
+    pub aes: Option<AesPair>,
 }
 
-/// The index 0, option A and keys of zeros: what fills the unused elements of an array of key sets.
+/// The index 0, option A and keys of zeros, without AES: what fills the unused elements of an array of key sets.
 impl Default for KeySet {
-    ghost use Rattle.std.specs.Prelude.{◌≡◌, replicate};
+    ghost use Rattle.std.specs.Prelude.{◌≡◌, replicate, None};
     ghost use Rattle.issuer_base.specs.declared.answer.MasterOption.TheVariants.{A};
 
-    ghost is_default = { λ set. set ≡ record { dki = 0; option = A; ac = record { 0 = replicate 16 0 }; smi = record { 0 = replicate 16 0 } } };
+    ghost is_default = { λ set. set ≡ record {
+      dki = 0;
+      option = A;
+      ac = record { 0 = replicate 16 0 };
+      smi = record { 0 = replicate 16 0 };
+      aes = None;
+    } };
 
     fn default() -> KeySet {
         KeySet {
@@ -38,13 +55,17 @@ impl Default for KeySet {
             option: MasterOption::A,
             ac: Key16([0; 16]),
             smi: Key16([0; 16]),
+            aes: None,
         }
     }
 }
 
-/// A card's master keys.
+/// A card's master keys of one suite.
 #[derive(Clone, Copy, PartialEq, Eq, Debug)]
 pub struct CardKeys {
+    /// The suite that they are for.
+    pub suite: Suite,
+
     /// For application cryptograms.
     pub ac: Key16,
 
@@ -52,73 +73,11 @@ pub struct CardKeys {
     pub smi: Key16,
 }
 
-/// A key set with its master keys' key schedules, computed once for all cards.
-///
-/// A contract sees the key set.
-#[derive(Drop)]
-pub struct MasterCiphers {
-    set: KeySet,
-
-    /// For application cryptograms.
-    ac: Tdes,
-
-    /// For secure messaging for integrity.
-    smi: Tdes,
-}
-
-impl Model for MasterCiphers {
-    ghost use Rattle.des_block.specs.Keyed.{HasKeyPair};
-    ghost use Rattle.key_derive.specs.declared.card.KeySet.{KeySet};
-
-    ghost Value = { KeySet };
-
-    ghost view = { λ ciphers. ciphers.set };
-
-    ghost invariant = { λ ciphers. HasKeyPair ciphers.ac ciphers.set.ac.0 × HasKeyPair ciphers.smi ciphers.set.smi.0 };
-}
-
-impl MasterCiphers {
-    /// Computes the key schedules of both master keys of the key set.
-    pub fn new(set: &KeySet) -> MasterCiphers
-        ensures { result ≡ set.now }
-    {
-        MasterCiphers {
-            set: *set,
-            ac: Tdes::new(&set.ac),
-            smi: Tdes::new(&set.smi),
-        }
-    }
-
-    /// The master keys of a card from those of this key set. Computes no key schedule, and enciphers four blocks.
-    pub fn card_keys(&self, pan: &Pan, psn: u8) -> CardKeys
-        ensures { result ≡ card_keys self.now pan.now psn }
-    {
-        let block = block_of(self.set.option, pan, psn);
-        CardKeys {
-            ac: diversified(&self.ac, block),
-            smi: diversified(&self.smi, block),
-        }
-    }
-
-    /// The issuer's master key for application cryptograms.
-    pub(crate) fn key(&self) -> Key16
-        ensures { result ≡ self.now.ac }
-    {
-        self.set.ac
-    }
-
-    /// Triple DES under it.
-    pub(crate) fn cipher(&self) -> &Tdes
-        ensures { HasKeyPair result.now self.now.ac.0 }
-    {
-        &self.ac
-    }
-}
-
-/// The master keys of a card from those of its issuer, whose key schedules are computed for it. For several
-/// cards, use one [`MasterCiphers`].
-pub fn card_keys(set: &KeySet, pan: &Pan, psn: u8) -> CardKeys
-    ensures { result ≡ card_keys set.now pan.now psn }
+/// The master keys of a card of this suite from those of its issuer; `None` if the suite is AES and the key set has no
+/// AES keys. Computes two key schedules; for several cards, use one [`MasterCiphers`](crate::MasterCiphers).
+pub fn card_keys(set: &KeySet, suite: Suite, pan: &Pan, psn: u8) -> Option<CardKeys>
+    ensures { result ≡ card_keys set.now suite pan.now psn }
 {
-    MasterCiphers::new(set).card_keys(pan, psn)
+    let keys = LazyKeys::of(set, suite, pan, psn)?;
+    Some(keys.pair())
 }

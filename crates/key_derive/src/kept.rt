@@ -1,86 +1,149 @@
-//! A card's master keys, of which the one for cryptograms can be cached with its key schedule.
-ghost use Rattle.std.specs.Prelude.{◌≡◌};
-ghost use Rattle.key_derive.specs.CardKey.{card_keys};
-ghost use Rattle.key_derive.specs.SessionKey.{session_ac};
+//! A card's master keys, of which those for cryptograms can be cached with their key schedules.
+ghost use Rattle.std.specs.Prelude.{◌≡◌, IsSome, Some};
+ghost use Rattle.key_derive.specs.declared.card.CardKeys.{CardKeys};
+ghost use Rattle.key_derive.specs.CardSecret.{secrets_of, keys_in};
+ghost use Rattle.key_derive.specs.SessionKey.{session_of};
 
-use crate::card::{KeySet, MasterCiphers};
+use crate::card::KeySet;
+use crate::ciphers::MasterCiphers;
 use crate::lazy::LazyKeys;
-use crate::session::SessionKey;
-use des_block::{Key16, Tdes};
-use issuer_base::Pan;
+use crate::session::{SessionKey, SuiteCipher, session_ac};
+use des_block::Key16;
+use issuer_base::{Pan, Suite};
 use std::marker::Model;
 
-/// A card's master keys, derived on demand. [`CardSecrets::keep`] derives the key for application cryptograms once and
-/// caches its key schedule, in 256 of the value's 304 bytes.
+/// A card's master keys from one key set, with triple DES and possibly with AES, derived on demand.
+/// [`CardSecrets::keep`] derives the key for application cryptograms of a suite once and caches its key schedule.
 ///
-/// A contract sees the pair of keys, which is the same before and after.
+/// A contract sees the keys of both suites, which are the same before and after.
 #[derive(Drop)]
 pub struct CardSecrets {
-    keys: LazyKeys,
-
-    /// The key schedule of the key for application cryptograms, if it is cached.
-    ac: Option<Tdes>,
+    des: CachedKeys,
+    aes: Option<CachedKeys>,
 }
 
 impl Model for CardSecrets {
-    ghost use Rattle.std.specs.Prelude.{IfSome};
-    ghost use Rattle.des_block.specs.Keyed.{HasKeyPair};
-    ghost use Rattle.key_derive.specs.declared.card.CardKeys.{CardKeys};
+    ghost use Rattle.key_derive.specs.CardSecret.{BothKeys};
 
-    ghost Value = { CardKeys };
+    ghost Value = { BothKeys };
 
-    ghost view = { λ secrets. secrets.keys };
-
-    ghost invariant = { λ secrets. IfSome secrets.ac (λ cipher. HasKeyPair cipher secrets.keys.ac.0) };
+    ghost view = { λ secrets. record { des = secrets.des; aes = secrets.aes } };
 }
 
 impl CardSecrets {
     /// The master keys of a card from those of its issuer, of which none is derived yet. Computes no key schedule and
     /// enciphers nothing.
     pub fn of(set: &KeySet, pan: &Pan, psn: u8) -> CardSecrets
-        ensures { result ≡ card_keys set.now pan.now psn }
+        ensures { result ≡ secrets_of set.now pan.now psn }
     {
         CardSecrets {
-            keys: LazyKeys::of(set, pan, psn),
-            ac: None,
+            des: CachedKeys::new(LazyKeys::of_des(set, pan, psn)),
+            aes: LazyKeys::of_aes(set, pan, psn).map(CachedKeys::new),
         }
     }
 
-    /// The master keys. This derives none.
-    pub fn keys(&self) -> LazyKeys
-        ensures { result ≡ self.now }
+    /// The master keys of a suite, if there are any. This derives none.
+    pub fn keys(&self, suite: Suite) -> Option<LazyKeys>
+        ensures { result ≡ keys_in suite self.now }
     {
-        self.keys.copy()
-    }
-
-    /// The session key for the cryptograms of the transaction with this ATC. If the master key is cached, this computes
-    /// one key schedule and enciphers two blocks; else three key schedules and four blocks.
-    pub fn session(&self, atc: u16) -> SessionKey
-        ensures { result ≡ session_ac self.now.ac.0 atc }
-    {
-        match &self.ac {
-            Some(cipher) => SessionKey::under(cipher, atc),
-            None => SessionKey::for_cryptograms(&self.keys.ac(), atc),
+        match suite {
+            Suite::TripleDes => Some(self.des.keys.copy()),
+            Suite::Aes => Some(self.aes.as_ref()?.keys.copy()),
         }
     }
 
-    /// Caches the key for application cryptograms. If it isn't cached yet, this computes the issuer's key schedule,
-    /// enciphers two blocks, and computes the card's key schedule.
-    pub fn keep(&mut self)
+    /// The session key for the cryptograms of the transaction with this ATC in a suite that the card has keys of. If the
+    /// master key is cached, this computes the key schedules of the session key alone; otherwise also those of the issuer's
+    /// and the card's master key.
+    pub fn session(&self, suite: Suite, atc: u16) -> SessionKey
+        requires { IsSome (keys_in suite self.now) }
+        ensures { (keys : CardKeys) → keys_in suite self.now ≡ Some keys → result ≡ session_of keys atc }
+    {
+        match suite {
+            Suite::TripleDes => self.des.session(atc),
+            Suite::Aes => self.aes.as_ref().unwrap().session(atc),
+        }
+    }
+
+    /// Caches the key for application cryptograms of a suite, if the card has keys of it. If it isn't cached yet, this
+    /// computes the key schedules of the issuer's and the card's master key.
+    pub fn keep(&mut self, suite: Suite)
         ensures { self.new ≡ self.old }
     {
-        if self.ac.is_none() {
+        match suite {
+            Suite::TripleDes => self.des.keep(),
+            Suite::Aes => {
+                if let Some(keys) = &mut self.aes {
+                    keys.keep();
+                }
+            }
+        }
+    }
+
+    /// Caches the keys for application cryptograms of both suites, as [`CardSecrets::keep`] does. For a card of this key
+    /// set, the issuer's key schedules aren't computed again.
+    pub fn keep_by(&mut self, ciphers: &MasterCiphers)
+        ensures { self.new ≡ self.old }
+    {
+        self.des.keep_by(ciphers);
+        if let Some(keys) = &mut self.aes {
+            keys.keep_by(ciphers);
+        }
+    }
+}
+
+/// A card's master keys of one suite, and the key schedule of the one for application cryptograms, if it is cached.
+///
+/// A contract sees the pair of keys.
+#[derive(Drop)]
+struct CachedKeys {
+    keys: LazyKeys,
+    cipher: Option<SuiteCipher>,
+}
+
+impl Model for CachedKeys {
+    ghost use Rattle.std.specs.Prelude.{IfSome};
+    ghost use Rattle.key_derive.specs.declared.card.CardKeys.{CardKeys};
+    ghost use Rattle.key_derive.specs.SuiteCipher.{HasCipherKey};
+
+    ghost Value = { CardKeys };
+
+    ghost view = { λ cached. cached.keys };
+
+    ghost invariant = { λ cached. IfSome cached.cipher (λ cipher. HasCipherKey cipher cached.keys.suite cached.keys.ac.0) };
+}
+
+impl CachedKeys {
+    fn new(keys: LazyKeys) -> CachedKeys
+        ensures { result ≡ keys }
+    {
+        CachedKeys { keys, cipher: None }
+    }
+
+    fn session(&self, atc: u16) -> SessionKey
+        ensures { result ≡ session_of self.now atc }
+    {
+        let suite = self.keys.suite();
+        let key = match &self.cipher {
+            Some(cipher) => cipher.session_ac(atc),
+            None => session_ac(suite, &self.keys.ac(), atc),
+        };
+        SessionKey::new(suite, key)
+    }
+
+    fn keep(&mut self)
+        ensures { self.new ≡ self.old }
+    {
+        if self.cipher.is_none() {
             let ac = self.keys.ac();
             self.keep_key(ac);
         }
     }
 
-    /// Caches the key for application cryptograms, as [`CardSecrets::keep`] does. For a card of this key set, the
-    /// issuer's key schedule isn't computed again.
-    pub fn keep_by(&mut self, ciphers: &MasterCiphers)
+    fn keep_by(&mut self, ciphers: &MasterCiphers)
         ensures { self.new ≡ self.old }
     {
-        if self.ac.is_none() {
+        if self.cipher.is_none() {
             let ac = self.keys.ac_by(ciphers);
             self.keep_key(ac);
         }
@@ -91,6 +154,6 @@ impl CardSecrets {
         requires { ac ≡ self.old.ac }
         ensures { self.new ≡ self.old }
     {
-        self.ac = Some(Tdes::new(&ac));
+        self.cipher = Some(SuiteCipher::new(self.keys.suite(), &ac));
     }
 }

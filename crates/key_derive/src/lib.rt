@@ -1,16 +1,15 @@
-//! The card's master keys and the session keys: EMV 4.3 Book 2, Annex A1.3 and A1.4.
+//! The card's master keys and the session keys: EMV 4.3 Book 2, Annex A1.3 and A1.4, and this project's profile with AES.
 #![tactic(auto)]
 
 mod card;
-mod digits;
+mod ciphers;
 mod kept;
 mod lazy;
-mod master;
 mod session;
 
-pub use card::{CardKeys, KeySet, MasterCiphers, card_keys};
-pub use digits::decimal16;
+pub use card::{AesPair, CardKeys, KeySet, card_keys};
+pub use ciphers::MasterCiphers;
 pub use kept::CardSecrets;
 pub use lazy::LazyKeys;
-pub use master::{master_key, option_a, option_b};
+pub use master_keys::{aes_master, decimal16, master_key, option_a, option_b};
 pub use session::{SessionKey, session_ac, session_sm};

@@ -1,80 +1,130 @@
-//! The session keys of a transaction: EMV 4.3 Book 2, Annex A1.3.1.
+//! The session keys of a transaction: EMV 4.3 Book 2, Annex A1.3.1. Those with AES are this project's profile.
 
-ghost use Rattle.std.specs.Prelude.{◌≡◌, ℕ, List, slice_set};
+ghost use Rattle.std.specs.Prelude.{◌≡◌, ℕ, List, ◌++◌, replicate, slice_set};
+ghost use Rattle.issuer_base.specs.declared.request.Suite.{Suite};
 ghost use Rattle.des_block.specs.Keyed.{HasKeyPair};
-ghost use Rattle.key_derive.specs.SessionKey.{session_key, session_ac, session_sm};
+ghost use Rattle.aes_cipher.specs.Columns.{HasKey};
+ghost use Rattle.suite_mac.specs.SuiteMac.{HasMacKey};
+ghost use Rattle.key_derive.specs.SessionKey.{session_key, session_ac, session_sm, session_of};
+ghost use Rattle.key_derive.specs.SuiteCipher.{HasCipherKey};
 
-use crate::master::joined;
+use crate::card::CardKeys;
+use aes_cipher::Aes;
 use des_block::{Key16, Tdes};
+use issuer_base::Suite;
+use master_keys::joined;
 use std::marker::Model;
+use suite_mac::MacKey;
 
-/// The session key for the cryptograms of one transaction, with its key schedule for both the check and the reply.
+/// The session key for the cryptograms of one transaction, with its key schedules for both the check and the reply.
 ///
-/// A contract sees the list of its sixteen bytes.
+/// A contract sees its suite and the list of its sixteen bytes.
 #[derive(Drop)]
 pub struct SessionKey {
+    suite: Suite,
     key: Key16,
-    cipher: Tdes,
+    mac: MacKey,
 }
 
 impl Model for SessionKey {
-    ghost use Rattle.std.specs.Prelude.{ℕ, List};
-    ghost use Rattle.des_block.specs.Keyed.{HasKeyPair};
+    ghost use Rattle.key_derive.specs.SuiteKey.{SuiteKey};
+    ghost use Rattle.suite_mac.specs.SuiteMac.{HasMacKey};
 
-    ghost Value = { List ℕ };
+    ghost Value = { SuiteKey };
 
-    ghost view = { λ session. session.key.0 };
+    ghost view = { λ session. record { suite = session.suite; key = session.key.0 } };
 
-    ghost invariant = { λ session. HasKeyPair session.cipher session.key.0 };
+    ghost invariant = { λ session. HasMacKey session.mac session.suite session.key.0 };
 }
 
 impl SessionKey {
-    /// The key of the transaction with this ATC, from the card's master key for cryptograms, as `session_ac` computes
-    /// it. Computes the key schedules of the master key and of the session key, and enciphers two blocks.
-    pub fn for_cryptograms(master: &Key16, atc: u16) -> SessionKey
-        ensures { result ≡ session_ac master.now.0 atc }
+    /// The key of the transaction with this ATC, from the card's master keys, as `session_ac` computes it. Computes the key
+    /// schedules of the master key and of the session key.
+    pub fn for_cryptograms(keys: &CardKeys, atc: u16) -> SessionKey
+        ensures { result ≡ session_of keys.now atc }
     {
-        SessionKey::under(&Tdes::new(master), atc)
+        SessionKey::new(keys.suite, session_ac(keys.suite, &keys.ac, atc))
     }
 
-    /// The same key, from the card's master key of this cipher. Computes one key schedule, and enciphers two blocks.
-    pub fn under(master: &Tdes, atc: u16) -> SessionKey
-        ensures { (mk : List ℕ) → HasKeyPair master.now mk → result ≡ session_ac mk atc }
+    /// A session key of this suite with its key schedules.
+    pub(crate) fn new(suite: Suite, key: Key16) -> SessionKey
+        ensures { result ≡ record { suite = suite; key = key.0 } }
     {
-        let key = session_ac_under(master, atc);
-        let cipher = Tdes::new(&key);
-        SessionKey { key, cipher }
+        let mac = MacKey::new(suite, &key);
+        SessionKey { suite, key, mac }
     }
 
-    /// Triple DES under this key.
-    pub fn cipher(&self) -> &Tdes
-        ensures { HasKeyPair result.now self.now }
+    /// The suite of the key.
+    pub fn suite(&self) -> Suite
+        ensures { result ≡ self.now.suite }
     {
-        &self.cipher
+        self.suite
+    }
+
+    /// The key schedules of this key, for MACs of its suite and for its block cipher.
+    pub fn mac_key(&self) -> &MacKey
+        ensures { HasMacKey result.now self.now.suite self.now.key }
+    {
+        &self.mac
     }
 }
 
-/// The session key for a transaction's cryptograms, from the card's master key and the ATC: EMV 4.3 Book 2,
-/// Annex A1.3.1. Computes one key schedule and enciphers two blocks.
-pub fn session_ac(mk: &Key16, atc: u16) -> Key16
-    ensures { result.0 ≡ session_ac mk.now.0 atc }
-{
-    session_ac_under(&Tdes::new(mk), atc)
+/// The block cipher of a suite under a card's master key.
+#[derive(Clone, Copy)]
+pub(crate) enum SuiteCipher {
+    TripleDes(Tdes),
+    Aes(Aes),
 }
 
-fn session_ac_under(master: &Tdes, atc: u16) -> Key16
-    ensures { (mk : List ℕ) → HasKeyPair master.now mk → result.0 ≡ session_ac mk atc }
-{
-    let [high, low] = atc.to_be_bytes();
-    session_key(master, [high, low, 0, 0, 0, 0, 0, 0])
+impl SuiteCipher {
+    /// Computes the key schedule.
+    pub(crate) fn new(suite: Suite, key: &Key16) -> SuiteCipher
+        ensures { HasCipherKey result suite key.now.0 }
+    {
+        match suite {
+            Suite::TripleDes => SuiteCipher::TripleDes(Tdes::new(key)),
+            Suite::Aes => SuiteCipher::Aes(Aes::new(key.0)),
+        }
+    }
+
+    /// The session key for cryptograms under this master key.
+    pub(crate) fn session_ac(&self, atc: u16) -> Key16
+        ensures { (suite : Suite) (mk : List ℕ) → HasCipherKey self.now suite mk → result.0 ≡ session_ac suite mk atc }
+    {
+        let [high, low] = atc.to_be_bytes();
+        match self {
+            SuiteCipher::TripleDes(cipher) => session_key(cipher, [high, low, 0, 0, 0, 0, 0, 0]),
+            SuiteCipher::Aes(cipher) => Key16(cipher.encipher([
+                high, low, 0, 0, 0, 0, 0, 0, 0, 0, 0, 0, 0, 0, 0, 0,
+            ])),
+        }
+    }
+
+    /// The session key for secure messaging under this master key.
+    fn session_sm(&self, ac: &[u8; 8]) -> Key16
+        ensures { (suite : Suite) (mk : List ℕ) → HasCipherKey self.now suite mk → result.0 ≡ session_sm suite mk ac.now }
+    {
+        match self {
+            SuiteCipher::TripleDes(cipher) => session_key(cipher, *ac),
+            SuiteCipher::Aes(cipher) => Key16(cipher.encipher(with_zeros(ac))),
+        }
+    }
 }
 
-/// The session key for a transaction's secure messaging, from the card's master key and the application
-/// cryptogram of the first GENERATE AC: EMV 4.3 Book 2, Annex A1.3.1.
-pub fn session_sm(mk: &Key16, ac: &[u8; 8]) -> Key16
-    ensures { result.0 ≡ session_sm mk.now.0 ac.now }
+/// The session key for a transaction's cryptograms, from the card's master key of this suite and the ATC: for triple DES
+/// EMV 4.3 Book 2, Annex A1.3.1; for AES this project's profile. Computes one key schedule.
+pub fn session_ac(suite: Suite, mk: &Key16, atc: u16) -> Key16
+    ensures { result.0 ≡ session_ac suite mk.now.0 atc }
 {
-    session_key(&Tdes::new(mk), *ac)
+    SuiteCipher::new(suite, mk).session_ac(atc)
+}
+
+/// The session key for a transaction's secure messaging, from the card's master key of this suite and the application
+/// cryptogram of the first GENERATE AC. Computes one key schedule.
+pub fn session_sm(suite: Suite, mk: &Key16, ac: &[u8; 8]) -> Key16
+    ensures { result.0 ≡ session_sm suite mk.now.0 ac.now }
+{
+    SuiteCipher::new(suite, mk).session_sm(ac)
 }
 
 fn session_key(master: &Tdes, value: [u8; 8]) -> Key16
@@ -90,4 +140,11 @@ fn with_third(mut block: [u8; 8], byte: u8) -> [u8; 8]
 {
     block[2] = byte;
     block
+}
+
+/// A block of AES: eight bytes, and zeros.
+fn with_zeros(bytes: &[u8; 8]) -> [u8; 16]
+    ensures { result ≡ bytes.now ++ replicate 8 0 }
+{
+    joined(*bytes, [0; 8]).0
 }

@@ -1,17 +1,12 @@
 -- Which commands the host sends, and their bytes.
-use Rattle.std.proofs.Common.{◌≡◌, ◌==◌, ◌&&◌, ℕ, Bool, true, false, List, [], ◌∷◌, length, Some, None, refl, ap, ap₂, ◌∙◌, subst, arith}
+use Rattle.std.proofs.Common.{◌≡◌, ◌&&◌, ℕ, Bool, true, false, List, [], ◌∷◌, length, Some, None, refl, ap, ap₂, ◌∙◌, subst}
 use Rattle.std.specs.Prelude.{nat_le, if◌then◌else◌}
 use Rattle.std.proofs.lemmas.Bool.{le-leb, leb-true}
-use Rattle.std.proofs.lemmas.Bool.Decides.{nat_tests}
 use Rattle.std.proofs.lemmas.Option.{cond_some}
 use Rattle.issuer_base.specs.declared.command.Command.{Command}
 use Rattle.issuer_base.specs.declared.limits.TheConstants.{MAX_BODY_BYTES}
 use Rattle.issuer_base.specs.ScriptCommand.{is_command, command_bytes}
 use Rattle.secure_msg.specs.Commands.{if_allowed, command_of, AreBytesOf}
-
--- the test of two numbers, either way round
-pub nat_eq-comm : (a b : ℕ) → (a == b) ≡ (b == a)
-nat_eq-comm a b = grind (arith, nat_tests)
 
 both_true : (a b : Bool) → (a && b) ≡ true → (a ≡ true) × (b ≡ true)
 both_true true b e = (refl, e)

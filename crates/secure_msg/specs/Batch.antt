@@ -4,6 +4,7 @@ use Rattle.std.specs.Prelude.{◌<◌, ◌≤◌, ℕ, List, [], ◌∷◌, ◌+
 use Rattle.std.specs.List.{flat_map}
 use Rattle.std.specs.Int.{w32, to_be_bytes}
 use Rattle.issuer_base.specs.declared.command.Command.{Command}
+use Rattle.issuer_base.specs.declared.request.Suite.{Suite}
 use Rattle.issuer_base.specs.declared.limits.TheConstants.{MAX_TEMPLATE_BYTES}
 use Rattle.issuer_base.specs.ScriptCommand.{is_command}
 use Rattle.issuer_base.specs.ScriptTemplate.{template_size}
@@ -12,9 +13,10 @@ use Rattle.secure_msg.specs.Sealing.{command_mac, sealed_command}
 
 -- the commands of a batch, each sealed at the MAC of the command before it, and the first at the given chain: for a
 -- card the application cryptogram
-unfoldable pub sealed_commands : List ℕ → List ℕ → List Command → List (List ℕ)
-sealed_commands key chain [] = []
-sealed_commands key chain (command ∷ later) = sealed_command key chain command ∷ sealed_commands key (command_mac key chain command) later
+unfoldable pub sealed_commands : Suite → List ℕ → List ℕ → List Command → List (List ℕ)
+sealed_commands suite key chain [] = []
+sealed_commands suite key chain (command ∷ later) =
+    sealed_command suite key chain command ∷ sealed_commands suite key (command_mac suite key chain command) later
 
 -- commands that one template can carry: there is one, each is a command of the host, and their template isn't too long
 pub record IsBatch (commands : List Command) : Type 0 where
@@ -24,6 +26,6 @@ pub record IsBatch (commands : List Command) : Type 0 where
 
 -- the template: tag 72 holds 9F18 with the number of the batch's first command in the card's queue, in four bytes, and an
 -- object 86 for each sealed command
-unfoldable pub template_bytes : List ℕ → List ℕ → ℕ → List Command → List ℕ
-template_bytes key ac first commands =
-    object_text 0x72 (object_text 0x9F18 (to_be_bytes w32 first) ++ flat_map (object_text 0x86) (sealed_commands key ac commands))
+unfoldable pub template_bytes : Suite → List ℕ → List ℕ → ℕ → List Command → List ℕ
+template_bytes suite key ac first commands =
+    object_text 0x72 (object_text 0x9F18 (to_be_bytes w32 first) ++ flat_map (object_text 0x86) (sealed_commands suite key ac commands))

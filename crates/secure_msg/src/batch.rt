@@ -2,18 +2,18 @@
 
 ghost use Rattle.std.specs.Prelude.{◌≡◌, ℕ, ◌+◌, ◌≤◌, ◌↔◌, List, [], ◌++◌, length, fold, sum_by, IsTrue};
 ghost use Rattle.std.specs.List.{flat_map};
-ghost use Rattle.retail_mac.specs.Run.{IsRun};
+ghost use Rattle.issuer_base.specs.declared.request.Suite.{Suite};
+ghost use Rattle.suite_mac.specs.SuiteRun.{IsRun};
 ghost use Rattle.tlv_objects.specs.Writing.{is_tag_number, object_text};
 ghost use Rattle.issuer_base.specs.ScriptTemplate.{sealed_size};
 ghost use Rattle.secure_msg.specs.Sealing.{command_mac};
 ghost use Rattle.secure_msg.specs.Batch.{sealed_commands, IsBatch, template_bytes};
 
-use crate::reading::is_command;
 use crate::sealing::seal_in;
 use arrayvec::ArrayVec;
 use des_block::Key16;
-use issuer_base::{BARE_COMMAND_BYTES, BARE_TEMPLATE_BYTES, Command, MAX_TEMPLATE_BYTES};
-use retail_mac::MacRun;
+use issuer_base::{BARE_COMMAND_BYTES, BARE_TEMPLATE_BYTES, Command, MAX_TEMPLATE_BYTES, Suite};
+use suite_mac::SuiteRun;
 use tlv_objects::{ROOM, put};
 
 /// The tag of an issuer script template whose commands a card runs after its final cryptogram.
@@ -36,7 +36,7 @@ pub fn is_batch(commands: &[Command]) -> bool
     let mut room = BARE_TEMPLATE_BYTES;
     for command in commands {
         room += BARE_COMMAND_BYTES + command.body.len();
-        if !is_command(command) || room > MAX_TEMPLATE_BYTES {
+        if !command.is_sendable() || room > MAX_TEMPLATE_BYTES {
             return false;
         }
     }
@@ -44,16 +44,23 @@ pub fn is_batch(commands: &[Command]) -> bool
 }
 
 /// The template of a batch for the card that made this application cryptogram. `first` is the number of the batch's first
-/// command in the card's queue. Computes the key schedules once, however many commands there are.
-pub fn template(key: &Key16, ac: &[u8; 8], first: u32, commands: &[Command]) -> Template
+/// command in the card's queue. Computes the key schedules of the suite once, however many commands there are.
+pub fn template(
+    suite: Suite,
+    key: &Key16,
+    ac: &[u8; 8],
+    first: u32,
+    commands: &[Command],
+) -> Template
     requires { IsBatch commands.now }
-    ensures { result.items ≡ template_bytes key.now.0 ac.now first commands.now }
+    ensures { result.items ≡ template_bytes suite key.now.0 ac.now first commands.now }
 {
-    template_of(key, ac, first, commands, &[])
+    template_of(suite, key, ac, first, commands, &[])
 }
 
 /// As `template`, for a batch that is given as two slices, as in a ring buffer.
 pub fn template_of(
+    suite: Suite,
     key: &Key16,
     ac: &[u8; 8],
     first: u32,
@@ -61,9 +68,9 @@ pub fn template_of(
     back: &[Command],
 ) -> Template
     requires { IsBatch (front.now ++ back.now) }
-    ensures { result.items ≡ template_bytes key.now.0 ac.now first (front.now ++ back.now) }
+    ensures { result.items ≡ template_bytes suite key.now.0 ac.now first (front.now ++ back.now) }
 {
-    let mut run = MacRun::new(key);
+    let mut run = SuiteRun::new(suite, key);
     let mut value = ArrayVec::new();
     write(&mut value, SCRIPT_IDENTIFIER, &first.to_be_bytes());
     let chain = write_sealed(&mut value, &mut run, *ac, front);
@@ -78,15 +85,15 @@ pub fn template_of(
 /// Appends an object for each command, sealed by a MAC run over no bytes yet, and returns the next chain.
 fn write_sealed(
     value: &mut ArrayVec<u8, ROOM>,
-    run: &mut MacRun,
+    run: &mut SuiteRun,
     mut chain: [u8; 8],
     commands: &[Command],
 ) -> [u8; 8]
     requires { length value.old.items + sum_by sealed_size commands.now ≤ ROOM }
-    ensures written { (key : List ℕ) → IsRun run.old key [] → value.new.items
-        ≡ value.old.items ++ flat_map (object_text 0x86) (sealed_commands key chain commands.now) }
-    ensures chain { (key : List ℕ) → IsRun run.old key [] → result ≡ fold (command_mac key) chain commands.now }
-    ensures again { (key : List ℕ) → IsRun run.old key [] → IsRun run.new key [] }
+    ensures written { (suite : Suite) (key : List ℕ) → IsRun run.old suite key [] → value.new.items
+        ≡ value.old.items ++ flat_map (object_text 0x86) (sealed_commands suite key chain commands.now) }
+    ensures chain { (suite : Suite) (key : List ℕ) → IsRun run.old suite key [] → result ≡ fold (command_mac suite key) chain commands.now }
+    ensures again { (suite : Suite) (key : List ℕ) → IsRun run.old suite key [] → IsRun run.new suite key [] }
     ensures len { length value.new.items ≡ length value.old.items + sum_by sealed_size commands.now }
 {
     for command in commands {

@@ -1,6 +1,6 @@
 //! Issuer script commands for a card under secure messaging: EMV 4.3 Book 2, section 9, in format 2.
 //!
-//! A command is sealed by a retail MAC over a chain of eight bytes and the command as it is sent. The first chain of a batch is the
+//! A command is sealed by the MAC of the card's suite over a chain of eight bytes and the command as it is sent. The first chain of a batch is the
 //! application cryptogram, and each later one the MAC of the command before it: the chain is this project's profile. No
 //! call allocates.
 #![tactic(auto)]

@@ -3,17 +3,10 @@
 ghost use Rattle.std.specs.Prelude.{◌≡◌, ℕ, ◌↔◌, List, Some, IfOk, OnErr, IsTrue};
 ghost use Rattle.std.specs.Result.{result_ok};
 ghost use Rattle.issuer_base.specs.declared.command.Command.{Command};
-ghost use Rattle.issuer_base.specs.ScriptCommand.{is_command};
 ghost use Rattle.secure_msg.specs.Commands.{if_allowed, command_of, AreBytesOf};
 
 use arrayvec::ArrayVec;
 use issuer_base::{BadCommand, Command};
-
-/// The class byte's low nibble under secure messaging of the host's format: EMV 4.3 Book 3, section 6.3.2.
-const SECURE_MESSAGING: u8 = 0x04;
-
-/// The instructions of card block, application unblock, application block, PIN change or unblock, put data and update record.
-const INSTRUCTIONS: [u8; 6] = [0x16, 0x18, 0x1E, 0x24, 0xDA, 0xDC];
 
 /// Parses a command that the host sends: class, instruction, two parameters and the data, without their length. Other
 /// bytes are a `BadCommand`.
@@ -42,17 +35,10 @@ pub(crate) fn command_with(cla: u8, ins: u8, p1: u8, p2: u8, data: &[u8]) -> Opt
         p2,
         body,
     };
-    if !is_command(&command) {
+    if !command.is_sendable() {
         return None;
     }
     Some(command)
-}
-
-/// Whether the host sends such a command.
-pub(crate) fn is_command(command: &Command) -> bool
-    ensures { result ≡ is_command command.now }
-{
-    command.cla & 0x0F == SECURE_MESSAGING && INSTRUCTIONS.contains(&command.ins)
 }
 
 /// Bytes are parsed as a command exactly if they are its bytes, the host sends it, and its data are not too long.

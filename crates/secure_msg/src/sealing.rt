@@ -2,16 +2,17 @@
 
 ghost use Rattle.std.specs.Prelude.{◌≡◌, ℕ, ◌+◌, ◌≤◌, List, [], ◌∷◌, ◌++◌, length, Some, IfSome, IfNone, IsTrue};
 ghost use Rattle.issuer_base.specs.declared.command.Command.{Command};
+ghost use Rattle.issuer_base.specs.declared.request.Suite.{Suite};
 ghost use Rattle.issuer_base.specs.ScriptCommand.{is_command};
-ghost use Rattle.retail_mac.specs.Run.{IsRun};
+ghost use Rattle.suite_mac.specs.SuiteRun.{IsRun};
 ghost use Rattle.secure_msg.specs.Commands.{command_of};
 ghost use Rattle.secure_msg.specs.Sealing.{sent_bytes, command_mac, sealed_command, unsealed_bytes, opened_command, AreSealed};
 
 use crate::reading::command_with;
 use arrayvec::ArrayVec;
 use des_block::Key16;
-use issuer_base::{Command, MAX_BODY_BYTES};
-use retail_mac::MacRun;
+use issuer_base::{Command, MAX_BODY_BYTES, Suite};
+use suite_mac::SuiteRun;
 
 /// How many bytes precede the data of a command that is sent: class, instruction, two parameters and Lc.
 const HEADER_BYTES: usize = 5;
@@ -25,24 +26,31 @@ pub const MAX_SEALED_BYTES: usize = HEADER_BYTES + MAX_BODY_BYTES + MAC_BYTES;
 /// The bytes of a sealed command.
 pub type SealedCommand = ArrayVec<u8, MAX_SEALED_BYTES>;
 
-/// Seals a command at a chain. Returns it and the next chain: the MAC that the sealed command ends with.
-pub fn seal(key: &Key16, chain: &[u8; 8], command: &Command) -> (SealedCommand, [u8; 8])
+/// Seals a command at a chain, with the MAC of the suite. Returns it and the next chain: the MAC that the sealed command ends with.
+pub fn seal(
+    suite: Suite,
+    key: &Key16,
+    chain: &[u8; 8],
+    command: &Command,
+) -> (SealedCommand, [u8; 8])
     requires { IsTrue (is_command command.now) }
-    ensures sealed { result.0.items ≡ sealed_command key.now.0 chain.now command.now }
-    ensures next { result.1 ≡ command_mac key.now.0 chain.now command.now }
+    ensures sealed { result.0.items ≡ sealed_command suite key.now.0 chain.now command.now }
+    ensures next { result.1 ≡ command_mac suite key.now.0 chain.now command.now }
 {
-    seal_in(&mut MacRun::new(key), chain, command)
+    seal_in(&mut SuiteRun::new(suite, key), chain, command)
 }
 
 /// Seals a command by a MAC run over no bytes yet, and leaves the run so.
 pub(crate) fn seal_in(
-    run: &mut MacRun,
+    run: &mut SuiteRun,
     chain: &[u8; 8],
     command: &Command,
 ) -> (SealedCommand, [u8; 8])
-    ensures sealed { (key : List ℕ) → IsRun run.old key [] → result.0.items ≡ sealed_command key chain.now command.now }
-    ensures next { (key : List ℕ) → IsRun run.old key [] → result.1 ≡ command_mac key chain.now command.now }
-    ensures again { (key : List ℕ) → IsRun run.old key [] → IsRun run.new key [] }
+    ensures sealed { (suite : Suite) (key : List ℕ) → IsRun run.old suite key []
+        → result.0.items ≡ sealed_command suite key chain.now command.now }
+    ensures next { (suite : Suite) (key : List ℕ) → IsRun run.old suite key []
+        → result.1 ≡ command_mac suite key chain.now command.now }
+    ensures again { (suite : Suite) (key : List ℕ) → IsRun run.old suite key [] → IsRun run.new suite key [] }
     ensures len { length result.0.items ≡ 13 + length command.now.body.items }
 {
     let mut sealed = sent(command);
@@ -68,14 +76,19 @@ fn sent(command: &Command) -> SealedCommand
 }
 
 /// Opens a sealed command at a chain. Returns it and the next chain; `None` if these bytes are no command of the host,
-/// sealed at this chain.
-pub fn unseal(key: &Key16, chain: &[u8; 8], bytes: &[u8]) -> Option<(Command, [u8; 8])>
-    ensures exact { result ≡ opened_command key.now.0 chain.now bytes.now }
-    ensures sealed { IfSome result (λ found. AreSealed key.now.0 chain.now bytes.now found.0 found.1) }
-    ensures refused { IfNone result ((command : Command) (next : List ℕ) → ¬ AreSealed key.now.0 chain.now bytes.now command next) }
+/// sealed in this suite at this chain.
+pub fn unseal(
+    suite: Suite,
+    key: &Key16,
+    chain: &[u8; 8],
+    bytes: &[u8],
+) -> Option<(Command, [u8; 8])>
+    ensures exact { result ≡ opened_command suite key.now.0 chain.now bytes.now }
+    ensures sealed { IfSome result (λ found. AreSealed suite key.now.0 chain.now bytes.now found.0 found.1) }
+    ensures refused { IfNone result ((command : Command) (next : List ℕ) → ¬ AreSealed suite key.now.0 chain.now bytes.now command next) }
 {
     let command = unsealed(bytes)?;
-    let (sealed, next) = seal(key, chain, &command);
+    let (sealed, next) = seal(suite, key, chain, &command);
     if sealed.as_slice() != bytes {
         return None;
     }
@@ -94,10 +107,10 @@ fn unsealed(bytes: &[u8]) -> Option<Command>
     command_with(*cla, *ins, *p1, *p2, body)
 }
 
-/// At each chain, a sealed command opens to the command and the next chain, and nothing else opens.
+/// At each chain, a sealed command opens to the command and the next chain of eight bytes, and nothing else opens.
 pub fn only_sealed_commands_open()
-    ensures opens { (key chain bytes next : List ℕ) (command : Command)
-        → AreSealed key chain bytes command next → opened_command key chain bytes ≡ Some (command, next) }
-    ensures only { (key chain bytes next : List ℕ) (command : Command)
-        → opened_command key chain bytes ≡ Some (command, next) → AreSealed key chain bytes command next }
+    ensures opens { (suite : Suite) (key chain bytes next : List ℕ) (command : Command)
+        → AreSealed suite key chain bytes command next → opened_command suite key chain bytes ≡ Some (command, next) }
+    ensures only { (suite : Suite) (key chain bytes next : List ℕ) (command : Command) → length next ≡ 8
+        → opened_command suite key chain bytes ≡ Some (command, next) → AreSealed suite key chain bytes command next }
 {}

@@ -1,9 +1,11 @@
--- The expected cryptogram is the retail MAC of the request's input under the session key.
+-- The expected cryptogram is the MAC of the request's input under the session key.
 use Rattle.std.proofs.Common.{ap, ◌∙◌}
-use Rattle.retail_mac.specs.Mac.{retail_mac}
+use Rattle.suite_mac.specs.SuiteMac.{mac_of}
 use Rattle.cryptogram_in.specs.Cryptogram.{cryptogram_under}
 use Rattle.cryptogram_in.proofs.expected.Goals as goal
 
 pub returns : goal.returns
 unfolding cryptogram_under
-returns c = c.mac_under.ensures c.args.session.now c.cipher.ensures ∙ ap (retail_mac c.args.session.now) c.input.ensures
+returns c =
+    let session = c.args.session.now in
+    c.mac.ensures session.suite session.key c.mac_key.ensures ∙ ap (mac_of session.suite session.key) c.input.ensures

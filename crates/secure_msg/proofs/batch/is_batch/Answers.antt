@@ -20,5 +20,5 @@ loop-command-preserved c =
       room = omega (arith, sum_by_more sealed_size commands i command below, room);
       fit = omega arith;
       form = All-more (λ command. IsTrue (is_command command)) commands i command below c.loop-command.invariant.form
-          (form ∙ sym c.is_command.ensures ∙ c.if-not-is_command.false);
+          (form ∙ sym c.is_sendable.ensures ∙ c.if-not-is_sendable.false);
     }

@@ -22,14 +22,14 @@ loop-command-preserved c =
     ap (sum_by sealed_size) left ∙ sum_by-cons sealed_size command (drop (i + 1) commands) in
     record {
       len = omega (arith, ap length c.write.ensures, length-append c.loop-command.value.items (object_text 0x86 sealed), c.loop-command.invariant.len);
-      again = λ key is. c.seal_in-sealed.ensures.again key (c.loop-command.invariant.again key is);
-      writes = λ key is.
-          let run = c.loop-command.invariant.again key is in
-          Writes-more key _ _ commands i _ _ command sealed _ _ (c.loop-command.invariant.writes key is) left
-          (c.as_slice.ensures.value ∙ c.seal_in-sealed.ensures.sealed key run) (c.seal_in-sealed.ensures.next key run) c.write.ensures;
+      again = λ suite key is. c.seal_in-sealed.ensures.again suite key (c.loop-command.invariant.again suite key is);
+      writes = λ suite key is.
+          let run = c.loop-command.invariant.again suite key is in
+          Writes-more suite key _ _ commands i _ _ command sealed _ _ (c.loop-command.invariant.writes suite key is) left
+          (c.as_slice.ensures.value ∙ c.seal_in-sealed.ensures.sealed suite key run) (c.seal_in-sealed.ensures.next suite key run) c.write.ensures;
     }
 
 pub returns-clause-written : goal.returns-clause-written
 unfolding batch_objects
-returns-clause-written c = λ key is.
-    (Writes-all key _ _ c.args.commands.now c.loop-command.command-index _ _ (c.loop-command.invariant.writes key is) c.loop-command-test.false).0
+returns-clause-written c = λ suite key is.
+    (Writes-all suite key _ _ c.args.commands.now c.loop-command.command-index _ _ (c.loop-command.invariant.writes suite key is) c.loop-command-test.false).0
