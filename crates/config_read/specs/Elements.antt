@@ -1,8 +1,9 @@
 -- What one element of each list of a configuration is parsed as: a key set, a card, a row of the decision table.
-use Rattle.std.specs.Prelude.{ℕ, List, codes, Option, Some, None, if◌then◌else◌}
+use Rattle.std.specs.Prelude.{ℕ, List, codes, ◌&&◌, Option, Some, None, is_none, if◌then◌else◌}
 use Rattle.std.specs.Option.{option_and_then, option_map}
 use Rattle.serde_json.specs.Data.{Data, null, boolean, number, string, array, object}
 use Rattle.serde_json.specs.Find.{get, as_bool, as_u64}
+use Rattle.key_derive.specs.declared.card.AesPair.{AesPair}
 use Rattle.key_derive.specs.declared.card.KeySet.{KeySet}
 use Rattle.decision_table.specs.declared.row.TableRow.{TableRow}
 use Rattle.decision_table.specs.declared.row.TheConstants.{MAX_AMOUNT}
@@ -25,14 +26,24 @@ bytes_member name count element = option_and_then (bytes_of count) (text_member 
 abbrev pub number_up_to : List ℕ → ℕ → Data → Option ℕ
 number_up_to name most element = option_and_then (at_most most) (number_member name element)
 
--- a key set: its index, its option and its two keys
+-- the AES keys of a key set: both members or neither
+unfoldable pub aes_pair_in : Data → Option (Option AesPair)
+aes_pair_in element =
+    if is_none (get (codes "aes_ac") element) && is_none (get (codes "aes_smi") element) then Some None
+    else (do
+      ac ← bytes_member (codes "aes_ac") 16 element
+      smi ← bytes_member (codes "aes_smi") 16 element
+      Some (Some (record { ac = record { 0 = ac }; smi = record { 0 = smi } })))
+
+-- a key set: its index, its option, its two triple DES keys, and possibly its two AES keys
 unfoldable pub key_set_in : Data → Option KeySet
 key_set_in element = do
   dki ← number_up_to (codes "dki") 255 element
   option ← option_and_then option_of (text_member (codes "option") element)
   ac ← bytes_member (codes "ac") 16 element
   smi ← bytes_member (codes "smi") 16 element
-  Some (record { dki = dki; option = option; ac = record { 0 = ac }; smi = record { 0 = smi } })
+  aes ← aes_pair_in element
+  Some (record { dki = dki; option = option; ac = record { 0 = ac }; smi = record { 0 = smi }; aes = aes })
 
 -- a card: its account number, its sequence number and its method
 unfoldable pub card_in : Data → Option CardInfo

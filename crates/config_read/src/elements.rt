@@ -3,7 +3,7 @@ ghost use Rattle.std.specs.Prelude.{◌≡◌, codes};
 ghost use Rattle.std.specs.Option.{option_and_then, option_zip};
 ghost use Rattle.serde_json.specs.Find.{get};
 ghost use Rattle.serde_json.specs.View.{view};
-ghost use Rattle.config_read.specs.Elements.{bytes_member, card_in, key_set_in, number_up_to, row_in, status_from, where_told};
+ghost use Rattle.config_read.specs.Elements.{aes_pair_in, bytes_member, card_in, key_set_in, number_up_to, row_in, status_from, where_told};
 ghost use Rattle.config_read.specs.RowParts.{decision_in};
 
 use crate::json_value::{number_member, text_member};
@@ -11,7 +11,7 @@ use crate::words::{read_bytes, read_method, read_option, read_pan, read_psn, up_
 use decision_table::{MAX_AMOUNT, TableRow, tells_approval};
 use des_block::Key16;
 use issuer_setup::CardInfo;
-use key_derive::KeySet;
+use key_derive::{AesPair, KeySet};
 use serde_json::Value;
 
 /// Parses an element as a key set.
@@ -24,7 +24,22 @@ pub(crate) fn read_key_set(element: &Value) -> Option<KeySet>
         option: read_option(text_member(element, "option")?)?,
         ac: Key16(bytes_member(element, "ac")?),
         smi: Key16(bytes_member(element, "smi")?),
+        aes: read_aes_pair(element)?,
     })
+}
+
+/// Parses the AES keys of a key set: both members, or neither, which is the inner `None`.
+#[tactic(auto, unfolding(crate::specs::Elements::aes_pair_in))]
+fn read_aes_pair(element: &Value) -> Option<Option<AesPair>>
+    ensures { result ≡ aes_pair_in (view element.now) }
+{
+    if element.get("aes_ac").is_none() && element.get("aes_smi").is_none() {
+        return Some(None);
+    }
+    Some(Some(AesPair {
+        ac: Key16(bytes_member(element, "aes_ac")?),
+        smi: Key16(bytes_member(element, "aes_smi")?),
+    }))
 }
 
 /// Parses an element as a card.

@@ -2,7 +2,8 @@
 use Rattle.std.specs.Prelude.{◌≡◌, ℕ, ◌%◌, true, false, List, Option, None, Some, slice_get}
 use Rattle.std.specs.Option.{option_map_or}
 use Rattle.issuer_base.specs.declared.request.Request.{Request}
-use Rattle.issuer_base.specs.ChipData.{dki}
+use Rattle.issuer_base.specs.declared.request.Suite.{Suite}
+use Rattle.issuer_base.specs.ChipData.{dki, suite_of}
 use Rattle.card_history.specs.Records.{CardName}
 use Rattle.key_derive.specs.declared.card.KeySet.{KeySet}
 use Rattle.key_derive.specs.declared.card.CardKeys.{CardKeys}
@@ -38,14 +39,16 @@ IsFaultOf shards keys cards (Card index) =
     (are_shards shards ≡ true) × (bad_key keys ≡ None) × (bad_card cards ≡ Some index)
 IsFaultOf shards keys cards NoMemory = (are_shards shards ≡ true) × (bad_key keys ≡ None)
 
--- the master keys of a card from a key set, if there are both
-abbrev pub keys_from : Option KeySet → Option CardInfo → Option CardKeys
-keys_from (Some set) (Some card) = Some (card_keys set card.pan card.psn)
-keys_from _ _ = None
+-- the master keys of a card in a suite, if there are the card and the key set, and the key set has keys of the suite
+abbrev pub keys_from : Suite → Option KeySet → Option CardInfo → Option CardKeys
+keys_from suite (Some set) (Some card) = card_keys set suite card.pan card.psn
+keys_from suite _ _ = None
 
--- the master keys of the card with this number, from the key set that the request's derivation key index names
+-- the master keys of the card with this number in the request's suite, from the key set that the request's derivation
+-- key index names
 abbrev pub keys_of : Setup → ℕ → Request → Option CardKeys
-keys_of issuer card request = keys_from (key_of (dki request) issuer.keys) (slice_get issuer.cards card)
+keys_of issuer card request =
+    keys_from (suite_of request) (key_of (dki request) issuer.keys) (slice_get issuer.cards card)
 
 -- the shard of a card: its number modulo the number of shards; a name that no card has belongs to shard 0
 abbrev pub shard_of : Setup → CardName → ℕ

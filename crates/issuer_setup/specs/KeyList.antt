@@ -1,12 +1,19 @@
 -- The key sets of an issuer: which lists of key sets are valid, and which key set a derivation key index names.
-use Rattle.std.specs.Prelude.{◌≢◌, ℕ, ◌≤◌, Bool, ◌==◌, if◌then◌else◌, List, [], ◌∷◌, ◌++◌, length, Option, None, Some, AllPairs}
+use Rattle.std.specs.Prelude.{◌≢◌, ℕ, ◌≤◌, Bool, true, is_some, ◌==◌, if◌then◌else◌, List, [], ◌∷◌, ◌++◌, length, Option, None, Some, AllPairs}
 use Rattle.std.specs.List.{find, list_any}
 use Rattle.issuer_base.specs.declared.limits.TheConstants.{MAX_KEY_SETS}
+use Rattle.issuer_base.specs.declared.request.Suite.{Suite}
+use Rattle.issuer_base.specs.declared.request.Suite.TheVariants.{TripleDes, Aes}
 use Rattle.key_derive.specs.declared.card.KeySet.{KeySet}
 
 -- whether the key set has this derivation key index
 abbrev pub has_dki : ℕ → KeySet → Bool
 has_dki dki set = set.dki == dki
+
+-- whether the key set has keys of the suite
+abbrev pub has_suite : Suite → KeySet → Bool
+has_suite TripleDes set = true
+has_suite Aes set = is_some set.aes
 
 -- the first key set with this derivation key index, or none
 abbrev pub key_of : ℕ → List KeySet → Option KeySet

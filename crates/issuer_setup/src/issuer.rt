@@ -5,6 +5,8 @@ ghost use Rattle.issuer_setup.specs.Shards.{are_shards};
 ghost use Rattle.issuer_setup.specs.KeyList.{bad_key, AreKeys};
 ghost use Rattle.issuer_setup.specs.CardList.{number_of, bad_card, AreCards};
 ghost use Rattle.issuer_setup.specs.IssuerSetup.{IsFaultOf, keys_of, shard_of};
+ghost use Rattle.key_derive.specs.declared.card.CardKeys.{CardKeys};
+ghost use Rattle.key_derive.specs.SessionKey.{session_of};
 ghost use Rattle.issuer_setup.specs.KeySlots.{keys_at, IsSlotOf};
 
 use crate::card::CardInfo;
@@ -15,7 +17,7 @@ use crate::shard_count::ShardCount;
 use arrayvec::ArrayVec;
 use decision_table::Table;
 use issuer_base::{MAX_KEY_SETS, NoMemory, Pan, Request};
-use key_derive::{CardSecrets, KeySet};
+use key_derive::{CardKeys, KeySet, LazyKeys, SessionKey};
 use std::alloc::Global;
 use std::marker::Model;
 
@@ -95,7 +97,7 @@ impl Model for Issuer {
 
 impl Issuer {
     /// The issuer of just these parts. It derives no key yet. It allocates the master keys of each card from each key
-    /// set: 304 bytes a pair, of which 256 are for a cached key.
+    /// set, with room for the cached keys of both suites: 636 bytes a pair.
     pub fn of(
         alloc: Global,
         shards: ShardCount,
@@ -167,22 +169,45 @@ impl Issuer {
         self.keys.first()
     }
 
-    /// Where the master keys of this card are from the key set that the request's derivation key index names; `None` if no
-    /// key set has that index.
+    /// The master keys of this card in the request's suite, from the key set that the request's derivation key index
+    /// names; `None` if no key set has that index with keys of the suite. This derives both keys.
+    pub fn keys_of(&self, card: u32, request: &Request) -> Option<CardKeys>
+        requires { card < length self.now.cards }
+        ensures { result ≡ keys_of self.now card request.now }
+    {
+        let slot = self.key_slot(card, request)?;
+        Some(self.keys(slot).pair())
+    }
+
+    /// Where these keys are; `None` if no key set has the request's derivation key index with keys of its suite. This
+    /// derives none.
     pub fn key_slot(&self, card: u32, request: &Request) -> Option<KeySlot>
         requires { card < length self.now.cards }
         ensures { MatchOption result (keys_of self.now card request.now ≡ None) (IsSlotOf self.now card request.now) }
     {
         let place = self.keys.place_of(request.dki())?;
-        Some(self.kept.slot(card, place))
+        let suite = request.suite();
+        if !self.keys.has_suite(place, suite) {
+            return None;
+        }
+        Some(self.kept.slot(card, place, suite))
     }
 
-    /// The master keys in this slot.
-    pub fn secrets(&self, slot: KeySlot) -> &CardSecrets
+    /// The master keys in this slot. This derives none.
+    pub fn keys(&self, slot: KeySlot) -> LazyKeys
         requires { IsSome (keys_at self.now slot) }
-        ensures { keys_at self.now slot ≡ Some result.now }
+        ensures { keys_at self.now slot ≡ Some result }
     {
-        self.kept.secrets(slot)
+        self.kept.secrets(slot.index).keys(slot.suite).unwrap()
+    }
+
+    /// The session key for the cryptograms of the transaction with this ATC, from the keys in this slot. If the master
+    /// key is cached, this costs one key schedule and the encipherment of the session key's blocks.
+    pub fn session(&self, slot: KeySlot, atc: u16) -> SessionKey
+        requires { IsSome (keys_at self.now slot) }
+        ensures { (keys : CardKeys) → keys_at self.now slot ≡ Some keys → result ≡ session_of keys atc }
+    {
+        self.kept.secrets(slot.index).session(slot.suite, atc)
     }
 
     /// Caches the key schedule of the master key for cryptograms in this slot. If it isn't cached yet, this computes two

@@ -3,28 +3,31 @@ ghost use Rattle.std.specs.Prelude.{◌≡◌, ◌+◌, ◌*◌, ◌<◌, ◌≤
 ghost use Rattle.issuer_setup.specs.KeptKeys.{pairs_of, kept_keys};
 
 use crate::card::CardInfo;
-use issuer_base::{MAX_CARDS, MAX_KEY_SETS};
+use issuer_base::{MAX_CARDS, MAX_KEY_SETS, Suite};
 use key_derive::{CardSecrets, KeySet, MasterCiphers};
 use std::alloc::{AllocError, Global};
 use std::marker::Model;
 
-/// Where an issuer has the master keys of one of its cards from one of its key sets.
+/// Where an issuer has the master keys of one of its cards from one of its key sets in one suite.
 #[derive(Clone, Copy)]
 pub struct KeySlot {
-    /// The index of the pair of keys.
+    /// The index of the card's keys from the key set.
     pub(crate) index: usize,
+
+    /// The suite of the keys.
+    pub(crate) suite: Suite,
 }
 
 /// The master keys of each card from each key set. The key schedules of those for cryptograms can be cached; the others
 /// are derived at each use.
 ///
-/// A contract sees how many key sets there are, and the list of the pairs of keys.
+/// A contract sees how many key sets there are, and the list of the master keys of each pair of a card and a key set.
 #[derive(Drop)]
 pub(crate) struct KeptKeys {
     /// How many key sets there are.
     sets: usize,
 
-    /// The pairs of keys, card by card, those of a card in the order of the key sets.
+    /// The master keys of each pair, card by card, those of a card in the order of the key sets.
     pairs: Vec<CardSecrets>,
 }
 
@@ -41,7 +44,7 @@ impl Model for KeptKeys {
 
 impl KeptKeys {
     /// The master keys of each card from each key set, of which none is derived yet: no key schedule is computed and no
-    /// block enciphered. This allocates the memory, 304 bytes a pair, of which 256 are for a cached key.
+    /// block enciphered. This allocates the memory, 636 bytes a pair, most of them for the cached keys of both suites.
     pub(crate) fn underived(
         alloc: Global,
         keys: &[KeySet],
@@ -61,22 +64,24 @@ impl KeptKeys {
         })
     }
 
-    /// The slot of the card with this number and the key set at index `place`.
-    pub(crate) fn slot(&self, card: u32, place: usize) -> KeySlot
+    /// The slot of the card with this number and the key set at index `place` in this suite.
+    pub(crate) fn slot(&self, card: u32, place: usize, suite: Suite) -> KeySlot
         requires { card * self.now.sets + place < length self.now.pairs }
-        ensures { result.index ≡ card * self.now.sets + place }
+        ensures index { result.index ≡ card * self.now.sets + place }
+        ensures suite { result.suite ≡ suite }
     {
         KeySlot {
             index: card as usize * self.sets + place,
+            suite,
         }
     }
 
-    /// The master keys in this slot.
-    pub(crate) fn secrets(&self, slot: KeySlot) -> &CardSecrets
-        requires { slot.index < length self.now.pairs }
-        ensures { slice_get self.now.pairs slot.index ≡ Some result.now }
+    /// The master keys of the pair with this index, of both suites.
+    pub(crate) fn secrets(&self, index: usize) -> &CardSecrets
+        requires { index < length self.now.pairs }
+        ensures { slice_get self.now.pairs index ≡ Some result.now }
     {
-        &self.pairs[slot.index]
+        &self.pairs[index]
     }
 
     /// Caches the key for cryptograms in this slot, unless it is cached already.
@@ -84,7 +89,7 @@ impl KeptKeys {
         requires { slot.index < length self.old.pairs }
         ensures { self.new ≡ self.old }
     {
-        self.pairs[slot.index].keep();
+        self.pairs[slot.index].keep(slot.suite);
     }
 
     /// Caches the keys for cryptograms of all cards from each of these key sets. If they are the issuer's, each master

@@ -1,10 +1,10 @@
 //! The key sets of an issuer, each named by its derivation key index.
-ghost use Rattle.std.specs.Prelude.{◌≡◌, ◌≤◌, [], None, Some, length, slice_get, IfOk, IfErr};
+ghost use Rattle.std.specs.Prelude.{◌≡◌, ◌<◌, ◌≤◌, [], None, Some, length, slice_get, IfSome, IfOk, IfErr};
 ghost use Rattle.std.specs.List.{list_any, position};
-ghost use Rattle.issuer_setup.specs.KeyList.{has_dki, first_repeat, bad_key, AreKeys};
+ghost use Rattle.issuer_setup.specs.KeyList.{has_dki, has_suite, first_repeat, bad_key, AreKeys};
 
 use arrayvec::ArrayVec;
-use issuer_base::MAX_KEY_SETS;
+use issuer_base::{MAX_KEY_SETS, Suite};
 use key_derive::KeySet;
 use std::marker::Model;
 
@@ -54,6 +54,17 @@ impl KeySets {
         ensures { result ≡ position (has_dki dki) self.now }
     {
         self.as_slice().iter().position(|set| set.dki == dki)
+    }
+
+    /// Whether the key set at this index has keys of the suite.
+    pub(crate) fn has_suite(&self, place: usize, suite: Suite) -> bool
+        requires { place < length self.now }
+        ensures { IfSome (slice_get self.now place) (λ set. result ≡ has_suite suite set) }
+    {
+        match suite {
+            Suite::TripleDes => true,
+            Suite::Aes => self.as_slice()[place].aes.is_some(),
+        }
     }
 
     /// The first key set.

@@ -31,9 +31,9 @@ on_arqc arqc keys request = if arqc then under_keys keys request else Err NotArq
 -- ---- what passes has each fact
 
 ac-right : (keys : CardKeys) (request : Request) (right : Bool) → is_right keys request ≡ right
-    → either right request ≡ Ok (Decide request) → request.ac ≡ application_cryptogram keys.ac.0 request
+    → either right request ≡ Ok (Decide request) → request.ac ≡ application_cryptogram keys request
 unfolding either
-ac-right keys request true is passes = (bytes_eq-Decides request.ac (application_cryptogram keys.ac.0 request)).0 is
+ac-right keys request true is passes = (bytes_eq-Decides request.ac (application_cryptogram keys request)).0 is
 ac-right keys request false is passes = absurd cc
 
 module _ (issuer : Setup) (request : Request) where
@@ -70,7 +70,7 @@ module _ (issuer : Setup) (request : Request) where
   facts-checked arqc valid =
       let its = valid.its in
       let right : is_right its.keys request ≡ true =
-      (bytes_eq-Decides request.ac (application_cryptogram its.keys.ac.0 request)).1 valid.ac_is in
+      (bytes_eq-Decides request.ac (application_cryptogram its.keys request)).1 valid.ac_is in
       ap (λ (found : Option ℕ). of_card issuer found request) its.number_is
       ∙ ap₂ (λ (arqc : Bool) (keys : Option CardKeys). on_arqc arqc keys request) arqc its.keys_are
       ∙ ap (λ (right : Bool). either right request) right

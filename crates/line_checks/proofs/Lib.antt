@@ -1,5 +1,6 @@
 -- The laws of this crate.
 pub mod Numbers
 pub mod KeptLines
+pub mod LookUps
 pub mod CheckedRequests
 pub mod Orders

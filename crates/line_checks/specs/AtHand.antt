@@ -1,24 +1,21 @@
 -- The card's number and the keys that the check of a line found and derived.
-use Rattle.std.specs.Prelude.{◌≡◌, ◌≤◌, ℕ, Some, true, IsTrue}
+use Rattle.std.specs.Prelude.{◌≡◌, ◌≤◌, ℕ, Some, length, IsTrue}
 use Rattle.issuer_base.specs.declared.limits.TheConstants.{MAX_STATUS}
 use Rattle.issuer_base.specs.declared.request.Request.{Request}
-use Rattle.issuer_base.specs.ChipData.{is_arqc}
 use Rattle.issuer_base.specs.ScriptCommand.{is_command}
 use Rattle.issuer_base.specs.declared.entry.Entry.{Entry}
 use Rattle.issuer_base.specs.declared.entry.Entry.TheVariants.{Queued, Status as IsStatus}
 use Rattle.card_history.specs.declared.decision.Asked.{Asked}
 use Rattle.card_history.specs.declared.decision.Asked.TheVariants.{Decide as AsksDecision, Queue as AsksQueue, Status as AsksStatus}
 use Rattle.card_history.specs.Records.{CardName, named, card_of, card_in}
-use Rattle.key_derive.specs.SessionKey.{session_ac}
+use Rattle.key_derive.specs.SessionKey.{session_of}
 use Rattle.issuer_setup.specs.CardList.{number_of, AreCards}
 use Rattle.issuer_setup.specs.IssuerSetup.{Setup, keys_of}
-use Rattle.issuer_setup.specs.KeySlots.{IsSlotOf}
 use Rattle.line_checks.specs.declared.checked.Checked.{Checked}
 use Rattle.line_checks.specs.declared.checked.Checked.TheVariants.{Decide, Order}
 use Rattle.line_checks.specs.declared.checked.CheckedOrder.{CheckedOrder}
 use Rattle.line_checks.specs.declared.checked.CheckedOrder.TheVariants.{Command, Status}
 use Rattle.line_checks.specs.declared.checked.CheckedRequest.{CheckedRequest}
-use Rattle.line_checks.specs.declared.request.KnownCard.{KnownCard}
 use Rattle.line_checks.specs.declared.checked.CheckedCommand.{CheckedCommand}
 use Rattle.line_checks.specs.declared.checked.CheckedStatus.{CheckedStatus}
 
@@ -51,19 +48,13 @@ pub record IsCardAtHand (issuer : Setup) (name : CardName) (number : ℕ) : Type
   pub valid : AreCards issuer.cards
   pub number_is : number_of name issuer.cards ≡ Some number
 
--- the request asks to go online; these are its card, and the slot of the card's master keys from the key set that the
--- request names
-pub record HasKeysAtHand (issuer : Setup) (request : Request) (known : KnownCard) : Type 0 where
-  pub card_is : IsCardAtHand issuer (card_of request) known.card
-  pub online_is : is_arqc request ≡ true
-  pub slot_is : IsSlotOf issuer known.card request known.slot
-
 -- these are the request's card, the card's master keys from the request's key set, and their session key of the ATC:
--- EMV 4.3 Book 2, Annex A1.3.1
+-- EMV 4.3 Book 2, Annex A1.3.1; and the request's cryptogram has eight bytes, as the one that the keys give
 pub record IsRequestAtHand (issuer : Setup) (found : CheckedRequest) : Type 0 where
   pub card_is : IsCardAtHand issuer (card_of found.request) found.card
   pub keys_are : keys_of issuer found.card found.request ≡ Some found.keys
-  pub session_is : found.session ≡ session_ac found.keys.ac.0 found.request.atc
+  pub session_is : found.session ≡ session_of found.keys found.request.atc
+  pub eight : length found.request.ac ≡ 8
 
 -- the card is known, and the command is one that the host sends
 pub record IsCommandAtHand (issuer : Setup) (found : CheckedCommand) : Type 0 where

@@ -32,7 +32,7 @@ refusal_of (Repeats tag) = Repeated tag
 
 -- whether the cryptogram is the one that a card with these master keys makes over the request: EMV 4.3 Book 2, section 8.1
 abbrev pub is_right : CardKeys → Request → Bool
-is_right keys request = bytes_eq request.ac (application_cryptogram keys.ac.0 request)
+is_right keys request = bytes_eq request.ac (application_cryptogram keys request)
 
 -- a request is to be decided where its key set is known and its cryptogram is right
 abbrev pub under_keys : Option CardKeys → Request → Result Asked Refusal

@@ -7,7 +7,8 @@ use Rattle.cryptogram_in.specs.Cryptogram.{application_cryptogram}
 use Rattle.issuer_setup.specs.CardList.{number_of}
 use Rattle.issuer_setup.specs.IssuerSetup.{Setup, keys_of}
 
--- the request's card has keys under the key set that the request's derivation key index (DKI) names
+-- the request's card has keys in the request's suite under the key set that the request's derivation key index (DKI)
+-- names
 pub record HasItsKeys (issuer : Setup) (request : Request) : Type 0 where
   -- the card's number among the issuer's cards, and its master keys from that key set
   pub number : ℕ
@@ -19,4 +20,4 @@ pub record HasItsKeys (issuer : Setup) (request : Request) : Type 0 where
 -- `is_right` is its test
 pub record HasValidAc (issuer : Setup) (request : Request) : Type 0 where
   pub its : HasItsKeys issuer request
-  pub ac_is : request.ac ≡ application_cryptogram its.keys.ac.0 request
+  pub ac_is : request.ac ≡ application_cryptogram its.keys request

@@ -1,13 +1,14 @@
 //! The checks of a command and of a status for a card.
-ghost use Rattle.std.specs.Prelude.{◌≡◌, ◌≤◌, IfOk};
+ghost use Rattle.std.specs.Prelude.{◌≡◌, ◌≢◌, ◌≤◌, IfOk, IfErr};
 ghost use Rattle.std.specs.Result.{result_map_both};
 ghost use Rattle.card_history.specs.Records.{named};
+ghost use Rattle.issuer_base.specs.declared.answer.Refusal.TheVariants.{BadCryptogram};
 ghost use Rattle.secure_msg.specs.Commands.{command_of};
 ghost use Rattle.issuer_setup.specs.CardList.{number_of};
 ghost use Rattle.line_checks.specs.Reading.{command_for, status_for};
-ghost use Rattle.line_checks.specs.AtHand.{asked_of, IsAtHand};
+ghost use Rattle.line_checks.specs.AtHand.{order_asked, IsOrderAtHand};
 
-use crate::checked::{Checked, CheckedCommand, CheckedOrder, CheckedStatus};
+use crate::checked::{CheckedCommand, CheckedOrder, CheckedStatus};
 use issuer_base::{MAX_STATUS, Pan, Refusal};
 use issuer_setup::Issuer;
 use secure_msg::read_command;
@@ -18,21 +19,22 @@ pub(crate) fn check_command(
     pan: Pan,
     psn: u8,
     bytes: &[u8],
-) -> Result<Checked, Refusal>
-    ensures command { result_map_both asked_of (λ refusal. refusal) result
+) -> Result<CheckedOrder, Refusal>
+    ensures command { result_map_both order_asked (λ refusal. refusal) result
         ≡ command_for (named pan psn) (number_of (named pan psn) issuer.now.cards) (command_of bytes.now) }
-    ensures at_hand { IfOk result (IsAtHand issuer.now) }
+    ensures at_hand { IfOk result (IsOrderAtHand issuer.now) }
+    ensures refused { IfErr result (λ refusal. refusal ≢ BadCryptogram) }
 {
     let card = issuer.card(&pan, psn).ok_or(Refusal::UnknownCard)?;
     let Ok(command) = read_command(bytes) else {
         return Err(Refusal::BadCommand);
     };
-    Ok(Checked::Order(CheckedOrder::Command(CheckedCommand {
+    Ok(CheckedOrder::Command(CheckedCommand {
         pan,
         psn,
         command,
         card,
-    })))
+    }))
 }
 
 /// Checks a status for the card with this account and sequence number.
@@ -41,17 +43,18 @@ pub(crate) fn check_status(
     pan: Pan,
     psn: u8,
     status: u8,
-) -> Result<Checked, Refusal>
+) -> Result<CheckedOrder, Refusal>
     requires { status ≤ MAX_STATUS }
-    ensures status { result_map_both asked_of (λ refusal. refusal) result
+    ensures status { result_map_both order_asked (λ refusal. refusal) result
         ≡ status_for (named pan psn) (number_of (named pan psn) issuer.now.cards) status }
-    ensures at_hand { IfOk result (IsAtHand issuer.now) }
+    ensures at_hand { IfOk result (IsOrderAtHand issuer.now) }
+    ensures refused { IfErr result (λ refusal. refusal ≢ BadCryptogram) }
 {
     let card = issuer.card(&pan, psn).ok_or(Refusal::UnknownCard)?;
-    Ok(Checked::Order(CheckedOrder::Status(CheckedStatus {
+    Ok(CheckedOrder::Status(CheckedStatus {
         pan,
         psn,
         status,
         card,
-    })))
+    }))
 }

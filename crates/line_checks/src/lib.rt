@@ -6,7 +6,9 @@ mod card;
 mod checked;
 mod line;
 mod request;
+mod sought;
 
 pub use checked::{Checked, CheckedCommand, CheckedOrder, CheckedRequest, CheckedStatus};
-pub use line::{check_line, check_line_in};
+pub use line::{check_line, look_up};
 pub use request::check_request;
+pub use sought::{Sought, SoughtRequest};

@@ -1,12 +1,15 @@
 //! The check of a line by its form.
-ghost use Rattle.std.specs.Prelude.{◌≡◌, IfOk};
+ghost use Rattle.std.specs.Prelude.{◌≡◌, ◌≢◌, Err, IfOk, IfErr};
 ghost use Rattle.std.specs.Result.{result_map_both};
+ghost use Rattle.issuer_base.specs.declared.answer.Refusal.TheVariants.{BadCryptogram};
 ghost use Rattle.line_checks.specs.Reading.{reading};
 ghost use Rattle.line_checks.specs.AtHand.{asked_of, IsAtHand};
+ghost use Rattle.line_checks.specs.LookedUp.{IsSought};
 
 use crate::card::{check_command, check_status};
 use crate::checked::Checked;
-use crate::request::{check_data, check_data_in};
+use crate::request::look_up_data;
+use crate::sought::Sought;
 use chip_request::{LineForm, read_line_into};
 use issuer_base::{MAX_CHIP_BYTES, Refusal};
 use issuer_setup::Issuer;
@@ -17,29 +20,36 @@ pub fn check_line(issuer: &Issuer, line: &[u8]) -> Result<Checked, Refusal>
     ensures at_hand { IfOk result (IsAtHand issuer.now) }
 {
     let mut data = [0; MAX_CHIP_BYTES];
-    match read_line_into(line, &mut data).map_err(Refusal::BadLine)? {
-        LineForm::Ask { count } => check_data(issuer, &data[..count]),
-        LineForm::Queue { pan, psn, count } => check_command(issuer, pan, psn, &data[..count]),
-        LineForm::Set { pan, psn, status } => check_status(issuer, pan, psn, status),
+    match look_up(issuer, line, &mut data)? {
+        Sought::Request(sought) => Ok(Checked::Decide(sought.check(issuer)?)),
+        Sought::Order(found) => Ok(Checked::Order(found)),
     }
 }
 
-/// As [`check_line`], using the caller's scratch buffer `data`; its contents before and after don't matter. If a
-/// request's card, kind and key set are right, the issuer caches the card's application-cryptogram key with its key
-/// schedule. The card's next request then reuses it. A contract sees no change of the issuer.
+/// Looks up what a line, without its newline, asks of this issuer: all of [`check_line`] but the check of a request's
+/// cryptogram. So it uses no key. The line's data is written to the start of the caller's buffer; its contents before
+/// and after don't matter. It doesn't allocate.
 #[inline(always)]
-pub fn check_line_in(
-    issuer: &mut Issuer,
+pub fn look_up(
+    issuer: &Issuer,
     line: &[u8],
     data: &mut [u8; MAX_CHIP_BYTES],
-) -> Result<Checked, Refusal>
-    ensures asked { result_map_both asked_of (λ refusal. refusal) result ≡ reading issuer.old line.now }
-    ensures at_hand { IfOk result (IsAtHand issuer.old) }
-    ensures same { issuer.new ≡ issuer.old }
+) -> Result<Sought, Refusal>
+    ensures sought { IfOk result (IsSought issuer.now line.now) }
+    ensures refused { IfErr result (λ refusal. (reading issuer.now line.now ≡ Err refusal) × (refusal ≢ BadCryptogram)) }
 {
     match read_line_into(line, data).map_err(Refusal::BadLine)? {
-        LineForm::Ask { count } => check_data_in(issuer, &data[..count]),
-        LineForm::Queue { pan, psn, count } => check_command(issuer, pan, psn, &data[..count]),
-        LineForm::Set { pan, psn, status } => check_status(issuer, pan, psn, status),
+        LineForm::Ask { count } => {
+            let sought = look_up_data(issuer, &data[..count])?;
+            Ok(Sought::Request(sought))
+        }
+        LineForm::Queue { pan, psn, count } => {
+            let found = check_command(issuer, pan, psn, &data[..count])?;
+            Ok(Sought::Order(found))
+        }
+        LineForm::Set { pan, psn, status } => {
+            let found = check_status(issuer, pan, psn, status)?;
+            Ok(Sought::Order(found))
+        }
     }
 }
