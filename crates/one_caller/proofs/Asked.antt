@@ -229,10 +229,15 @@ said-read issuer (Ok (Ask bytes)) = data-read issuer (request_of bytes.items)
 said-read issuer (Ok (IsQueue pan psn bytes)) = command-read (named pan psn) (number_of (named pan psn) issuer.cards) (command_of bytes.items)
 said-read issuer (Ok (IsSet pan psn status)) = status-read (named pan psn) (number_of (named pan psn) issuer.cards) status
 
+-- no request is refused for a fault of a store as it is checked
+pub checked-no_store : (issuer : Setup) (request : Request) → checked issuer request ≡ Err StoreFault → ⊥
+checked-no_store issuer request read =
+    true≢false (sym (ap is_at_turn read) ∙ card-read issuer (number_of (card_of request) issuer.cards) request)
+
 -- no line is refused for a fault of a store as it is read
 pub asks-no_store : (issuer : Setup) (line : List ℕ) → reading issuer line ≡ Err StoreFault → ⊥
 asks-no_store issuer line read = true≢false (sym (ap is_at_turn read) ∙ said-read issuer (line_of line))
 
--- nor for a counter that is pending
+-- nor for an ATC that is pending
 pub asks-no_pending : (issuer : Setup) (line : List ℕ) → reading issuer line ≡ Err Pending → ⊥
 asks-no_pending issuer line read = true≢false (sym (ap is_at_turn read) ∙ said-read issuer (line_of line))

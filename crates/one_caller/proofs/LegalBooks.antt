@@ -37,7 +37,7 @@ pub adds-goes_on : (issuer : Setup) (shard : ℕ) (before after : List Entry) �
 adds-goes_on issuer shard before after (inl same) = ([], same ∙ sym (append-nil before))
 adds-goes_on issuer shard before after (inr (entry, after_is, legal)) = (entry ∷ [], after_is)
 
--- each record stays at its place, and the records before it are the same
+-- each record keeps its index, and the records before it are the same
 pub goes-stays : (first last : List Entry) → GoesOn first last → (place : ℕ) (entry : Entry) → slice_get first place ≡ Some entry
     → slice_get last place ≡ Some entry
 goes-stays first last on place entry is =
@@ -51,7 +51,7 @@ goes-alone : (first last : List Entry) → GoesOn first last → (place : ℕ) (
 goes-alone first last on place entry within is =
     read-alone first on.0 place entry within (subst (λ (last : List Entry). slice_get last place ≡ Some entry) on.1 is)
 
--- the entry at a place is a record
+-- the entry with an index is a record
 pub recorded-at : (history : List Entry) → All IsRecord history → (place : ℕ) (entry : Entry) → slice_get history place ≡ Some entry → IsRecord entry
 recorded-at history all place entry is =
     subst IsRecord (get_or_from_slice_get history place entry entry is) (all place entry (slice_get_within history place entry is))
@@ -104,9 +104,9 @@ module _ (issuer : Setup) (shard : ℕ) where
         ];
   }
 
--- ---- what is sure of legal histories
+-- ---- what holds of legal histories
 
--- the record at a place of a shard is one of its book's
+-- the record with an index of a shard is one of its book's
 pub record-in_book : (books : List Book) (shard place : ℕ) (entry : Entry) → record_at (histories_of books) shard place ≡ Some entry
     → (book : Book) × (slice_get books shard ≡ Some book) × (slice_get book.history place ≡ Some entry)
 record-in_book [] shard place entry is = absurd (cc)
@@ -132,7 +132,7 @@ earlier-taken history place later entry below is =
     (subst (λ (history : List Entry). slice_get history place ≡ Some entry) (sym (take-append-drop later history)) is)
 
 module _ (issuer : Setup) (shard : ℕ) (history : List Entry) (legal : IsLegalHistory (grounds_of issuer) shard history) where
-  -- a later decision isn't on the counter of an earlier one of its card
+  -- a later decision isn't on the ATC of an earlier one of its card
   later-apart : (place later : ℕ) (request other : Request) (reply other_reply : Reply) → place < later
       → slice_get history place ≡ Some (Decided request reply) → slice_get history later ≡ Some (Decided other other_reply)
       → card_of request ≡ card_of other → request.atc ≡ other.atc → ⊥
@@ -161,7 +161,7 @@ one-home issuer shard other name home other_home =
     let same : home.number ≡ other_home.number = same_Some home.number other_home.number (sym home.number_is ∙ other_home.number_is) in
     sym home.home ∙ ap (λ number. number % issuer.shards) same ∙ other_home.home
 
--- in legal histories each counter of a card is decided once
+-- in legal histories each ATC of a card is decided once
 pub legal-once : (issuer : Setup) (books : List Book) → AreLegalBooks issuer books → IsOncePerCounter (histories_of books)
 legal-once issuer books legal shard other_shard place other_place request other reply other_reply is other_is card counter =
     let one = record-in_book books shard place (Decided request reply) is in
@@ -186,7 +186,7 @@ module _ (before after : List Book) (long : length after ≡ length before)
       let now = read-within after shard (omega arith) in
       record-of_book after shard place entry now.0 now.1 (goes-stays was.0.history now.0.history (on shard was.0 now.0 was.1 now.1) place entry was.2)
 
-  -- an answer stays that of its record where the histories go on
+  -- an answer stays that of its record if the histories are extended
   pub recorded-stays : (request : Request) (answer : Answer) → IsOfItsRecord (histories_of before) request answer
       → IsOfItsRecord (histories_of after) request answer
   recorded-stays request (Fresh shard place reply) recorded = record-stays shard place (Decided request reply) recorded
@@ -195,7 +195,7 @@ module _ (before after : List Book) (long : length after ≡ length before)
   recorded-stays request (Set shard place) recorded = tt
   recorded-stays request (Refused refusal) recorded = tt
 
--- a reply that is that of its record stands in a decided record of the request
+-- a reply that is that of its record is in a decided record of the request
 reply-recorded : (histories : List (List Entry)) (request : Request) (answer : Answer) (reply : Reply) → IsOfItsRecord histories request answer
     → reply_in answer ≡ Some reply → (shard : ℕ) × (place : ℕ) × (record_at histories shard place ≡ Some (Decided request reply))
 reply-recorded histories request (Fresh shard place given) reply recorded is =

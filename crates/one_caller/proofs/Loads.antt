@@ -24,13 +24,13 @@ use Rattle.one_caller.proofs.Places.{read-within, read-front, read-behind, read-
 
 -- ---- stores that come back
 
--- a text with no tail behind it
+-- a text with no tail after it
 cut-text : (bytes : Option (List ℕ)) (text : List ℕ) → IfSome bytes (IsImage text []) → Tells bytes text
 cut-text None text image = tt
 cut-text (Some told) text (zero, is) = is ∙ append-nil text
 cut-text (Some told) text (suc kept, is) = is ∙ append-nil text
 
--- what stands in a list with one more at its end
+-- what is in a list with one more at its end
 push-cases : {X : Type 0} (xs : List X) (x : X) (place : ℕ) (y : X) → slice_get (xs ++ x ∷ []) place ≡ Some y
     → (slice_get xs place ≡ Some y) ⊎ ((place ≡ length xs) × (x ≡ y))
 push-cases [] x zero y is = inr (refl, let e : Some x ≡ Some y = is in cc)
@@ -42,7 +42,7 @@ push-cases (z ∷ xs) x (suc place) y is =
       | inr last ↦ inr (ap suc last.0, last.1)
     ]
 
--- behind the place that differs two lists are alike
+-- after the index that differs two lists are the same
 behind-alike : {X : Type 0} (xs ys : List X) (x y : X) (more : List X) (place : ℕ) → length ys ≡ length xs → length xs < place
     → slice_get (ys ++ y ∷ more) place ≡ slice_get (xs ++ x ∷ more) place
 behind-alike [] [] x y more zero same past = absurd (omega arith)
@@ -70,7 +70,7 @@ module _ {S : Type 0} {G : Ghosts S} (issuer : Setup) where
     counts = from.counts;
   }
 
-  -- the shards that were loaded are those of the first stores, and these stores are ahead
+  -- the shards that were loaded are those of the first stores, and these stores are left
   pub record IsLoading (stores : List S) (shards : List (Shard S G)) (ahead : List S) : Type 0 where
     pub first : List S
     pub stores_are : stores ≡ first ++ ahead
@@ -187,13 +187,13 @@ none-loaded {S} G issuer stores some = record {
   behind = λ number past. refl;
 }
 
--- the store that was taken from behind is the next one ahead
+-- the store that was taken from the end is the next one
 pub next-ahead : {S : Type 0} (ahead left : List S) (taken : Option S) (store : S) → ahead ≡ left ++ option_to_list taken → taken ≡ Some store
     → reverse ahead ≡ store ∷ reverse left
 next-ahead {S} ahead left taken store parts is =
     ap reverse (parts ∙ ap (λ (taken : Option S). left ++ option_to_list taken) is) ∙ reverse-append left (store ∷ [])
 
--- no store is ahead once there is a shard for each
+-- no store is left once there is a shard for each
 pub none-ahead : {S : Type 0} {G : Ghosts S} (issuer : Setup) (stores : List S) (shards : List (Shard S G)) (ahead : List S)
     → IsLoading issuer stores shards ahead → length stores ≤ length shards → ahead ≡ []
 none-ahead issuer stores shards [] loading all = refl

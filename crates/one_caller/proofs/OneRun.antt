@@ -22,9 +22,9 @@ use Rattle.one_caller.proofs.Running.{HistoriesGoOn, run-on}
 use Rattle.one_caller.proofs.TurnSteps.{turn-adds, turn-failed, turn-recorded}
 use Rattle.one_caller.proofs.LegalBooks.{recorded-at, goes-stays, legally-none, legally-one, legally-then, legal-once, recorded-stays, one-reply}
 
--- ---- books that go on
+-- ---- books that are extended
 
--- the books go on legally, and there are as many as before
+-- the books are extended by valid successors, and there are as many as before
 pub record BooksGoOn (issuer : Setup) (first last : List Book) : Type 0 where
   pub count_is : length last ≡ length first
   pub on : GoOnLegally issuer first last

@@ -27,7 +27,7 @@ use Rattle.one_caller.specs.Runs.{LeaveBetween}
 use Rattle.one_caller.specs.Turns.{AnswersIn}
 use Rattle.one_caller.proofs.Places.{read-written, read-other, read-within}
 
--- a history goes on with nothing
+-- a history extends itself
 pub goes-on_same : (first last : List Entry) → last ≡ first → GoesOn first last
 goes-on_same first last same = ([], same ∙ sym (append-nil first))
 

@@ -10,13 +10,13 @@ module _ {X : Type 0} where
   read-written (x ∷ xs) zero new within = refl
   read-written (x ∷ xs) (suc place) new within = read-written xs place new (omega arith)
 
-  -- a place written with what stood there
+  -- an element written with what it was
   pub write-same : (xs : List X) (place : ℕ) (old new : X) → slice_get xs place ≡ Some old → new ≡ old → set xs place new ≡ xs
   write-same [] place old new is same = refl
   write-same (x ∷ xs) zero old new is same = let here : x ≡ old = (let e : Some x ≡ Some old = is in cc) in ap (λ (y : X). y ∷ xs) (same ∙ sym here)
   write-same (x ∷ xs) (suc place) old new is same = ap (λ (ys : List X). x ∷ ys) (write-same xs place old new is same)
 
-  -- and each other place as it was
+  -- and each other element as it was
   pub read-other : (xs : List X) (place : ℕ) (new : X) (other : ℕ) → other ≢ place → slice_get (set xs place new) other ≡ slice_get xs other
   read-other [] place new other apart = refl
   read-other (x ∷ xs) zero new zero apart = absurd (apart refl)
@@ -24,25 +24,25 @@ module _ {X : Type 0} where
   read-other (x ∷ xs) (suc place) new zero apart = refl
   read-other (x ∷ xs) (suc place) new (suc other) apart = read-other xs place new other (λ same. apart (ap suc same))
 
-  -- a place within a list has something
+  -- an index within a list has an element
   pub read-within : (xs : List X) (place : ℕ) → place < length xs → (x : X) × (slice_get xs place ≡ Some x)
   read-within [] place within = absurd (omega arith)
   read-within (x ∷ xs) zero within = (x, refl)
   read-within (x ∷ xs) (suc place) within = read-within xs place (omega arith)
 
-  -- what stands in a list stands there with more behind it
+  -- an element of a list is one with more after it
   pub read-front : (xs more : List X) (place : ℕ) (x : X) → slice_get xs place ≡ Some x → slice_get (xs ++ more) place ≡ Some x
   read-front [] more place x is = absurd (cc)
   read-front (y ∷ xs) more zero x is = is
   read-front (y ∷ xs) more (suc place) x is = read-front xs more place x is
 
-  -- and what stands in front of others stands there alone
+  -- and one before others is one without them
   pub read-alone : (xs more : List X) (place : ℕ) (x : X) → place < length xs → slice_get (xs ++ more) place ≡ Some x → slice_get xs place ≡ Some x
   read-alone [] more place x within is = absurd (omega arith)
   read-alone (y ∷ xs) more zero x within is = is
   read-alone (y ∷ xs) more (suc place) x within is = read-alone xs more place x (omega arith) is
 
-  -- what stands behind the first ones
+  -- what is after the first ones
   pub read-behind : (xs more : List X) (place : ℕ) → slice_get (xs ++ more) (length xs + place) ≡ slice_get more place
   read-behind [] more place = ap (slice_get more) (omega arith)
   read-behind (y ∷ xs) more place = let at : length (y ∷ xs) + place ≡ suc (length xs + place) = omega arith in

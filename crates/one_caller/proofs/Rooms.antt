@@ -7,12 +7,13 @@ use Rattle.std.specs.List.{slice_get}
 use Rattle.issuer_base.specs.Stores.{HasRoom}
 use Rattle.issuer_base.specs.declared.outside.store.Store.{Ghosts}
 use Rattle.issuer_base.specs.declared.answer.Answer.TheVariants.{Refused}
+use Rattle.issuer_base.specs.declared.request.Request.{Request}
 use Rattle.issuer_base.specs.declared.answer.Refusal.{Refusal}
 use Rattle.issuer_base.specs.declared.answer.Refusal.TheVariants.{BadLine, BadTlv, Missing, BadField, Repeated, UnknownCard, NotArqc, UnknownKey}
 use Rattle.issuer_base.specs.declared.answer.Refusal.TheVariants.{BadCryptogram, Below, Taken, Pending, QueueFull, BadCommand, StoreFault}
 use Rattle.card_history.specs.declared.decision.Asked.{Asked}
 use Rattle.issuer_setup.specs.IssuerSetup.{Setup}
-use Rattle.line_checks.specs.Reading.{reading}
+use Rattle.line_checks.specs.Reading.{checked, reading}
 use Rattle.shard_book.specs.declared.shard.Shard.{Shard}
 use Rattle.shard_book.specs.Answering.{is_store_fault}
 use Rattle.shard_book.specs.Room.{Spares, UsesRoom}
@@ -20,7 +21,7 @@ use Rattle.shard_book.specs.Shards.{store_in}
 use Rattle.shard_book.proofs.Rooms.{room-less}
 use Rattle.one_caller.specs.Loading.{AreLoaded}
 use Rattle.one_caller.specs.Room.{added_at, HaveRoom, StoresHaveRoom}
-use Rattle.one_caller.proofs.Asked.{asks-no_store}
+use Rattle.one_caller.proofs.Asked.{asks-no_store, checked-no_store}
 use Rattle.one_caller.proofs.Loads.{IsLoading}
 use Rattle.one_caller.proofs.Places.{read-behind, read-other, read-within, read-written}
 
@@ -81,7 +82,7 @@ module _ {S : Type 0} {G : Ghosts S} where
       let first = loading.first in
       have.each (length first + 0) store (ap (λ (all : List S). slice_get all (length first + 0)) loading.stores_are ∙ read-behind first (store ∷ ahead) 0)
 
--- a refusal that isn't for a store's fault tells of none
+-- a refusal that isn't for a store's fault reports none
 no-fault : (refusal : Refusal) → (refusal ≡ StoreFault → ⊥) → is_store_fault (Refused refusal) ≡ false
 no-fault (BadLine column) apart = refl
 no-fault (BadTlv place) apart = refl
@@ -99,7 +100,14 @@ no-fault QueueFull apart = refl
 no-fault BadCommand apart = refl
 no-fault StoreFault apart = absurd (apart refl)
 
--- a line that is refused as it is read tells of no fault
+-- a line that is refused by its checks reports no fault
 pub read-no_fault : (issuer : Setup) (line : List ℕ) (refusal : Refusal) → Err refusal ≡ reading issuer line → is_store_fault (Refused refusal) ≡ false
 read-no_fault issuer line refusal read =
     no-fault refusal (λ same. asks-no_store issuer line (sym read ∙ ap (λ (refusal : Refusal). let says : Result Asked Refusal = Err refusal in says) same))
+
+-- nor does a request that its check refuses
+pub checked-no_fault : (issuer : Setup) (request : Request) (refusal : Refusal) → Err refusal ≡ checked issuer request
+    → is_store_fault (Refused refusal) ≡ false
+checked-no_fault issuer request refusal read =
+    no-fault refusal
+    (λ same. checked-no_store issuer request (sym read ∙ ap (λ (refusal : Refusal). let says : Result Asked Refusal = Err refusal in says) same))

@@ -40,8 +40,8 @@ use Rattle.one_caller.proofs.OneShard.{leave-uncalled}
 
 -- ---- the books of shards that were loaded
 
--- the book is that of a store before its shard was loaded: its bytes are the text of the book's history and a rest, the history is legal,
--- and no answer told a fault
+-- the book is that of a store before its shard was loaded: its bytes are the text of the book's history and a torn last line,
+-- the history is legal, and no answer reported a fault
 pub record IsBookOf {S : Type 0} (bytes : S → Option (List ℕ)) (faults : S → ℕ) (issuer : Setup) (number : ℕ) (store : S) (book : Book) : Type 0 where
   pub rest : List ℕ
   pub text_is : Tells (bytes store) (texts_of book.history ++ rest)
@@ -131,7 +131,7 @@ begins-legal issuer stores shards loaded begins number book book_is =
 
 -- ---- one more line
 
--- a run goes on by a turn at its end
+-- a run is extended by a turn at its end
 run-more : (issuer : Setup) (first : List Book) (lines : List (List ℕ)) (answers : List Answer) (between : List Book) (line : List ℕ) (answer : Answer)
     (after : List Book) → Run issuer first lines answers between → Turn issuer between (reading issuer line) answer after
     → Run issuer first (lines ++ line ∷ []) (answers ++ answer ∷ []) after
@@ -142,7 +142,7 @@ run-more issuer first (other ∷ lines) [] between line answer after so_far turn
 run-more issuer first (other ∷ lines) (given ∷ answers) between line answer after so_far turn =
     (so_far.0, so_far.1, run-more issuer so_far.0 lines answers between line answer after so_far.2 turn)
 
--- over a run each history goes on, and there are as many books as before
+-- over a run each history is extended, and there are as many books as before
 pub record HistoriesGoOn (first last : List Book) : Type 0 where
   pub count_is : length last ≡ length first
   pub on : (number : ℕ) (was is : Book) → slice_get first number ≡ Some was → slice_get last number ≡ Some is → GoesOn was.history is.history
@@ -223,7 +223,7 @@ module _ {S : Type 0} {G : Ghosts S} (issuer : Setup) (loaded : List (Shard S G)
 
 -- ---- the journals
 
--- where a text is safe a crash leaves it, and a front of what may stand behind it
+-- a crash leaves a durable text, and a prefix of what may be after it
 safe-left : (text tail : List ℕ) (disk : Option Disk) → IfSome disk (λ disk. HasSafeText text tail disk.now)
     → IfSome disk (λ disk. (image : List ℕ) → MayLeave disk.now image → IsImage text tail image)
 safe-left text tail None safe = tt

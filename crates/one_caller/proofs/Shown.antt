@@ -15,7 +15,7 @@ use Rattle.one_caller.specs.Books.{Book}
 use Rattle.one_caller.specs.Hosts.{AreShards, Stand}
 use Rattle.one_caller.proofs.OneShard.{card-at_home}
 
--- a card's name tells its number
+-- a card's name determines its number
 pub number-known : (cards : List CardInfo) (number : ℕ) (card : CardInfo) → AreCards cards → slice_get cards number ≡ Some card
     → number_of (name_of card) cards ≡ Some number
 number-known cards number card valid is =

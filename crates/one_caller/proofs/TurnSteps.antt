@@ -33,7 +33,7 @@ use Rattle.one_caller.specs.Turns.{AnswersIn, Turn}
 use Rattle.one_caller.proofs.Asked.{AsksRequest, AsksCommand, AsksStatus, asks-request, asks-command, asks-status, asks-no_store}
 use Rattle.one_caller.proofs.Places.{read-written, read-other, read-map}
 
--- the history is as it was, or has one record more, which may come next by the issuer's own decision
+-- the history is as it was, or has one record more, a valid successor by the issuer's own decision
 abbrev pub AddsAtMostOne : Setup → ℕ → List Entry → List Entry → Type 0
 AddsAtMostOne issuer shard before after =
     (after ≡ before) ⊎ ((entry : Entry) × (after ≡ before ++ entry ∷ []) × IsLegal (grounds_now issuer) shard before entry)
@@ -94,7 +94,7 @@ module _ (issuer : Setup) (before : List Book) (name : CardName) (answer : Answe
   home : ℕ
   home = shard_of issuer name
 
-  -- the new book stands in the shard of the card
+  -- the new book is that of the card's shard
   book-there : slice_get after home ≡ Some answers.new
   unfolding home
   book-there =
@@ -136,7 +136,7 @@ module _ (issuer : Setup) (before : List Book) (name : CardName) (answer : Answe
         ];
   }
 
-  -- where the answer tells that a store failed, that of the shard did
+  -- if the answer reports that a store failed, that of the shard did
   pub in_shard-failed : answer ≡ Refused StoreFault → HasFailed before after
   unfolding home
   in_shard-failed told = record {
@@ -170,7 +170,7 @@ module _ (issuer : Setup) (before : List Book) (line : List ℕ) (answer : Answe
       (setting-adds issuer turn.old.history (named pan psn) status answer turn.new.history (asks-status issuer line pan psn status read) turn.changes)
   turn-adds (Err refusal) read turn = same-adds issuer before after turn.1
 
-  -- an answer that tells that a store failed is right
+  -- an answer that reports that a store failed is right
   pub turn-failed : (says : Result Asked Refusal) → reading issuer line ≡ says → Turn issuer before says answer after → answer ≡ Refused StoreFault
       → HasFailed before after
   turn-failed (Ok (Decide request)) read turn told = in_shard-failed issuer before (card_of request) answer _ after turn told
@@ -182,7 +182,7 @@ module _ (issuer : Setup) (before : List Book) (line : List ℕ) (answer : Answe
 
 -- ---- the reply of a record
 
--- a record of the shard's history is at its place of the shard
+-- a record of the shard's history has its index there
 placed : (histories : List (List Entry)) (home : ℕ) (history : List Entry) (shard place : ℕ) (entry : Entry) → slice_index_or histories home [] ≡ history
     → shard ≡ home → slice_get history place ≡ Some entry → record_at histories shard place ≡ Some entry
 placed histories home history shard place entry here shard_is is =

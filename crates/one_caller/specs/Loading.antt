@@ -16,7 +16,7 @@ use Rattle.shard_book.specs.Grounds.{grounds_of}
 use Rattle.shard_book.specs.Loads.{IsLoadedFrom, IsNotLoaded}
 
 module _ {S : Type 0} {G : Ghosts S} where
-  -- each shard was loaded from the store at its place
+  -- each shard was loaded from the store with its index
   pub record AreLoaded (issuer : Setup) (stores : List S) (shards : List (Shard S G)) : Type 0 where
     pub count_is : length shards ≡ length stores
     pub each : (number : ℕ) (store : S) (shard : Shard S G)

@@ -6,6 +6,7 @@ ghost use Rattle.issuer_setup.specs.CardList.{name_of, number_of};
 ghost use Rattle.issuer_setup.specs.IssuerSetup.{shard_of};
 ghost use Rattle.issuer_setup.specs.declared.card.CardInfo.{CardInfo};
 ghost use Rattle.line_checks.specs.AtHand.{IsRequestAtHand, IsOrderAtHand, order_asked};
+ghost use Rattle.line_checks.specs.LookedUp.{HasKeysAtHand};
 ghost use Rattle.line_checks.specs.Reading.{checked, reading};
 ghost use Rattle.shard_book.specs.Answering.{tells_change};
 ghost use Rattle.shard_book.specs.Loading.{is_store_failure};
@@ -22,7 +23,7 @@ use crate::loading::{HostBack, Lists, load_all, take_lists, take_stores};
 use card_history::CardView;
 use issuer_base::{Answer, MAX_CHIP_BYTES, Store};
 use issuer_setup::Issuer;
-use line_checks::{Checked, CheckedOrder, CheckedRequest, check_line_in};
+use line_checks::{CheckedOrder, CheckedRequest, Sought, SoughtRequest, look_up};
 use shard_book::{LoadFault, Shard};
 use std::alloc::Global;
 
@@ -102,9 +103,9 @@ impl<S: Store> Solo<S> {
             → LeaveBetween self.old.issuer books books self.old.shards.items self.new.shards.items }
         ensures issuer { self.new.issuer ≡ self.old.issuer }
     {
-        match check_line_in(&mut self.issuer, line, &mut self.data) {
-            Ok(Checked::Decide(found)) => self.decide(&found),
-            Ok(Checked::Order(found)) => self.order(&found),
+        match look_up(&self.issuer, line, &mut self.data) {
+            Ok(Sought::Request(sought)) => self.check(sought),
+            Ok(Sought::Order(found)) => self.order(&found),
             Err(refusal) => Answer::Refused(refusal),
         }
     }
@@ -153,6 +154,28 @@ impl<S: Store> Solo<S> {
             → result ≡ shard_of self.now.issuer name }
     {
         usize::from(self.issuer.shard_of(card))
+    }
+
+    /// The answer to a request that was looked up. The card's key for cryptograms is cached before its use, whether the
+    /// cryptogram is right or not.
+    #[inline(always)]
+    fn check(&mut self, sought: SoughtRequest) -> Answer
+        requires { HasKeysAtHand self.old.issuer sought }
+        ensures turn { (books : List Book) → Stand self.old.issuer self.old.shards.items books
+            → (after : List Book) × Stand self.new.issuer self.new.shards.items after
+            × Turn self.old.issuer books (checked self.old.issuer sought.request) result after }
+        ensures room { AnswersWithin self.old.issuer (checked self.old.issuer sought.request) result
+            self.old.shards.items self.new.shards.items }
+        ensures crash { (books : List Book) → Stand self.old.issuer self.old.shards.items books
+            → LeaveBetween self.old.issuer books books self.old.shards.items self.new.shards.items }
+        ensures unchanged { tells_change result ≡ false → self.new.shards.items ≡ self.old.shards.items }
+        ensures issuer { self.new.issuer ≡ self.old.issuer }
+    {
+        self.issuer.keep(sought.slot);
+        match sought.check(&self.issuer) {
+            Ok(found) => self.decide(&found),
+            Err(refusal) => Answer::Refused(refusal),
+        }
     }
 
     /// The answer to a checked request, in the shard of its card.

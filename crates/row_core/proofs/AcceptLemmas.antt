@@ -1,4 +1,4 @@
--- What a row answers of a recorded reply is whether it may follow each history that the row stands for.
+-- A row accepts a recorded decision exactly if it is a valid successor of each history that the row stands for.
 use Rattle.std.proofs.Common.{◌≡◌, ◌↔◌, Bool, List, IsTrue, sym, subst}
 use Rattle.issuer_base.specs.declared.answer.Method.{Method}
 use Rattle.issuer_base.specs.declared.answer.Reply.{Reply}
@@ -12,10 +12,10 @@ use Rattle.card_history.specs.Turns.{IsUnused}
 use Rattle.issuer_setup.specs.declared.card.CardInfo.{CardInfo}
 use Rattle.issuer_setup.specs.CardList.{name_of}
 use Rattle.row_core.specs.CardRow.{CardRow, KeepsScripts, KeepsWindow, StandsFor}
-use Rattle.row_core.specs.Accepting.{IsMade, MayFollow}
+use Rattle.row_core.specs.Accepting.{IsMade, IsValidSuccessor}
 use Rattle.row_core.proofs.RowLemmas.{keeps-scripts}
 
--- on an unused counter a reply may follow exactly where the row's scripts say that it is made
+-- a decision on an unused ATC is a valid successor exactly if the issuer makes its reply with the row's scripts
 pub follows-made : (card : CardInfo) (row : CardRow) (keys : CardKeys) (history : List Entry) (request : Request) (reply : Reply)
     (unused made : Bool)
     → ((decisions : List Decision) → row.hi ≡ greatest decisions → KeepsWindow row.slots decisions
@@ -24,7 +24,7 @@ pub follows-made : (card : CardInfo) (row : CardRow) (keys : CardKeys) (history 
     → IsTrue unused
     → StandsFor card row history
     → card_of request ≡ name_of card
-    → (IsTrue made ↔ MayFollow card.method keys history request reply)
+    → (IsTrue made ↔ IsValidSuccessor card.method keys history request reply)
 follows-made card row keys history request reply unused made says_unused says_made free stands named =
     let is_unused : IsUnused (decided (card_of request) history) request =
     subst (λ (name : CardName). IsUnused (decided name history) request) (sym named)

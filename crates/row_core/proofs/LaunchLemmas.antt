@@ -36,7 +36,7 @@ settled_by-told (Ran count) scripts = record { queue_is = refl; done_is = refl; 
 settled_by-told Nothing scripts = record { queue_is = refl; done_is = sym (add-zero scripts.done); halted_is = refl }
 settled_by-told Halt scripts = record { queue_is = refl; done_is = sym (add-zero scripts.done); halted_is = refl }
 
--- the launch carries the longest front that fits of what is undone after so many
+-- the launch carries the longest prefix that fits of what is undone after so many
 pub record CarriesFitting (commands : List Command) (launch : Launch) : Type 0 where
   pub within : launch.ran + launch.size ≤ length commands
   pub front : take launch.size (drop launch.ran commands) ≡ fitting_front (drop launch.ran commands)
@@ -72,11 +72,11 @@ module _ (counter : ℕ) (scripts after : Scripts) (launch : Launch)
       (settles.halted_is ∙ carries.flies)
       ∙ (λ i. take (size_is i) (undone_is i))
 
--- what the register and the count of a request tell of what is kept
+-- what the register and the count of a request report of the scripts
 abbrev pub told_by : Request → KeptScripts → ℕ × Bool
 told_by request kept = told (settled kept.flight (last_online request) (script_count request)) kept.halted
 
--- what is told of the flight, and the longest front that fits, make a launch
+-- the settlement of the batch in flight, and the longest prefix that fits, make a launch
 pub is-launch : (kept : KeptScripts) (request : Request) (launch : Launch)
     → launch.ran ≡ (told_by request kept).0
     → launch.halted ≡ (told_by request kept).1

@@ -13,7 +13,7 @@ use Rattle.issuer_setup.specs.declared.card.CardInfo.{CardInfo}
 use Rattle.issuer_setup.specs.CardList.{name_of}
 use Rattle.row_core.specs.CardRow.{CardRow, KeepsWindow, kept_of, StandsFor}
 
--- what two histories say alike of a card
+-- two histories have the same decisions, status and scripts of a card
 record SaysTheSame (card : CardName) (history longer : List Entry) : Type 0 where
   decisions : decided card longer ≡ decided card history
   status : status_of card longer ≡ status_of card history
@@ -40,7 +40,7 @@ other-says_the_same card history (Status pan psn status) other =
       scripts = scripts-status card history pan psn status;
     }
 
--- so a row goes on standing for the card
+-- so a row stands for the longer history too
 pub stands-other : (card : CardInfo) (row : CardRow) (history : List Entry) (entry : Entry) → name_of card ≢ card_in entry
     → StandsFor card row history → StandsFor card row (history ++ entry ∷ [])
 stands-other card row history entry other stands =

@@ -33,7 +33,7 @@ planned-next row keys table request reply launch card history planned stands nam
       unused = subst (λ (name : CardName). IsUnused (decided name history) request) named answered.0;
     }
 
--- what is decided of a request on an unused counter is one turn's answer to it
+-- what is decided of a request on an unused ATC is one turn's answer to it
 pub plans-fresh : (row : CardRow) (keys : CardKeys) (table : List TableRow) (request : Request) (reply : Reply) (launch : Option Launch)
     → ((decisions : List Decision) → row.hi ≡ greatest decisions → KeepsWindow row.slots decisions → IsUnused decisions request)
     → ((scripts : Scripts) → KeepsScripts row scripts

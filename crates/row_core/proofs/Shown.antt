@@ -1,4 +1,4 @@
--- What is shown of a card's row is what the card's history says.
+-- A card's row shows what the card's history does.
 use Rattle.std.proofs.Common.{◌≡◌, ℕ, Bool, List, length, Option, ◌∙◌, ap}
 use Rattle.issuer_base.specs.declared.entry.Entry.{Entry}
 use Rattle.card_history.specs.declared.card_view.CardView.{CardView}
@@ -28,7 +28,7 @@ view-alike card history hi status queued done flight halted hi_is status_is queu
     ∙ ap (λ flight. view-by (greatest (decided card history)) (status_of card history) (length scripts.queue) scripts.done flight halted) flight_is
     ∙ ap (λ halted. view-by (greatest (decided card history)) (status_of card history) (length scripts.queue) scripts.done scripts.flight halted) halted_is
 
--- a row that stands for the history shows what the history says
+-- a row that stands for the history shows what the history does
 pub row_view : (card : CardInfo) (row : CardRow) (history : List Entry) → StandsFor card row history
     → view-by row.hi row.status row.scripts.commands.queued row.scripts.done row.scripts.flight row.scripts.halted
     ≡ card_shown (name_of card) history

@@ -23,18 +23,18 @@ window-empty = record {
   decided = λ slot decision here. absurd (cc (in_slot-none_kept slot));
 }
 
--- two counters of one window have slots of their own
-slots_apart : (top counter other : ℕ)
-    → counter ≤ top → other ≤ top
-    → (counter + WINDOW ≤ top → ⊥) → (other + WINDOW ≤ top → ⊥)
+-- two ATCs of one window have slots of their own
+slots_apart : (greatest_atc counter other : ℕ)
+    → counter ≤ greatest_atc → other ≤ greatest_atc
+    → (counter + WINDOW ≤ greatest_atc → ⊥) → (other + WINDOW ≤ greatest_atc → ⊥)
     → counter ≢ other → slot_of counter ≢ slot_of other
-slots_apart top counter other under other_under in_window other_in_window apart same = apart (omega arith)
+slots_apart greatest_atc counter other under other_under in_window other_in_window apart same = apart (omega arith)
 
-cases_top : (so_far : Option ℕ) → (so_far ≡ None) ⊎ ((top : ℕ) × (so_far ≡ Some top))
-cases_top None = inl refl
-cases_top (Some top) = inr (top, refl)
+cases_greatest : (so_far : Option ℕ) → (so_far ≡ None) ⊎ ((greatest_atc : ℕ) × (so_far ≡ Some greatest_atc))
+cases_greatest None = inl refl
+cases_greatest (Some greatest_atc) = inr (greatest_atc, refl)
 
--- a decision that is still in the window after one on an unused counter was in it before, and has another slot
+-- a decision that is still in the window after one on an unused ATC was in it before, and has another slot
 record StaysInWindow (decisions : List Decision) (decision other : Decision) : Type 0 where
   in_window : IsBelow (greatest decisions) other.request.atc → ⊥
   apart : slot_of other.request.atc ≢ slot_of decision.request.atc
@@ -45,32 +45,32 @@ stays : (decisions : List Decision) (decision other : Decision)
     → (IsBelow (greatest (decisions ++ decision ∷ [])) other.request.atc → ⊥)
     → StaysInWindow decisions decision other
 stays decisions decision other unused within late =
-    elim (cases_top (greatest decisions)) [
+    elim (cases_greatest (greatest decisions)) [
       | inl none ↦
           let nowhere : Contains [] other = subst (λ (decisions : List Decision). Contains decisions other) (greatest-none decisions none) within in
           let below : nowhere.0 < 0 = nowhere.1 in
           absurd (omega arith)
-      | inr (top, is) ↦
+      | inr (greatest_atc, is) ↦
           let counter = decision.request.atc in
-          let raised : greatest (decisions ++ decision ∷ []) ≡ Some (max top counter) =
-          greatest-more decisions decision ∙ ap (λ so_far. Some (option_map_or (λ top. max top counter) so_far counter)) is in
-          let in_new : other.request.atc + WINDOW ≤ max top counter → ⊥ =
+          let raised : greatest (decisions ++ decision ∷ []) ≡ Some (max greatest_atc counter) =
+          greatest-more decisions decision ∙ ap (λ so_far. Some (option_map_or (λ greatest_atc. max greatest_atc counter) so_far counter)) is in
+          let in_new : other.request.atc + WINDOW ≤ max greatest_atc counter → ⊥ =
           λ below. late (subst (λ (so_far : Option ℕ). IsBelow so_far other.request.atc) (sym raised) below) in
-          let in_old : counter + WINDOW ≤ top → ⊥ =
+          let in_old : counter + WINDOW ≤ greatest_atc → ⊥ =
           λ below. unused.in_window (subst (λ (so_far : Option ℕ). IsBelow so_far counter) (sym is) below) in
-          let under : other.request.atc ≤ top =
-          All-contains (λ decision. decision.request.atc ≤ top) decisions other (greatest-above decisions top is) within in
+          let under : other.request.atc ≤ greatest_atc =
+          All-contains (λ decision. decision.request.atc ≤ greatest_atc) decisions other (greatest-above decisions greatest_atc is) within in
           let differ : other.request.atc ≢ counter =
           All-contains (λ decision. decision.request.atc ≢ counter) decisions other unused.unrecorded within in
           record {
             in_window = λ below.
-                let far : other.request.atc + WINDOW ≤ top = subst (λ (so_far : Option ℕ). IsBelow so_far other.request.atc) is below in
+                let far : other.request.atc + WINDOW ≤ greatest_atc = subst (λ (so_far : Option ℕ). IsBelow so_far other.request.atc) is below in
                 in_new (omega arith);
-            apart = slots_apart (max top counter) other.request.atc counter (omega arith) (omega arith) in_new (λ below. in_old (omega arith)) differ;
+            apart = slots_apart (max greatest_atc counter) other.request.atc counter (omega arith) (omega arith) in_new (λ below. in_old (omega arith)) differ;
           }
     ]
 
--- a decision on an unused counter takes the slot of one that falls out of the window
+-- a decision on an unused ATC takes the slot of one that falls out of the window
 pub window-more : (slots : List (Option Decision)) (decisions : List Decision) (decision : Decision)
     → KeepsWindow slots decisions
     → IsUnused decisions decision.request

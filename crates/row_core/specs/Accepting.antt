@@ -1,4 +1,4 @@
--- When a recorded reply is one that an issuer makes after a history, whatever its decision table was then.
+-- When a recorded decision is a valid successor of a history, whatever the issuer's decision table was then.
 use Rattle.std.specs.Prelude.{◌≡◌, ℕ, Bool, ◌==◌, List, [], ◌∷◌, slice_index, bit_and}
 use Rattle.issuer_base.specs.declared.answer.Method.{Method}
 use Rattle.issuer_base.specs.declared.answer.Method.TheVariants.{Two}
@@ -11,21 +11,25 @@ use Rattle.card_history.specs.Scripts.{Scripts, scripts_of}
 use Rattle.card_history.specs.Turns.{IsUnused, decided_for}
 use Rattle.row_core.specs.Replying.{reply_bytes}
 
--- the card status update in the bytes of a reply by method 2: four bytes behind tag 8A with its two bytes, tag 91 and its length, and
--- the four bytes of the issuer's cryptogram; 0 stands for a byte that isn't there
+-- the card status update in the bytes of a reply by method 2: the four bytes after the object 8A, the tag and length of
+-- the object 91 and the ARPC; a missing byte counts as 0
 abbrev pub told_update : List ℕ → List ℕ
 told_update bytes = slice_index bytes 10 ∷ slice_index bytes 11 ∷ slice_index bytes 12 ∷ slice_index bytes 13 ∷ []
 
--- whether a card status update says that the issuer approves: byte 2 bit 8, this project's profile
+-- whether a card status update has the issuer's approval: byte 2 bit 8, this project's profile
 abbrev pub says_approval : List ℕ → Bool
 says_approval update = bit_and (slice_index update 1) 0x80 == 0x80
 
--- the reply's bytes are those for its response code and, by method 2, for the status update that they hold, which agrees with its approval
-pub record IsMade (method : Method) (keys : CardKeys) (scripts : Scripts) (request : Request) (reply : Reply) : Type 0 where
+-- the reply's bytes are those for its response code and, by method 2, for the status update that they hold, which agrees
+-- with its approval
+pub record IsMade (method : Method) (keys : CardKeys) (scripts : Scripts) (request : Request) (reply : Reply)
+    : Type 0 where
   pub bytes_are : reply.bytes.items ≡ reply_bytes method keys scripts request reply.arc (told_update reply.bytes.items)
   pub agrees : method ≡ Two → says_approval (told_update reply.bytes.items) ≡ reply.approve
 
--- a decision with this reply may be recorded after this history: its counter is in the window and unused, and the reply is made so
-pub record MayFollow (method : Method) (keys : CardKeys) (history : List Entry) (request : Request) (reply : Reply) : Type 0 where
+-- a decision with this reply is a valid successor of this history: its ATC is in the window and unused, and the issuer
+-- makes the reply, by some row of a decision table
+pub record IsValidSuccessor (method : Method) (keys : CardKeys) (history : List Entry) (request : Request)
+    (reply : Reply) : Type 0 where
   pub unused : IsUnused (decided_for request history) request
   pub made : IsMade method keys (scripts_of (card_of request) history) request reply

@@ -10,6 +10,6 @@ use Rattle.row_core.specs.declared.row.Outcome.TheVariants.{Fresh, Kept, Below, 
 abbrev pub IsKnown : List Decision → Request → Outcome → Type 0
 IsKnown decisions request (Fresh reply launch) = ⊥
 IsKnown decisions request (Kept reply place) = IsUsed decisions request (record { request = request; reply = reply.now; place = place })
-IsKnown decisions request (Below top) = IsTooOld decisions request top
+IsKnown decisions request (Below greatest) = IsTooOld decisions request greatest
 IsKnown decisions request (Taken place) =
     (decision : Decision) × IsUsed decisions request decision × (decision.place ≡ place) × (decision.request ≢ request)

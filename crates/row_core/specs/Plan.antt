@@ -26,7 +26,7 @@ use Rattle.row_core.specs.declared.row.Outcome.TheVariants.{Fresh, Kept, Below, 
 abbrev pub answer_of : ℕ → ℕ → Outcome → Answer
 answer_of shard records (Fresh reply launch) = AnswerFresh shard records reply
 answer_of shard records (Kept reply place) = AnswerKept shard place reply.now
-answer_of shard records (Below top) = Refused (IsBelowWindow top)
+answer_of shard records (Below greatest) = Refused (IsBelowWindow greatest)
 answer_of shard records (Taken place) = Refused (IsTaken shard place)
 
 -- a history with a command for this card

@@ -2,6 +2,7 @@
 use Rattle.std.specs.Prelude.{ℕ, false, List, [], ◌∷◌, ◌++◌, Option, None, Some, slice_get}
 use Rattle.std.specs.Option.{option_map_or}
 use Rattle.issuer_base.specs.declared.request.Request.{Request}
+use Rattle.issuer_base.specs.declared.request.Suite.{Suite}
 use Rattle.issuer_base.specs.declared.command.Command.{Command}
 use Rattle.issuer_base.specs.declared.answer.Reply.{Reply}
 use Rattle.issuer_base.specs.declared.answer.Method.{Method}
@@ -10,7 +11,8 @@ use Rattle.card_history.specs.Records.{card_of, status_of}
 use Rattle.card_history.specs.Scripts.{Scripts, scripts_of, batch_of, first_of}
 use Rattle.tlv_objects.specs.Writing.{object_text}
 use Rattle.key_derive.specs.declared.card.CardKeys.{CardKeys}
-use Rattle.key_derive.specs.SessionKey.{session_ac, session_sm}
+use Rattle.key_derive.specs.SessionKey.{session_of, session_sm}
+use Rattle.key_derive.specs.SuiteKey.{SuiteKey}
 use Rattle.secure_msg.specs.Batch.{template_bytes}
 use Rattle.arpc_methods.specs.Arpc.{value91}
 use Rattle.decision_table.specs.declared.row.TableRow.{TableRow}
@@ -19,24 +21,25 @@ use Rattle.issuer_setup.specs.declared.card.CardInfo.{CardInfo}
 use Rattle.issuer_setup.specs.CardList.{number_of}
 use Rattle.issuer_setup.specs.IssuerSetup.{Setup, keys_of}
 
--- the script template of a batch for the card that made this application cryptogram, under the session key for secure
--- messaging; its first command has this number. There is none if the batch is empty: EMV 4.3 Book 3, section 10.10
-abbrev pub script_bytes : List ℕ → List ℕ → ℕ → List Command → List ℕ
-script_bytes master_key ac first [] = []
-script_bytes master_key ac first (command ∷ commands) =
-    template_bytes (session_sm master_key ac) ac first (command ∷ commands)
+-- the script template of a batch for the card that computed this application cryptogram, sealed in the card's suite
+-- under the session key for secure messaging; its first command has this number. There is none if the batch is empty:
+-- EMV 4.3 Book 3, section 10.10
+abbrev pub script_bytes : Suite → List ℕ → List ℕ → ℕ → List Command → List ℕ
+script_bytes suite master_key ac first [] = []
+script_bytes suite master_key ac first (command ∷ commands) =
+    template_bytes suite (session_sm suite master_key ac) ac first (command ∷ commands)
 
 -- the issuer's answer to the card, under this session key for cryptograms: tag 8A has the response code, tag 91 the
--- ARPC of the response code or of the card status update: EMV 4.3 Book 2, section 8.2
-abbrev pub answer_bytes : Method → List ℕ → Request → List ℕ → List ℕ → List ℕ
+-- ARPC of the response code or of the card status update, in the key's suite: EMV 4.3 Book 2, section 8.2
+abbrev pub answer_bytes : Method → SuiteKey → Request → List ℕ → List ℕ → List ℕ
 answer_bytes method session request arc csu =
-    object_text 0x8A arc ++ object_text 0x91 (value91 method session request.ac arc csu)
+    object_text 0x8A arc ++ object_text 0x91 (value91 session.suite method session.key request.ac arc csu)
 
 -- what goes to the card: the issuer's answer, followed by the batch of the card's issuer script commands
 abbrev pub reply_bytes : Method → CardKeys → Scripts → Request → List ℕ → List ℕ → List ℕ
 reply_bytes method keys scripts request arc csu =
-    answer_bytes method (session_ac keys.ac.0 request.atc) request arc csu
-    ++ script_bytes keys.smi.0 request.ac (first_of request scripts) (batch_of request scripts)
+    answer_bytes method (session_of keys request.atc) request arc csu
+    ++ script_bytes keys.suite keys.smi.0 request.ac (first_of request scripts) (batch_of request scripts)
 
 -- the reply by a row of the table: its response code and approval
 abbrev pub reply_by_row : Method → CardKeys → Scripts → Request → TableRow → Reply

@@ -1,15 +1,15 @@
-//! Whether a recorded decision is one that the issuer may have made, and how the row adopts it.
+//! Whether a recorded decision is a valid successor, and how the row adopts it.
 ghost use Rattle.std.specs.Prelude.{◌≡◌, ◌↔◌, ◌++◌, List, [], ◌∷◌, length, slice_index, false, IsTrue};
 ghost use Rattle.issuer_base.specs.declared.entry.Entry.{Entry};
 ghost use Rattle.card_history.specs.declared.decision.Decision.{Decision};
 ghost use Rattle.card_history.specs.Records.{card_of, greatest};
 ghost use Rattle.card_history.specs.Scripts.{Scripts};
 ghost use Rattle.card_history.specs.Turns.{IsUnused};
-ghost use Rattle.key_derive.specs.SessionKey.{session_ac};
+ghost use Rattle.key_derive.specs.SessionKey.{session_of};
 ghost use Rattle.issuer_setup.specs.declared.card.CardInfo.{CardInfo};
 ghost use Rattle.issuer_setup.specs.CardList.{name_of};
 ghost use Rattle.row_core.specs.CardRow.{KeepsWindow, KeepsScripts, StandsFor};
-ghost use Rattle.row_core.specs.Accepting.{told_update, says_approval, IsMade, MayFollow};
+ghost use Rattle.row_core.specs.Accepting.{told_update, says_approval, IsMade, IsValidSuccessor};
 ghost use Rattle.row_core.specs.Launching.{IsLaunchFor};
 
 use crate::row::Row;
@@ -20,12 +20,12 @@ use key_derive::{LazyKeys, SessionKey};
 use reply_keep::KeptEntry;
 
 impl Row {
-    /// Adopts a recorded decision, whose record is at this index of the card's shard, if it may be recorded next: its
+    /// Adopts a recorded decision, whose record is at this index of the card's shard, if it is a valid successor: its
     /// ATC is in the window and unused, and the reply is one that the issuer makes, whatever its decision table was.
     /// Returns whether it did.
     ///
     /// The request's cryptogram was checked under `session`, the session key for the cryptograms of its transaction.
-    /// `keys` are the card's master keys from the key set of the request.
+    /// `keys` are the card's master keys from the key set of the request, in the request's suite.
     pub fn adopt(
         &mut self,
         session: &SessionKey,
@@ -34,10 +34,10 @@ impl Row {
         reply: Reply,
         place: u64,
     ) -> bool
-        requires { session.now ≡ session_ac keys.now.ac.0 request.atc }
+        requires { session.now ≡ session_of keys.now request.atc }
         ensures exact { (card : CardInfo) (history : List Entry) → StandsFor card self.old history
             → card_of request ≡ name_of card
-            → (IsTrue result ↔ MayFollow card.method keys.now history request reply) }
+            → (IsTrue result ↔ IsValidSuccessor card.method keys.now history request reply) }
         ensures adopted { IsTrue result → (card : CardInfo) (history : List Entry) → StandsFor card self.old history
             → card_of request ≡ name_of card → place ≡ length history
             → StandsFor card self.new (history ++ Entry.Decided request reply ∷ []) }
@@ -51,7 +51,7 @@ impl Row {
         true
     }
 
-    /// Whether a decision with this reply may be recorded next. `launch` is that of the reply's batch.
+    /// Whether a decision with this reply is a valid successor. `launch` is that of the reply's batch.
     fn accepts(
         &self,
         session: &SessionKey,
@@ -60,11 +60,11 @@ impl Row {
         launch: Option<Launch>,
         reply: &Reply,
     ) -> bool
-        requires session { session.now ≡ session_ac keys.now.ac.0 request.now.atc }
+        requires session { session.now ≡ session_of keys.now request.now.atc }
         requires launch { IsLaunchFor self.now request.now launch }
         ensures exact { (card : CardInfo) (history : List Entry) → StandsFor card self.now history
             → card_of request.now ≡ name_of card
-            → (IsTrue result ↔ MayFollow card.method keys.now history request.now reply.now) }
+            → (IsTrue result ↔ IsValidSuccessor card.method keys.now history request.now reply.now) }
     {
         self.is_unused(request) && self.is_made(session, keys, request, launch, reply)
     }
@@ -86,7 +86,7 @@ impl Row {
         launch: Option<Launch>,
         reply: &Reply,
     ) -> bool
-        requires session { session.now ≡ session_ac keys.now.ac.0 request.now.atc }
+        requires session { session.now ≡ session_of keys.now request.now.atc }
         requires launch { IsLaunchFor self.now request.now launch }
         ensures { (scripts : Scripts) → KeepsScripts self.now scripts
             → (IsTrue result ↔ IsMade self.now.method keys.now scripts request.now reply.now) }

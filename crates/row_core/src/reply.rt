@@ -3,13 +3,15 @@ ghost use Rattle.std.specs.Prelude.{◌≡◌, ◌+◌, ◌≤◌, [], ◌++◌,
 ghost use Rattle.issuer_base.specs.ScriptCommand.{is_command};
 ghost use Rattle.issuer_base.specs.ScriptTemplate.{template_size};
 ghost use Rattle.tlv_objects.specs.Writing.{is_tag_number, object_text};
+ghost use Rattle.key_derive.specs.SessionKey.{session_sm};
+ghost use Rattle.secure_msg.specs.Batch.{IsBatch, template_bytes};
 ghost use Rattle.row_core.specs.Replying.{answer_bytes, script_bytes};
 
 use arpc_methods::value91;
 use arrayvec::ArrayVec;
 use issuer_base::{Command, MAX_TEMPLATE_BYTES, Method, Request};
 use key_derive::{LazyKeys, SessionKey, session_sm};
-use secure_msg::template_of;
+use secure_msg::{Template, template_of};
 use tlv_objects::{ROOM, put};
 
 /// The tag of the authorisation response code.
@@ -34,7 +36,7 @@ pub(crate) fn write_answer(
     ensures some { 1 ≤ length bytes.new.items }
 {
     let application_cryptogram = &request.parts().ac;
-    let value = value91(method, session.cipher(), application_cryptogram, arc, csu);
+    let value = value91(method, session.mac_key(), application_cryptogram, arc, csu);
     write(bytes, RESPONSE_CODE, &arc);
     write(bytes, AUTHENTICATION_DATA, value.as_slice());
 }
@@ -62,12 +64,31 @@ pub(crate) fn write_scripts(
     requires form { All (λ command. IsTrue (is_command command)) (front.now ++ back.now) }
     requires fit { template_size (front.now ++ back.now) ≤ MAX_TEMPLATE_BYTES }
     requires room { length bytes.old.items + MAX_TEMPLATE_BYTES ≤ ROOM }
-    ensures { bytes.new.items ≡ bytes.old.items ++ script_bytes keys.now.smi.0 application_cryptogram.now first (front.now ++ back.now) }
+    ensures { let batch = front.now ++ back.now in
+        let script = script_bytes keys.now.suite keys.now.smi.0 application_cryptogram.now first batch in
+        bytes.new.items ≡ bytes.old.items ++ script }
 {
     if front.is_empty() && back.is_empty() {
         return;
     }
-    let key = session_sm(&keys.smi(), application_cryptogram);
-    let template = template_of(&key, application_cryptogram, first, front, back);
+    let template = template_for(keys, application_cryptogram, first, front, back);
     bytes.try_extend_from_slice(template.as_slice()).unwrap();
+}
+
+/// The script template of a batch that isn't empty, given in two parts.
+fn template_for(
+    keys: &LazyKeys,
+    application_cryptogram: &[u8; 8],
+    first: u32,
+    front: &[Command],
+    back: &[Command],
+) -> Template
+    requires { IsBatch (front.now ++ back.now) }
+    ensures { let suite = keys.now.suite in
+        let key = session_sm suite keys.now.smi.0 application_cryptogram.now in
+        result.items ≡ template_bytes suite key application_cryptogram.now first (front.now ++ back.now) }
+{
+    let suite = keys.suite();
+    let key = session_sm(suite, &keys.smi(), application_cryptogram);
+    template_of(suite, &key, application_cryptogram, first, front, back)
 }

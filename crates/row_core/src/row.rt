@@ -8,7 +8,7 @@ ghost use Rattle.card_history.specs.Records.{greatest, IsBelow};
 ghost use Rattle.card_history.specs.Scripts.{Scripts, with_newest, in_flight, first_of, is_newest};
 ghost use Rattle.card_history.specs.Turns.{IsUnused};
 ghost use Rattle.script_queue.specs.CommandQueue.{TakesOneMore};
-ghost use Rattle.key_derive.specs.SessionKey.{session_ac};
+ghost use Rattle.key_derive.specs.SessionKey.{session_of};
 ghost use Rattle.issuer_setup.specs.CardList.{name_of};
 ghost use Rattle.issuer_setup.specs.declared.card.CardInfo.{CardInfo};
 ghost use Rattle.row_core.specs.CardRow.{KeepsWindow, KeepsScripts, StandsFor};
@@ -143,7 +143,7 @@ impl Row {
         self.scripts.halted()
     }
 
-    /// The card's view: what the histories that the row stands for state of it.
+    /// The card's view: what the histories that the row stands for report of it.
     #[tactic(auto, using(crate::proofs::Shown::row_view))]
     pub fn view(&self) -> CardView
         ensures { (card : CardInfo) (history : List Entry) → StandsFor card self.now history
@@ -162,7 +162,8 @@ impl Row {
     /// The plan for a request of the row's card: one turn's answer to it.
     ///
     /// `session` is the session key for the cryptograms of the request's transaction. `keys` are the card's master keys
-    /// from the key set of the request; the one for secure messaging is used only if the reply carries a command.
+    /// from the key set of the request, in the request's suite; the one for secure messaging is used only if the reply
+    /// carries a command.
     #[inline(always)]
     pub fn plan(
         &self,
@@ -171,7 +172,7 @@ impl Row {
         table: &Table,
         request: &Request,
     ) -> Outcome<'_>
-        requires { session.now ≡ session_ac keys.now.ac.0 request.now.atc }
+        requires { session.now ≡ session_of keys.now request.now.atc }
         ensures plan { IsPlan self.now keys.now table.now request.now result }
 
         // Whatever history the row stands for, a planned reply is whole, and its launch is that of this row.
@@ -256,7 +257,7 @@ impl Row {
         table: &Table,
         request: &Request,
     ) -> (Reply, Option<Launch>)
-        requires { session.now ≡ session_ac keys.now.ac.0 request.now.atc }
+        requires { session.now ≡ session_of keys.now request.now.atc }
         ensures reply { (scripts : Scripts) → KeepsScripts self.now scripts
             → result.0 ≡ decided_reply self.now.method keys.now table.now scripts self.now.status request.now }
         ensures step { IsStep self.now request.now result.0 result.1 }
@@ -293,7 +294,7 @@ impl Row {
         csu: [u8; 4],
     )
         requires empty { bytes.old.items ≡ [] }
-        requires session { session.now ≡ session_ac keys.now.ac.0 request.now.atc }
+        requires session { session.now ≡ session_of keys.now request.now.atc }
         requires launch { IsLaunchFor self.now request.now launch }
         ensures bytes { (scripts : Scripts) → KeepsScripts self.now scripts
             → bytes.new.items ≡ reply_bytes self.now.method keys.now scripts request.now arc csu }
@@ -318,7 +319,7 @@ impl Row {
         requires launch { IsLaunch self.now.scripts request.now launch }
         ensures batch { (scripts : Scripts) → KeepsScripts self.now scripts
             → let batch = in_flight (with_newest request.now scripts) in
-            bytes.new.items ≡ bytes.old.items ++ script_bytes keys.now.smi.0 request.now.ac (first_of request.now scripts) batch }
+            bytes.new.items ≡ bytes.old.items ++ script_bytes keys.now.suite keys.now.smi.0 request.now.ac (first_of request.now scripts) batch }
         ensures longer { length bytes.old.items ≤ length bytes.new.items }
     {
         let first = self.scripts.first_number(launch);
@@ -334,8 +335,8 @@ impl Row {
         ensures not_fresh { IfSome result (IsStepped self.now request.now) }
     {
         let counter = request.parts().atc;
-        if let Some(top) = top_above(self.hi, counter) {
-            return Some(Outcome::Below(top));
+        if let Some(greatest) = greatest_above(self.hi, counter) {
+            return Some(Outcome::Below(greatest));
         }
         let entry = self.kept.find(counter)?;
         if !entry.request.is_same(request) {
@@ -346,15 +347,15 @@ impl Row {
 }
 
 /// The greatest ATC, if this ATC is below its window.
-fn top_above(top: Option<u16>, counter: u16) -> Option<u16>
-    ensures { MatchOption result (IsBelow top counter → ⊥) (λ greatest. (top ≡ Some greatest) × IsBelow top counter) }
+fn greatest_above(greatest: Option<u16>, counter: u16) -> Option<u16>
+    ensures { MatchOption result (IsBelow greatest counter → ⊥) (λ atc. (greatest ≡ Some atc) × IsBelow greatest counter) }
 {
-    top.filter(|top| u32::from(counter) + u32::from(WINDOW) <= u32::from(*top))
+    greatest.filter(|greatest| u32::from(counter) + u32::from(WINDOW) <= u32::from(*greatest))
 }
 
 /// Whether an ATC is above the greatest one, or the first.
-fn is_newest(counter: u16, top: Option<u16>) -> bool
-    ensures { result ≡ is_newest counter top }
+fn is_newest(counter: u16, greatest: Option<u16>) -> bool
+    ensures { result ≡ is_newest counter greatest }
 {
-    top.is_none_or(|top| top < counter)
+    greatest.is_none_or(|greatest| greatest < counter)
 }

@@ -1,4 +1,4 @@
--- Which parsed records are valid successors: what was looked up and checked for them decides it.
+-- Which parsed records are valid successors: their lookups and checks decide it.
 use Rattle.std.proofs.Common.{◌≡◌, ◌≢◌, ℕ, ◌%◌, Bool, true, false, if◌then◌else◌, List, sym, ap, subst, ◌∙◌}
 use Rattle.std.proofs.Common.{Option, None, Some, Result, Ok, Err, arith}
 use Rattle.std.proofs.lemmas.Option.{same_Some}
@@ -19,7 +19,7 @@ use Rattle.key_derive.specs.declared.card.CardKeys.{CardKeys}
 use Rattle.issuer_setup.specs.declared.card.CardInfo.{CardInfo}
 use Rattle.issuer_setup.specs.CardList.{number_of}
 use Rattle.issuer_setup.specs.IssuerSetup.{Setup, keys_of}
-use Rattle.row_core.specs.Accepting.{IsMade, MayFollow}
+use Rattle.row_core.specs.Accepting.{IsMade, IsValidSuccessor}
 use Rattle.line_checks.specs.Reading.{checked, of_card, under_keys, is_right}
 use Rattle.line_checks.proofs.Numbers.{number-within}
 use Rattle.shard_book.specs.ShardRows.{ShardRows, AreRowsOf, IsHome}
@@ -77,7 +77,7 @@ nobody issuer shard name none at_home = let both : None ≡ Some at_home.number 
 module _ (issuer : Setup) (shard : ℕ) (history : List Entry) (request : Request) (reply : Reply) (number : ℕ) (card : CardInfo) (keys : CardKeys)
     (number_is : number_of (card_of request) issuer.cards ≡ Some number) (card_is : slice_get issuer.cards number ≡ Some card)
     (keys_are : keys_of issuer number request ≡ Some keys) where
-  pub decision-follows : IsLegalDecision (grounds_of issuer) shard history request reply → MayFollow card.method keys history request reply
+  pub decision-follows : IsLegalDecision (grounds_of issuer) shard history request reply → IsValidSuccessor card.method keys history request reply
   decision-follows legal =
       let made = legal.is_the_issuers_reply in
       let same : made.number ≡ number = same_Some made.number number (sym made.number_is ∙ number_is) in
@@ -91,7 +91,7 @@ module _ (issuer : Setup) (shard : ℕ) (history : List Entry) (request : Reques
       }
 
   pub decision-legal : IsCardOfShard issuer shard (card_of request) → checked issuer request ≡ Ok (Decide request)
-      → MayFollow card.method keys history request reply → IsLegalDecision (grounds_of issuer) shard history request reply
+      → IsValidSuccessor card.method keys history request reply → IsLegalDecision (grounds_of issuer) shard history request reply
   decision-legal home passes follows =
       legal-by issuer (IsMadeBy issuer) shard history request reply home passes follows.unused (record {
         number = number;

@@ -30,9 +30,9 @@ use Rattle.shard_book.proofs.Lines.{legal-more}
 use Rattle.shard_book.proofs.LoadCrash.{cut-to_text}
 use Rattle.shard_book.proofs.ShardSteps.{texts-more}
 
--- ---- lines in front of anything
+-- ---- lines before anything
 
--- a text without a newline is no line with something behind it
+-- a text without a newline is no line with something after it
 no-line : (text front behind : List ℕ) → IsUnbroken text → text ≡ front ++ newline ∷ behind → ⊥
 no-line [] [] behind unbroken same = absurd (let no : [] ≡ newline ∷ behind = same in cc)
 no-line [] (byte ∷ front) behind unbroken same = absurd (let no : [] ≡ byte ∷ (front ++ newline ∷ behind) = same in cc)
@@ -43,7 +43,7 @@ no-line (byte ∷ text) (first ∷ front) behind unbroken same =
     let tails : text ≡ front ++ newline ∷ behind = cc in
     no-line text front behind (All-tail (λ byte. byte ≢ newline) byte text unbroken) tails
 
--- two lines with something behind each, of one text, are the same line
+-- two first lines of one text are the same line
 same-line : (front other rest behind : List ℕ) → IsUnbroken front → IsUnbroken other → front ++ newline ∷ rest ≡ other ++ newline ∷ behind → front ≡ other
 same-line [] [] rest behind unbroken other_unbroken same = refl
 same-line [] (byte ∷ other) rest behind unbroken other_unbroken same =
@@ -59,9 +59,9 @@ same-line (byte ∷ front) (first ∷ other) rest behind unbroken other_unbroken
     (All-tail (λ byte. byte ≢ newline) first other other_unbroken) tails in
     ap₂ (λ (b : ℕ) (bs : List ℕ). b ∷ bs) heads more
 
--- ---- a line behind some of the records of a text
+-- ---- a line after some of the records of a text
 
--- the history goes on behind these records with one whose text is the line
+-- the history's next record after these has the line as its text
 record HasNext (entries history : List Entry) (line : List ℕ) : Type 0 where
   next : Entry
   at : slice_get history (length entries) ≡ Some next
@@ -180,7 +180,7 @@ module _ (issuer : Setup) (shard : ℕ) (bytes : Option (List ℕ)) (history : L
       ⊎ ((entry : Entry) × IsLegal (grounds_of issuer) shard history entry × (bytes ≡ Some (texts_of (history ++ entry ∷ [])))
       × IsTextOf (grounds_of issuer) shard bytes (history ++ entry ∷ []))
 
-  -- the rest is no whole record
+  -- the remainder is no whole record
   torn : (rest : List ℕ) → left.image ≡ texts_of history ++ rest → IsUnbroken rest → IsTextLeft
   torn rest image_is unbroken = inl (record {
     rest = rest;
@@ -190,7 +190,7 @@ module _ (issuer : Setup) (shard : ℕ) (bytes : Option (List ℕ)) (history : L
     legal = left.legal;
   })
 
-  -- the rest is one
+  -- the remainder is one
   whole : (entry : Entry) → IsRecord entry → IsLegal (grounds_of issuer) shard history entry → left.image ≡ texts_of history ++ text_of entry → IsTextLeft
   whole entry valid legal image_is =
       let bytes_are : bytes ≡ Some (texts_of (history ++ entry ∷ [])) = left.told ∙ ap Some (image_is ∙ texts-more history entry) in
@@ -283,7 +283,7 @@ module _ (issuer : Setup) (shard : ℕ) (rows : ShardRows) (taken : Taken) where
       (cut-to_text reads.history reads.rest taken.bytes reads.unbroken reads.records reads.sure_is before after reads.text_is (cut ∙ ap (take taken.bytes) is)))
       cuts
 
-  -- the store failed while it was cut to the records
+  -- the store failed while it was truncated to the records
   pub leaves-cut : {S : Type 0} {G : Ghosts S} (old mid : Option (List ℕ)) (result : Result (Shard S G) (LoadBack S)) → ReadsText issuer shard old rows taken
       → mid ≡ old → IfErr result (λ back. back.fault ≡ StoreFault)
       → IfErr result (λ back. BothTold (CutsBytes taken.bytes true) mid (G.bytes back.store))

@@ -13,6 +13,6 @@ pub goes-then : (first second third : List Entry) → GoesOn first second → Go
 goes-then first second third on more =
     (on.0 ++ more.0, more.1 ∙ ap (λ (l : List Entry). l ++ more.0) on.1 ∙ append_assoc first on.0 more.0)
 
--- a history goes on from its first records
+-- a history extends its first records
 pub goes-from : (count : ℕ) (history : List Entry) → GoesOn (take count history) history
 goes-from count history = (drop count history, sym (take-append-drop count history))

@@ -1,4 +1,4 @@
--- A decision is a valid successor if its request passes the check, its card is one of the shard's, its counter is
+-- A decision is a valid successor if its request passes the check, its card is one of the shard's, its ATC is
 -- unused, and its reply is the issuer's. The request of a valid successor passes the check.
 use Rattle.std.proofs.Common.{◌≡◌, ℕ, List, Ok}
 use Rattle.issuer_base.specs.declared.request.Request.{Request}
@@ -31,7 +31,7 @@ module _ (issuer : Setup) (IsReply : List Entry → Request → Reply → Type 0
         is_the_issuers_reply = made;
       }
 
--- the request of one that may come next passes the check
+-- the request of a valid successor passes the check
 pub legal-checked : (issuer : Setup) {IsReply : List Entry → Request → Reply → Type 0} {shard : ℕ} {before : List Entry}
     {request : Request} {reply : Reply} → IsLegalDecision (grounds_by issuer IsReply) shard before request reply
     → checked issuer request ≡ Ok (Decide request)

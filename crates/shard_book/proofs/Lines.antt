@@ -23,11 +23,11 @@ use Rattle.shard_book.specs.LineAhead.{IsLineAhead}
 use Rattle.shard_book.specs.Loading.{IsBad, StopsAt, TakesLine, TakesLines}
 use Rattle.shard_book.proofs.ShardSteps.{texts-more}
 
--- no place has a newline
+-- no offset has a newline
 unbroken-from : (bytes : List ℕ) → ((k : ℕ) → k < length bytes → get_or bytes k 0 ≢ 10) → IsUnbroken bytes
 unbroken-from bytes none = λ k default within is. none k within (get_or_default bytes k 0 default within ∙ is)
 
--- the first newline ends the line ahead
+-- the first newline ends the next line
 pub line-found : (bytes : List ℕ) (found : Option ℕ) → IsFirstByte (is_byte 10) bytes found → MatchOption found (IsUnbroken bytes) (IsLineAhead bytes)
 line-found bytes None none = unbroken-from bytes (λ k within is. none k (omega arith) within (eq-eqb _ 10 is))
 line-found bytes (Some place) found = record {
@@ -39,7 +39,7 @@ line-found bytes (Some place) found = record {
   ends = take_more bytes place 0 found.0.high ∙ ap (λ byte. take place bytes ++ byte ∷ []) (eqb-true _ 10 found.1);
 }
 
--- one more record that may come next leaves a legal history
+-- a legal history extended by a valid successor is legal
 pub legal-more : (grounds : Grounds) (shard : ℕ) (history : List Entry) (entry : Entry) → IsLegalHistory grounds shard history
     → IsLegal grounds shard history entry → IsLegalHistory grounds shard (history ++ entry ∷ [])
 legal-more grounds shard history entry legal next place other at =

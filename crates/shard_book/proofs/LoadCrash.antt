@@ -26,7 +26,7 @@ kept-leaves old moment image kept left = record {
   is_front = left.is_front ∙ ap (take (length image)) kept.holds;
 }
 
--- a cut made after reads
+-- a truncation after reads
 kept-cut : (sure : ℕ) (old mid : Moment) (image : List ℕ) → IsKept old mid → IsCutImage sure mid image → IsCutImage sure old image
 kept-cut sure old mid image kept =
     ⊎_elim (λ (left : MayLeave mid image). inl (kept-leaves old mid image kept left))
@@ -48,7 +48,7 @@ crash-read a b = BothTold-weaker OnlyReads (λ old new. LeavesOnly (IsLoadImage 
     (λ x y reads. LeavesOnly-passes (IsKept x.now) (IsLoadImage x.now) x y (λ moment image kept left. inl (kept-leaves x.now moment image kept left))
     (record { holds = refl; at_least = omega arith }) reads)
 
--- and then it is cut
+-- and then it is truncated
 crash-cut : (sure : ℕ) (a b c : Option Disk) → BothTold OnlyReads a b → BothTold (λ old new. LeavesOnly (IsCutImage sure old.now) old new) b c
     → BothTold (λ old new. LeavesOnly (IsCutImage sure old.now) old new) a c
 crash-cut sure a b c = BothTold-then OnlyReads (λ old new. LeavesOnly (IsCutImage sure old.now) old new)
@@ -82,7 +82,7 @@ module _ {S : Type 0} {G : Ghosts S} (sure : ℕ) (a b : Option Disk) (reads : B
       (crash-cut sure a b (disk_in loaded) reads opened)
   crash-opened (Err back) sure_is opened = tt
 
--- what was read is cut to the text of its records
+-- what was read is truncated to the text of its records
 module _ {S : Type 0} {G : Ghosts S} (issuer : Setup) (shard : ℕ) (bytes : Option (List ℕ)) (rows : ShardRows) (taken : Taken)
     (reads : ReadsText issuer shard bytes rows taken) (a b : Option Disk) (told : IfSome a (λ disk. bytes ≡ Some disk.now.bytes))
     (only : BothTold OnlyReads a b) where

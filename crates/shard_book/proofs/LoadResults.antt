@@ -30,7 +30,7 @@ pub read-counts : (fault : LoadFault) (old new : ℕ) → (let failed : Result T
     → CountsFaults old new (is_store_failure fault)
 read-counts fault old new counts = subst (λ failed. CountsFaults old new failed) (reasons-alike fault) counts
 
--- room for a store of this size that tells this is room for one of the same size that tells the same
+-- room for a store is room for one of the same size and observable contents
 has-then : (spare size size_then : ℕ) (room room_then : Option ℕ) → size_then ≡ size → room_then ≡ room → HasRoom spare size room
     → HasRoom spare size_then room_then
 has-then spare size size_then room room_then size_is room_is has = record {

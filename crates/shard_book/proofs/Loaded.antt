@@ -22,18 +22,18 @@ use Rattle.shard_book.specs.LineAhead.{IsLineAhead, HasLineAhead}
 use Rattle.shard_book.specs.ShardRows.{ShardRows, StandsFor}
 use Rattle.shard_book.specs.Loading.{StopsAt, TakesLines, ReadsFront, ReadsText, StopsText, is_by_store, is_store_failure}
 
--- ---- texts without a newline, and the line ahead
+-- ---- texts without a newline, and the next line
 
 unbroken-both : (front back : List ℕ) → IsUnbroken front → IsUnbroken back → IsUnbroken (front ++ back)
 unbroken-both front back = All-append (λ byte. byte ≢ newline) front back
 
--- what is unbroken goes on unbroken
+-- texts without a newline have none together
 pub unbroken-later : (bytes : List ℕ) (at count : ℕ) → IsUnbroken (take at bytes) → IsUnbroken (take count (drop at bytes))
     → IsUnbroken (take (at + count) bytes)
 unbroken-later bytes at count front more =
     subst IsUnbroken (sym (take-add at count bytes)) (unbroken-both (take at bytes) (take count (drop at bytes)) front more)
 
--- where a line stands ahead behind what is unbroken, a longer one stands ahead
+-- a line after a text without a newline is the end of a longer line
 pub line-later : (bytes : List ℕ) (at count n : ℕ) → IsUnbroken (take at bytes) → at ≤ length bytes
     → IsLineAhead (take count (drop at bytes)) n → IsLineAhead bytes (at + n)
 line-later bytes at count n front within ahead =
@@ -55,7 +55,7 @@ line-later bytes at count n front within ahead =
           ∙ ap (λ l. l ++ newline ∷ []) (sym (take-add at n bytes));
     }
 
--- ---- looking ahead for a newline
+-- ---- searching for a newline
 
 module _ (from at count size : ℕ) (into : List ℕ) (above : from ≤ at) where
   ahead-of : (text : List ℕ) → drop at text ≡ drop (at - from) (drop from text)
@@ -110,9 +110,9 @@ pub found-as : (bytes : Option (List ℕ)) (from : ℕ) (found want : Bool) → 
 found-as bytes from found want is told =
     subst (λ (found : Bool). IfSome bytes (λ text. MatchBool found (HasLineAhead (drop from text)) (IsUnbroken (drop from text)))) is told
 
--- ---- what stands behind the lines that were taken over
+-- ---- what is after the replayed lines
 
--- nothing stands behind the end
+-- nothing is after the end
 pub rest-none : (bytes : Option (List ℕ)) (at room size : ℕ) → IfSome bytes (λ text. size ≡ length text) → size ≤ at
     → IfSome bytes (λ text. IsUnbroken (take room (drop at text)))
 rest-none None at room size sized done = tt
@@ -121,7 +121,7 @@ rest-none (Some text) at room size sized done =
     let none = length-take room (drop at text) in
     λ k default within. absurd (omega (arith, within, none, rest, sized))
 
--- no part is wanted to see nothing
+-- no read is required at the end
 pub passed-none : (bytes : Option (List ℕ)) (from : ℕ) → IfSome bytes (λ text. IsUnbroken (take (from - from) (drop from text)))
 passed-none None from = tt
 passed-none (Some text) from =
@@ -135,7 +135,7 @@ rest-short (Some text) at room size sized short front =
     let whole : length (drop at text) ≤ room = omega (arith, length-drop at text, sized) in
     subst IsUnbroken (take_all room (drop at text) whole) front
 
--- or more than the buffer holds was looked through
+-- or more than the buffer holds was searched
 pub rest-long : (bytes : Option (List ℕ)) (at room : ℕ) → IfSome bytes (λ text. IsUnbroken (take room (drop at text)))
     → IfSome bytes (λ text. IsUnbroken (drop (at + room) text)) → IfSome bytes (λ text. IsUnbroken (drop at text))
 rest-long None at room front back = tt
@@ -151,7 +151,7 @@ long-line line long entry is =
     absurd (omega arith)
 
 module _ (issuer : Setup) (shard : ℕ) where
-  -- a newline behind more than any record has ends a bad line
+  -- a newline after more bytes than any record has ends a bad line
   pub stops-long : (bytes : Option (List ℕ)) (rows : ShardRows) (taken : Taken) (room size : ℕ) → ReadsFront issuer shard bytes rows taken
       → IfSome bytes (λ text. size ≡ length text) → room < size - taken.bytes → MOST_RECORD_BYTES ≤ room
       → IfSome bytes (λ text. IsUnbroken (take room (drop taken.bytes text))) → IfSome bytes (λ text. HasLineAhead (drop (taken.bytes + room) text))
@@ -187,9 +187,9 @@ module _ (issuer : Setup) (shard : ℕ) where
         );
       }
 
-  -- ---- taking over part by part
+  -- ---- replaying part by part
 
-  -- nothing was taken over
+  -- nothing was replayed
   front-is_empty : (bytes : Option (List ℕ)) → IfSome bytes (λ text. take 0 text ≡ texts_of [])
   front-is_empty None = tt
   front-is_empty (Some text) = refl
@@ -278,7 +278,7 @@ module _ (issuer : Setup) (shard : ℕ) where
     stops-more bytes rows (BadLine number) front read stops = stops-told bytes front.history (BadLine number) front.front_is front.records read stops
     stops-more bytes rows (BadRecord number) front read stops = stops-told bytes front.history (BadRecord number) front.front_is front.records read stops
 
-  -- all parts were read, and what stands behind the records has no newline
+  -- all parts were read, and what is after the records has no newline
   pub reads-all : (bytes : Option (List ℕ)) (rows : ShardRows) (taken : Taken) → ReadsFront issuer shard bytes rows taken
       → IfSome bytes (λ text. IsUnbroken (drop taken.bytes text)) → ReadsText issuer shard bytes rows taken
   reads-all None rows taken front unbroken = record {
@@ -327,7 +327,7 @@ part-unbroken (Some text) at count room size chunk sized all read unbroken =
           subst IsUnbroken (read ∙ take_all count (drop at text) to_end ∙ sym (take_all room (drop at text) fits)) unbroken
     ]
 
--- what one more part adds, told of the first store and shard
+-- what one more part adds, stated of the first store and shard
 pub front-step : (issuer : Setup) (shard other : ℕ) (bytes now : Option (List ℕ)) (old new : ShardRows) (taken more : Taken) → other ≡ shard → now ≡ bytes
     → (ReadsFront issuer other now old taken → ReadsFront issuer other now new more)
     → ReadsFront issuer shard bytes old taken → ReadsFront issuer shard bytes new more
@@ -337,7 +337,7 @@ front-step issuer shard other bytes now old new taken more shard_is bytes_are st
     (step (subst (λ (shard : ℕ). ReadsFront issuer shard now old taken) (sym shard_is)
     (subst (λ (bytes : Option (List ℕ)). ReadsFront issuer shard bytes old taken) (sym bytes_are) front))))
 
--- what was looked at of the rest
+-- what was read of the remainder
 pub rest-step : (bytes now : Option (List ℕ)) (at room other : ℕ) → now ≡ bytes → other ≡ room
     → (IfSome now (λ text. IsUnbroken (take other (drop at text))) → IfSome now (λ text. IsUnbroken (drop at text)))
     → IfSome bytes (λ text. IsUnbroken (take room (drop at text))) → IfSome bytes (λ text. IsUnbroken (drop at text))

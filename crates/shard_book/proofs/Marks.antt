@@ -13,13 +13,13 @@ use Rattle.card_history.proofs.OneMoreRecord.{decided-more, decided-other}
 use Rattle.card_history.proofs.OtherRecords.{decided-queued, decided-status}
 use Rattle.shard_book.specs.ShardRows.{is_decided}
 
--- whether the record is a decision on this counter
+-- whether the record is a decision on this ATC
 abbrev pub is_on : Entry → ℕ → Bool
 is_on (Decided request reply) counter = eqb counter request.atc
 is_on (Queued pan psn command) counter = false
 is_on (Status pan psn status) counter = false
 
--- the sets have what they had, and the counter of the record in the set at this place
+-- the sets have what they had, and the record's ATC in the set with this index
 abbrev pub Marks : CounterSets → CounterSets → ℕ → Entry → Type 0
 Marks old new place entry = (other counter : ℕ) → has new other counter ≡ (has old other counter || (eqb other place && is_on entry counter))
 
@@ -37,13 +37,13 @@ pub unmarked : (sets : CounterSets) (place : ℕ) (entry : Entry) → ((counter 
 unmarked sets place entry none other counter =
     sym (or-none (has sets other counter) _ (and_right (eqb other place) (is_on entry counter) (none counter)))
 
--- at the place of the record's card
+-- at the index of the record's card
 pub marked-there : (old new : CounterSets) (place : ℕ) (entry : Entry) → Marks old new place entry
     → (counter : ℕ) → has new place counter ≡ (has old place counter || is_on entry counter)
 marked-there old new place entry marks counter =
     marks place counter ∙ ap (λ (here : Bool). has old place counter || (here && is_on entry counter)) (eq-eqb place place refl)
 
--- and at other places
+-- and at other indexes
 pub marked-elsewhere : (old new : CounterSets) (place other : ℕ) (entry : Entry) → Marks old new place entry → other ≢ place
     → (counter : ℕ) → has new other counter ≡ has old other counter
 marked-elsewhere old new place other entry marks apart counter =

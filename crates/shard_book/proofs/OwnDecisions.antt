@@ -1,5 +1,5 @@
 -- The issuer's own decision is a reply that it makes for its response code: what a run records, a later run replays.
-use Rattle.std.proofs.Common.{◌≡◌, ◌≤◌, ℕ, true, List, [], ◌∷◌, ◌++◌, length, ◌==◌, refl, sym, ap, subst, ◌∙◌, arith}
+use Rattle.std.proofs.Common.{◌≡◌, ◌≤◌, ℕ, true, List, [], ◌∷◌, ◌++◌, length, get_or, ◌==◌, refl, sym, ap, subst, ◌∙◌, arith}
 use Rattle.std.proofs.Common.{Option, None, Some}
 use Rattle.std.proofs.lemmas.Bool.{and_parts, leb-true}
 use Rattle.std.specs.Option.{option_map_or}
@@ -10,10 +10,12 @@ use Rattle.issuer_base.specs.declared.entry.Entry.{Entry}
 use Rattle.issuer_base.specs.declared.entry.Entry.TheVariants.{Decided, Queued, Status}
 use Rattle.issuer_base.specs.declared.request.Request.{Request}
 use Rattle.tlv_objects.specs.Writing.{object_text}
-use Rattle.key_derive.specs.SessionKey.{session_ac}
+use Rattle.key_derive.specs.SessionKey.{session_of}
+use Rattle.key_derive.specs.SuiteKey.{SuiteKey}
 use Rattle.key_derive.specs.declared.card.CardKeys.{CardKeys}
+use Rattle.cryptogram_in.specs.Cryptogram.{input, cryptogram_under, application_cryptogram}
 use Rattle.arpc_methods.specs.Arpc.{method2, value91}
-use Rattle.arpc_methods.proofs.Lengths.{length-method2}
+use Rattle.arpc_methods.proofs.Lengths.{length-method2-by}
 use Rattle.decision_table.specs.declared.row.TableRow.{TableRow}
 use Rattle.decision_table.specs.Fitting.{decision}
 use Rattle.decision_table.specs.Tables.{tells_approval}
@@ -26,7 +28,7 @@ use Rattle.issuer_setup.specs.IssuerSetup.{Setup, keys_of}
 use Rattle.issuer_setup.proofs.CardListLemmas.{number_of-found}
 use Rattle.row_core.specs.Accepting.{IsMade, told_update, says_approval}
 use Rattle.row_core.specs.Replying.{script_bytes, reply_bytes, reply_by, reply_by_row, reply_of_card, no_reply}
-use Rattle.journal_rec.specs.Record.{IsRecord}
+use Rattle.journal_rec.specs.Record.{IsRecord, IsRequest}
 use Rattle.shard_book.specs.Grounds.{IsMadeBy, grounds_now, grounds_of}
 
 -- ---- the bytes of a reply
@@ -65,7 +67,7 @@ told-fours : (a b m0 m1 m2 m3 c0 c1 c2 c3 : ℕ) (scripts : List ℕ)
 unfolding told-of
 told-fours a b m0 m1 m2 m3 c0 c1 c2 c3 scripts = refl
 
--- by method 2 the status update stands in the reply
+-- by method 2 the reply has the card status update
 told-update : (arc mac csu scripts : List ℕ) → length arc ≡ 2 → length mac ≡ 4 → length csu ≡ 4 → told-of arc mac csu scripts ≡ csu
 told-update arc mac csu scripts arc_long mac_long csu_long =
     let two = two-of arc arc_long in
@@ -77,17 +79,19 @@ told-update arc mac csu scripts arc_long mac_long csu_long =
     ∙ told-fours two.a two.b first.a first.b first.c first.d last.a last.b last.c last.d scripts
     ∙ sym last.is
 
+-- under keys by which the request has a cryptogram of eight bytes
 module _ (keys : CardKeys) (scripts : Scripts) (request : Request) (row : TableRow) (arc_long : length row.arc ≡ 2)
-    (told : tells_approval row ≡ true) where
+    (ac_long : length (application_cryptogram keys request) ≡ 8) (told : tells_approval row ≡ true) where
   bytes-by : Method → List ℕ
   bytes-by method = reply_bytes method keys scripts request row.arc row.csu
 
   update-told : told_update (bytes-by Two) ≡ row.csu
-  unfolding bytes-by value91 told-of
+  unfolding bytes-by value91 told-of application_cryptogram cryptogram_under
   update-told =
-      told-update row.arc (method2 (session_ac keys.ac.0 request.atc) request.ac row.csu) row.csu
-      (script_bytes keys.smi.0 request.ac (first_of request scripts) (batch_of request scripts)) arc_long
-      (length-method2 (session_ac keys.ac.0 request.atc) request.ac row.csu) (tells-update row told)
+      let session : SuiteKey = session_of keys request.atc in
+      told-update row.arc (method2 session.suite session.key request.ac row.csu) row.csu
+      (script_bytes keys.suite keys.smi.0 request.ac (first_of request scripts) (batch_of request scripts)) arc_long
+      (length-method2-by session.suite session.key (input request) request.ac row.csu ac_long) (tells-update row told)
 
   approval-told : says_approval row.csu ≡ row.approve
   unfolding tells_approval
@@ -106,22 +110,29 @@ module _ (keys : CardKeys) (scripts : Scripts) (request : Request) (row : TableR
 
 -- the reply of the row that decides is made for its response code
 pub decided-made : (issuer : Setup) (card : CardInfo) (keys : CardKeys) (before : List Entry) (request : Request) (reply : Reply) (found : Option TableRow)
+    → length (application_cryptogram keys request) ≡ 8
     → decision issuer.table (status_of (card_of request) before) request ≡ found → 1 ≤ length reply.bytes.items → length reply.arc ≡ 2
     → reply ≡ option_map_or (reply_by_row card.method keys (scripts_of (card_of request) before) request) found no_reply
     → IsMade card.method keys (scripts_of (card_of request) before) request reply
-decided-made issuer card keys before request reply None is some code made =
+decided-made issuer card keys before request reply None ac_long is some code made =
     let empty : length reply.bytes.items ≡ 0 = ap (λ (reply : Reply). length reply.bytes.items) made in
     absurd (omega (arith, empty, some))
-decided-made issuer card keys before request reply (Some row) is some code made =
+decided-made issuer card keys before request reply (Some row) ac_long is some code made =
     let tells = decision-tells issuer.table (status_of (card_of request) before) request row is in
     let arc : length row.arc ≡ 2 = ap (λ (reply : Reply). length reply.arc) (sym made) ∙ code in
     subst (IsMade card.method keys (scripts_of (card_of request) before) request) (sym made)
-    (row-made keys (scripts_of (card_of request) before) request row arc tells card.method)
+    (row-made keys (scripts_of (card_of request) before) request row arc ac_long tells card.method)
+
+-- a request's cryptogram has eight bytes
+cryptogram-long : (request : Request) → IsRequest request → length request.ac ≡ 8
+cryptogram-long request valid = ap (λ sizes. get_or sizes 14 0) valid.sizes
 
 own-made : (issuer : Setup) (shard : ℕ) (before : List Entry) (request : Request) (reply : Reply) → IsRecord (Decided request reply)
     → IsLegal (grounds_now issuer) shard before (Decided request reply) → IsMadeBy issuer before request reply
 own-made issuer shard before request reply valid legal =
-    let keyed = legal.has_its_keys in
+    let signed = legal.has_valid_ac in
+    let keyed = signed.its in
+    let whole : length (application_cryptogram keyed.keys request) ≡ 8 = ap length (sym signed.ac_is) ∙ cryptogram-long request valid.held.0 in
     let number_is = keyed.number_is in
     let known = number_of-found (card_of request) issuer.cards keyed.number number_is in
     let made = legal.is_the_issuers_reply
@@ -136,11 +147,11 @@ own-made issuer shard before request reply valid legal =
       card_is = known.1;
       keys_are = keyed.keys_are;
       made =
-          decided-made issuer known.0 keyed.keys before request reply (decision issuer.table (status_of (card_of request) before) request) refl
+          decided-made issuer known.0 keyed.keys before request reply (decision issuer.table (status_of (card_of request) before) request) whole refl
           (leb-true 1 (length reply.bytes.items) valid.may_stand) valid.held.1.arc_size made;
     }
 
--- a record that may come next in this run may come next when it is loaded again
+-- a valid successor in this run is one when it is loaded again
 pub legal-then : (issuer : Setup) (shard : ℕ) (before : List Entry) (entry : Entry) → IsRecord entry
     → IsLegal (grounds_now issuer) shard before entry → IsLegal (grounds_of issuer) shard before entry
 legal-then issuer shard before (Decided request reply) valid legal = record {

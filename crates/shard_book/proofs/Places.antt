@@ -13,7 +13,7 @@ use Rattle.issuer_setup.specs.IssuerSetup.{Setup}
 use Rattle.row_core.specs.CardRow.{CardRow, StandsFor as RowStandsFor}
 use Rattle.shard_book.specs.ShardRows.{ShardRows, Covers, AreRowsOf, AreEmpty, IsEmptyAt, StandsFor, is_decided}
 
--- a number from its place and its shard
+-- a number from its index and its shard
 pub number-from : (number shards shard : ℕ) → number % shards ≡ shard → number ≡ shard + (number / shards) * shards
 number-from number shards shard home =
     let whole = div-add-mod number shards in
@@ -25,7 +25,7 @@ pub places-differ : (number other shards shard : ℕ) → number % shards ≡ sh
 places-differ number other shards shard home other_home not_it same =
     not_it (number-from other shards shard other_home ∙ ap (λ place. shard + place * shards) same ∙ sym (number-from number shards shard home))
 
--- a place whose card is one of the first so many
+-- an index whose card is one of the first so many
 place-below : (place count shard shards : ℕ) → shard + place * shards < shard + count * shards → place < count
 place-below place count shard shards below =
     elim (cases_lt place count) [

@@ -34,12 +34,12 @@ card-there : (cards : List CardInfo) (number : ℕ) → number < length cards �
 card-there [] number below = absurd (omega (arith, below))
 card-there (card ∷ cards) number below = (get_or (card ∷ cards) number card, slice_get-get_or (card ∷ cards) number card below)
 
--- a decision on a counter
+-- a decision on an ATC
 decision-there : (counter : ℕ) (decisions : List Decision) → Any (λ decision. eqb counter decision.request.atc ≡ true) decisions
     → (decision : Decision) × Contains decisions decision × (decision.request.atc ≡ counter)
 decision-there counter decisions any = (any.1, (any.0, any.2, any.3), sym (eqb-true counter any.1.request.atc any.4))
 
--- ---- the number of the card whose row stands at a place
+-- ---- the number of the card whose row has an index
 at-home : (shard index shards : ℕ) → shard < shards → (shard + index * shards) % shards ≡ shard
 at-home shard index shards inside = ap (λ (n : ℕ). n % shards) (turned shard (index * shards)) ∙ mod-mul-add index shards shard inside
 
@@ -52,7 +52,7 @@ number-within rows covers index below =
     (covers.sets (rows.shard + index * rows.shards) (at-home rows.shard index rows.shards covers.inside)).1
     (subst (λ (place : ℕ). place < rows.bits.cards) (sym (at-place rows.shard index rows.shards covers.inside)) below)
 
--- a number is that one where it is at home and its place is the row's
+-- a number is that one if it is of this shard and its index is the row's
 number-test : (shard shards index number : ℕ) → shard < shards
     → eqb (shard + index * shards) number ≡ (eqb (number % shards) shard && eqb index (number / shards))
 number-test shard shards index number inside =
@@ -78,7 +78,7 @@ and-over true true one other same = same refl
 and-over true false one other same = refl
 and-over false here one other same = refl
 
--- the counters of one card more are listed
+-- the ATCs of one card more are listed
 pub lists-more : (rows : ShardRows) → Covers rows → (index number counter : ℕ)
     → one_if (eqb (number % rows.shards) rows.shard && (ltb (number / rows.shards) index && has rows.bits (number / rows.shards) counter))
     + one_if (eqb (rows.shard + index * rows.shards) number && has rows.bits index counter)
@@ -139,7 +139,7 @@ module _ (issuer : Setup) (rows : ShardRows) (covers : Covers rows) (history : L
       (has rows.bits (number / rows.shards) counter) (lt-ltb (number / rows.shards) rows.bits.cards place)
       (row.counters_are counter ∙ any))
 
--- so the list has got the recorded counters
+-- so the recorded ATCs were appended to the list
 pub adds-recorded : (issuer : Setup) (rows : ShardRows) → Covers rows → (history : List Entry) → StandsFor issuer rows history → (list longer : List (ℕ × ℕ))
     → take (length list) longer ≡ list → Lists rows list longer → AddsRecorded issuer rows.shard history list longer
 adds-recorded issuer rows covers history stands list longer kept lists =
@@ -163,7 +163,7 @@ adds-recorded issuer rows covers history stands list longer kept lists =
       );
     }
 
--- what is said at Ok says a weaker fact there
+-- a fact at Ok implies a weaker one there
 pub ok-weaker : {X E : Type 0} (result : Result X E) (P Q : Type 0) → (P → Q) → IfOk result (λ _. P) → IfOk result (λ _. Q)
 ok-weaker (Ok x) P Q weaker says = weaker says
 ok-weaker (Err e) P Q weaker says = says

@@ -26,7 +26,7 @@ there xs place old new old_is =
     let long : length (set xs place new) ≡ length xs = length-set xs place new in
     slice_get-get_or (set xs place new) place new (omega arith) ∙ ap Some (get_or-set_same xs place new new within)
 
--- and each other place as it was
+-- and each other element as it was
 elsewhere : {X : Type 0} (xs : List X) (place : ℕ) (new : X) (other : ℕ) (x : X) → other ≢ place → slice_get xs other ≡ Some x
     → slice_get (set xs place new) other ≡ Some x
 elsewhere xs place new other x not_it is =
@@ -104,12 +104,12 @@ module _ (issuer : Setup) (rows : ShardRows) (history : List Entry) (stands : St
         ];
   }
 
--- what an answer says at Ok is so where it is one
+-- a fact of a result at Ok holds if it is Ok
 pub ok-then : {X E : Type 0} (result : Result X E) (Q : Type 0) → IfOk result (λ _. Q) → IsOk result → Q
 ok-then (Ok x) Q says ok = says
 ok-then (Err e) Q says ok = absurd (false≢true ok)
 
--- the row of the card with this number was read at its place in the rows
+-- the row of the card with this number was read at its index in the rows
 pub record IsRead (rows now : ShardRows) (number place : ℕ) (row : CardRow) : Type 0 where
   pub view : rows ≡ now
   pub home : IsHome rows number

@@ -37,13 +37,13 @@ texts-more history entry =
     ap (λ l. texts_of history ++ l) (sym (append-nil (text_of entry))) ∙ sym (flat_map-append text_of history (entry ∷ []))
 
 module _ {S : Type 0} {G : Ghosts S} (history : List Entry) (entry : Entry) (new : Journal S G) (piece : List ℕ) (its : piece ≡ text_of entry) where
-  -- the text of a record that was put is that of the history with it
+  -- the text with an appended record is that of the history with it
   holds-more : Holds new (length history + 1) (texts_of history ++ piece) [] → Holds new (length (history ++ entry ∷ [])) (texts_of (history ++ entry ∷ [])) []
   holds-more holds =
       subst (λ (n : ℕ). Holds new n (texts_of (history ++ entry ∷ [])) []) (sym (length_push history entry))
       (subst (λ (text : List ℕ). Holds new (length history + 1) text []) (ap (λ l. texts_of history ++ l) its ∙ texts-more history entry) holds)
 
-  -- nothing stands behind the text with the record; or what stood there, or a front of the record's
+  -- nothing is after the text with the record; or what was there, or a prefix of the record's
   pub put-tail : {E : Type 0} (tail : List ℕ) (result : Result ℕ E)
       → IfOk result (λ place. (place ≡ length history) × Holds new (length history + 1) (texts_of history ++ piece) [])
       → (IsErr result → Holds new (length history) (texts_of history) tail ⊎ Holds new (length history) (texts_of history) piece)
@@ -56,7 +56,7 @@ module _ {S : Type 0} {G : Ghosts S} (history : List Entry) (entry : Entry) (new
 
 module _ {S : Type 0} {G : Ghosts S} (grounds : Grounds) (number : ℕ) (history : List Entry) (entry : Entry) (old new : Journal S G)
     (h : HoldsHistory grounds number old history) (piece : List ℕ) (its : piece ≡ text_of entry) (valid : IsRecord entry) where
-  -- a record that was put is one of the history's
+  -- an appended record is one of the history's
   pub put-done : {E : Type 0} (result : Result ℕ E)
       → IfOk result (λ place. (place ≡ length history) × Holds new (length history + 1) (texts_of history ++ piece) [])
       → IfOk result (λ place. (place ≡ length history) × HoldsHistory grounds number new (history ++ entry ∷ []))
@@ -71,7 +71,7 @@ module _ {S : Type 0} {G : Ghosts S} (grounds : Grounds) (number : ℕ) (history
     },
   )
 
-  -- one that was not may be in doubt
+  -- one that wasn't appended may be in doubt
   pub put-failed : IsLegal grounds number history entry
       → Holds new (length history) (texts_of history) h.tail ⊎ Holds new (length history) (texts_of history) piece → HoldsHistory grounds number new history
   put-failed legal = ⊎_elim
@@ -83,7 +83,7 @@ module _ {S : Type 0} {G : Ghosts S} (grounds : Grounds) (number : ℕ) (history
         holds = torn;
       })
 
-  -- and a crash leaves the text of the history, and a torn record behind it
+  -- and a crash leaves the text of the history, and a torn record after it
   pub put-crash : IsLegal grounds number history entry → (a b : Option Disk)
       → BothTold (LeavesOnly (IsEitherImage (texts_of history) h.tail piece)) a b → BothTold (LeavesOnly (IsImageOf grounds number history)) a b
   put-crash legal a b =
@@ -115,7 +115,7 @@ stands-with {S} {G} issuer number journal mid rows told history number_is same s
   journal_holds = subst (λ number. HoldsHistory (grounds_now issuer) number journal history) (sym (same.shard_is ∙ number_is)) holds;
 }
 
--- a decision that was added, or not, is answered as the history says
+-- a decision that was added, or not, is answered by the history
 pub answer-added : {S : Type 0} {G : Ghosts S} (issuer : Setup) (new : Shard S G) (number : ℕ) (won : Bool) (history : List Entry) (request : Request)
     (reply : Reply) (answer : Answer) → won ≡ true → IsUnused (decided_for request history) request → reply ≡ reply_to issuer history request
     → Adds issuer new history (Decided request reply) (Fresh number (length history) reply) answer
@@ -133,12 +133,12 @@ answer-added issuer new number won history request reply answer is_won unused ma
       subst (λ (answer : Answer). AnswersClaimed number (reply_to issuer) won history request answer history) (sym failed.0) (is_won, unused, refl),
     ))
 
--- one more answer that told it is counted
+-- one more answer that reported it is counted
 told-rises : (told : ℕ) → told_after told true ≡ 0 → ⊥
 told-rises zero none = cc
 told-rises (suc told) none = grind arith
 
--- where no answer told that the store failed, the last record was put
+-- if no answer reported that the store failed, the last record was appended
 pub put-undoubted : {S : Type 0} {G : Ghosts S} {X E : Type 0} (told : ℕ) (new : Journal S G) (result : Result X E) → OnOk result (new.in_doubt ≡ false)
     → told_after told (is_err result) ≡ 0 → new.in_doubt ≡ false
 put-undoubted told new (Ok x) settled none = settled

@@ -5,7 +5,7 @@ use Rattle.issuer_base.specs.declared.entry.Entry.{Entry}
 use Rattle.issuer_base.specs.declared.entry.Entry.TheVariants.{Decided}
 use Rattle.issuer_base.specs.declared.answer.Reply.{Reply}
 use Rattle.card_history.specs.Records.{card_of}
-use Rattle.row_core.specs.Accepting.{MayFollow}
+use Rattle.row_core.specs.Accepting.{IsValidSuccessor}
 use Rattle.card_history.specs.declared.decision.Decision.{Decision}
 use Rattle.card_history.specs.Scripts.{waiting, scripts_of}
 use Rattle.card_history.specs.Turns.{Answers}
@@ -58,7 +58,7 @@ Accepts rows found reply accepted =
     (issuer : Setup) (card : CardInfo) (history : List Entry) → StandsFor issuer rows history
     → IsCardOf issuer found.card card
     → card_of found.request ≡ name_of card
-    → (IsTrue accepted ↔ MayFollow card.method found.keys history found.request reply)
+    → (IsTrue accepted ↔ IsValidSuccessor card.method found.keys history found.request reply)
 
 -- the decision is replayed
 abbrev pub Adopts : ShardRows → CheckedRequest → Reply → ℕ → ShardRows → Type 0

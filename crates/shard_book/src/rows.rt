@@ -1,18 +1,17 @@
 //! The rows of a shard's cards.
 ghost use Rattle.std.specs.Prelude.{◌≡◌, ◌↔◌, ℕ, take, ◌+◌, ◌*◌, ◌/◌, ◌%◌, ◌<◌, ◌≤◌, ◌^◌, List, [], ◌∷◌, ◌++◌, length, slice_get, Some, false, IfOk, IsTrue};
 ghost use Rattle.counter_bits.specs.CounterSets.{has, times, one_if};
-ghost use Rattle.script_queue.specs.CommandQueue.{TakesOneMore};
 ghost use Rattle.issuer_base.specs.declared.entry.Entry.{Entry};
 ghost use Rattle.issuer_base.specs.ScriptCommand.{is_command};
 ghost use Rattle.card_history.specs.LegalRecords.{IsLegal};
 ghost use Rattle.issuer_setup.specs.IssuerSetup.{Setup};
-ghost use Rattle.key_derive.specs.SessionKey.{session_ac};
+ghost use Rattle.key_derive.specs.SessionKey.{session_of};
 ghost use Rattle.line_checks.specs.AtHand.{IsRequestAtHand};
 ghost use Rattle.shard_book.specs.ShardRows.{AreRowsOf, AreSame, IsHome, AreEmpty, Covers, Lists, StandsFor};
 ghost use Rattle.shard_book.specs.Steps.{IsPlanFor, IsLaunchAt, IsStepFor, Applies, Accepts, Adopts, Queues, TakesCommand, SetsStatus};
 
 use counter_bits::CounterBits;
-use issuer_base::{Command, MAX_CARDS, MAX_QUEUED, MAX_STATUS, MAX_UNDONE, NoMemory, Reply};
+use issuer_base::{Command, MAX_CARDS, MAX_STATUS, NoMemory, Reply};
 use issuer_setup::Issuer;
 use line_checks::CheckedRequest;
 use row_core::{Launch, Outcome, Row};
@@ -115,7 +114,7 @@ impl Rows {
     /// Replays the decision of a checked request if it is a valid successor. The result is whether it is.
     pub(crate) fn adopt_checked(&mut self, found: CheckedRequest, reply: Reply, place: u64) -> bool
         requires home { IsHome self.old found.card }
-        requires session { found.session ≡ session_ac found.keys.ac.0 found.request.atc }
+        requires session { found.session ≡ session_of found.keys found.request.atc }
         ensures exact { Accepts self.old found reply result }
         ensures adopted { IsTrue result → Adopts self.old found reply place self.new }
         ensures same { AreSame self.old self.new }
@@ -140,7 +139,7 @@ impl Rows {
         requires { IsHome self.now card }
         ensures { TakesCommand self.now card result }
     {
-        takes_one_more(self.row(card))
+        self.row(card).queue().takes_one_more()
     }
 
     /// Queues a command for this card, whose queue accepts one more.
@@ -202,13 +201,6 @@ fn home_cards(cards: u32, shards: u8, shard: u8) -> u32
     ensures { (number : ℕ) → number % shards ≡ shard → ((number < cards) ↔ (number / shards < result)) }
 {
     (cards + u32::from(shards) - 1 - u32::from(shard)) / u32::from(shards)
-}
-
-/// Whether the row's queue accepts one more command.
-fn takes_one_more(row: &Row) -> bool
-    ensures { IsTrue result ↔ TakesOneMore row.now.scripts.commands }
-{
-    row.queue().undone() < MAX_UNDONE && row.queue().queued() < MAX_QUEUED
 }
 
 /// A row without records for each card of a shard.

@@ -14,7 +14,7 @@ use Rattle.one_caller.proofs.solo.Solo.decide.Given.{Over}
 use Rattle.one_caller.proofs.solo.Solo.decide.Goals.{After-answer}
 use Rattle.one_caller.proofs.solo.Solo.decide.Goals as goal
 
--- the shard at its place is called with the request
+-- the shard with its index is called with the request
 call : (g : Over) (c : After-answer g) → IsCalled c.args.self.now.issuer c.args.self.now.shards.items (card_of c.args.found.now.request)
     c.home-shard.result c.index_mut.result.now c.answer.new.self c.answer.result
     (λ shard old new. AnswersClaimed shard (reply_to c.args.self.now.issuer) true old c.args.found.now.request c.answer.result new)

@@ -17,7 +17,7 @@ use Rattle.one_caller.proofs.solo.Solo.order.Given.{Over}
 use Rattle.one_caller.proofs.solo.Solo.order.Goals.{After-order}
 use Rattle.one_caller.proofs.solo.Solo.order.Goals as goal
 
--- the shard at its place is called with the order
+-- the shard with its index is called with the order
 call : (g : Over) (c : After-order g) → IsCalled c.args.self.now.issuer c.args.self.now.shards.items (card_asked (order_asked c.args.found.now))
     c.home-shard.result c.index_mut.result.now c.order.new.self c.order.result
     (AnswersAsked c.args.self.now.issuer (order_asked c.args.found.now) c.order.result)

@@ -1,4 +1,4 @@
--- On an unused ATC a reply may follow exactly if the issuer makes it.
+-- A decision on an unused ATC is a valid successor exactly if the issuer makes its reply.
 use Rattle.row_core.proofs.AcceptLemmas.{follows-made}
 use Rattle.row_core.proofs.row.Row.accepts.Goals as goal
 

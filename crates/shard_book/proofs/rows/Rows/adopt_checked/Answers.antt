@@ -8,7 +8,7 @@ use Rattle.shard_book.proofs.RowsAfter.{is-read, row-inside, step-more}
 use Rattle.shard_book.proofs.rows.Rows.adopt_checked.Goals.{After-adopt}
 use Rattle.shard_book.proofs.rows.Rows.adopt_checked.Goals as goal
 
--- the row accepts it just where it may come next
+-- the row accepts it exactly if it is a valid successor
 accepts : (c : After-adopt) → Accepts c.args.self.now c.args.found c.args.reply c.adopt.result
 accepts c issuer card history stands known =
     let read = is-read c.self.view_is c.self.invariant c.requires.home c.index_of-index.ensures c.index_mut.ensures.value in

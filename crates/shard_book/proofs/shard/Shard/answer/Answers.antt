@@ -32,7 +32,7 @@ returns-in-Below-clause-crash g c history stands = crash-no_call (grounds_now c.
 pub returns-in-Taken-clause-crash : goal.returns-in-Taken-clause-crash
 returns-in-Taken-clause-crash g c history stands = crash-no_call (grounds_now c.args.issuer.now) _ c.args.self.now.journal history stands.journal_holds
 
--- the planned decision may come next
+-- the planned decision is a valid successor
 legal : (g : Over) (c : After-decide g) (history : List Entry) → StandsFor c.args.issuer.now c.args.self.now history
     → IsLegalDecision (grounds_now c.args.issuer.now) c.args.self.now.rows.shard history c.args.found.now.request
     c.in-Fresh.reply
