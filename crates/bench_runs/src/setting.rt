@@ -5,7 +5,7 @@ use arrayvec::ArrayVec;
 use card_model::{Card, Terminal};
 use decision_table::{Table, TableRow};
 use des_block::Key16;
-use issuer_base::{MasterOption, Method, Pan};
+use issuer_base::{MasterOption, Method, Pan, Suite};
 use issuer_setup::{CardInfo, Issuer};
 use key_derive::{KeySet, MasterCiphers};
 use std::alloc::Global;
@@ -28,6 +28,7 @@ const KEYS: KeySet = KeySet {
     option: MasterOption::A,
     ac: Key16([0x11; 16]),
     smi: Key16([0x22; 16]),
+    aes: None,
 };
 
 /// The card with this number.
@@ -79,7 +80,7 @@ pub(crate) fn cards(alloc: Global, count: u32) -> Option<Vec<Card>> {
             psn: _,
             method,
         } = info(number)?;
-        let keys = ciphers.card_keys(&pan, 0x00);
+        let keys = ciphers.card_keys(Suite::TripleDes, &pan, 0x00)?;
         cards
             .push(Card::new(alloc, pan, 0x00, KEYS.dki, method, keys))
             .ok()?;

@@ -1,12 +1,9 @@
 //! Large runs of the world of cards.
 
 use crate::counts::Counts;
-use issuer_base::MAX_CARDS;
+use issuer_base::{MAX_CARD_REQUESTS, MAX_CARDS, MAX_STEPS};
 use std::alloc::Global;
-use world_play::{MAX_STEPS, Summary, play};
-
-/// The most requests of a card.
-const MOST_REQUESTS: u64 = 65_535;
+use world_play::{Summary, play};
 
 /// The counts of a run. `numbers` are those of cards and of steps, and the seed. `None` if they are out of range, or
 /// memory runs out.
@@ -15,7 +12,7 @@ pub(crate) fn measure(alloc: Global, numbers: [u64; 3]) -> Option<Counts> {
     if cards < 1 || cards > MAX_CARDS as u64 || steps > u64::from(MAX_STEPS) {
         return None;
     }
-    if steps > MOST_REQUESTS * cards {
+    if steps > u64::from(MAX_CARD_REQUESTS) * cards {
         return None;
     }
     let seed = u32::try_from(seed).ok()?;

@@ -5,7 +5,9 @@ use Rattle.std.specs.Prelude.{nat_le}
 use Rattle.std.specs.Str.{bytes_eq}
 use Rattle.issuer_base.specs.declared.command.Command.{Command}
 use Rattle.issuer_base.specs.declared.request.Parts.{Parts}
-use Rattle.key_derive.specs.SessionKey.{session_ac, session_sm}
+use Rattle.issuer_base.specs.declared.request.Suite.{Suite}
+use Rattle.key_derive.specs.SuiteKey.{SuiteKey}
+use Rattle.key_derive.specs.SessionKey.{session_of, session_sm}
 use Rattle.arpc_methods.specs.Arpc.{value91}
 use Rattle.card_model.specs.declared.card.TheConstants.{LAST_COUNTER}
 use Rattle.card_model.specs.declared.terminal.Terminal.{Terminal}
@@ -55,14 +57,14 @@ no_chain (Some chain) chained = absurd (true≢false chained)
 no_chain None chained = refl
 
 -- the answer to a request, under its session key
-pub is_answer-under : (card : CardState) (request parts : Parts) (session value arc : List ℕ) (right : Bool) → parts ≡ request
-    → session ≡ session_ac card.keys.ac.0 parts.atc
-    → right ≡ (nat_le 8 (length value) && bytes_eq value (value91 card.method session parts.ac arc (take 4 (drop 4 value))))
+pub is_answer-under : (card : CardState) (request parts : Parts) (session : SuiteKey) (value arc : List ℕ) (right : Bool) → parts ≡ request
+    → session ≡ session_of card.keys parts.atc
+    → right ≡ (nat_le 8 (length value) && bytes_eq value (value91 session.suite card.method session.key parts.ac arc (take 4 (drop 4 value))))
     → is_answer card request value arc ≡ right
 unfolding is_answer
 is_answer-under card request parts session value arc right same key is =
-    let with : List ℕ → List ℕ → Bool = λ k ac. nat_le 8 (length value) && bytes_eq value (value91 card.method k ac arc (take 4 (drop 4 value))) in
-    sym (is ∙ ap (λ k. with k parts.ac) key ∙ ap (λ (p : Parts). with (session_ac card.keys.ac.0 p.atc) p.ac) same)
+    let with : SuiteKey → List ℕ → Bool = λ k ac. nat_le 8 (length value) && bytes_eq value (value91 k.suite card.method k.key ac arc (take 4 (drop 4 value))) in
+    sym (is ∙ ap (λ k. with k parts.ac) key ∙ ap (λ (p : Parts). with (session_of card.keys p.atc) p.ac) same)
 
 -- a card with an open request finds no other value right
 pub answer-wrong : (card : CardState) (request : Parts) (value arc : List ℕ) → card.open_request ≡ Some request
@@ -94,24 +96,24 @@ command-early card request bytes asked unchained = sym (ap₂ (λ asked chained.
 -- a card at a chain takes what it opens
 command-opened : (card : CardState) (request : Parts) (chain bytes : List ℕ) (opened : Option (Command × List ℕ))
     → card.open_request ≡ Some request → card.chain ≡ Some chain
-    → opened ≡ opened_within card.count (session_sm card.keys.smi.0 request.ac) chain bytes
+    → opened ≡ opened_within card.count card.keys.suite (session_sm card.keys.suite card.keys.smi.0 request.ac) chain bytes
     → after_opening card opened ≡ after_command card bytes
 unfolding after_command command_at
 command-opened card request chain bytes opened asked chained is =
     ap (after_opening card) is ∙ sym (ap₂ (λ asked chained. command_at asked chained card bytes) asked chained)
 
 -- what a card opens, under the session key of its request
-pub opened-under : (count : ℕ) (smi : List ℕ) (request parts : Parts) (key chain bytes : List ℕ) (opened : Option (Command × List ℕ))
-    → parts ≡ request → key ≡ session_sm smi parts.ac → opened ≡ opened_within count key chain bytes
-    → opened ≡ opened_within count (session_sm smi request.ac) chain bytes
-opened-under count smi request parts key chain bytes opened same is found =
-    let with : List ℕ → Option (Command × List ℕ) = λ k. opened_within count k chain bytes in
-    found ∙ ap with (is ∙ ap (λ (p : Parts). session_sm smi p.ac) same)
+pub opened-under : (count : ℕ) (suite : Suite) (smi : List ℕ) (request parts : Parts) (key chain bytes : List ℕ) (opened : Option (Command × List ℕ))
+    → parts ≡ request → key ≡ session_sm suite smi parts.ac → opened ≡ opened_within count suite key chain bytes
+    → opened ≡ opened_within count suite (session_sm suite smi request.ac) chain bytes
+opened-under count suite smi request parts key chain bytes opened same is found =
+    let with : List ℕ → Option (Command × List ℕ) = λ k. opened_within count suite k chain bytes in
+    found ∙ ap with (is ∙ ap (λ (p : Parts). session_sm suite smi p.ac) same)
 
 -- it notes a failure where it opens nothing
 pub command-refused : (card : CardState) (request : Parts) (chain bytes : List ℕ)
     → card.open_request ≡ Some request → card.chain ≡ Some chain
-    → None ≡ opened_within card.count (session_sm card.keys.smi.0 request.ac) chain bytes
+    → None ≡ opened_within card.count card.keys.suite (session_sm card.keys.suite card.keys.smi.0 request.ac) chain bytes
     → CardStep card (Run bytes false) (with_failure card)
 unfolding CardStep after_opening
 command-refused card request chain bytes asked chained is = command-opened card request chain bytes None asked chained is
@@ -119,7 +121,7 @@ command-refused card request chain bytes asked chained is = command-opened card 
 -- and else runs the command
 pub command-ran : (card : CardState) (request : Parts) (chain bytes : List ℕ) (command : Command) (next : List ℕ)
     → card.open_request ≡ Some request → card.chain ≡ Some chain
-    → Some (command, next) ≡ opened_within card.count (session_sm card.keys.smi.0 request.ac) chain bytes
+    → Some (command, next) ≡ opened_within card.count card.keys.suite (session_sm card.keys.suite card.keys.smi.0 request.ac) chain bytes
     → CardStep card (Run bytes true) (with_command card command next)
 unfolding CardStep after_opening
 command-ran card request chain bytes command next asked chained is =

@@ -6,6 +6,8 @@ use Rattle.std.specs.Str.{bytes_eq}
 use Rattle.issuer_base.specs.declared.answer.Method.{Method}
 use Rattle.issuer_base.specs.declared.command.Command.{Command}
 use Rattle.issuer_base.specs.declared.request.Parts.{Parts}
+use Rattle.issuer_base.specs.declared.request.Suite.{Suite}
+use Rattle.issuer_base.specs.declared.request.Suite.TheVariants.{TripleDes, Aes}
 use Rattle.key_derive.specs.declared.card.CardKeys.{CardKeys}
 use Rattle.key_derive.specs.SessionKey.{counter_bytes, session_ac}
 use Rattle.cryptogram_in.specs.Cryptogram.{application_cryptogram}
@@ -38,12 +40,17 @@ pub record CardState : Type 0 where
 unfoldable pub script_results : CardState → ℕ
 script_results card = 16 * card.count + (if card.failed then 8 else 0)
 
+-- the common core identifier of a card of a suite
+unfoldable pub core_identifier : Suite → ℕ
+core_identifier TripleDes = 0xA5
+core_identifier Aes = 0xA6
+
 -- the issuer application data of a card that requests to go online, this project's profile: 0F, the common core
--- identifier, the derivation key index, the card verification results with an ARQC, eight counters, 0F, the register,
+-- identifier of its suite, the derivation key index, the card verification results with an ARQC, eight counters, 0F, the register,
 -- and zeros
 unfoldable pub application_data : CardState → List ℕ
 application_data card =
-    0x0F ∷ 0xA5 ∷ card.dki ∷ 0xA0 ∷ 0 ∷ 0 ∷ script_results card ∷ 0 ∷ []
+    0x0F ∷ core_identifier card.keys.suite ∷ card.dki ∷ 0xA0 ∷ 0 ∷ 0 ∷ script_results card ∷ 0 ∷ []
     ++ replicate 8 0 ++ 0x0F ∷ counter_bytes card.register ++ replicate 13 0
 
 -- the fields of the card's next request at a terminal, without the cryptogram
@@ -69,12 +76,12 @@ next_fields card terminal = record {
 -- the card's next request at a terminal: those fields, and the application cryptogram over them
 unfoldable pub next_request : CardState → Terminal → Parts
 next_request card terminal =
-    let fields = next_fields card terminal in record fields { ac = application_cryptogram card.keys.ac.0 fields }
+    let fields = next_fields card terminal in record fields { ac = application_cryptogram card.keys fields }
 
--- the value of tag 91 is the issuer's answer to the card's request by the card's method: with this response code or, by
+-- the value of tag 91 is the issuer's answer to the card's request, by the card's suite and method: with this response code or, by
 -- method 2, with the card status update that the value has after its first four bytes
 unfoldable pub is_answer : CardState → Parts → List ℕ → List ℕ → Bool
 is_answer card request value arc =
     nat_le 8 (length value)
-    && bytes_eq value (value91 card.method (session_ac card.keys.ac.0 request.atc) request.ac arc
+    && bytes_eq value (value91 card.keys.suite card.method (session_ac card.keys.suite card.keys.ac.0 request.atc) request.ac arc
     (take 4 (drop 4 value)))

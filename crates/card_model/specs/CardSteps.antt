@@ -4,6 +4,7 @@ use Rattle.std.specs.Prelude.{Some, None}
 use Rattle.issuer_base.specs.declared.answer.Method.{Method}
 use Rattle.issuer_base.specs.declared.command.Command.{Command}
 use Rattle.issuer_base.specs.declared.request.Parts.{Parts}
+use Rattle.issuer_base.specs.declared.request.Suite.{Suite}
 use Rattle.key_derive.specs.declared.card.CardKeys.{CardKeys}
 use Rattle.key_derive.specs.SessionKey.{session_sm}
 use Rattle.secure_msg.specs.Sealing.{opened_command}
@@ -69,8 +70,9 @@ with_failure card = record card { failed = true }
 
 -- the command that a card opens at a chain under its session key, and the next chain: none if the count is at its
 -- greatest value
-unfoldable pub opened_within : ℕ → List ℕ → List ℕ → List ℕ → Option (Command × List ℕ)
-opened_within count key chain bytes = if nat_lt count MOST_COUNTED then opened_command key chain bytes else None
+unfoldable pub opened_within : ℕ → Suite → List ℕ → List ℕ → List ℕ → Option (Command × List ℕ)
+opened_within count suite key chain bytes =
+    if nat_lt count MOST_COUNTED then opened_command suite key chain bytes else None
 
 -- a card runs the command that it opened, and sets its failed bit if it opened none
 unfoldable pub after_opening : CardState → Option (Command × List ℕ) → Bool × CardState
@@ -80,7 +82,7 @@ after_opening card None = (false, with_failure card)
 -- an issuer script command to a card with this open request and this chain: a card without both stays as it is
 unfoldable pub command_at : Option Parts → Option (List ℕ) → CardState → List ℕ → Bool × CardState
 command_at (Some request) (Some chain) card bytes =
-    after_opening card (opened_within card.count (session_sm card.keys.smi.0 request.ac) chain bytes)
+    after_opening card (opened_within card.count card.keys.suite (session_sm card.keys.suite card.keys.smi.0 request.ac) chain bytes)
 command_at _ _ card bytes = (false, card)
 
 -- an issuer script command to a card

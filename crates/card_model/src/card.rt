@@ -8,15 +8,15 @@ ghost use Rattle.std.specs.Str.{bytes_eq};
 ghost use Rattle.issuer_base.specs.ChipData.{is_bcd};
 ghost use Rattle.arpc_methods.specs.Arpc.{value91};
 ghost use Rattle.cryptogram_in.specs.Cryptogram.{application_cryptogram};
-ghost use Rattle.card_model.specs.Application.{script_results, application_data, next_fields, next_request};
+ghost use Rattle.card_model.specs.Application.{script_results, core_identifier, application_data, next_fields, next_request};
 ghost use Rattle.card_model.specs.CardSteps.{CardStep, Tap, Authenticate, Run, new_card, opened_within};
 
 use crate::terminal::Terminal;
 use arpc_methods::value91;
 use cryptogram_in::expected;
-use des_block::{Key16, Tdes};
-use issuer_base::{Command, Method, NoMemory, Pan, Parts, Request};
-use key_derive::{CardKeys, SessionKey, session_ac, session_sm};
+use des_block::Key16;
+use issuer_base::{Command, Method, NoMemory, Pan, Parts, Request, Suite};
+use key_derive::{CardKeys, SessionKey, session_sm};
 use secure_msg::unseal;
 use std::alloc::Global;
 use std::marker::Model;
@@ -37,7 +37,7 @@ const ARQC: u8 = 0x80;
 /// The bit of the card verification results that is set if an issuer script command was refused.
 const SCRIPT_FAILED: u8 = 0x08;
 
-/// A chip card.
+/// A chip card of either suite.
 ///
 /// A contract sees its `CardState`: what it was issued with, its counters, its open transaction, and the commands that
 /// it ran.
@@ -115,7 +115,7 @@ impl Card {
         ensures last { IsNone result ↔ (self.old.atc ≡ LAST_COUNTER) }
         ensures unchanged { IfNone result (self.new ≡ self.old) }
         ensures has_valid_ac { IfSome result (λ request. request.ac
-            ≡ application_cryptogram self.old.keys.ac.0 request) }
+            ≡ application_cryptogram self.old.keys request) }
     {
         if self.atc == LAST_COUNTER {
             return None;
@@ -141,7 +141,7 @@ impl Card {
         }
         let parts = request.parts();
         let ac = parts.ac;
-        let session = session_ac(&self.keys.ac, parts.atc);
+        let session = SessionKey::for_cryptograms(&self.keys, parts.atc);
         if !is_answer(self.method, &session, &ac, value91, arc) {
             return false;
         }
@@ -166,8 +166,9 @@ impl Card {
         let Some(chain) = self.chain else {
             return Ok(false);
         };
-        let key = session_sm(&self.keys.smi, &request.parts().ac);
-        let Some(opened) = opened_within(self.count, &key, &chain, bytes) else {
+        let suite = self.keys.suite;
+        let key = session_sm(suite, &self.keys.smi, &request.parts().ac);
+        let Some(opened) = opened_within(self.count, suite, &key, &chain, bytes) else {
             self.failed = true;
             return Ok(false);
         };
@@ -190,12 +191,12 @@ impl Card {
         requires counted { self.now.atc < LAST_COUNTER }
         requires decimal { IsTrue (list_all is_bcd terminal.now.amount) }
         ensures exact { result ≡ next_request self.now terminal.now }
-        ensures has_valid_ac { result.ac ≡ application_cryptogram self.now.keys.ac.0 result }
+        ensures has_valid_ac { result.ac ≡ application_cryptogram self.now.keys result }
     {
-        let key = self.keys.ac;
+        let keys = self.keys;
         let mut parts = self.next_fields(terminal);
         let unsigned = Request::new(parts.copy()).unwrap();
-        let session = SessionKey::for_cryptograms(&key, unsigned.parts().atc);
+        let session = SessionKey::for_cryptograms(&keys, unsigned.parts().atc);
         parts.ac = expected(&session, &unsigned);
         Request::new(parts).unwrap()
     }
@@ -229,11 +230,12 @@ impl Card {
     fn application_data(&self) -> [u8; 32]
         ensures { result ≡ application_data self.now }
     {
+        let identifier = core_identifier(self.keys.suite);
         let results = self.script_results();
         let [high, low] = self.register.to_be_bytes();
         [
-            0x0F, 0xA5, self.dki, 0xA0, 0, 0, results, 0, 0, 0, 0, 0, 0, 0, 0, 0, 0x0F, high, low,
-            0, 0, 0, 0, 0, 0, 0, 0, 0, 0, 0, 0, 0,
+            0x0F, identifier, self.dki, 0xA0, 0, 0, results, 0, 0, 0, 0, 0, 0, 0, 0, 0, 0x0F, high,
+            low, 0, 0, 0, 0, 0, 0, 0, 0, 0, 0, 0, 0, 0,
         ]
     }
 
@@ -247,16 +249,27 @@ impl Card {
     }
 }
 
-/// Whether this is the value of tag 91 for a cryptogram: with this response code or, by method 2, with the card status
+/// The common core identifier of a card of this suite.
+#[tactic(auto, unfolding(crate::specs::Application::core_identifier))]
+fn core_identifier(suite: Suite) -> u8
+    ensures { result ≡ core_identifier suite }
+{
+    match suite {
+        Suite::TripleDes => 0xA5,
+        Suite::Aes => 0xA6,
+    }
+}
+
+/// Whether this is the value of tag 91 for a cryptogram under this session key: with this response code or, by method 2, with the card status
 /// update that the value has after its first four bytes.
-fn is_answer(method: Method, session: &Key16, ac: &[u8; 8], value: &[u8], arc: [u8; 2]) -> bool
-    ensures { result ≡ (nat_le 8 (length value.now)
-        && bytes_eq value.now (value91 method session.now.0 ac.now arc (take 4 (drop 4 value.now)))) }
+fn is_answer(method: Method, session: &SessionKey, ac: &[u8; 8], value: &[u8], arc: [u8; 2]) -> bool
+    ensures { result ≡ (nat_le 8 (length value.now) && bytes_eq value.now
+        (value91 session.now.suite method session.now.key ac.now arc (take 4 (drop 4 value.now)))) }
 {
     let [_, _, _, _, a, b, c, d, ..] = *value else {
         return false;
     };
-    let expected = value91(method, &Tdes::new(session), ac, arc, [a, b, c, d]);
+    let expected = value91(method, session.mac_key(), ac, arc, [a, b, c, d]);
     value == expected.as_slice()
 }
 
@@ -264,15 +277,16 @@ fn is_answer(method: Method, session: &Key16, ac: &[u8; 8], value: &[u8], arc: [
 #[tactic(auto, unfolding(crate::specs::CardSteps::opened_within))]
 fn opened_within(
     count: u8,
+    suite: Suite,
     key: &Key16,
     chain: &[u8; 8],
     bytes: &[u8],
 ) -> Option<(Command, [u8; 8])>
-    ensures exact { result ≡ opened_within count key.now.0 chain.now bytes.now }
+    ensures exact { result ≡ opened_within count suite key.now.0 chain.now bytes.now }
     ensures counted { OnSome result (count < MOST_COUNTED) }
 {
     if count >= MOST_COUNTED {
         return None;
     }
-    unseal(key, chain, bytes)
+    unseal(suite, key, chain, bytes)
 }

@@ -1,9 +1,11 @@
-//! Transactions of two cards, whose cryptograms, answers and sealed commands are another program's.
+//! Transactions of two cards with triple DES and of one with AES, whose cryptograms, answers and sealed commands are
+//! another program's.
 ghost use Rattle.std.specs.Prelude.{IsTrue};
 ghost use Rattle.std.specs.List.{list_all};
 ghost use Rattle.issuer_base.specs.ChipData.{is_bcd};
 
 use card_model::{Card, Terminal};
+use issuer_base::Suite;
 use issuer_setup::CardInfo;
 use key_derive::card_keys;
 use sample_issuer::{CARDS, CRYPTOGRAM, SampleCard, card, key_set};
@@ -35,6 +37,9 @@ const FIRST_ANSWER: [u8; 10] = [0x02, 0x36, 0x9B, 0xE2, 0x6B, 0x41, 0x61, 0xBC, 
 /// The issuer's answer to transaction 7 of the second card, by method 2.
 const SECOND_ANSWER: [u8; 8] = [0x70, 0x95, 0x93, 0x4C, 0x00, 0x80, 0x00, 0x00];
 
+/// The issuer's answer to transaction 1 of the first card with AES, by method 1.
+const AES_ANSWER: [u8; 10] = [0x6A, 0x33, 0xE8, 0xBB, 0xE8, 0x73, 0x2F, 0xA7, 0x30, 0x30];
+
 const ARC: [u8; 2] = [0x30, 0x30];
 
 /// A purchase over 123.45.
@@ -54,16 +59,16 @@ fn purchase() -> Terminal
     }
 }
 
-/// A new card.
+/// A new card of this suite.
 #[tactic(auto, unfolding(issuer_base::specs::ChipData::is_bcd))]
-fn new_card(alloc: Global, (last, method): SampleCard) -> Option<Card> {
+fn new_card(alloc: Global, (last, method): SampleCard, suite: Suite) -> Option<Card> {
     let CardInfo {
         pan,
         psn: _,
         method,
     } = card(last, method)?;
     let set = key_set();
-    let keys = card_keys(&set, &pan, 0);
+    let keys = card_keys(&set, suite, &pan, 0)?;
     Some(Card::new(alloc, pan, 0, set.dki, method, keys))
 }
 
@@ -79,7 +84,7 @@ fn tapped(card: &mut Card, taps: u32) -> Option<(u64, u8)> {
 
 #[test]
 fn runs_commands_in_order_and_counts_them(rt: HostRuntime) -> Result<(), Fail> {
-    let mut card = new_card(rt.alloc(), CARDS[0]).ok_or("a card")?;
+    let mut card = new_card(rt.alloc(), CARDS[0], Suite::TripleDes).ok_or("a card")?;
     assert_eq!(rt; tapped(&mut card, 7), Some((CRYPTOGRAM, 0x00)));
     assert!(rt; card.authenticate(&FIRST_ANSWER, ARC));
     assert!(rt; card.run(&COMMANDS[0]) == Ok(true));
@@ -91,7 +96,7 @@ fn runs_commands_in_order_and_counts_them(rt: HostRuntime) -> Result<(), Fail> {
 
 #[test]
 fn refuses_answers_and_commands_out_of_place(rt: HostRuntime) -> Result<(), Fail> {
-    let mut card = new_card(rt.alloc(), CARDS[0]).ok_or("a card")?;
+    let mut card = new_card(rt.alloc(), CARDS[0], Suite::TripleDes).ok_or("a card")?;
     assert!(rt; !card.authenticate(&FIRST_ANSWER, ARC));
     tapped(&mut card, 7).ok_or("a request")?;
     assert!(rt; card.run(&COMMANDS[0]) == Ok(false));
@@ -114,9 +119,19 @@ fn refuses_answers_and_commands_out_of_place(rt: HostRuntime) -> Result<(), Fail
 
 #[test]
 fn takes_an_answer_by_method_2(rt: HostRuntime) -> Result<(), Fail> {
-    let mut card = new_card(rt.alloc(), CARDS[1]).ok_or("a card")?;
+    let mut card = new_card(rt.alloc(), CARDS[1], Suite::TripleDes).ok_or("a card")?;
     assert_eq!(rt; tapped(&mut card, 7), Some((0x1DE2D48E_1E32FA1B, 0x00)));
     assert!(rt; !card.authenticate(&SECOND_ANSWER[..7], ARC));
     assert!(rt; card.authenticate(&SECOND_ANSWER, ARC));
+    Ok(())
+}
+
+#[test]
+fn an_aes_card_takes_its_answer(rt: HostRuntime) -> Result<(), Fail> {
+    let mut card = new_card(rt.alloc(), CARDS[0], Suite::Aes).ok_or("a card")?;
+    assert_eq!(rt; tapped(&mut card, 1), Some((0x1A8B61EC_7ADC484B, 0x00)));
+    assert!(rt; !card.authenticate(&FIRST_ANSWER, ARC));
+    assert!(rt; card.authenticate(&AES_ANSWER, ARC));
+    assert!(rt; card.run(&COMMANDS[0]) == Ok(false));
     Ok(())
 }

@@ -4,5 +4,7 @@
 mod purchases;
 mod setup;
 
-pub use purchases::{CRYPTOGRAM, REQUEST, purchase, purchase_parts};
+pub use purchases::{
+    AES_CRYPTOGRAM, AES_REQUEST, CRYPTOGRAM, REQUEST, aes_purchase, purchase, purchase_parts,
+};
 pub use setup::{CARDS, SampleCard, card, deciding_table, declining_table, issuer, key_set};

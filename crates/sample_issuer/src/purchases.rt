@@ -9,6 +9,13 @@ pub const REQUEST: &str =
 /// The cryptogram of that line.
 pub const CRYPTOGRAM: u64 = 0x6317DE17_856BF19A;
 
+/// The line of the same transaction of an AES card, with a cryptogram of the same origin.
+pub const AES_REQUEST: &str =
+    "A 5A0840000000000000029F260847ECBC0F2DCA2ECE9F2701809F10200FA601A00000000000000000000000000F0000000000000000000000000000009F37041A2B3C4D9F36020007950500000080009A032601159C01009F02060000000123455F2A020978820239009F1A020276";
+
+/// The cryptogram of that line.
+pub const AES_CRYPTOGRAM: u64 = 0x47ECBC0F_2DCA2ECE;
+
 /// The fields of the purchase with this transaction counter, unpredictable number and cryptogram.
 pub fn purchase_parts(counter: u16, unpredictable: u32, ac: u64) -> Option<Parts> {
     let mut iad = [0; 32];
@@ -39,4 +46,12 @@ pub fn purchase_parts(counter: u16, unpredictable: u32, ac: u64) -> Option<Parts
 /// The purchase with this transaction counter, unpredictable number and cryptogram.
 pub fn purchase(counter: u16, unpredictable: u32, ac: u64) -> Option<Request> {
     Request::new(purchase_parts(counter, unpredictable, ac)?)
+}
+
+/// The purchase of an AES card with this transaction counter, unpredictable number and cryptogram.
+pub fn aes_purchase(counter: u16, unpredictable: u32, ac: u64) -> Option<Request> {
+    let parts = purchase_parts(counter, unpredictable, ac)?;
+    let mut iad = parts.iad;
+    iad[1] = 0xA6;
+    Request::new(Parts { iad, ..parts })
 }

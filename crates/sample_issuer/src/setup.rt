@@ -6,7 +6,7 @@ use decision_table::{MAX_AMOUNT, Table, TableRow};
 use des_block::Key16;
 use issuer_base::{MasterOption, Method, Pan};
 use issuer_setup::{CardInfo, Issuer};
-use key_derive::KeySet;
+use key_derive::{AesPair, KeySet};
 use std::alloc::Global;
 
 /// A card: the last two digits of its account number, and its ARPC method.
@@ -34,13 +34,16 @@ const DECLINE: TableRow = TableRow {
     csu: [0; 4],
 };
 
-/// The key set of derivation key index 1, by option A.
+/// The key set of derivation key index 1, by option A. Both suites have the same keys.
 pub fn key_set() -> KeySet {
+    let ac = Key16(0x00010203_04050607_08090A0B_0C0D0E0F_u128.to_be_bytes());
+    let smi = Key16(0x10111213_14151617_18191A1B_1C1D1E1F_u128.to_be_bytes());
     KeySet {
         dki: 0x01,
         option: MasterOption::A,
-        ac: Key16(0x00010203_04050607_08090A0B_0C0D0E0F_u128.to_be_bytes()),
-        smi: Key16(0x10111213_14151617_18191A1B_1C1D1E1F_u128.to_be_bytes()),
+        ac,
+        smi,
+        aes: Some(AesPair { ac, smi }),
     }
 }
 

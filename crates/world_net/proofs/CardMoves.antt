@@ -153,7 +153,7 @@ unfolding command_at
 ran-cases None chained card bytes moved step = absurd (true≢false (ap (λ (p : Bool × CardState). p.0) step))
 ran-cases (Some request) None card bytes moved step = absurd (true≢false (ap (λ (p : Bool × CardState). p.0) step))
 ran-cases (Some request) (Some chain) card bytes moved step =
-    let it = opening-true card (opened_within card.count (session_sm card.keys.smi.0 request.ac) chain bytes) moved step in
+    let it = opening-true card (opened_within card.count card.keys.suite (session_sm card.keys.suite card.keys.smi.0 request.ac) chain bytes) moved step in
     (request, chain, it.0, it.1, refl, refl, it.2)
 
 pub ran-moves : (card : CardState) (bytes : List ℕ) (moved : CardState) → CardStep card (Run bytes true) moved → HasRun card moved
@@ -168,7 +168,7 @@ unfolding command_at
 refused-cases None chained card bytes moved step = inl (ap (λ (p : Bool × CardState). p.1) step)
 refused-cases (Some request) None card bytes moved step = inl (ap (λ (p : Bool × CardState). p.1) step)
 refused-cases (Some request) (Some chain) card bytes moved step =
-    inr (opening-false card (opened_within card.count (session_sm card.keys.smi.0 request.ac) chain bytes) moved step)
+    inr (opening-false card (opened_within card.count card.keys.suite (session_sm card.keys.suite card.keys.smi.0 request.ac) chain bytes) moved step)
 
 -- any other leaves it, or is noted as a failure
 pub refused-moves : (card : CardState) (bytes : List ℕ) (moved : CardState) → CardStep card (Run bytes false) moved

@@ -29,11 +29,12 @@ use Rattle.world_net.specs.declared.event.Event.{Event}
 use Rattle.world_net.specs.declared.event.Event.TheVariants.{Claim, Write, Queue, Status}
 use Rattle.world_net.specs.declared.parts.OpenClaim.{OpenClaim}
 use Rattle.world_net.specs.WorldState.{WorldState, ShardState, no_shard, home_of, history_for, histories_of}
-use Rattle.world_net.specs.WorldRuns.{IsIssuer, IsRunFrom, card_under}
+use Rattle.world_net.specs.WorldRuns.{IsIssuer, IsRunFrom}
 use Rattle.world_net.specs.Histories.{AreLegal, AreHeld, HasRoom, HasRun}
 use Rattle.world_net.proofs.Hosts.{at, recorded, AreLawful, lawful-record, home-within, legal-home, histories-at, none-at, none-lawful}
 use Rattle.world_net.proofs.NetWrites.{home-shard}
-use Rattle.world_net.proofs.NewWorlds.{new-world}
+use Rattle.world_net.proofs.NewWorlds.{new-world, des_card, des_cards-under}
+use Rattle.issuer_base.specs.declared.request.Suite.TheVariants.{TripleDes}
 
 -- chip data say the request, as many as an event holds
 record IsSaid (request : Request) : Type 0 where
@@ -284,7 +285,7 @@ pub histories-run : (issuer : Setup) (histories : List (List Entry)) → IsIssue
     → HasRun issuer histories
 histories-run issuer histories valid keys legal held =
     let set = first-key issuer.keys keys.some in
-    let cards = map (card_under set.0) issuer.cards in
+    let cards = map (des_card set.0) issuer.cards in
     let to = fill-to issuer cards valid histories legal held issuer.shards in
     record {
       events = to.fills.events;
@@ -292,7 +293,8 @@ histories-run issuer histories valid keys legal held =
       world = filled issuer cards valid to.after;
       run = (
         filled issuer cards valid (replicate issuer.shards no_shard),
-        new-world issuer cards (replicate issuer.shards no_shard) [] [] [] (record { keys = set.0; first = set.1; cards_are = refl }) refl refl refl refl,
+        new-world issuer TripleDes cards (replicate issuer.shards no_shard) [] [] []
+            (record { set = set.0; first = set.1; cards_are = des_cards-under set.0 issuer.cards }) refl refl refl refl,
         to.fills.run,
       );
       histories_are = filled-histories issuer cards valid histories legal to;

@@ -377,7 +377,7 @@ new-kept : (issuer : Setup) (info : CardInfo) (card : CardState) (name : CardNam
     → IsKept name card (λ request. ⊥) []
 unfolding new_card
 new-kept issuer info card name new =
-    subst (λ (c : CardState). IsKept name c (λ request. ⊥) []) (sym new.card_is) (record {
+    subst (λ (c : CardState). IsKept name c (λ request. ⊥) []) (sym new.under.card_is) (record {
       requests = record {
         counters = λ request none. absurd none;
         opened = λ request none. absurd (none-some request none);

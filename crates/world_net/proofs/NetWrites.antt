@@ -23,7 +23,7 @@ use Rattle.issuer_setup.proofs.Shards.{shard_of-known}
 use Rattle.line_checks.specs.AtHand.{IsRequestAtHand}
 use Rattle.line_checks.specs.Reading.{checked}
 use Rattle.line_checks.specs.declared.checked.CheckedRequest.{CheckedRequest}
-use Rattle.row_core.specs.Accepting.{MayFollow}
+use Rattle.row_core.specs.Accepting.{IsValidSuccessor}
 use Rattle.row_core.specs.CardRow.{CardRow, StandsFor}
 use Rattle.row_core.specs.Replying.{reply_to}
 use Rattle.shard_book.specs.Grounds.{IsCardOfShard, grounds_of}
@@ -66,7 +66,7 @@ pub rows-join : (issuer : Setup) (rows : List CardRow) (shards : List ShardState
     → IsLegalDecision (grounds_of issuer) (found.card % issuer.shards) (at shards (found.card % issuer.shards)).history request reply
     → place ≡ length (at shards (found.card % issuer.shards)).history → row ≡ get_or rows found.card row
     → ((card : CardInfo) (history : List Entry) → StandsFor card row history → card_of found.request ≡ name_of card
-    → (IsTrue accepted ↔ MayFollow card.method found.keys history found.request given))
+    → (IsTrue accepted ↔ IsValidSuccessor card.method found.keys history found.request given))
     → (IsTrue accepted → (card : CardInfo) (history : List Entry) → StandsFor card row history → card_of found.request ≡ name_of card
     → place ≡ length history → StandsFor card new (history ++ Decided found.request given ∷ []))
     → RowsStand issuer (set rows found.card new) (recorded shards (found.card % issuer.shards) (Decided request reply))
@@ -79,9 +79,9 @@ rows-join issuer rows shards stand count found request reply given place row new
     ap (λ (q : Request). number_of (card_of q) issuer.cards) (sym same) ∙ at_hand.card_is.number_is in
     let keys_are : keys_of issuer found.card request ≡ Some found.keys = ap (keys_of issuer found.card) (sym same) ∙ at_hand.keys_are in
     let follows = decision-follows issuer home history request reply found.card info.0 found.keys number_is info.1 keys_are legal in
-    let follows_found : MayFollow info.0.method found.keys history found.request given =
-    subst (λ (q : Request). MayFollow info.0.method found.keys history q given) (sym same)
-    (subst (MayFollow info.0.method found.keys history request) (sym same_reply) follows) in
+    let follows_found : IsValidSuccessor info.0.method found.keys history found.request given =
+    subst (λ (q : Request). IsValidSuccessor info.0.method found.keys history q given) (sym same)
+    (subst (IsValidSuccessor info.0.method found.keys history request) (sym same_reply) follows) in
     let done = adopted ((exact info.0 history stands (sym info.2)).1 follows_found) info.0 history stands (sym info.2) at_end in
     let done_here : StandsFor info.0 new (history ++ Decided request reply ∷ []) =
     subst (λ (q : Request). StandsFor info.0 new (history ++ Decided q reply ∷ [])) same

@@ -1,7 +1,8 @@
 -- The rows of a world before any event.
-use Rattle.std.proofs.Common.{◌≡◌, ℕ, ◌+◌, ◌%◌, List, [], ◌∷◌, ◌++◌, length, take, map, Contains, replicate, refl, ap, sym, ◌∙◌, subst, inl, inr, Some, arith}
+use Rattle.std.proofs.Common.{◌≡◌, ℕ, ◌+◌, ◌%◌, List, [], ◌∷◌, ◌++◌, length, map, Contains, replicate, refl, ap, sym, ◌∙◌, subst, inl, inr, Some, arith}
+use Rattle.std.specs.Prelude.{◌<◌, Option, None, is_some, IsTrue}
 use Rattle.std.proofs.lemmas.Bool.{cases_eq}
-use Rattle.std.proofs.lemmas.List.{length_push, length-map, map_more, get_or_push, get_or_append_left}
+use Rattle.std.proofs.lemmas.List.{length_push, length-map, get_or_push, get_or_append_left}
 use Rattle.std.proofs.lemmas.Option.{same_Some, slice_get_within, slice_get-get_or, slice_get-map, get_or_from_slice_get}
 use Rattle.std.specs.List.{slice_get}
 use Rattle.issuer_setup.specs.declared.card.CardInfo.{CardInfo}
@@ -12,41 +13,55 @@ use Rattle.world_net.specs.declared.parts.MadeRequest.{MadeRequest}
 use Rattle.world_net.specs.declared.parts.OpenClaim.{OpenClaim}
 use Rattle.world_net.specs.declared.parts.Exchange.{Exchange}
 use Rattle.world_net.specs.WorldState.{ShardState, no_shard}
-use Rattle.world_net.specs.NewWorld.{AreFirst, AreEmpty}
-use Rattle.world_net.specs.WorldRuns.{IsNewWorld, card_under}
+use Rattle.world_net.specs.NewWorld.{AreUnder, AreFirst, AreEmpty}
+use Rattle.world_net.specs.WorldRuns.{IsCardUnder, IsNewWorld}
+use Rattle.issuer_base.specs.declared.request.Suite.{Suite}
+use Rattle.issuer_base.specs.declared.request.Suite.TheVariants.{TripleDes, Aes}
+use Rattle.key_derive.specs.declared.card.AesPair.{AesPair}
 use Rattle.key_derive.specs.declared.card.KeySet.{KeySet}
+use Rattle.key_derive.specs.CardKey.{des_keys, aes_keys, card_keys}
+use Rattle.issuer_setup.specs.KeyList.{has_suite}
+use Rattle.card_model.specs.CardSteps.{new_card}
 use Rattle.std.specs.Option.{option_map}
 use Rattle.world_net.specs.Stepping.{RowsStand}
 use Rattle.world_net.proofs.Hosts.{at, none-at}
 
+-- each of the first elements has its partner: one more element, and its partner
+each-more : {X Y : Type 0} (R : X → Y → Type 0) (xs : List X) (count : ℕ) (ys longer : List Y) (x : X) (y : Y) → length ys ≡ count
+    → ((number : ℕ) (other : X) → number < count → slice_get xs number ≡ Some other → (z : Y) × (slice_get ys number ≡ Some z) × R other z)
+    → slice_get xs count ≡ Some x → R x y → longer ≡ ys ++ y ∷ []
+    → (number : ℕ) (other : X) → number < count + 1 → slice_get xs number ≡ Some other → (z : Y) × (slice_get longer number ≡ Some z) × R other z
+each-more R xs count ys longer x y count_is each x_is related longer_is number other below other_is =
+    let long : length (ys ++ y ∷ []) ≡ length ys + 1 = length_push ys y in
+    elim (cases_eq number count) [
+      | inl same ↦
+          let its : x ≡ other = same_Some x other (sym x_is ∙ ap (slice_get xs) (sym same) ∙ other_is) in
+          let at_end : length ys ≡ number = omega arith in
+          let read : slice_get longer number ≡ Some y =
+          ap (λ list. slice_get list number) longer_is
+          ∙ slice_get-get_or (ys ++ y ∷ []) number y (omega arith)
+          ∙ ap Some (get_or_push ys y y number at_end) in
+          (y, read, subst (λ z. R z y) its related)
+      | inr not_it ↦
+          let found = each number other (omega arith) other_is in
+          let within = slice_get_within ys number found.0 found.1 in
+          let read : slice_get longer number ≡ Some found.0 =
+          ap (λ list. slice_get list number) longer_is
+          ∙ slice_get-get_or (ys ++ y ∷ []) number y (omega arith)
+          ∙ ap Some (get_or_append_left ys (y ∷ []) y number within ∙ get_or_from_slice_get ys number found.0 y found.1) in
+          (found.0, read, found.2)
+    ]
+
+length-more : {Y : Type 0} (ys longer : List Y) (y : Y) (count : ℕ) → length ys ≡ count → longer ≡ ys ++ y ∷ [] → length longer ≡ count + 1
+length-more ys longer y count count_is longer_is = ap length longer_is ∙ length_push ys y ∙ ap (λ n. n + 1) count_is
+
 -- one more empty row
 pub empty-more : (cards : List CardInfo) (count : ℕ) (rows longer : List CardRow) (card : CardInfo) (row : CardRow) → AreEmpty cards count rows
     → slice_get cards count ≡ Some card → StandsFor card row [] → longer ≡ rows ++ row ∷ [] → AreEmpty cards (count + 1) longer
-empty-more cards count rows longer card row empty card_is stands longer_is =
-    let long : length (rows ++ row ∷ []) ≡ length rows + 1 = length_push rows row in
-    let counted : length longer ≡ count + 1 = ap length longer_is ∙ long ∙ ap (λ n. n + 1) empty.count_is in
-    record {
-      count_is = counted;
-      each = λ number other below other_is.
-          elim (cases_eq number count) [
-            | inl same ↦
-                let its : card ≡ other = same_Some card other (sym card_is ∙ ap (slice_get cards) (sym same) ∙ other_is) in
-                let at_end : length rows ≡ number = omega (arith, empty.count_is) in
-                let read : slice_get longer number ≡ Some row =
-                ap (λ rows. slice_get rows number) longer_is
-                ∙ slice_get-get_or (rows ++ row ∷ []) number row (omega arith)
-                ∙ ap Some (get_or_push rows row row number at_end) in
-                (row, read, subst (λ (card : CardInfo). StandsFor card row []) its stands)
-            | inr not_it ↦
-                let found = empty.each number other (omega arith) other_is in
-                let within = slice_get_within rows number found.0 found.1 in
-                let read : slice_get longer number ≡ Some found.0 =
-                ap (λ rows. slice_get rows number) longer_is
-                ∙ slice_get-get_or (rows ++ row ∷ []) number row (omega arith)
-                ∙ ap Some (get_or_append_left rows (row ∷ []) row number within ∙ get_or_from_slice_get rows number found.0 row found.1) in
-                (found.0, read, found.2)
-          ];
-    }
+empty-more cards count rows longer card row empty card_is stands longer_is = record {
+  count_is = length-more rows longer row count empty.count_is longer_is;
+  each = each-more (λ (card : CardInfo) (row : CardRow). StandsFor card row []) cards count rows longer card row empty.count_is empty.each card_is stands longer_is;
+}
 
 -- empty rows stand for shards without records
 pub empty-stand : (issuer : Setup) (rows : List CardRow) (shards : List ShardState) → AreEmpty issuer.cards (length issuer.cards) rows
@@ -64,29 +79,49 @@ first-known : {X : Type 0} (xs : List X) (x : X) → slice_get xs 0 ≡ Some x �
 first-known xs x is = (0, slice_get_within xs 0 x is, get_or_from_slice_get xs 0 x x is)
 
 -- one more card
-pub cards-more : (keys : KeySet) (infos : List CardInfo) (count : ℕ) (cards longer : List CardState) (info : CardInfo) (card : CardState)
-    → cards ≡ map (card_under keys) (take count infos) → slice_get infos count ≡ Some info → card ≡ card_under keys info → longer ≡ cards ++ card ∷ []
-    → longer ≡ map (card_under keys) (take (count + 1) infos)
-cards-more keys infos count cards longer info card cards_are info_is card_is longer_is =
-    longer_is
-    ∙ (λ i. cards_are i ++ card_is i ∷ [])
-    ∙ ap (λ (info : CardInfo). map (card_under keys) (take count infos) ++ card_under keys info ∷ [])
-    (sym (get_or_from_slice_get infos count info info info_is))
-    ∙ sym (map_more (card_under keys) infos count info (slice_get_within infos count info info_is))
+pub cards-more : (set : KeySet) (suite : Suite) (infos : List CardInfo) (count : ℕ) (cards longer : List CardState) (info : CardInfo)
+    (card : CardState) → AreUnder set suite infos count cards → slice_get infos count ≡ Some info → IsCardUnder set suite info card
+    → longer ≡ cards ++ card ∷ [] → AreUnder set suite infos (count + 1) longer
+cards-more set suite infos count cards longer info card before info_is under longer_is = record {
+  count_is = length-more cards longer card count before.count_is longer_is;
+  each = each-more (IsCardUnder set suite) infos count cards longer info card before.count_is before.each info_is under longer_is;
+}
+
+-- a key set that has keys of a suite derives a card's
+pub derives : (set : KeySet) (suite : Suite) (pan : List ℕ) (psn : ℕ) → IsTrue (has_suite suite set) → IsTrue (is_some (card_keys set suite pan psn))
+derives set TripleDes pan psn has = refl
+derives set Aes pan psn has = of_pair set.aes has
+  where
+    of_pair : (pair : Option AesPair) → IsTrue (is_some pair) → IsTrue (is_some (option_map (λ pair. aes_keys pair pan psn) pair))
+    of_pair None has = has
+    of_pair (Some pair) has = refl
+
+-- a new card with triple DES
+abbrev pub des_card : KeySet → CardInfo → CardState
+des_card set info = new_card info.pan info.psn set.dki info.method (des_keys set info.pan info.psn)
+
+-- such cards are under their key set
+pub des_cards-under : (set : KeySet) (infos : List CardInfo) → AreUnder set TripleDes infos (length infos) (map (des_card set) infos)
+des_cards-under set infos = record {
+  count_is = length-map infos (des_card set);
+  each = λ number info below info_is. (
+    des_card set info,
+    slice_get-map (des_card set) infos number ∙ ap (option_map (des_card set)) info_is,
+    record { keys = des_keys set info.pan info.psn; derived = refl; card_is = refl },
+  );
+}
 
 -- a world of new cards, without anything else
-pub new-world : (issuer : Setup) (cards : List CardState) (shards : List ShardState) (made : List MadeRequest) (claims : List OpenClaim)
-    (sent : List Exchange) → AreFirst issuer cards → shards ≡ replicate issuer.shards no_shard → made ≡ [] → claims ≡ []
+pub new-world : (issuer : Setup) (suite : Suite) (cards : List CardState) (shards : List ShardState) (made : List MadeRequest) (claims : List OpenClaim)
+    (sent : List Exchange) → AreFirst issuer suite cards → shards ≡ replicate issuer.shards no_shard → made ≡ [] → claims ≡ []
     → sent ≡ [] → IsNewWorld issuer (record { issuer = issuer; cards = cards; made = made; shards = shards; claims = claims; sent = sent })
-new-world issuer cards shards made claims sent first none none_made none_claimed none_sent = record {
+new-world issuer suite cards shards made claims sent first none none_made none_claimed none_sent = record {
   issuer_is = refl;
-  count = ap length first.cards_are ∙ length-map issuer.cards (card_under first.keys);
-  cards = λ number info info_is. (
-    card_under first.keys info,
-    ap (λ (cards : List CardState). slice_get cards number) first.cards_are ∙ slice_get-map (card_under first.keys) issuer.cards number
-        ∙ ap (option_map (card_under first.keys)) info_is,
-    record { keys = first.keys; known = first-known issuer.keys first.keys first.first; card_is = refl },
-  );
+  count = first.cards_are.count_is;
+  cards = λ number info info_is.
+      let found = first.cards_are.each number info (slice_get_within issuer.cards number info info_is) info_is in
+      let known = first-known issuer.keys first.set first.first in
+      (found.0, found.1, record { set = first.set; known = known; suite = suite; under = found.2 });
   made = none_made;
   shards = none;
   claims = none_claimed;

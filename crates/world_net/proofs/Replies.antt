@@ -2,6 +2,7 @@
 use Rattle.std.proofs.Common.{◌≡◌, ℕ, ◌%◌, List, length, Option, Some, Ok, refl, ap, sym, ◌∙◌}
 use Rattle.std.proofs.Common.{subst}
 use Rattle.std.proofs.lemmas.List.Elements.{All-contains}
+use Rattle.std.proofs.lemmas.Option.{same_Some}
 use Rattle.std.specs.List.{slice_get}
 use Rattle.issuer_base.specs.declared.answer.Reply.{Reply}
 use Rattle.issuer_base.specs.declared.entry.Entry.{Entry}
@@ -15,6 +16,8 @@ use Rattle.decision_table.specs.Fitting.{decision}
 use Rattle.issuer_setup.specs.declared.card.CardInfo.{CardInfo}
 use Rattle.issuer_setup.specs.CardList.{name_of, number_of}
 use Rattle.issuer_setup.specs.IssuerSetup.{Setup, keys_of}
+use Rattle.line_checks.proofs.CheckedRequests.{checked-facts}
+use Rattle.cryptogram_in.specs.Cryptogram.{application_cryptogram}
 use Rattle.key_derive.specs.declared.card.CardKeys.{CardKeys}
 use Rattle.line_checks.specs.Reading.{checked}
 use Rattle.row_core.specs.CardRow.{CardRow, StandsFor}
@@ -45,6 +48,7 @@ pub record IsPlanned (issuer : Setup) (history : List Entry) (request : Request)
   pub info : CardInfo
   pub info_is : slice_get issuer.cards card ≡ Some info
   pub named : card_of request ≡ name_of info
+  pub eight : length request.ac ≡ 8
   pub stands : StandsFor info row history
   pub answers : Answers 0 (reply_after info.method keys issuer.table) history request (answer_of 0 (length history) outcome)
       (history_after history request outcome)
@@ -54,12 +58,18 @@ module _ {issuer : Setup} {history : List Entry} {request : Request} {card : ℕ
   pub planned-legal : (reply : Reply) (launch : Option Launch) → IsPlanned issuer history request card keys row (Fresh reply launch)
       → IsStep row request reply launch → IsLegalDecision (grounds_of issuer) (card % issuer.shards) history request reply
   planned-legal reply launch planned step =
+      let valid = (checked-facts issuer request planned.passes).has_valid_ac in
+      let number : valid.its.number ≡ card = same_Some _ _ (sym valid.its.number_is ∙ planned.number_is) in
+      let same : valid.its.keys ≡ keys =
+      same_Some _ _ (sym valid.its.keys_are ∙ ap (λ n. keys_of issuer n request) number ∙ planned.keys_are) in
+      let whole : length (application_cryptogram keys request) ≡ 8 =
+      ap (λ (k : CardKeys). length (application_cryptogram k request)) (sym same) ∙ ap length (sym valid.ac_is) ∙ planned.eight in
       decision-legal issuer (card % issuer.shards) history request reply card planned.info keys planned.number_is planned.info_is planned.keys_are
       (record { number = card; number_is = planned.number_is; home = refl }) planned.passes (record {
         unused = planned.answers.0;
         made =
-            decided-made issuer planned.info keys history request reply (decision issuer.table (status_of (card_of request) history) request) refl step.some
-            step.code planned.answers.3;
+            decided-made issuer planned.info keys history request reply (decision issuer.table (status_of (card_of request) history) request) whole refl
+            step.some step.code planned.answers.3;
       })
 
   -- by the issuer's own table

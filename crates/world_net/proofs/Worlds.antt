@@ -258,7 +258,7 @@ step-issuer world (Restart kept) after step = ap (λ (w : WorldState). w.issuer)
 -- a new card has the name of the issuer's card
 new-named : (issuer : Setup) (info : CardInfo) (card : CardState) → IsNewCard issuer info card → named card.pan card.psn ≡ name_of info
 unfolding new_card
-new-named issuer info card new = ap (λ (c : CardState). named c.pan c.psn) new.card_is
+new-named issuer info card new = ap (λ (c : CardState). named c.pan c.psn) new.under.card_is
 
 -- it is so at first
 pub sound-new : (issuer : Setup) (world : WorldState) → IsIssuer issuer → IsNewWorld issuer world → IsSound world

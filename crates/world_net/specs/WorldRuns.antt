@@ -3,12 +3,14 @@ use Rattle.std.specs.Prelude.{◌≡◌, ℕ, true, List, [], ◌∷◌, ◌++�
 use Rattle.issuer_base.specs.declared.answer.Method.TheVariants.{One}
 use Rattle.issuer_base.specs.declared.command.Command.{Command}
 use Rattle.issuer_base.specs.declared.request.Request.{Request}
+use Rattle.issuer_base.specs.declared.request.Suite.{Suite}
 use Rattle.issuer_base.specs.declared.answer.Reply.{Reply}
 use Rattle.issuer_base.specs.declared.entry.Entry.TheVariants.{Decided}
 use Rattle.card_history.specs.Records.{card_of}
 use Rattle.card_history.specs.ScriptOrder.{IsSentAt}
 use Rattle.tlv_objects.specs.Writing.{object_text}
 use Rattle.key_derive.specs.declared.card.KeySet.{KeySet}
+use Rattle.key_derive.specs.declared.card.CardKeys.{CardKeys}
 use Rattle.key_derive.specs.CardKey.{card_keys}
 use Rattle.issuer_setup.specs.declared.card.CardInfo.{CardInfo}
 use Rattle.issuer_setup.specs.CardList.{AreCards, number_of}
@@ -27,15 +29,18 @@ pub record IsIssuer (issuer : Setup) : Type 0 where
   pub shards : are_shards issuer.shards ≡ true
   pub cards : AreCards issuer.cards
 
--- a new card, whose keys are derived from this key set
-abbrev pub card_under : KeySet → CardInfo → CardState
-card_under keys info = new_card info.pan info.psn keys.dki info.method (card_keys keys info.pan info.psn)
+-- a new card of this suite, whose keys are derived from this key set
+pub record IsCardUnder (set : KeySet) (suite : Suite) (info : CardInfo) (card : CardState) : Type 0 where
+  pub keys : CardKeys
+  pub derived : card_keys set suite info.pan info.psn ≡ Some keys
+  pub card_is : card ≡ new_card info.pan info.psn set.dki info.method keys
 
--- a new card of the issuer, under one of its key sets
+-- a new card of the issuer, of one suite and under one of its key sets
 pub record IsNewCard (issuer : Setup) (info : CardInfo) (card : CardState) : Type 0 where
-  pub keys : KeySet
-  pub known : Contains issuer.keys keys
-  pub card_is : card ≡ card_under keys info
+  pub set : KeySet
+  pub known : Contains issuer.keys set
+  pub suite : Suite
+  pub under : IsCardUnder set suite info card
 
 -- the world before any event: its cards are new, and all else is empty
 pub record IsNewWorld (issuer : Setup) (world : WorldState) : Type 0 where

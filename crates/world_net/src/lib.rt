@@ -16,4 +16,4 @@ pub use law::{
     every_card_runs_its_commands_in_order, every_legal_history_has_a_run, every_world_is_safe,
 };
 pub use parts::{Exchange, MadeRequest, OpenClaim};
-pub use world::World;
+pub use world::{World, has_first_keys};

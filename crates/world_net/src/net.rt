@@ -1,6 +1,5 @@
 //! The parts of a world, and the effect of each event on them.
 ghost use Rattle.std.specs.Prelude.{◌≡◌, ◌<◌, ◌≤◌, ◌%◌, ℕ, length, slice_get, Some, Ok, IsTrue, ◌↔◌, MatchOption, OnOk, OnErr, IfOk, IfSome, true, replicate};
-ghost use Rattle.issuer_base.specs.ScriptCommand.{is_command};
 ghost use Rattle.issuer_base.specs.declared.request.Request.{Request};
 ghost use Rattle.issuer_base.specs.declared.answer.Reply.{Reply};
 ghost use Rattle.card_history.specs.declared.decision.Asked.TheVariants.{Decide};
@@ -10,6 +9,7 @@ ghost use Rattle.card_history.specs.Scripts.{waiting, scripts_of};
 ghost use Rattle.script_queue.specs.CommandQueue.{TakesOneMore};
 ghost use Rattle.issuer_setup.specs.declared.card.CardInfo.{CardInfo};
 ghost use Rattle.issuer_setup.specs.CardList.{AreCards, name_of};
+ghost use Rattle.issuer_setup.specs.KeyList.{has_suite};
 ghost use Rattle.world_net.specs.Allowed.{CanTap, CanClaim, CanRelease, CanWrite, CanSend, CanQueue, CanSet, IsFree};
 ghost use Rattle.world_net.specs.WorldState.{record_in, shard_at, home_of, history_at, history_for, claim_of, with_record, no_shard};
 ghost use Rattle.std.specs.Option.{option_map};
@@ -22,8 +22,8 @@ ghost use Rattle.world_net.specs.WorldSteps.{first_doubtful, settled_at, restart
 ghost use Rattle.issuer_base.specs.ChipData.{is_bcd};
 ghost use Rattle.world_net.specs.Allowed.{IsAllowed};
 ghost use Rattle.world_net.specs.WorldSteps.{IsStep};
-ghost use Rattle.world_net.specs.NewWorld.{AreFirst, AreEmpty};
-ghost use Rattle.world_net.specs.WorldRuns.{IsIssuer, IsNewWorld, card_under};
+ghost use Rattle.world_net.specs.NewWorld.{HasFirstKeys, AreFirst, AreEmpty};
+ghost use Rattle.world_net.specs.WorldRuns.{IsIssuer, IsNewWorld, IsCardUnder};
 ghost use Rattle.world_net.specs.Stepping.{world_of, Stands, IsReached, IsHeld, IsTaken, own_decision, WritesOwn, IsOwn, IfDone};
 
 use crate::claims::{claim_of, end_claim, is_unclaimed, is_unrecorded};
@@ -33,17 +33,13 @@ use crate::shard::ShardRecords;
 use card_model::{Card, Terminal};
 use chip_request::read_request;
 use issuer_base::{
-    Command, Entry, MAX_CHIP_BYTES, MAX_QUEUED, MAX_STATUS, MAX_UNDONE, NoMemory, Request,
-    are_decimal,
+    Command, Entry, MAX_CHIP_BYTES, MAX_STATUS, NoMemory, Request, Suite, are_decimal,
 };
 use issuer_setup::{CardInfo, Issuer};
 use key_derive::{KeySet, card_keys};
 use line_checks::{CheckedRequest, check_request};
 use row_core::{Outcome, Row};
 use std::alloc::Global;
-
-/// Card block, application unblock, application block, PIN change/unblock, put data, update record.
-const INSTRUCTIONS: [u8; 6] = [0x16, 0x18, 0x1E, 0x24, 0xDA, 0xDC];
 
 /// The parts of a world, and a row for each card, which stands for the history of the card's shard.
 #[derive(Drop)]
@@ -58,13 +54,14 @@ pub(crate) struct Net {
 }
 
 impl Net {
-    /// The parts of a world before any event.
-    pub(crate) fn new(alloc: Global, issuer: Issuer) -> Result<Net, NoMemory>
+    /// The parts of a world before any event, whose cards are of this suite.
+    pub(crate) fn new(alloc: Global, issuer: Issuer, suite: Suite) -> Result<Net, NoMemory>
+        requires { HasFirstKeys issuer suite }
         ensures held { IfOk result IsHeld }
         ensures new { IfOk result (λ net. IsNewWorld issuer (world_of net)) }
-        ensures first { IfOk result (λ net. AreFirst issuer (world_of net).cards) }
+        ensures first { IfOk result (λ net. AreFirst issuer suite (world_of net).cards) }
     {
-        let cards = new_cards(alloc, &issuer)?;
+        let cards = new_cards(alloc, &issuer, suite)?;
         let rows = empty_rows(alloc, &issuer)?;
         let shards = no_shards(alloc, issuer.shards())?;
         Ok(Net {
@@ -218,7 +215,7 @@ impl Net {
             (world_of self.old) (world_of self.new) result }
         ensures rows { Stands self.new }
     {
-        if number >= self.issuer.cards() || !is_command(command) {
+        if number >= self.issuer.cards() || !command.is_sendable() {
             return Ok(false);
         }
         if !self.takes_command(number) {
@@ -391,7 +388,7 @@ impl Net {
         ensures { (info : CardInfo) → slice_get self.now.issuer.cards number ≡ Some info
             → (IsTrue result ↔ TakesOneMore (waiting (scripts_of (name_of info) (history_at (world_of self.now) number)))) }
     {
-        takes_one_more(&self.rows[number as usize])
+        self.rows[number as usize].queue().takes_one_more()
     }
 
     /// The request in chip data, if the issuer decides it.
@@ -456,22 +453,6 @@ fn decision_in(entry: &Entry) -> Option<Exchange>
     }
 }
 
-/// Whether the row's queue takes one more command.
-fn takes_one_more(row: &Row) -> bool
-    ensures { IsTrue result ↔ TakesOneMore row.now.scripts.commands }
-{
-    row.queue().undone() < MAX_UNDONE && row.queue().queued() < MAX_QUEUED
-}
-
-/// Whether the host sends such a command: secure messaging in the low nibble of its class, and one of the host's instructions. EMV 4.3
-/// Book 3, section 6.5.
-#[tactic(auto, unfolding(issuer_base::specs::ScriptCommand::is_command))]
-fn is_command(command: &Command) -> bool
-    ensures { result ≡ is_command command.now }
-{
-    command.cla & 0x0F == 0x04 && INSTRUCTIONS.contains(&command.ins)
-}
-
 /// The index of the first shard with a decision in doubt.
 fn first_doubtful(shards: &[ShardRecords]) -> Option<usize>
     ensures place { result ≡ first_doubtful shards.now }
@@ -480,32 +461,29 @@ fn first_doubtful(shards: &[ShardRecords]) -> Option<usize>
     shards.iter().position(|shard| shard.is_doubtful())
 }
 
-/// A new card for each of the issuer's, under its first key set.
-fn new_cards(alloc: Global, issuer: &Issuer) -> Result<Vec<Card>, NoMemory>
-    ensures first { IfOk result (λ cards. AreFirst issuer.now cards.items) }
+/// A new card of this suite for each of the issuer's, under its first key set.
+fn new_cards(alloc: Global, issuer: &Issuer, suite: Suite) -> Result<Vec<Card>, NoMemory>
+    requires { HasFirstKeys issuer.now suite }
+    ensures first { IfOk result (λ cards. AreFirst issuer.now suite cards.items) }
     ensures valid { AreCards issuer.now.cards }
 {
-    let keys = issuer.first_key();
+    let set = issuer.first_key();
     let mut cards = Vec::new(alloc);
     for number in 0..issuer.cards() {
-        cards.push(new_card(alloc, issuer.info(number), keys))?;
+        cards.push(new_card(alloc, issuer.info(number), set, suite))?;
     }
     Ok(cards)
 }
 
-/// A new card under this key set.
-fn new_card(alloc: Global, info: &CardInfo, keys: &KeySet) -> Card
-    requires { IsTrue (is_bcd info.now.psn) }
-    ensures { result ≡ card_under keys.now info.now }
+/// A new card of this suite under this key set.
+fn new_card(alloc: Global, info: &CardInfo, set: &KeySet, suite: Suite) -> Card
+    requires decimal { IsTrue (is_bcd info.now.psn) }
+    requires suite { IsTrue (has_suite suite set.now) }
+    ensures { IsCardUnder set.now suite info.now result }
 {
-    Card::new(
-        alloc,
-        info.pan.copy(),
-        info.psn,
-        keys.dki,
-        info.method,
-        card_keys(keys, &info.pan, info.psn),
-    )
+    let keys = card_keys(set, suite, &info.pan, info.psn).unwrap();
+    let pan = info.pan.copy();
+    Card::new(alloc, pan, info.psn, set.dki, info.method, keys)
 }
 
 /// A row without records for each card.

@@ -1,15 +1,15 @@
 //! A world that performs events.
-ghost use Rattle.std.specs.Prelude.{IfOk};
+ghost use Rattle.std.specs.Prelude.{◌↔◌, IfOk, IsTrue};
 ghost use Rattle.world_net.specs.Allowed.{IsAllowed};
 ghost use Rattle.world_net.specs.WorldSteps.{IsStep};
 ghost use Rattle.world_net.specs.WorldRuns.{IsNewWorld};
 ghost use Rattle.world_net.specs.Safety.{IsSafe};
-ghost use Rattle.world_net.specs.NewWorld.{AreFirst};
+ghost use Rattle.world_net.specs.NewWorld.{HasFirstKeys, AreFirst};
 ghost use Rattle.world_net.specs.Stepping.{IsTaken, IsReached, IsOwn, IfDone};
 
 use crate::event::Event;
 use crate::net::Net;
-use issuer_base::NoMemory;
+use issuer_base::{NoMemory, Suite};
 use issuer_setup::Issuer;
 use std::alloc::Global;
 use std::marker::Model;
@@ -34,14 +34,16 @@ impl Model for World {
 }
 
 impl World {
-    /// The world of this issuer before any event: its cards are new, under the issuer's first key set.
-    pub fn new(alloc: Global, issuer: Issuer) -> Result<World, NoMemory>
+    /// The world of this issuer before any event: its cards are new and of this suite, under the issuer's first key set,
+    /// which has keys of it.
+    pub fn new(alloc: Global, issuer: Issuer, suite: Suite) -> Result<World, NoMemory>
+        requires { HasFirstKeys issuer suite }
         ensures new { IfOk result (IsNewWorld issuer) }
-        ensures first { IfOk result (λ world. AreFirst issuer world.cards) }
+        ensures first { IfOk result (λ world. AreFirst issuer suite world.cards) }
         ensures run { IfOk result IsReached }
         ensures safe { IfOk result IsSafe }
     {
-        let net = Net::new(alloc, issuer)?;
+        let net = Net::new(alloc, issuer, suite)?;
         Ok(World { net })
     }
 
@@ -58,5 +60,16 @@ impl World {
         ensures safe { IsSafe self.new }
     {
         self.net.step(event)
+    }
+}
+
+/// Whether the issuer's first key set has keys of this suite, as [`World::new`] requires.
+pub fn has_first_keys(issuer: &Issuer, suite: Suite) -> bool
+    ensures { IsTrue result ↔ HasFirstKeys issuer.now suite }
+{
+    let set = issuer.first_key();
+    match suite {
+        Suite::TripleDes => true,
+        Suite::Aes => set.aes.is_some(),
     }
 }

@@ -33,7 +33,10 @@ use Rattle.issuer_setup.specs.declared.card.CardInfo.{CardInfo}
 use Rattle.issuer_setup.specs.CardList.{number_of}
 use Rattle.issuer_setup.specs.IssuerSetup.{Setup, shard_of, keys_of}
 use Rattle.issuer_setup.proofs.Shards.{shard_of-known}
-use Rattle.key_derive.specs.CardKey.{card_keys}
+use Rattle.cryptogram_in.specs.Cryptogram.{application_cryptogram, cryptogram_under}
+use Rattle.key_derive.specs.CardKey.{des_keys}
+use Rattle.suite_mac.specs.SuiteMac.{mac_of}
+use Rattle.retail_mac.proofs.Blocks.{length-retail_mac}
 use Rattle.key_derive.specs.declared.card.CardKeys.{CardKeys}
 use Rattle.row_core.specs.Accepting.{IsMade as IsMadeReply}
 use Rattle.row_core.specs.Replying.{reply_to, reply_of_card, reply_by, reply_by_row, no_reply}
@@ -79,16 +82,22 @@ table-whole : IsTrue (is_table table)
 unfolding is_table tells_approval takes_all
 table-whole = refl
 
-found-made : (method : Method) (keys : CardKeys) (history : List Entry) (request : Request) (found : Option TableRow) → amount_value request < 1000000000000
+-- a cryptogram with triple DES has eight bytes
+cryptogram-whole : (pan : List ℕ) (request : Request) → length (application_cryptogram (des_keys key_set pan 0) request) ≡ 8
+unfolding application_cryptogram cryptogram_under mac_of
+cryptogram-whole pan request = length-retail_mac _ _
+
+found-made : (method : Method) (keys : CardKeys) (history : List Entry) (request : Request) (found : Option TableRow)
+    → length (application_cryptogram keys request) ≡ 8 → amount_value request < 1000000000000
     → decision table (status_of (card_of request) history) request ≡ found
     → IsMadeReply method keys (scripts_of (card_of request) history) request
     (option_map_or (reply_by_row method keys (scripts_of (card_of request) history) request) found no_reply)
-found-made method keys history request None below is =
+found-made method keys history request None ac_whole below is =
     absurd (decision-table table (status_of (card_of request) history) request below table-whole is)
-found-made method keys history request (Some row) below is =
+found-made method keys history request (Some row) ac_whole below is =
     let at = decides table (status_of (card_of request) history) request row table-whole is in
     let whole = row-whole at.place row at.stands in
-    row-made keys (scripts_of (card_of request) history) request row whole.arc whole.told method
+    row-made keys (scripts_of (card_of request) history) request row whole.arc ac_whole whole.told method
 
 module _ (cards number : ℕ) (request : Request) (right : IsRight cards number request) (valid : IsIssuer (issuer cards)) where
   -- the request's card is known
@@ -99,7 +108,7 @@ module _ (cards number : ℕ) (request : Request) (right : IsRight cards number 
   pub own-made : (history : List Entry) → IsMadeBy (issuer cards) history request (reply_to (issuer cards) history request)
   own-made history =
       let info = card_info number in
-      let keys = card_keys key_set info.pan 0 in
+      let keys = des_keys key_set info.pan 0 in
       let amount = (has_fields request right.held).amount.size in
       let below = amount_value-below request right.held.has_form amount in
       let made : reply_to (issuer cards) history request
@@ -116,7 +125,8 @@ module _ (cards number : ℕ) (request : Request) (right : IsRight cards number 
         card_is = card-at cards number right.below;
         keys_are = right.keys_are;
         made = subst (IsMadeReply info.method keys (scripts_of (card_of request) history) request) (sym made)
-            (found-made info.method keys history request (decision table (status_of (card_of request) history) request) below refl);
+            (found-made info.method keys history request (decision table (status_of (card_of request) history) request)
+            (cryptogram-whole info.pan request) below refl);
       }
 
 -- ---- histories and books

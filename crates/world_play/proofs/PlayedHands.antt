@@ -23,8 +23,10 @@ use Rattle.card_history.proofs.ScriptSteps.{scripts-queue}
 use Rattle.issuer_setup.specs.declared.card.CardInfo.{CardInfo}
 use Rattle.issuer_setup.specs.CardList.{number_of}
 use Rattle.issuer_setup.specs.IssuerSetup.{Setup, keys_of}
-use Rattle.key_derive.specs.CardKey.{card_keys}
+use Rattle.key_derive.specs.CardKey.{des_keys}
 use Rattle.key_derive.specs.SessionKey.{session_ac, session_sm}
+use Rattle.key_derive.proofs.Lengths.{length-des_session_ac, length-des_session_sm}
+use Rattle.issuer_base.specs.declared.request.Suite.TheVariants.{TripleDes}
 use Rattle.key_derive.specs.declared.card.CardKeys.{CardKeys}
 use Rattle.arpc_methods.specs.Arpc.{value91}
 use Rattle.secure_msg.specs.Batch.{sealed_commands}
@@ -103,15 +105,16 @@ batch-sendable request scripts all =
 
 -- the master keys of a card
 abbrev pub master_keys : ℕ → CardKeys
-master_keys number = card_keys key_set (card_info number).pan 0
+master_keys number = des_keys key_set (card_info number).pan 0
 
 -- the issuer's answer to a request of the card with this number
 abbrev pub value_to : ℕ → Request → List ℕ → List ℕ → List ℕ
-value_to number request arc csu = value91 (card_info number).method (session_ac (master_keys number).ac.0 request.atc) request.ac arc csu
+value_to number request arc csu =
+    value91 TripleDes (card_info number).method (session_ac TripleDes (master_keys number).ac.0 request.atc) request.ac arc csu
 
 -- its commands, sealed
 abbrev pub sealed_to : ℕ → Request → List Command → List (List ℕ)
-sealed_to number request batch = sealed_commands (session_sm (master_keys number).smi.0 request.ac) request.ac batch
+sealed_to number request batch = sealed_commands TripleDes (session_sm TripleDes (master_keys number).smi.0 request.ac) request.ac batch
 
 -- what a reply is, and the record that it belongs to
 pub record IsReplied (number : ℕ) (world : WorldState) (request : Request) (reply : Reply) : Type 0 where
@@ -121,8 +124,8 @@ pub record IsReplied (number : ℕ) (world : WorldState) (request : Request) (re
   pub csu : List ℕ
   pub four : length csu ≡ 4
   pub bytes_are : reply.bytes.items
-      ≡ reply_text reply.arc (value91 (card_info number).method (session_ac (master_keys number).ac.0 request.atc) request.ac reply.arc csu)
-      (script_bytes (master_keys number).smi.0 request.ac first batch)
+      ≡ reply_text reply.arc (value_to number request reply.arc csu)
+      (script_bytes TripleDes (master_keys number).smi.0 request.ac first batch)
   pub sent : IsSentAt (card_of request) (history_for world request) place first batch
   pub sent_is : sent.request ≡ request
   pub fit : AreSendable batch
@@ -171,8 +174,8 @@ reply-made cards number valid world played request reply right here =
       csu = csu;
       four = refl;
       bytes_are = made.made.bytes_are
-          ∙ ap₂ (λ (card : CardInfo) (keys : CardKeys). reply_text reply.arc (value91 card.method (session_ac keys.ac.0 request.atc) request.ac reply.arc csu)
-          (script_bytes keys.smi.0 request.ac (first_of request scripts) (batch_of request scripts))) card_is keys_are;
+          ∙ ap₂ (λ (card : CardInfo) (keys : CardKeys). reply_text reply.arc (value91 keys.suite card.method (session_ac keys.suite keys.ac.0 request.atc)
+          request.ac reply.arc csu) (script_bytes keys.suite keys.smi.0 request.ac (first_of request scripts) (batch_of request scripts))) card_is keys_are;
       sent = both.0;
       sent_is = both.1;
       fit = batch-sendable request scripts (subst AreSendable (sym (scripts-queue name before))
@@ -241,15 +244,20 @@ module _ (cards number : ℕ) (valid : IsIssuer (issuer cards)) (world : WorldSt
     sealed = sealed_to number request told.batch
 
     value-is : value ≡ answer_to card request reply.arc told.csu
-    value-is = ap₂ (λ (method : Method) (keys : CardKeys). value91 method (session_ac keys.ac.0 request.atc) request.ac reply.arc told.csu)
+    value-is = ap₂ (λ (method : Method) (keys : CardKeys). value91 keys.suite method (session_ac keys.suite keys.ac.0 request.atc) request.ac reply.arc told.csu)
         (sym issued.method_is) (sym issued.keys_are)
+
+    -- the card's session key for cryptograms has sixteen bytes
+    session-long : length (session_ac card.keys.suite card.keys.ac.0 request.atc) ≡ 16
+    session-long = ap (λ (keys : CardKeys). length (session_ac keys.suite keys.ac.0 request.atc)) issued.keys_are
+        ∙ length-des_session_ac (master_keys number).ac.0 request.atc
 
     -- what a terminal finds in the reply
     pub value-found : answer_in reply.bytes.items ≡ Some value
-    value-found = ap answer_in told.bytes_are ∙ answer-found reply.arc value (script_bytes (master_keys number).smi.0 request.ac told.first told.batch)
+    value-found = ap answer_in told.bytes_are ∙ answer-found reply.arc value (script_bytes TripleDes (master_keys number).smi.0 request.ac told.first told.batch)
 
     pub sealed-found : commands_in reply.bytes.items ≡ sealed
-    sealed-found = ap commands_in told.bytes_are ∙ commands-found reply.arc value (master_keys number).smi.0 request.ac told.first told.batch
+    sealed-found = ap commands_in told.bytes_are ∙ commands-found TripleDes reply.arc value (master_keys number).smi.0 request.ac told.first told.batch
 
     -- the first time that the issuer's answer reaches the card, with some of the commands
     pub handed-first : (k : ℕ) → card.open_request ≡ Some request → card.chain ≡ None
@@ -259,9 +267,9 @@ module _ (cards number : ℕ) (valid : IsIssuer (issuer cards)) (world : WorldSt
         let moved = with_answer card request in
         let stays = answer-stays card request in
         let accepted : is_answer card request value arc ≡ true =
-        ap (λ (v : List ℕ). is_answer card request v arc) value-is ∙ answer-accepted card request arc told.csu told.four in
+        ap (λ (v : List ℕ). is_answer card request v arc) value-is ∙ answer-accepted card request arc told.csu session-long told.four in
         let step = answer-right card request value arc opened unchained accepted in
-        let scripts = script_bytes (master_keys number).smi.0 request.ac told.first told.batch in
+        let scripts = script_bytes TripleDes (master_keys number).smi.0 request.ac told.first told.batch in
         let one : IsMoved cards number world card moved (with_card world number moved) =
         moved-once cards number valid world card moved (Authenticate number (record { items = value }) arc) played card_is (record {
           step = record { card = card; moved = moved; right = true; card_is = card_is; step = step; after_is = refl };
@@ -276,10 +284,11 @@ module _ (cards number : ℕ) (valid : IsIssuer (issuer cards)) (world : WorldSt
         }) (issued-answer number card issued request) stays.0 stays.1 in
         let can : CanRun number moved request request.ac =
         record { issued = issued-answer number card issued request; opened = stays.1 ∙ opened; chained = stays.4 } in
-        let keys : moved.keys.smi.0 ≡ (master_keys number).smi.0 = ap (λ (keys : CardKeys). keys.smi.0) (stays.2 ∙ issued.keys_are) in
+        let keys : moved.keys ≡ master_keys number = stays.2 ∙ issued.keys_are in
+        let sixteen = length-des_session_sm (master_keys number).smi.0 request.ac in
         let behind : drop moved.count told.batch ≡ told.batch = ap (λ n. drop n told.batch) stays.3 in
         let ran = run-all cards number valid request told.batch k request.ac (with_card world number moved) moved told.place told.first told.batch
-        (master_keys number).smi.0 one.played one.card_is can keys told.sent told.sent_is behind told.fit in
+        (master_keys number) sixteen one.played one.card_is can keys told.sent told.sent_is behind told.fit in
         subst (λ (found : Bool × CardState). IsRunning cards number world card (where_right found (take k sealed)))
         (sym (found-by card value arc true moved step))
         (record {
@@ -300,7 +309,7 @@ module _ (cards number : ℕ) (valid : IsIssuer (issuer cards)) (world : WorldSt
         → IsHanded cards number world card request (after_answer card (spoil_first value) reply.arc commands)
     handed-spoiled commands (inl (opened, unchained)) =
         let wrong : is_answer card request (spoil_first value) reply.arc ≡ false =
-        ap (λ (v : List ℕ). is_answer card request (spoil_first v) reply.arc) value-is ∙ spoiled-wrong card request reply.arc told.csu told.four in
+        ap (λ (v : List ℕ). is_answer card request (spoil_first v) reply.arc) value-is ∙ spoiled-wrong card request reply.arc told.csu session-long told.four in
         wrong-value request (spoil_first value) reply.arc commands (inl (opened, unchained))
         (answer-wrong card request (spoil_first value) reply.arc opened unchained wrong)
     handed-spoiled commands (inr (chain, chained)) =

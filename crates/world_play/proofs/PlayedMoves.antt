@@ -252,7 +252,8 @@ module _ (cards number : ℕ) (valid : IsIssuer (issuer cards)) (below : number 
       → IsAnswered (issuer cards) (request_line request) before after → GoesTo number world (λ later. IsAsking cards number most later after request)
   ask-some most world before after request asking it =
       let turn = asked-turn world asking.idle.played before after request asking.made it in
-      let done = answered-world cards number valid world asking.idle.played before.books it.books asking.idle.histories request asking.made it.answer it.works turn in (
+      let done = answered-world cards number valid world asking.idle.played before.books it.books asking.idle.histories request asking.made it.answer it.works
+      turn in (
         done.0,
         cards-later number world done.0 done.1.cards_are done.1.made,
         subst (λ (stage : Stage). IsAsking cards number most done.0 stage request) (sym it.after_is)

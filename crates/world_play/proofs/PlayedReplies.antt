@@ -19,6 +19,7 @@ use Rattle.tlv_objects.specs.Writing.{object_text}
 use Rattle.tlv_objects.proofs.Texts.{nothing_in}
 use Rattle.tlv_objects.proofs.Written.{objects_behind_text}
 use Rattle.key_derive.specs.SessionKey.{session_ac, session_sm}
+use Rattle.issuer_base.specs.declared.request.Suite.{Suite}
 use Rattle.secure_msg.specs.Batch.{sealed_commands, template_bytes}
 use Rattle.arpc_methods.specs.Arpc.{value91, method1, method2}
 use Rattle.arpc_methods.proofs.Lengths.{length-method1, length-method2}
@@ -87,13 +88,13 @@ none-found arc value =
     ap (first_value 0x72) text.2 ∙ ap (first_value 0x72) (nothing_in (text.1 + length (object_text 0x91 value)))
 
 -- the commands of a reply are the sealed ones of its batch
-pub commands-found : (arc value master ac : List ℕ) (first : ℕ) (batch : List Command)
-    → commands_in (reply_text arc value (script_bytes master ac first batch)) ≡ sealed_commands (session_sm master ac) ac batch
+pub commands-found : (suite : Suite) (arc value master ac : List ℕ) (first : ℕ) (batch : List Command)
+    → commands_in (reply_text arc value (script_bytes suite master ac first batch)) ≡ sealed_commands suite (session_sm suite master ac) ac batch
 unfolding sealed_commands template_bytes
-commands-found arc value master ac first [] =
+commands-found suite arc value master ac first [] =
     ap (λ (found : Option (List ℕ)). option_map_or (values_of 0x86) found []) (none-found arc value)
-commands-found arc value master ac first (command ∷ commands) =
-    let sealed = sealed_commands (session_sm master ac) ac (command ∷ commands) in
+commands-found suite arc value master ac first (command ∷ commands) =
+    let sealed = sealed_commands suite (session_sm suite master ac) ac (command ∷ commands) in
     let number = to_be_bytes w32 first in
     ap (λ (found : Option (List ℕ)). option_map_or (values_of 0x86) found [])
     (template-found arc value (object_text 0x9F18 number ++ flat_map (object_text 0x86) sealed))
@@ -102,35 +103,40 @@ commands-found arc value master ac first (command ∷ commands) =
 -- ---- the issuer's answer
 
 -- the answer is made again of what it has behind its first four bytes
-value-again : (method : Method) (sk ac arc csu : List ℕ) → length csu ≡ 4
-    → value91 method sk ac arc (take 4 (drop 4 (value91 method sk ac arc csu))) ≡ value91 method sk ac arc csu
+value-again : (suite : Suite) (method : Method) (sk ac arc csu : List ℕ) → length sk ≡ 16 → length csu ≡ 4
+    → value91 suite method sk ac arc (take 4 (drop 4 (value91 suite method sk ac arc csu))) ≡ value91 suite method sk ac arc csu
 unfolding value91
-value-again One sk ac arc csu four = refl
-value-again Two sk ac arc csu four =
-    let behind : take 4 (drop 4 (method2 sk ac csu ++ csu)) ≡ csu =
-    ap (take 4) (drop_at (method2 sk ac csu) csu 4 (length-method2 sk ac csu)) ∙ take_all 4 csu (omega (arith, four)) in
-    ap (λ (csu : List ℕ). method2 sk ac csu ++ csu) behind
+value-again suite One sk ac arc csu sixteen four = refl
+value-again suite Two sk ac arc csu sixteen four =
+    let arpc = method2 suite sk ac csu in
+    let behind : take 4 (drop 4 (arpc ++ csu)) ≡ csu =
+    ap (take 4) (drop_at arpc csu 4 (length-method2 suite sk ac csu sixteen)) ∙ take_all 4 csu (omega (arith, four)) in
+    ap (λ (csu : List ℕ). method2 suite sk ac csu ++ csu) behind
 
 -- it has eight bytes or more
-value-long : (method : Method) (sk ac arc csu : List ℕ) → length csu ≡ 4 → 8 ≤ length (value91 method sk ac arc csu)
+value-long : (suite : Suite) (method : Method) (sk ac arc csu : List ℕ) → length sk ≡ 16 → length csu ≡ 4
+    → 8 ≤ length (value91 suite method sk ac arc csu)
 unfolding value91
-value-long One sk ac arc csu four = omega (arith, length-append (method1 sk ac arc) arc, length-method1 sk ac arc)
-value-long Two sk ac arc csu four = omega (arith, length-append (method2 sk ac csu) csu, length-method2 sk ac csu, four)
+value-long suite One sk ac arc csu sixteen four = omega (arith, length-append (method1 suite sk ac arc) arc, length-method1 suite sk ac arc sixteen)
+value-long suite Two sk ac arc csu sixteen four =
+    omega (arith, length-append (method2 suite sk ac csu) csu, length-method2 suite sk ac csu sixteen, four)
 
 -- the issuer's answer to a card's request
 abbrev pub answer_to : CardState → Parts → List ℕ → List ℕ → List ℕ
-answer_to card request arc csu = value91 card.method (session_ac card.keys.ac.0 request.atc) request.ac arc csu
+answer_to card request arc csu =
+    value91 card.keys.suite card.method (session_ac card.keys.suite card.keys.ac.0 request.atc) request.ac arc csu
 
 -- the card finds it right
-pub answer-accepted : (card : CardState) (request : Parts) (arc csu : List ℕ) → length csu ≡ 4
-    → is_answer card request (answer_to card request arc csu) arc ≡ true
+pub answer-accepted : (card : CardState) (request : Parts) (arc csu : List ℕ)
+    → length (session_ac card.keys.suite card.keys.ac.0 request.atc) ≡ 16 → length csu ≡ 4 → is_answer card request (answer_to card request arc csu) arc ≡ true
 unfolding is_answer
-answer-accepted card request arc csu four =
-    let session = session_ac card.keys.ac.0 request.atc in
+answer-accepted card request arc csu sixteen four =
+    let suite = card.keys.suite in
+    let session = session_ac suite card.keys.ac.0 request.atc in
     let value = answer_to card request arc csu in
-    and_from _ _ (le-leb 8 (length value) (value-long card.method session request.ac arc csu four))
-    ((bytes_eq-Decides value (value91 card.method session request.ac arc (take 4 (drop 4 value)))).1
-    (sym (value-again card.method session request.ac arc csu four)))
+    and_from _ _ (le-leb 8 (length value) (value-long suite card.method session request.ac arc csu sixteen four))
+    ((bytes_eq-Decides value (value91 suite card.method session request.ac arc (take 4 (drop 4 value)))).1
+    (sym (value-again suite card.method session request.ac arc csu sixteen four)))
 
 -- what a changed first byte leaves
 spoiled-behind : (value : List ℕ) → drop 4 (spoil_first value) ≡ drop 4 value
@@ -151,18 +157,19 @@ spoiled-other (byte ∷ bytes) long same =
     changed-bit byte (ap (λ (bytes : List ℕ). slice_index bytes 0) same)
 
 -- and with a changed first byte it finds it wrong
-pub spoiled-wrong : (card : CardState) (request : Parts) (arc csu : List ℕ) → length csu ≡ 4
-    → is_answer card request (spoil_first (answer_to card request arc csu)) arc ≡ false
+pub spoiled-wrong : (card : CardState) (request : Parts) (arc csu : List ℕ)
+    → length (session_ac card.keys.suite card.keys.ac.0 request.atc) ≡ 16 → length csu ≡ 4 → is_answer card request (spoil_first (answer_to card request arc csu)) arc ≡ false
 unfolding is_answer
-spoiled-wrong card request arc csu four =
-    let session = session_ac card.keys.ac.0 request.atc in
+spoiled-wrong card request arc csu sixteen four =
+    let suite = card.keys.suite in
+    let session = session_ac suite card.keys.ac.0 request.atc in
     let value = answer_to card request arc csu in
     let spoiled = spoil_first value in
-    elim (cases_Bool (nat_le 8 (length spoiled) && bytes_eq spoiled (value91 card.method session request.ac arc (take 4 (drop 4 spoiled))))) [
+    elim (cases_Bool (nat_le 8 (length spoiled) && bytes_eq spoiled (value91 suite card.method session request.ac arc (take 4 (drop 4 spoiled))))) [
       | inl right ↦
-          let same = (bytes_eq-Decides spoiled (value91 card.method session request.ac arc (take 4 (drop 4 spoiled)))).0 (and_parts _ _ right).1 in
-          let again : spoiled ≡ value = same ∙ ap (λ (behind : List ℕ). value91 card.method session request.ac arc (take 4 behind)) (spoiled-behind value)
-          ∙ value-again card.method session request.ac arc csu four in
-          absurd (spoiled-other value (value-long card.method session request.ac arc csu four) again)
+          let same = (bytes_eq-Decides spoiled (value91 suite card.method session request.ac arc (take 4 (drop 4 spoiled)))).0 (and_parts _ _ right).1 in
+          let again : spoiled ≡ value = same ∙ ap (λ (behind : List ℕ). value91 suite card.method session request.ac arc (take 4 behind)) (spoiled-behind value)
+          ∙ value-again suite card.method session request.ac arc csu sixteen four in
+          absurd (spoiled-other value (value-long suite card.method session request.ac arc csu sixteen four) again)
       | inr wrong ↦ wrong
     ]

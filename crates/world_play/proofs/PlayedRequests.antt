@@ -1,6 +1,6 @@
 -- The request that a card of a played run makes: the issuer decides it, and refuses it with a changed cryptogram.
 use Rattle.std.proofs.Common.{◌≡◌, ◌≢◌, ℕ, zero, suc, ◌+◌, ◌*◌, ◌/◌, ◌%◌, ◌^◌, ◌<◌, ◌≤◌, ◌==◌, Bool, true, false, List, [], ◌∷◌, ◌++◌, length, map}
-use Rattle.std.proofs.Common.{replicate, Some, Ok, Err, IsTrue, refl, ap, sym, subst, ◌∙◌, inl, inr, lit<, arith, Option, Result}
+use Rattle.std.proofs.Common.{replicate, Some, Ok, Err, IsTrue, refl, ap, ap₂, sym, subst, ◌∙◌, inl, inr, lit<, arith, Option, Result}
 use Rattle.std.specs.Prelude.{slice_get, slice_set, slice_index, bit_xor, if◌then◌else◌}
 use Rattle.std.specs.Int.{w32, to_be_bytes}
 use Rattle.std.specs.List.{list_all, concat}
@@ -19,9 +19,14 @@ use Rattle.card_history.specs.Records.{card_of}
 use Rattle.card_history.specs.declared.decision.Asked.{Asked}
 use Rattle.card_history.specs.declared.decision.Asked.TheVariants.{Decide}
 use Rattle.cryptogram_in.specs.Cryptogram.{input, cryptogram_under, application_cryptogram}
-use Rattle.key_derive.specs.CardKey.{card_keys}
+use Rattle.key_derive.specs.CardKey.{des_keys}
 use Rattle.key_derive.specs.declared.card.CardKeys.{CardKeys}
+use Rattle.key_derive.specs.SessionKey.{session_ac}
 use Rattle.retail_mac.specs.Mac.{retail_mac}
+use Rattle.suite_mac.specs.SuiteMac.{mac_of}
+use Rattle.issuer_base.specs.declared.request.Suite.{Suite}
+use Rattle.issuer_base.specs.declared.request.Suite.TheVariants.{TripleDes, Aes}
+use Rattle.issuer_base.specs.ChipData.{suite_of}
 use Rattle.retail_mac.proofs.Blocks.{length-retail_mac}
 use Rattle.des_block.proofs.Laws.{des_encipher_small}
 use Rattle.issuer_setup.specs.CardList.{name_of, number_of}
@@ -36,7 +41,7 @@ use Rattle.line_checks.specs.Reading.{checked, checked_data, said_by, of_card, u
 use Rattle.request_text.specs.ChipText.{request_line}
 use Rattle.request_text.proofs.RequestRead.{request_of-chip_data}
 use Rattle.request_text.proofs.LineRead.{line_of-request_line}
-use Rattle.card_model.specs.Application.{CardState, script_results, application_data, next_fields, next_request}
+use Rattle.card_model.specs.Application.{CardState, script_results, core_identifier, application_data, next_fields, next_request}
 use Rattle.card_model.specs.CardSteps.{with_open, with_answer, with_command, with_failure, new_card}
 use Rattle.card_model.proofs.Requests.{is_request-fields}
 use Rattle.issuer_base.specs.declared.command.Command.{Command}
@@ -53,7 +58,7 @@ use Rattle.world_play.proofs.PlayedReplies.{changed-bit}
 
 -- it is issued at first, and stays so
 pub issued-new : (number : ℕ)
-    → IsIssued number (new_card (card_info number).pan 0 1 (card_info number).method (card_keys key_set (card_info number).pan 0))
+    → IsIssued number (new_card (card_info number).pan 0 1 (card_info number).method (des_keys key_set (card_info number).pan 0))
 unfolding new_card
 issued-new number = record { pan_is = refl; psn_is = refl; dki_is = refl; method_is = refl; keys_are = refl; few = omega arith }
 
@@ -121,9 +126,18 @@ bytes-four n = record { each = each }
     each (suc (suc (suc zero))) = omega arith
     each (suc (suc (suc (suc i)))) = lit< tt
 
-bytes-mac : (key text : List ℕ) → AreBytes (retail_mac key text)
-unfolding retail_mac
+bytes-mac : (key text : List ℕ) → AreBytes (mac_of TripleDes key text)
+unfolding mac_of retail_mac
 bytes-mac key text = record { each = λ i. des_encipher_small _ _ i }
+
+-- so are those of a cryptogram under triple DES keys, eight of them
+des-bytes : (keys : CardKeys) (fields : Parts) → keys.suite ≡ TripleDes
+    → AreBytes (application_cryptogram keys fields) × (length (application_cryptogram keys fields) ≡ 8)
+unfolding application_cryptogram cryptogram_under mac_of
+des-bytes keys fields is =
+    subst (λ (suite : Suite). AreBytes (mac_of suite (session_ac suite keys.ac.0 fields.atc) (input fields))
+    × (length (mac_of suite (session_ac suite keys.ac.0 fields.atc) (input fields)) ≡ 8)) (sym is)
+    (bytes-mac _ _, length-retail_mac _ _)
 
 -- ---- the terminal
 
@@ -171,6 +185,16 @@ pub card-pan : (number : ℕ) → IsTrue (is_pan (card_info number).pan)
 unfolding pan_from
 card-pan number = (pan_from-some _ _ (number_pan number)).0
 
+identifier-byte : (suite : Suite) → core_identifier suite < 256
+unfolding core_identifier
+identifier-byte TripleDes = lit< tt
+identifier-byte Aes = lit< tt
+
+suite-named : (suite : Suite) → (if core_identifier suite == 0xA6 then Aes else TripleDes) ≡ suite
+unfolding core_identifier
+suite-named TripleDes = refl
+suite-named Aes = refl
+
 results-byte : (count : ℕ) (failed : Bool) → count ≤ 15 → 16 * count + (if failed then 8 else 0) < 256
 results-byte count true few = omega arith
 results-byte count false few = omega arith
@@ -183,7 +207,7 @@ module _ (number : ℕ) (card : CardState) (issued : IsIssued number card) (regi
       let high : card.register / 256 < 256 = omega arith in
       let low : card.register % 256 < 256 = omega arith in
       let behind = more-bytes 0x0F _ (lit< tt) (more-bytes (card.register / 256) _ high (more-bytes (card.register % 256) _ low (zeros-bytes 13))) in
-      more-bytes 0x0F _ (lit< tt) (more-bytes 0xA5 _ (lit< tt) (more-bytes card.dki _ (omega (arith, dki_is)) (more-bytes 0xA0 _ (lit< tt)
+      more-bytes 0x0F _ (lit< tt) (more-bytes (core_identifier card.keys.suite) _ (identifier-byte card.keys.suite) (more-bytes card.dki _ (omega (arith, dki_is)) (more-bytes 0xA0 _ (lit< tt)
       (more-bytes 0 _ (lit< tt) (more-bytes 0 _ (lit< tt) (more-bytes _ _ (results-byte card.count card.failed issued.few) (more-bytes 0 _ (lit< tt)
       (bytes-append (replicate 8 0) _ (zeros-bytes 8) behind))))))))
 
@@ -258,6 +282,10 @@ module _ (number : ℕ) (card : CardState) (issued : IsIssued number card) (regi
   unfolding with-ac next_fields application_data dki
   ac-dki step ac = refl
 
+  ac-suite : (step : Step) (ac : List ℕ) → suite_of (with-ac step ac) ≡ TripleDes
+  unfolding with-ac next_fields application_data suite_of
+  ac-suite step ac = suite-named card.keys.suite ∙ ap (λ (keys : CardKeys). keys.suite) issued.keys_are
+
   ac-named : (step : Step) (ac : List ℕ) → card_of (with-ac step ac) ≡ name_of (card_info number)
   unfolding with-ac next_fields
   ac-named step ac = λ i. record { pan = issued.pan_is i; psn = issued.psn_is i }
@@ -265,8 +293,9 @@ module _ (number : ℕ) (card : CardState) (issued : IsIssued number card) (regi
   -- its keys are the card's
   keys-known : (cards : ℕ) → number < cards → (step : Step) (ac : List ℕ) → keys_of (issuer cards) number (with-ac step ac) ≡ Some card.keys
   keys-known cards below step ac =
-      ap (λ (index : ℕ). keys_from (key_of index (issuer cards).keys) (slice_get (issuer cards).cards number)) (ac-dki step ac ∙ issued.dki_is)
-      ∙ ap (λ (found : Option CardInfo). keys_from (Some key_set) found) (card-at cards number below)
+      ap₂ (λ (suite : Suite) (index : ℕ). keys_from suite (key_of index (issuer cards).keys) (slice_get (issuer cards).cards number))
+      (ac-suite step ac) (ac-dki step ac ∙ issued.dki_is)
+      ∙ ap (λ (found : Option CardInfo). keys_from TripleDes (Some key_set) found) (card-at cards number below)
       ∙ ap Some (sym issued.keys_are)
 
   -- so its cryptogram alone decides
@@ -280,25 +309,25 @@ module _ (number : ℕ) (card : CardState) (issued : IsIssued number card) (regi
       ∙ ap (λ (keys : Option CardKeys). under_keys keys (with-ac step ac)) (keys-known cards below step ac)
 
   -- the cryptogram doesn't count itself
-  ac-alone : (step : Step) (ac other : List ℕ) → application_cryptogram card.keys.ac.0 (with-ac step ac)
-      ≡ application_cryptogram card.keys.ac.0 (with-ac step other)
+  ac-alone : (step : Step) (ac other : List ℕ) → application_cryptogram card.keys (with-ac step ac)
+      ≡ application_cryptogram card.keys (with-ac step other)
   unfolding with-ac application_cryptogram cryptogram_under input
   ac-alone step ac other = refl
 
   own-ac : Step → List ℕ
-  own-ac step = application_cryptogram card.keys.ac.0 (next_fields card (terminal_of step))
+  own-ac step = application_cryptogram card.keys (next_fields card (terminal_of step))
 
   own-request : (step : Step) → next_request card (terminal_of step) ≡ with-ac step (own-ac step)
   unfolding with-ac own-ac next_request
   own-request step = refl
 
-  own-right : (step : Step) (ac : List ℕ) → application_cryptogram card.keys.ac.0 (with-ac step ac) ≡ own-ac step
+  own-right : (step : Step) (ac : List ℕ) → application_cryptogram card.keys (with-ac step ac) ≡ own-ac step
   unfolding with-ac own-ac application_cryptogram cryptogram_under input
   own-right step ac = refl
 
   own-bytes : (step : Step) → AreBytes (own-ac step) × (length (own-ac step) ≡ 8)
-  unfolding own-ac application_cryptogram cryptogram_under
-  own-bytes step = (bytes-mac _ _, length-retail_mac _ _)
+  unfolding own-ac
+  own-bytes step = des-bytes card.keys (next_fields card (terminal_of step)) (ap (λ (keys : CardKeys). keys.suite) issued.keys_are)
 
 -- a line with a request that the program holds says what is checked of it
 pub line-read : (setup : Setup) (request : Parts) → IsRequest request → reading setup (request_line request) ≡ checked setup request

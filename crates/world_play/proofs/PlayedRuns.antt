@@ -1,5 +1,5 @@
 -- The script commands of a reply, one after another, as events of a world of a played run.
-use Rattle.std.proofs.Common.{◌≡◌, ℕ, zero, suc, ◌+◌, ◌<◌, Bool, true, false, List, [], ◌∷◌, ◌++◌, take, drop, Some, None}
+use Rattle.std.proofs.Common.{◌≡◌, ℕ, zero, suc, ◌+◌, ◌<◌, Bool, true, false, List, [], ◌∷◌, ◌++◌, length, take, drop, Some, None}
 use Rattle.std.proofs.Common.{refl, ap, sym, ◌∙◌, subst, inl, inr, arith}
 use Rattle.std.specs.Prelude.{slice_get, nat_lt}
 use Rattle.std.proofs.lemmas.Bool.{cases_Bool, cond-true, cond-false, false≢true, ltb-true}
@@ -9,10 +9,12 @@ use Rattle.issuer_base.specs.declared.entry.Entry.TheVariants.{Decided}
 use Rattle.issuer_base.specs.declared.request.Request.{Request}
 use Rattle.card_history.specs.Records.{card_of}
 use Rattle.card_history.specs.ScriptOrder.{IsSentAt}
+use Rattle.key_derive.specs.declared.card.CardKeys.{CardKeys}
 use Rattle.key_derive.specs.SessionKey.{session_sm}
+use Rattle.issuer_base.specs.declared.request.Suite.{Suite}
 use Rattle.secure_msg.specs.Batch.{sealed_commands}
 use Rattle.secure_msg.specs.Sealing.{command_mac, sealed_command, opened_command}
-use Rattle.secure_msg.proofs.Opening.{opened_command-AreSealed}
+use Rattle.secure_msg.proofs.Opening.{opened_command-AreSealed, length-command_mac}
 use Rattle.card_model.specs.Application.{CardState}
 use Rattle.card_model.specs.CardSteps.{CardStep, Run as IsRun, opened_within, after_command, with_command, with_failure}
 use Rattle.card_model.proofs.Steps.{command-ran, command-refused}
@@ -92,14 +94,14 @@ moved-then cards number world between card middle last one other = (
 
 -- ---- one command
 
-within-more : (count : ℕ) (key chain bytes : List ℕ) (found : Command × List ℕ) → nat_lt count 15 ≡ true → opened_command key chain bytes ≡ Some found
-    → Some found ≡ opened_within count key chain bytes
+within-more : (count : ℕ) (suite : Suite) (key chain bytes : List ℕ) (found : Command × List ℕ) → nat_lt count 15 ≡ true
+    → opened_command suite key chain bytes ≡ Some found → Some found ≡ opened_within count suite key chain bytes
 unfolding opened_within
-within-more count key chain bytes found more is = sym (cond-true (nat_lt count 15) (opened_command key chain bytes) None more ∙ is)
+within-more count suite key chain bytes found more is = sym (cond-true (nat_lt count 15) (opened_command suite key chain bytes) None more ∙ is)
 
-within-full : (count : ℕ) (key chain bytes : List ℕ) → nat_lt count 15 ≡ false → None ≡ opened_within count key chain bytes
+within-full : (count : ℕ) (suite : Suite) (key chain bytes : List ℕ) → nat_lt count 15 ≡ false → None ≡ opened_within count suite key chain bytes
 unfolding opened_within
-within-full count key chain bytes full = sym (cond-false (nat_lt count 15) (opened_command key chain bytes) None full)
+within-full count suite key chain bytes full = sym (cond-false (nat_lt count 15) (opened_command suite key chain bytes) None full)
 
 step-moved : (card : CardState) (bytes : List ℕ) (right : Bool) (moved : CardState) → CardStep card (IsRun bytes right) moved
     → (after_command card bytes).1 ≡ moved
@@ -184,10 +186,11 @@ module _ (cards number : ℕ) (valid : IsIssuer (issuer cards)) (request : Reque
   -- commands at a full count
   all-fail : (list : List (List ℕ)) (world : WorldState) (card : CardState) (chain : List ℕ) → IsPlayed cards world → slice_get world.cards number ≡ Some card
       → CanRun number card request chain → nat_lt card.count 15 ≡ false → IsRunning cards number world card (after_commands card list)
-  all-fail [] world card chain played card_is can full = record { has = moved-none cards number world card played card_is; chain = chain; chained = can.chained }
+  all-fail [] world card chain played card_is can full =
+      record { has = moved-none cards number world card played card_is; chain = chain; chained = can.chained }
   all-fail (bytes ∷ list) world card chain played card_is can full =
       let step = command-refused card request chain bytes can.opened can.chained
-      (within-full card.count (session_sm card.keys.smi.0 request.ac) chain bytes full) in
+      (within-full card.count card.keys.suite (session_sm card.keys.suite card.keys.smi.0 request.ac) chain bytes full) in
       let one = fails world card chain bytes played card_is can step in
       let still : nat_lt (with_failure card).count 15 ≡ false = ap (λ n. nat_lt n 15) (failure-stays card).2 ∙ full in
       let rest = all-fail list (with_card world number (with_failure card)) (with_failure card) chain one.played one.card_is
@@ -201,30 +204,34 @@ module _ (cards number : ℕ) (valid : IsIssuer (issuer cards)) (request : Reque
       })
 
   -- the sealed commands of a batch, from the one that the card's count says on
-  pub run-all : (rest : List Command) (k : ℕ) (chain : List ℕ) (world : WorldState) (card : CardState) (place first : ℕ) (batch : List Command) (smi : List ℕ)
-      → IsPlayed cards world → slice_get world.cards number ≡ Some card → CanRun number card request chain → card.keys.smi.0 ≡ smi
+  pub run-all : (rest : List Command) (k : ℕ) (chain : List ℕ) (world : WorldState) (card : CardState) (place first : ℕ) (batch : List Command)
+      (keys : CardKeys) → length (session_sm keys.suite keys.smi.0 request.ac) ≡ 16
+      → IsPlayed cards world → slice_get world.cards number ≡ Some card → CanRun number card request chain → card.keys ≡ keys
       → (sent : IsSentAt (card_of request) (history_for world request) place first batch) → sent.request ≡ request
       → drop card.count batch ≡ rest → AreSendable rest
-      → IsRunning cards number world card (after_commands card (take k (sealed_commands (session_sm smi request.ac) chain rest)))
+      → IsRunning cards number world card (after_commands card (take k (sealed_commands keys.suite (session_sm keys.suite keys.smi.0 request.ac) chain rest)))
   unfolding sealed_commands
-  run-all [] zero chain world card place first batch smi played card_is can keys sent sent_is behind fit =
+  run-all [] zero chain world card place first batch keys sixteen played card_is can same sent sent_is behind fit =
       record { has = moved-none cards number world card played card_is; chain = chain; chained = can.chained }
-  run-all [] (suc k) chain world card place first batch smi played card_is can keys sent sent_is behind fit =
+  run-all [] (suc k) chain world card place first batch keys sixteen played card_is can same sent sent_is behind fit =
       record { has = moved-none cards number world card played card_is; chain = chain; chained = can.chained }
-  run-all (command ∷ rest) zero chain world card place first batch smi played card_is can keys sent sent_is behind fit =
+  run-all (command ∷ rest) zero chain world card place first batch keys sixteen played card_is can same sent sent_is behind fit =
       record { has = moved-none cards number world card played card_is; chain = chain; chained = can.chained }
-  run-all (command ∷ rest) (suc k) chain world card place first batch smi played card_is can keys sent sent_is behind fit =
-      let key = session_sm smi request.ac in
-      let next = command_mac key chain command in
-      let bytes = sealed_command key chain command in
-      let later = take k (sealed_commands key next rest) in
+  run-all (command ∷ rest) (suc k) chain world card place first batch keys sixteen played card_is can same sent sent_is behind fit =
+      let suite = keys.suite in
+      let key = session_sm suite keys.smi.0 request.ac in
+      let next = command_mac suite key chain command in
+      let bytes = sealed_command suite key chain command in
+      let later = take k (sealed_commands suite key next rest) in
       elim (cases_Bool (nat_lt card.count 15)) [
         | inl more ↦
-            let found : opened_command (session_sm card.keys.smi.0 request.ac) chain bytes ≡ Some (command, next) =
-            ap (λ (smi : List ℕ). opened_command (session_sm smi request.ac) chain bytes) keys
-            ∙ opened_command-AreSealed key chain bytes next command (record { form = fit.0.form; room = fit.0.room; spelled = refl; chained = refl }) in
+            let eight = length-command_mac suite key chain command sixteen in
+            let found : opened_command card.keys.suite (session_sm card.keys.suite card.keys.smi.0 request.ac) chain bytes ≡ Some (command, next) =
+            ap (λ (keys : CardKeys). opened_command keys.suite (session_sm keys.suite keys.smi.0 request.ac) chain bytes) same
+            ∙ opened_command-AreSealed suite key chain bytes next command
+            (record { form = fit.0.form; room = fit.0.room; spelled = refl; chained = refl; eight = eight }) in
             let step = command-ran card request chain bytes command next can.opened can.chained
-            (within-more card.count (session_sm card.keys.smi.0 request.ac) chain bytes (command, next) more found) in
+            (within-more card.count card.keys.suite (session_sm card.keys.suite card.keys.smi.0 request.ac) chain bytes (command, next) more found) in
             let few : card.count < 15 = ltb-true card.count 15 more in
             let moved = with_command card command next in
             let stays = command-stays card command next in
@@ -246,8 +253,8 @@ module _ (cards number : ℕ) (valid : IsIssuer (issuer cards)) (request : Reque
               };
             }) (can-run number card request chain command next few can).issued stays.0 stays.1 in
             let behind' : drop moved.count batch ≡ rest = ap (λ n. drop n batch) stays.3 ∙ read.1 in
-            let others = run-all rest k next (with_card world number moved) moved place first batch smi one.played one.card_is
-            (can-run number card request chain command next few can) (ap (λ keys. keys.smi.0) stays.2 ∙ keys) sent sent_is behind' fit.1 in
+            let others = run-all rest k next (with_card world number moved) moved place first batch keys sixteen one.played one.card_is
+            (can-run number card request chain command next few can) (stays.2 ∙ same) sent sent_is behind' fit.1 in
             subst (λ (after : CardState). IsRunning cards number world card (after_commands after later)) (sym (step-moved card bytes true moved step))
             (record {
               has = moved-then cards number world (with_card world number moved) card moved (after_commands moved later) one others.has;

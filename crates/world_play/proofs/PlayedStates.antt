@@ -17,9 +17,10 @@ use Rattle.one_caller.specs.Books.{histories_of as book_histories}
 use Rattle.one_caller.proofs.Places.{read-within, read-other}
 use Rattle.world_net.specs.Fate.{fate_of}
 use Rattle.world_net.specs.WorldState.{WorldState, ShardState, no_shard, histories_of}
-use Rattle.world_net.specs.WorldRuns.{IsIssuer, IsNewWorld, card_under}
+use Rattle.world_net.specs.WorldRuns.{IsIssuer, IsNewWorld}
 use Rattle.world_net.proofs.Hosts.{none-at}
-use Rattle.world_net.proofs.NewWorlds.{new-world}
+use Rattle.world_net.proofs.NewWorlds.{new-world, des_card, des_cards-under}
+use Rattle.issuer_base.specs.declared.request.Suite.TheVariants.{TripleDes}
 use Rattle.world_net.proofs.Worlds.{put-there}
 use Rattle.world_play.specs.declared.player.Player.{Player}
 use Rattle.world_play.specs.Genuine.{CanBePlayed, EndsGenuineRun}
@@ -51,7 +52,7 @@ pub record IsStateOf (cards steps : ℕ) (world : WorldState) (state : State) : 
 abbrev first_world : ℕ → WorldState
 first_world cards = record {
   issuer = issuer cards;
-  cards = map (card_under key_set) (issuer cards).cards;
+  cards = map (des_card key_set) (issuer cards).cards;
   made = [];
   shards = replicate 4 no_shard;
   claims = [];
@@ -60,12 +61,12 @@ first_world cards = record {
 
 first-new : (cards : ℕ) → IsNewWorld (issuer cards) (first_world cards)
 first-new cards =
-    new-world (issuer cards) (map (card_under key_set) (issuer cards).cards) (replicate 4 no_shard) [] [] []
-    (record { keys = key_set; first = refl; cards_are = refl }) refl refl refl refl
+    new-world (issuer cards) TripleDes (map (des_card key_set) (issuer cards).cards) (replicate 4 no_shard) [] [] []
+    (record { set = key_set; first = refl; cards_are = des_cards-under key_set (issuer cards).cards }) refl refl refl refl
 
 first-card : (cards number : ℕ) → number < cards → slice_get (first_world cards).cards number ≡ Some (new_player number).card
 first-card cards number below =
-    slice_get-map (card_under key_set) (issuer cards).cards number ∙ ap (option_map (card_under key_set)) (card-at cards number below)
+    slice_get-map (des_card key_set) (issuer cards).cards number ∙ ap (option_map (des_card key_set)) (card-at cards number below)
 
 first-issued : (cards number : ℕ) (card : CardState) → slice_get (first_world cards).cards number ≡ Some card → IsIssued number card
 first-issued cards number card is =

@@ -314,7 +314,8 @@ module _ (number : ℕ) where
   card-opening card key chain bytes true it less (Some (command, next)) =
       let small = ltb-true card.count 15 less in
       record { issued = issued-command number card it.issued command next small; counter = it.counter; register = it.register }
-  card-opening card key chain bytes false it less opening = record { issued = issued-failure number card it.issued; counter = it.counter; register = it.register }
+  card-opening card key chain bytes false it less opening =
+      record { issued = issued-failure number card it.issued; counter = it.counter; register = it.register }
 
   card-at : (card : CardState) (request : Option Parts) (chain : Option (List ℕ)) (bytes : List ℕ) → IsCard number card
       → IsCard number (command_at request chain card bytes).1
@@ -323,8 +324,8 @@ module _ (number : ℕ) where
   card-at card None (Some chain) bytes it = it
   card-at card (Some request) None bytes it = it
   card-at card (Some request) (Some chain) bytes it =
-      card-opening card (session_sm card.keys.smi.0 request.ac) chain bytes (nat_lt card.count MOST_COUNTED) it refl
-      (opened_command (session_sm card.keys.smi.0 request.ac) chain bytes)
+      let key = session_sm card.keys.suite card.keys.smi.0 request.ac in
+      card-opening card key chain bytes (nat_lt card.count MOST_COUNTED) it refl (opened_command card.keys.suite key chain bytes)
 
   card-command : (card : CardState) (bytes : List ℕ) → IsCard number card → IsCard number (after_command card bytes).1
   unfolding after_command

@@ -5,7 +5,7 @@ use Rattle.issuer_base.specs.declared.request.Parts.{Parts}
 use Rattle.card_history.specs.declared.decision.Asked.TheVariants.{Decide}
 use Rattle.card_history.specs.Records.{card_of}
 use Rattle.journal_rec.specs.Record.{IsRequest}
-use Rattle.key_derive.specs.CardKey.{card_keys}
+use Rattle.key_derive.specs.CardKey.{des_keys}
 use Rattle.issuer_setup.specs.CardList.{name_of}
 use Rattle.issuer_setup.specs.IssuerSetup.{keys_of}
 use Rattle.line_checks.specs.Reading.{checked, reading}
@@ -20,7 +20,7 @@ pub record IsIssued (number : ℕ) (card : CardState) : Type 0 where
   pub psn_is : card.psn ≡ 0
   pub dki_is : card.dki ≡ 1
   pub method_is : card.method ≡ (card_info number).method
-  pub keys_are : card.keys ≡ card_keys key_set (card_info number).pan 0
+  pub keys_are : card.keys ≡ des_keys key_set (card_info number).pan 0
   pub few : card.count ≤ 15
 
 -- the request is one that this card makes: the issuer decides it, and refuses it with another cryptogram
@@ -29,6 +29,6 @@ pub record IsRight (cards number : ℕ) (request : Parts) : Type 0 where
   pub its : card_of request ≡ name_of (card_info number)
   pub held : IsRequest request
   pub checks : checked (issuer cards) request ≡ Ok (Decide request)
-  pub keys_are : keys_of (issuer cards) number request ≡ Some (card_keys key_set (card_info number).pan 0)
+  pub keys_are : keys_of (issuer cards) number request ≡ Some (des_keys key_set (card_info number).pan 0)
   pub read : reading (issuer cards) (request_line request) ≡ Ok (Decide request)
   pub spoils : reading (issuer cards) (request_line (spoiled request)) ≡ Err BadCryptogram

@@ -10,7 +10,7 @@ use Rattle.issuer_base.specs.declared.request.Parts.{Parts}
 use Rattle.card_history.specs.OneReply.{reply_in}
 use Rattle.card_model.specs.Application.{CardState}
 use Rattle.card_model.specs.CardSteps.{new_card, tapped, authenticated}
-use Rattle.key_derive.specs.CardKey.{card_keys}
+use Rattle.key_derive.specs.CardKey.{des_keys}
 use Rattle.issuer_setup.specs.declared.card.CardInfo.{CardInfo}
 use Rattle.issuer_setup.specs.CardList.{name_of}
 use Rattle.issuer_setup.specs.IssuerSetup.{Setup, shard_of}
@@ -152,7 +152,7 @@ abbrev pub new_player : ℕ → Player
 new_player number =
     let info = card_info number in
     record {
-      card = new_card info.pan info.psn key_set.dki info.method (card_keys key_set info.pan info.psn);
+      card = new_card info.pan info.psn key_set.dki info.method (des_keys key_set info.pan info.psn);
       request = None;
       reply = None;
       held = None;

@@ -16,5 +16,5 @@ mod summary;
 mod totals;
 
 pub use law::{every_played_world_is_genuine, every_played_world_is_in_order};
-pub use run::{MAX_STEPS, play};
+pub use run::play;
 pub use summary::{SUMMARY_ROOM, Summary, write_summary};

@@ -15,7 +15,7 @@ use crate::player::Player;
 use crate::setting::{KEY_SET, SHARDS, card_info, issuer};
 use crate::summary::Summary;
 use card_model::Card;
-use issuer_base::NoMemory;
+use issuer_base::{NoMemory, Suite};
 use issuer_setup::{CardInfo, Issuer};
 use key_derive::MasterCiphers;
 use one_caller::{HostBack, LoadFault, Solo};
@@ -47,7 +47,9 @@ fn new_player(alloc: Global, ciphers: &MasterCiphers, number: u32) -> Player
     ensures { result ≡ new_player number }
 {
     let info = card_info(number);
-    let keys = ciphers.card_keys(&info.pan, info.psn);
+    let keys = ciphers
+        .card_keys(Suite::TripleDes, &info.pan, info.psn)
+        .unwrap();
     let CardInfo { pan, psn, method } = info;
     Player {
         card: Card::new(alloc, pan, psn, KEY_SET.dki, method, keys),

@@ -1,7 +1,7 @@
 //! A run: its steps, one after another, and what it comes to.
 ghost use Rattle.std.specs.Prelude.{◌≡◌, ◌*◌, ◌≤◌, length, IfOk};
 ghost use Rattle.world_play.specs.Room.{RoomFor, step_room, steps_of};
-ghost use Rattle.issuer_base.specs.declared.limits.TheConstants.{MAX_CARDS};
+ghost use Rattle.issuer_base.specs.declared.limits.TheConstants.{MAX_CARDS, MAX_CARD_REQUESTS, MAX_STEPS};
 ghost use Rattle.world_play.specs.Genuine.{CountsInOrder};
 ghost use Rattle.world_play.specs.Play.{ComesTo};
 ghost use Rattle.world_play.specs.Reaching.{IsAt};
@@ -17,9 +17,6 @@ use issuer_base::NoMemory;
 use std::alloc::Global;
 use world_net::fate;
 
-/// How many steps a run has at most.
-pub const MAX_STEPS: u32 = 200_000;
-
 /// Plays so many steps of so many cards, and returns its counts, which are in order. The seed shifts the fates of the
 /// steps, and is in their unpredictable numbers.
 ///
@@ -29,7 +26,7 @@ pub const MAX_STEPS: u32 = 200_000;
 pub fn play(alloc: Global, cards: u32, steps: u32, seed: u32) -> Result<Summary, NoMemory>
     requires cards { (1 ≤ cards) × (cards ≤ MAX_CARDS) }
     requires steps { steps ≤ MAX_STEPS }
-    requires counters { steps ≤ 65_535 * cards }
+    requires counters { steps ≤ MAX_CARD_REQUESTS * cards }
     ensures comes_to { IfOk result (ComesTo cards steps seed) }
     ensures in_order { IfOk result CountsInOrder }
 {

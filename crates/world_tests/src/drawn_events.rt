@@ -5,7 +5,7 @@ use crate::plain_world::{CALLERS, CARDS, SHARDS};
 use crate::restarts::PURCHASE;
 use arrayvec::ArrayVec;
 use card_model::Card;
-use issuer_base::{Command, MAX_CHIP_BYTES, NoMemory, are_decimal};
+use issuer_base::{Command, MAX_CHIP_BYTES, NoMemory, Suite, are_decimal};
 use key_derive::card_keys;
 use sample_issuer::{SampleCard, card, key_set};
 use std::alloc::Global;
@@ -22,13 +22,15 @@ pub(crate) struct Deck {
 }
 
 impl Deck {
-    /// A deck with these cards.
+    /// A deck with these cards, of this suite.
     #[tactic(auto, unfolding(issuer_base::specs::ChipData::is_bcd))]
-    pub(crate) fn new(alloc: Global, names: &[SampleCard]) -> Result<Deck, NoMemory> {
+    pub(crate) fn new(alloc: Global, names: &[SampleCard], suite: Suite) -> Result<Deck, NoMemory> {
         let mut cards = Vec::new(alloc);
         for (last, method) in names {
-            if let Some(info) = card(*last, *method) {
-                let keys = card_keys(&key_set(), &info.pan, 0x00);
+            let Some(info) = card(*last, *method) else {
+                continue;
+            };
+            if let Some(keys) = card_keys(&key_set(), suite, &info.pan, 0x00) {
                 cards.push(Card::new(alloc, info.pan, 0x00, 0x01, info.method, keys))?;
             }
         }

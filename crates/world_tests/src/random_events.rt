@@ -2,12 +2,12 @@
 
 use crate::drawn_events::Deck;
 use crate::plain_world::{PlainWorld, SHARDS};
-use issuer_base::Method;
+use issuer_base::{Method, Suite};
 use issuer_setup::Issuer;
 use sample_issuer::{SampleCard, deciding_table, issuer};
 use std::alloc::Global;
 use std::test::Fail;
-use world_net::World;
+use world_net::{World, has_first_keys};
 
 /// The number of events.
 const EVENTS: u32 = 6_000;
@@ -27,19 +27,29 @@ fn five_cards(alloc: Global) -> Result<Issuer, Fail> {
     Ok(issuer(alloc, SHARDS, &NAMES, table).ok_or("an issuer")?)
 }
 
+/// The world of this issuer whose cards are of this suite.
+pub(crate) fn new_world(alloc: Global, issuer: Issuer, suite: Suite) -> Result<World, Fail> {
+    if !has_first_keys(&issuer, suite) {
+        return Err(Fail::from("a key set without the suite"));
+    }
+    Ok(World::new(alloc, issuer, suite)?)
+}
+
 #[test]
 fn answers_random_events_as_a_plain_model_does(rt: HostRuntime) -> Result<(), Fail> {
-    let issuer = five_cards(rt.alloc())?;
-    let mut world = World::new(rt.alloc(), five_cards(rt.alloc())?)?;
-    let mut model = PlainWorld::new(rt.alloc());
-    let mut deck = Deck::new(rt.alloc(), &NAMES)?;
-    let mut allowed = 0u32;
-    for index in 0..EVENTS {
-        let event = deck.draw(model.size())?;
-        let expected = model.step(&issuer, &event)?;
-        assert!(rt; world.step(&event)? == expected, "event {index}");
-        allowed = allowed.saturating_add(u32::from(expected));
+    for suite in [Suite::TripleDes, Suite::Aes] {
+        let issuer = five_cards(rt.alloc())?;
+        let mut world = new_world(rt.alloc(), five_cards(rt.alloc())?, suite)?;
+        let mut model = PlainWorld::new(rt.alloc());
+        let mut deck = Deck::new(rt.alloc(), &NAMES, suite)?;
+        let mut allowed = 0u32;
+        for index in 0..EVENTS {
+            let event = deck.draw(model.size())?;
+            let expected = model.step(&issuer, &event)?;
+            assert!(rt; world.step(&event)? == expected, "event {index}");
+            allowed = allowed.saturating_add(u32::from(expected));
+        }
+        assert!(rt; allowed > 2_000);
     }
-    assert!(rt; allowed > 2_000);
     Ok(())
 }

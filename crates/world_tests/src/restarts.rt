@@ -1,12 +1,13 @@
 //! A world with two callers, a record in doubt and restarts.
 
+use crate::random_events::new_world;
 use arrayvec::ArrayVec;
 use card_model::Terminal;
 use chip_request::{LineKind, read_line};
-use issuer_base::{Command, MAX_CHIP_BYTES};
+use issuer_base::{Command, MAX_CHIP_BYTES, Suite};
 use sample_issuer::{CARDS, REQUEST, deciding_table, issuer};
 use std::test::Fail;
-use world_net::{Event, World, fate};
+use world_net::{Event, fate};
 
 /// A purchase over 123.45.
 pub(crate) const PURCHASE: Terminal = Terminal {
@@ -47,7 +48,7 @@ fn block() -> Event {
 fn keeps_a_record_in_doubt_over_a_restart_as_its_store_did(rt: HostRuntime) -> Result<(), Fail> {
     let table = deciding_table().ok_or("a table")?;
     let issuer = issuer(rt.alloc(), 1, &CARDS, table).ok_or("an issuer")?;
-    let mut world = World::new(rt.alloc(), issuer)?;
+    let mut world = new_world(rt.alloc(), issuer, Suite::TripleDes)?;
     let tap = Event::Tap {
         card: 0,
         terminal: PURCHASE,

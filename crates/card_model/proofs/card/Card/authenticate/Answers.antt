@@ -16,12 +16,12 @@ pub returns-then-not-is_answer-clause-step : goal.returns-then-not-is_answer-cla
 returns-then-not-is_answer-clause-step c =
     rw (← c.self.view_is)
     (answer-wrong _ c.in-Some.request c.args.value91.now c.args.arc c.in-Some.is (no_chain _ (sym c.is_some.ensures ∙ c.if-is_some.false))
-    (is_answer-under _ _ _ _ c.args.value91.now c.args.arc false c.parts-parts.ensures.same c.session_ac-session.ensures c.if-not-is_answer.ensures))
+    (is_answer-under _ _ _ _ c.args.value91.now c.args.arc false c.parts-parts.ensures.same c.for_cryptograms-session.ensures c.if-not-is_answer.ensures))
 
 pub returns-clause-step : goal.returns-clause-step
 unfolding with_answer
 returns-clause-step c =
     rw (← c.self.view_is, c.parts-parts.ensures.same)
     (answer-right _ c.in-Some.request c.args.value91.now c.args.arc c.in-Some.is (no_chain _ (sym c.is_some.ensures ∙ c.if-is_some.false))
-    (is_answer-under _ _ _ _ c.args.value91.now c.args.arc _ c.parts-parts.ensures.same c.session_ac-session.ensures c.is_answer.ensures
+    (is_answer-under _ _ _ _ c.args.value91.now c.args.arc _ c.parts-parts.ensures.same c.for_cryptograms-session.ensures c.is_answer.ensures
     ∙ c.if-not-is_answer.false))

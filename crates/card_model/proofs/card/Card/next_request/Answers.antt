@@ -2,7 +2,7 @@
 use Rattle.std.proofs.Common.{◌≡◌, is_some, IsTrue, ap, sym, ◌∙◌}
 use Rattle.issuer_base.specs.ChipData.{is_bcd, request_from}
 use Rattle.issuer_base.specs.declared.request.Request.{Request}
-use Rattle.key_derive.specs.SessionKey.{session_ac}
+use Rattle.key_derive.specs.SessionKey.{session_of}
 use Rattle.cryptogram_in.specs.Cryptogram.{cryptogram_under, application_cryptogram}
 use Rattle.card_model.specs.Application.{CardState}
 use Rattle.card_model.proofs.Requests.{request_from-fields, next_request-made, next_request-valid_ac}
@@ -23,10 +23,10 @@ pub returns-clause-exact : goal.returns-clause-exact
 unfolding application_cryptogram
 returns-clause-exact c =
     let unsigned = c.unwrap-unsigned.result in
-    let session : c.for_cryptograms-session.result ≡ session_ac c.self.inside.keys.ac.0 unsigned.atc =
-    c.for_cryptograms-session.ensures ∙ ap (λ (request : Request). session_ac c.self.inside.keys.ac.0 request.atc) c.parts.ensures.same in
+    let session : c.for_cryptograms-session.result ≡ session_of c.self.inside.keys unsigned.atc =
+    c.for_cryptograms-session.ensures ∙ ap (λ (request : Request). session_of c.self.inside.keys request.atc) c.parts.ensures.same in
     let first = sym (c.new.ensures ∙ ap request_from c.copy.ensures) ∙ c.unwrap-unsigned.ensures in
-    let signed = c.expected-parts.ensures ∙ ap (λ key. cryptogram_under key unsigned) session ∙ ap (λ (card : CardState). application_cryptogram card.keys.ac.0 c.unwrap-unsigned.result) c.self.view_is in
+    let signed = c.expected-parts.ensures ∙ ap (λ key. cryptogram_under key unsigned) session ∙ ap (λ (card : CardState). application_cryptogram card.keys c.unwrap-unsigned.result) c.self.view_is in
     next_request-made c.args.self.now c.args.terminal.now _ _ _ _ c.next_fields-parts.ensures first signed (sym c.new-2.ensures ∙ c.unwrap.ensures)
 
 pub returns-clause-has_valid_ac : goal.returns-clause-has_valid_ac

@@ -18,7 +18,7 @@ returns-in_default-opened_within-clause-step c =
     rw (← c.self.view_is, c.reserve.ensures.items)
     (command-refused _ c.in-Some.request c.in-Some-chain.chain c.args.bytes.now c.in-Some.is c.in-Some-chain.is
     (sym c.in_default-opened_within.is
-    ∙ opened-under _ _ _ _ _ _ c.args.bytes.now _ c.parts.ensures.same c.session_sm-key.ensures c.opened_within.ensures.exact))
+    ∙ opened-under _ _ _ _ _ _ _ c.args.bytes.now _ c.parts.ensures.same c.session_sm-key.ensures c.opened_within.ensures.exact))
 
 pub invariant_of-self-2 : goal.invariant_of-self-2
 invariant_of-self-2 c =
@@ -31,4 +31,4 @@ returns-clause-step c =
     rw (← c.self.view_is, c.push_reserved.ensures.items, c.reserve.ensures.items)
     (command-ran _ c.in-Some.request c.in-Some-chain.chain c.args.bytes.now _ _ c.in-Some.is c.in-Some-chain.is
     (sym c.in-Some-opened_within.is
-    ∙ opened-under _ _ _ _ _ _ c.args.bytes.now _ c.parts.ensures.same c.session_sm-key.ensures c.opened_within.ensures.exact))
+    ∙ opened-under _ _ _ _ _ _ _ c.args.bytes.now _ c.parts.ensures.same c.session_sm-key.ensures c.opened_within.ensures.exact))

@@ -7,7 +7,7 @@ use Rattle.world_net.proofs.net.Net.new.Goals as goal
 
 pub returns-clause-new : goal.returns-clause-new
 returns-clause-new c =
-    new-world c.args.issuer c.in_ok-cards.cards.items c.in_ok-shards.shards.items c.new.result.items c.new-2.result.items c.new-3.result.items
+    new-world c.args.issuer c.args.suite c.in_ok-cards.cards.items c.in_ok-shards.shards.items c.new.result.items c.new-2.result.items c.new-3.result.items
     c.in_ok-cards.ensures.first (c.in_ok-shards.ensures ∙ ap (λ n. replicate n no_shard) c.shards.ensures.count)
     (let none : c.new.result.items ≡ [] = search rules in none) (let none : c.new-2.result.items ≡ [] = search rules in none)
     (let none : c.new-3.result.items ≡ [] = search rules in none)
@@ -15,7 +15,7 @@ returns-clause-new c =
 pub returns-clause-held : goal.returns-clause-held
 returns-clause-held c =
     held-new c.args.issuer _ (record { shards = c.shards.ensures.valid; cards = c.in_ok-cards.ensures.valid })
-    (new-world c.args.issuer c.in_ok-cards.cards.items c.in_ok-shards.shards.items c.new.result.items c.new-2.result.items c.new-3.result.items
+    (new-world c.args.issuer c.args.suite c.in_ok-cards.cards.items c.in_ok-shards.shards.items c.new.result.items c.new-2.result.items c.new-3.result.items
     c.in_ok-cards.ensures.first (c.in_ok-shards.ensures ∙ ap (λ n. replicate n no_shard) c.shards.ensures.count)
     (let none : c.new.result.items ≡ [] = search rules in none) (let none : c.new-2.result.items ≡ [] = search rules in none)
     (let none : c.new-3.result.items ≡ [] = search rules in none))

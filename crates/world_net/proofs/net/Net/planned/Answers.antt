@@ -1,5 +1,5 @@
 -- The plan of the card's row for a request that the issuer decides.
-use Rattle.std.proofs.Common.{◌≡◌, ◌%◌, List, Some, Ok, ap, sym, ◌∙◌, subst, arith}
+use Rattle.std.proofs.Common.{◌≡◌, ◌%◌, List, length, Some, Ok, ap, sym, ◌∙◌, subst, arith}
 use Rattle.issuer_base.specs.declared.request.Request.{Request}
 use Rattle.card_history.specs.declared.decision.Asked.TheVariants.{Decide}
 use Rattle.card_history.specs.LegalRecords.{IsLegalDecision}
@@ -58,6 +58,7 @@ planned c =
         info = info.0;
         info_is = info.1;
         named = sym info.2;
+        eight = ap (λ (q : Request). length q.ac) (sym same) ∙ at_hand.eight;
         stands = stands;
         answers = plan 0 info.0 (at world.shards place).history stands (sym info.2);
       },

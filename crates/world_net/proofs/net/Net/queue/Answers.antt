@@ -30,7 +30,7 @@ pub returns-clause-taken : goal.returns-clause-taken
 returns-clause-taken c =
     let info = c.info-info.result.now in
     queue-taken (world_of c.args.self.now) c.args.number c.args.command.now info _ c.cards.ensures.valid c.info-info.ensures
-    (sym c.is_command.ensures ∙ c.if-not-is_command.false) ((c.takes_command.ensures info c.info-info.ensures).0 c.if-not-takes_command.false)
+    (sym c.is_sendable.ensures ∙ c.if-not-is_sendable.false) ((c.takes_command.ensures info c.info-info.ensures).0 c.if-not-takes_command.false)
     (added (goal.at.returns-clause-taken c).In_ok-add).0
 
 pub returns-clause-rows : goal.returns-clause-rows

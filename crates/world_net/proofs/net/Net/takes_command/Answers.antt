@@ -1,5 +1,5 @@
 -- The row of the card stands for its queue.
-use Rattle.std.proofs.Common.{◌↔◌, IsTrue, ap, subst, arith}
+use Rattle.std.proofs.Common.{◌↔◌, IsTrue, ◌∙◌, ap, subst, arith}
 use Rattle.script_queue.specs.CommandQueue.{CommandQueue, TakesOneMore}
 use Rattle.row_core.specs.CardRow.{KeptScripts}
 use Rattle.world_net.proofs.NetRows.{row-there, row-stands}
@@ -16,5 +16,5 @@ returns c info info_is =
     let stands =
     row-stands c.args.self.now.issuer c.args.self.now.rows.items c.args.self.now.shards.items c.requires.rows c.args.number info c.index.result.now info_is
     c.index.ensures in
-    subst (λ (queue : CommandQueue). IsTrue c.takes_one_more.result ↔ TakesOneMore queue) (ap (λ (kept : KeptScripts). kept.commands) stands.scripts_are)
-    c.takes_one_more.ensures
+    subst (λ (queue : CommandQueue). IsTrue c.takes_one_more.result ↔ TakesOneMore queue)
+    (c.queue.ensures ∙ ap (λ (kept : KeptScripts). kept.commands) stands.scripts_are) c.takes_one_more.ensures

@@ -65,22 +65,26 @@ ask_spoiled-requires-clause-room c =
 pub returns-in-AskSpoiled : goal.returns-in-AskSpoiled
 returns-in-AskSpoiled c =
     let house = c.args.house.now in
-    made c.args.step.now c.args.next AskSpoiled house c.args.self.now c.ask_spoiled.new.house c.ask_spoiled.new.self c.in-AskSpoiled.is c.ask_spoiled.ensures.reached c.ask_spoiled.ensures.own
+    made c.args.step.now c.args.next AskSpoiled house c.args.self.now c.ask_spoiled.new.house c.ask_spoiled.new.self c.in-AskSpoiled.is
+    c.ask_spoiled.ensures.reached c.ask_spoiled.ensures.own
     (uses-less (asked_bytes house.host.issuer spoiled c.args.self.now.request)
     (added_at (c.args.step.now.card % 4) (moved_bytes c.args.next)) house c.ask_spoiled.new.house
     (spoil-adds c.args.step.now c.args.next house c.args.self.now c.in-AskSpoiled.is c.requires.turn) c.ask_spoiled.ensures.room) c.ask_spoiled.ensures.counts
 
 pub returns-in-Hand : goal.returns-in-Hand
 returns-in-Hand c =
-    made-handed c.hand.result c.args.step.now c.args.next Hand c.args.house.now c.args.self.now c.hand.new.house c.hand.new.self c.in-Hand.is c.hand.ensures.host
+    made-handed c.hand.result c.args.step.now c.args.next Hand c.args.house.now c.args.self.now c.hand.new.house c.hand.new.self c.in-Hand.is
+    c.hand.ensures.host
     c.hand.ensures.reached c.hand.ensures.own c.hand.ensures.counts
 
 pub returns-in-HandFirst : goal.returns-in-HandFirst
 returns-in-HandFirst c =
-    made-handed c.hand_first.result c.args.step.now c.args.next HandFirst c.args.house.now c.args.self.now c.hand_first.new.house c.hand_first.new.self c.in-HandFirst.is c.hand_first.ensures.host
+    made-handed c.hand_first.result c.args.step.now c.args.next HandFirst c.args.house.now c.args.self.now c.hand_first.new.house c.hand_first.new.self
+    c.in-HandFirst.is c.hand_first.ensures.host
     c.hand_first.ensures.reached c.hand_first.ensures.own c.hand_first.ensures.counts
 
 pub returns-in-HandSpoiled : goal.returns-in-HandSpoiled
 returns-in-HandSpoiled c =
-    made-handed c.hand_spoiled.result c.args.step.now c.args.next HandSpoiled c.args.house.now c.args.self.now c.hand_spoiled.new.house c.hand_spoiled.new.self c.in-HandSpoiled.is c.hand_spoiled.ensures.host
+    made-handed c.hand_spoiled.result c.args.step.now c.args.next HandSpoiled c.args.house.now c.args.self.now c.hand_spoiled.new.house c.hand_spoiled.new.self
+    c.in-HandSpoiled.is c.hand_spoiled.ensures.host
     c.hand_spoiled.ensures.reached c.hand_spoiled.ensures.own c.hand_spoiled.ensures.counts

@@ -7,23 +7,27 @@ use Rattle.world_play.proofs.player.Player.play.Goals as goal
 
 pub make-requires-clause-turn : goal.make-requires-clause-turn
 make-requires-clause-turn c =
-    turn-goes c.args.step.now c.args.moves.now c.loop-next.next-index c.args.house.now c.args.self.now c.loop-next.house c.loop-next.self c.loop-next.invariant.within
+    turn-goes c.args.step.now c.args.moves.now c.loop-next.next-index c.args.house.now c.args.self.now c.loop-next.house c.loop-next.self
+    c.loop-next.invariant.within
     c.requires.turn c.loop-next.invariant.way.issuer_is
 
 pub make-requires-clause-room : goal.make-requires-clause-room
 make-requires-clause-room c =
-    room-goes c.args.step.now c.args.moves.now c.loop-next.next-index c.args.house.now c.args.self.now c.loop-next.house c.loop-next.self c.loop-next.invariant.within
+    room-goes c.args.step.now c.args.moves.now c.loop-next.next-index c.args.house.now c.args.self.now c.loop-next.house c.loop-next.self
+    c.loop-next.invariant.within
     _ (slice_get-get_or c.args.moves.now c.loop-next.next-index _ (omega arith)) c.requires.room
 
 pub make-requires-clause-counts : goal.make-requires-clause-counts
 make-requires-clause-counts c =
-    counts-go c.args.step.now c.args.moves.now c.loop-next.next-index c.args.house.now c.args.self.now c.loop-next.house c.loop-next.self c.loop-next.invariant.within
+    counts-go c.args.step.now c.args.moves.now c.loop-next.next-index c.args.house.now c.args.self.now c.loop-next.house c.loop-next.self
+    c.loop-next.invariant.within
     (omega arith) c.requires.counts
 
 pub loop-next-preserved : goal.loop-next-preserved
 loop-next-preserved c =
     record {
-      way = way_goes c.args.step.now c.args.moves.now c.loop-next.next-index _ c.args.house.now c.args.self.now c.loop-next.house c.loop-next.self c.make.new.house
+      way = way_goes c.args.step.now c.args.moves.now c.loop-next.next-index _ c.args.house.now c.args.self.now c.loop-next.house c.loop-next.self
+          c.make.new.house
           c.make.new.self (slice_get-get_or c.args.moves.now c.loop-next.next-index _ (omega arith)) c.loop-next.invariant.way c.in_ok-make.ensures.reached;
       within = within-goes c.args.step.now c.args.moves.now c.loop-next.next-index c.args.house.now c.args.self.now c.loop-next.house c.loop-next.self
           c.loop-next.invariant.within _ c.make.new.house c.make.new.self (slice_get-get_or c.args.moves.now c.loop-next.next-index _ (omega arith))
