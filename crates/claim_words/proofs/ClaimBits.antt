@@ -29,7 +29,7 @@ pow_same k l e =
       ]
     ]
 
--- the word and the bit tell the card and the counter
+-- the word and the bit tell the card and the ATC
 pub pair_by_mask : (card counter other_card other : ℕ) → counter < COUNTERS → other < COUNTERS → word_of card counter ≡ word_of other_card other
     → mask_of counter ≡ mask_of other → (other_card ≡ card) × (other ≡ counter)
 pair_by_mask card counter other_card other small also words masks =

@@ -79,7 +79,7 @@ have_tried_joined lists won view other before tried =
           omega (arith, more counter, tried.each counter below, total-append (λ (p : ℕ × ℕ). one_if (is_pair 0 counter p.0 p.1)) view.found other.found);
     }
 
--- what was won together is each counter once
+-- what was won together is each ATC once
 pub each_won_once : (lists : List (List ℕ)) (view : ClaimView) (recorded : ℕ → ℕ) → HaveTried lists view → 0 < length lists
     → ((counter : ℕ) → counter < COUNTERS → recorded counter ≡ 0)
     → ((counter : ℕ) → 0 < times 0 counter view.found → 0 < recorded counter + claims_on is_any 0 counter view.claims)

@@ -13,7 +13,8 @@ use Rattle.atomic_table.specs.Table.{State, Me, step, keeps, Allows, Splits, Joi
 use Rattle.shared_seats.specs.Totals.{total, one_if}
 use Rattle.shared_seats.specs.SeatNames.{after_split, split_off, AreNamed, IsWhole}
 use Rattle.shared_seats.specs.declared.seat_name.SeatName.{SeatName}
-use Rattle.shared_seats.proofs.Totals.{at_set, at_snoc, at_map, set_again, map-set, map-snoc, total-append, total-snoc, total-set, part_le, total-alone, total-le}
+use Rattle.shared_seats.proofs.Totals.{at_set, at_snoc, at_map, set_again, map-set, map-snoc, total-append, total-snoc}
+use Rattle.shared_seats.proofs.Totals.{total-set, part_le, total-alone, total-le}
 use Rattle.shared_seats.proofs.SeatNameLemmas.{named_split, named_join, whole_alone}
 use Rattle.claim_words.specs.declared.layout.TheConstants.{COUNTERS}
 use Rattle.claim_words.specs.declared.view.Standing.{Standing}
@@ -429,7 +430,7 @@ below_top first s id view rule here card counter small known =
       | inr unkept ↦ rule.above card counter small (rule.told card counter (omega arith))
     ]
 
--- a view that knows of other tops, each one of its own or that of a counter that is kept
+-- a view that knows of other tops, each one of its own or that of an ATC that is kept
 tops_keep : {S : Type 0} (first : List ℕ) (s : State S ClaimView) (view : ClaimView) (tops : List (ℕ × ℕ)) → AreClaims first s → 0 < length view.names
     → ((card counter : ℕ) → (times card counter tops ≤ times card counter view.tops) ⊎ (0 < places is_kept first s.views card counter))
     → IsKeeping first s s.words view (record view { tops = tops })

@@ -17,7 +17,7 @@ use Rattle.claim_words.proofs.ClaimCounts
 abbrev with_bit : List ℕ → ℕ → ℕ → List ℕ
 with_bit words card counter = set words (word_of card counter) (bit_or (get_or words (word_of card counter) 0) (mask_of counter))
 
--- the words whose top for the card is above the counter
+-- the words whose top for the card is above the ATC
 abbrev with_top : List ℕ → ℕ → ℕ → List ℕ
 with_top words card counter = set words (top_word_of card) (max (top_of words card) (counter + 1))
 

@@ -18,7 +18,8 @@ module _ {S : Type 0} where
   abbrev pub claimed : Step S → Me S ClaimView → ℕ → Me S ClaimView → Type 0
   claimed step before found after = (after.1 ≡ before.1)
       × ((card counter : ℕ) → counter < COUNTERS → step.word ≡ word_of card counter → step.first ≡ mask_of counter
-      → (after.0 ≡ after_claim (claim_by found step.first) card counter before.0) × (claim_by found step.first ≡ Won → IsNew card counter before.0))
+      → (after.0 ≡ after_claim (claim_by found step.first) card counter before.0)
+      × (claim_by found step.first ≡ Won → IsNew card counter before.0))
 
   abbrev pub released : Step S → Me S ClaimView → ℕ → Me S ClaimView → Type 0
   released step before found after = (after.1 ≡ before.1)
@@ -27,9 +28,10 @@ module _ {S : Type 0} where
 
   abbrev pub marked : Step S → Me S ClaimView → ℕ → Me S ClaimView → Type 0
   marked step before found after = (after.1 ≡ before.1)
-      × ((card counter : ℕ) → step.word ≡ top_word_of card → step.first ≡ counter + 1 → after.0 ≡ settled Kept card counter before.0)
+      × ((card counter : ℕ) → step.word ≡ top_word_of card → step.first ≡ counter + 1
+      → after.0 ≡ settled Kept card counter before.0)
 
-  -- the number found is above each counter of the card that the seat has kept or has read from a top
+  -- the number found is above each ATC of the card that the seat has kept or has read from a top
   abbrev pub topped : Step S → Me S ClaimView → ℕ → Me S ClaimView → Type 0
   topped step before found after = (after.1 ≡ before.1) × (found ≤ COUNTERS)
       × ((card : ℕ) → step.word ≡ top_word_of card → (after.0 ≡ after_top card (told_by found) before.0)

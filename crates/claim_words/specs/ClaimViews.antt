@@ -1,5 +1,6 @@
 -- What a seat knows of claims, and how the calls change it.
-use Rattle.std.specs.Prelude.{◌≡◌, ℕ, ◌+◌, ◌<◌, List, [], ◌∷◌, ◌++◌, map, Bool, true, false, ◌==◌, ◌&&◌, if◌then◌else◌, Option, None, Some}
+use Rattle.std.specs.Prelude.{◌≡◌, ℕ, ◌+◌, ◌<◌, List, [], ◌∷◌, ◌++◌, map, Bool, true, false, ◌==◌, ◌&&◌}
+use Rattle.std.specs.Prelude.{if◌then◌else◌, Option, None, Some}
 use Rattle.shared_seats.specs.Totals.{how_many}
 use Rattle.shared_seats.specs.SeatNames.{after_split, split_off}
 use Rattle.shared_seats.specs.declared.seat_name.SeatName.{SeatName}
@@ -10,7 +11,7 @@ use Rattle.claim_words.specs.declared.view.ClaimView.{ClaimView}
 use Rattle.claim_words.specs.declared.claim_words.Claim.{Claim}
 use Rattle.claim_words.specs.declared.claim_words.Claim.TheVariants.{Won, Lost}
 
--- whether the second card and counter equal the first
+-- whether the second card and ATC equal the first
 abbrev pub is_pair : ℕ → ℕ → ℕ → ℕ → Bool
 is_pair card counter other_card other = (other_card == card) && (other == counter)
 
@@ -20,7 +21,7 @@ is_open Open = true
 is_open Kept = false
 is_open GivenBack = false
 
--- kept, since its counter is recorded
+-- kept, since its ATC is recorded
 abbrev pub is_kept : Standing → Bool
 is_kept Open = false
 is_kept Kept = true
@@ -36,11 +37,12 @@ is_live GivenBack = false
 abbrev pub is_any : Standing → Bool
 is_any standing = true
 
--- how many of the claims are on this counter of this card, in a state that passes the test
+-- how many of the claims are on this ATC of this card, in a state that passes the test
 abbrev pub claims_on : (Standing → Bool) → ℕ → ℕ → List Claimed → ℕ
-claims_on test card counter claims = how_many (λ claim. is_pair card counter claim.card claim.counter && test claim.standing) claims
+claims_on test card counter claims =
+    how_many (λ claim. is_pair card counter claim.card claim.counter && test claim.standing) claims
 
--- how often the pair of this card and counter occurs in the list
+-- how often the pair of this card and ATC occurs in the list
 abbrev pub times : ℕ → ℕ → List (ℕ × ℕ) → ℕ
 times card counter pairs = how_many (λ pair. is_pair card counter pair.0 pair.1) pairs
 
@@ -50,7 +52,8 @@ newcomer names = record { claims = []; found = []; tops = []; names = names }
 
 -- the view with an open claim
 abbrev pub with_claim : ℕ → ℕ → ClaimView → ClaimView
-with_claim card counter view = record view { claims = (record { card = card; counter = counter; standing = Open }) ∷ view.claims }
+with_claim card counter view =
+    record view { claims = (record { card = card; counter = counter; standing = Open }) ∷ view.claims }
 
 -- the view with a pair that was found set
 abbrev pub with_found : ℕ → ℕ → ClaimView → ClaimView
@@ -61,7 +64,7 @@ abbrev pub after_claim : Claim → ℕ → ℕ → ClaimView → ClaimView
 after_claim Won card counter view = with_claim card counter view
 after_claim Lost card counter view = with_found card counter view
 
--- the view with the counter that was read from the card's top word
+-- the view with the ATC that was read from the card's top word
 abbrev pub after_top : ℕ → Option ℕ → ClaimView → ClaimView
 after_top card None view = view
 after_top card (Some counter) view = record view { tops = (card, counter) ∷ view.tops }
@@ -69,7 +72,8 @@ after_top card (Some counter) view = record view { tops = (card, counter) ∷ vi
 -- a claim that is open and on the pair gets the new state
 abbrev pub settled_claim : Standing → ℕ → ℕ → Claimed → Claimed
 settled_claim standing card counter claim =
-    if is_pair card counter claim.card claim.counter && is_open claim.standing then record claim { standing = standing } else claim
+    if is_pair card counter claim.card claim.counter && is_open claim.standing
+    then record claim { standing = standing } else claim
 
 -- the view whose open claim on the pair got the new state
 abbrev pub settled : Standing → ℕ → ℕ → ClaimView → ClaimView

@@ -4,7 +4,7 @@ use Rattle.claim_words.specs.declared.layout.TheConstants.{COUNTERS, CARD_WORDS}
 use Rattle.claim_words.specs.Layout.{bit_of, top_of}
 use Rattle.claim_words.specs.ClaimViews.{times}
 
--- the words have the bits of exactly these pairs, and each card's top is 1 above the greatest of its counters, or 0
+-- the words have the bits of exactly these pairs, and each card's top is 1 above the greatest of its ATCs, or 0
 pub record AreOpening (cards : ℕ) (pairs : List (ℕ × ℕ)) (words : List ℕ) : Type 0 where
   pub wide : length words ≡ CARD_WORDS * cards
   pub bits : (card counter : ℕ) → counter < COUNTERS → bit_of words card counter ≡ times card counter pairs

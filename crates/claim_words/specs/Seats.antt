@@ -11,7 +11,7 @@ use Rattle.claim_words.specs.ClaimViews.{known_on}
 abbrev pub cards_of : ClaimWords → ℕ
 cards_of words = words.table.shared.key.cards
 
--- how often this counter of this card is among the opening records
+-- how often this ATC of this card is among the opening records
 abbrev pub recorded_in : ClaimWords → ℕ → ℕ → ℕ
 recorded_in words card counter = bit_of words.table.shared.key.words.value.items card counter
 
@@ -23,7 +23,7 @@ view_of seat = seat.seat.me.0
 abbrev pub IsOf : ClaimSeat → ClaimWords → Type 0
 IsOf seat words = seat.seat.table_id ≡ words.table.shared.table_id
 
--- each counter of the card that the view has kept or has read from a top is at most the result; `None` means that there
+-- each ATC of the card that the view has kept or has read from a top is at most the result; `None` means that there
 -- is none
 abbrev pub IsTopFor : ClaimView → ℕ → Option ℕ → Type 0
 IsTopFor view card answer = (counter : ℕ) → counter < COUNTERS

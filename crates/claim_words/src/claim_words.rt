@@ -1,7 +1,8 @@
 //! The words that callers share, and the seats through which they claim.
 ghost use Rattle.std.specs.Prelude.{◌≡◌, ℕ, ◌+◌, ◌*◌, ◌<◌, ◌≤◌, All, IfOk, length};
 ghost use Rattle.claim_words.specs.ClaimViews.{times, claims_on, is_live, is_kept, is_any, HasOpen, IsNew};
-ghost use Rattle.claim_words.specs.ClaimViews.{newcomer, after_claim, after_top, settled, parent_view, child_view, joined};
+ghost use Rattle.claim_words.specs.ClaimViews.{newcomer, after_claim, after_top, settled, parent_view, child_view};
+ghost use Rattle.claim_words.specs.ClaimViews.{joined};
 ghost use Rattle.claim_words.specs.declared.layout.TheConstants.{CARD_WORDS};
 ghost use Rattle.shared_seats.specs.SeatNames.{first_names, IsWhole};
 
@@ -20,11 +21,11 @@ pub enum Claim {
     /// The claim was free, and is now the seat's.
     Won,
 
-    /// The counter is recorded, or another claim on it is open or kept.
+    /// The ATC is recorded, or another claim on it is open or kept.
     Lost,
 }
 
-/// The claims on all counters of some cards, shared by callers.
+/// The claims on all ATCs of some cards, shared by callers.
 pub struct ClaimWords {
     table: Table<(), ClaimView, Opening, ClaimRule, Global>,
     ghost some_card: { 0 < table.shared.key.cards },
@@ -43,7 +44,7 @@ pub struct ClaimSeat {
 impl ClaimWords {
     ghost use Rattle.claim_words.specs.Seats.{cards_of, recorded_in, view_of, IsOf, IsTopFor};
 
-    /// The claims on the counters of `cards` cards, of which these cards and counters are recorded. `NoMemory` is
+    /// The claims on the ATCs of `cards` cards, of which these cards and ATCs are recorded. `NoMemory` is
     /// returned only if an allocation fails. It allocates 8,200 bytes a card, and as much again until it returns.
     pub fn load(
         alloc: Global,
@@ -56,7 +57,8 @@ impl ClaimWords {
         // No pair occurs twice.
         requires once { (card counter : ℕ) → times card counter recorded.now ≤ 1 }
         ensures cards { IfOk result (λ made. cards_of made.0 ≡ cards) }
-        ensures recorded { IfOk result (λ made. (card counter : ℕ) → counter < COUNTERS → recorded_in made.0 card counter ≡ times card counter recorded.now) }
+        ensures recorded { IfOk result (λ made. (card counter : ℕ) → counter < COUNTERS
+            → recorded_in made.0 card counter ≡ times card counter recorded.now) }
         ensures seat { IfOk result (λ made. IsOf made.1 made.0 × (view_of made.1 ≡ newcomer first_names)) }
     {
         let words = opening_words(alloc, cards, recorded)?;
@@ -68,7 +70,7 @@ impl ClaimWords {
         Ok((ClaimWords { table }, ClaimSeat { seat }))
     }
 
-    /// Claims a counter of a card, in one atomic step: `Won` exactly if that step found the claim's bit clear.
+    /// Claims an ATC of a card, in one atomic step: `Won` exactly if that step found the claim's bit clear.
     pub fn claim(&self, seat: &mut ClaimSeat, card: u32, counter: u16) -> Claim
         requires seat { IsOf seat.old self.now }
         requires card { card < cards_of self.now }
@@ -104,7 +106,7 @@ impl ClaimWords {
             .fetch_and::<Releases>(&mut seat.seat, word, other_claims(counter));
     }
 
-    /// Marks an open claim of the seat as kept, since its counter is recorded, and raises the card's top, in one atomic
+    /// Marks an open claim of the seat as kept, since its ATC is recorded, and raises the card's top, in one atomic
     /// step.
     pub fn mark_kept(&self, seat: &mut ClaimSeat, card: u32, counter: u16)
         requires seat { IsOf seat.old self.now }
@@ -118,7 +120,7 @@ impl ClaimWords {
             .fetch_max::<Marks>(&mut seat.seat, top_word(card), counter as u64 + 1);
     }
 
-    /// The greatest recorded or kept counter of a card, by one load of its top word.
+    /// The greatest recorded or kept ATC of a card, by one load of its top word.
     pub fn top(&self, seat: &mut ClaimSeat, card: u32) -> Option<u16>
         requires seat { IsOf seat.old self.now }
         requires card { card < cards_of self.now }
@@ -166,7 +168,7 @@ impl ClaimWords {
         ensures tops { (card counter : ℕ) → 0 < times card counter (view_of seat).tops
             → 0 < recorded_in self card counter + claims_on is_kept card counter (view_of seat).claims }
 
-        // Each counter of a card occurs at most once: as recorded, or as a claim that isn't given back.
+        // Each ATC of a card occurs at most once: as recorded, or as a claim that isn't given back.
         ensures once { (card counter : ℕ) → counter < COUNTERS
             → recorded_in self card counter + claims_on is_live card counter (view_of seat).claims ≤ 1 }
     {

@@ -1,6 +1,6 @@
-//! The claims of callers on the transaction counters of cards: exactly one caller wins a claim.
+//! The claims of callers on the ATCs of cards: exactly one caller wins a claim.
 //!
-//! Each card has a bit for each of its counters, and a word with its greatest recorded or kept counter. A claim sets the
+//! Each card has a bit for each of its ATCs, and a word with its greatest recorded or kept ATC. A claim sets the
 //! bit in one atomic step, and the caller that finds it clear has won. No call waits, and only `load` allocates.
 #![tactic(auto)]
 

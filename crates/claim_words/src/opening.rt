@@ -7,7 +7,7 @@ use crate::layout::{CARD_WORDS, COUNTERS, claim_mask, claim_word, top_word};
 use issuer_base::{MAX_CARDS, NoMemory};
 use std::alloc::Global;
 
-/// The initial words of `cards` cards, with their recorded counters.
+/// The initial words of `cards` cards, with their recorded ATCs.
 pub(crate) fn opening_words(
     alloc: Global,
     cards: u32,

@@ -7,7 +7,7 @@ pub enum Standing {
     /// It is held, and neither kept nor released.
     Open,
 
-    /// Its counter was recorded. It stays so.
+    /// Its ATC was recorded. It stays so.
     Kept,
 
     /// It was released.
@@ -19,7 +19,7 @@ pub struct Claimed {
     /// The number of the card.
     pub card: u32,
 
-    /// The transaction counter.
+    /// The ATC.
     pub counter: u16,
 
     /// Its state.
@@ -31,10 +31,10 @@ pub struct ClaimView {
     /// The claims that it won.
     pub claims: LinkedList<Claimed>,
 
-    /// The cards and counters that it lost.
+    /// The cards and ATCs that it lost.
     pub found: LinkedList<(u32, u16)>,
 
-    /// The cards and counters that it read from top words.
+    /// The cards and ATCs that it read from top words.
     pub tops: LinkedList<(u32, u16)>,
 
     /// Its names among the seats of the table.

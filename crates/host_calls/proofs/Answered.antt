@@ -1,4 +1,4 @@
--- What a request is answered whose claim was won, or whose counter was seen recorded.
+-- What a request is answered whose claim was won, or whose ATC was seen recorded.
 use Rattle.std.proofs.Common.{◌≡◌, ◌≢◌, ℕ, List, ◌++◌, Bool, true, Option, refl, sym, ap, ◌∙◌, subst}
 use Rattle.std.proofs.lemmas.Bool.{true≢false}
 use Rattle.std.proofs.lemmas.List.Elements.{All-contains}
@@ -36,7 +36,7 @@ decided-longer card history more decision there =
     recorded-decided card (history ++ more) decision.place decision.request decision.reply (read-front history more decision.place _ it.0) it.1
 
 module _ (shard : ℕ) (reply : List Entry → Request → Reply) (before : List Entry) (request : Request) where
-  -- a decision that is on the counter is the answer's own, where the records are open to the request
+  -- a decision that is on the ATC is the answer's own, where the records are open to the request
   none-used : (answer : Answer) (after : List Entry) (decision : Decision) → after ≡ before → IsOpenTo after request answer
       → IsUsed (decided_for request before) request decision → IsOwn answer decision
   none-used answer after decision same open_to used =
@@ -56,7 +56,7 @@ module _ (shard : ℕ) (reply : List Entry → Request → Reply) (before : List
   won-by (Refused StoreFault) after turn open_to = refl
   won-by _ after turn open_to = absurd turn
 
-  -- a counter that is recorded isn't unused
+  -- an ATC that is recorded isn't unused
   not-unused : (decision : Decision) → Contains (decided_for request before) decision → decision.request.atc ≡ request.atc
       → IsUnused (decided_for request before) request → ⊥
   not-unused decision there same unused =
@@ -89,7 +89,7 @@ module _ (issuer : Setup) (request : Request) (before : TurnView LogItem LogHead
       (subst (λ (items : List LogItem). IsOpenTo (records_of items) request answer)
       (exit-items issuer shard turn.between turn.added before after headed turn.after_is) open_to)
 
-  -- a request whose counter the pass had seen recorded is answered by a record
+  -- a request whose ATC the pass had seen recorded is answered by a record
   pub seen-answers : (won : Bool) → DecidesInTurn issuer won request before answer after → IsRecorded (seen_for issuer request before) request
       → is_by_record answer ≡ true
   seen-answers won turn (decision, there, same) =

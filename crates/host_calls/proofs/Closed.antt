@@ -25,7 +25,7 @@ use Rattle.shared_shards.specs.Opening.{head_with}
 use Rattle.shared_shards.specs.ShardLogs.{records_of, StandsForLog}
 use Rattle.shared_shards.specs.ShardSeats.{StandForLogs}
 use Rattle.shard_book.specs.Histories.{GoesOn, IsImageBetween}
-use Rattle.host_calls.specs.Closing.{book_of, IsClosed, AreClosed, AreSettled}
+use Rattle.host_calls.specs.Closing.{book_of, IsClosed, AreClosed, AreClaimsSettled}
 use Rattle.host_calls.specs.OpeningLogs.{AreCounted, AreRecordedIn}
 use Rattle.one_caller.proofs.Places.{read-within, read-map}
 use Rattle.one_caller.proofs.Running.{holds-with}
@@ -107,7 +107,7 @@ pub settled-all : (issuer : Setup) (opening : List (Log LogItem LogHead)) (words
     → ((card counter : ℕ) → 0 < times card counter view.found → 0 < recorded_in words card counter + claims_on is_any card counter view.claims)
     → ((card counter : ℕ) → 0 < times card counter view.tops → 0 < recorded_in words card counter + claims_on is_kept card counter view.claims)
     → ((card counter : ℕ) → counter < COUNTERS → recorded_in words card counter + claims_on is_live card counter view.claims ≤ 1)
-    → AreSettled issuer opening view
+    → AreClaimsSettled issuer opening view
 settled-all issuer opening words view recorded found tops once = record {
   found = λ card counter below some. omega (arith, recorded card counter below, found card counter some);
   tops = λ card counter below some. omega (arith, recorded card counter below, tops card counter some);

@@ -1,4 +1,4 @@
--- The counters that are recorded of a shard are those of the decisions in its opening log.
+-- The ATCs that are recorded of a shard are those of the decisions in its opening log.
 use Rattle.std.proofs.Common.{◌≡◌, ◌⊎◌, ◌↔◌, ℕ, zero, suc, ◌%◌, ◌<◌, ◌≤◌, List, [], ◌∷◌, map, Bool, true, false, ◌||◌, eqb, Option, None, Some}
 use Rattle.std.proofs.Common.{refl, sym, ap, ◌∙◌, subst, inl, inr, arith}
 use Rattle.std.proofs.lemmas.Bool.{cases_lt, cases_Bool, and_from, and_parts, eq-eqb, eqb-true, true≢false}
@@ -22,7 +22,7 @@ use Rattle.host_calls.specs.Decisions.{is_number, decides}
 use Rattle.host_calls.specs.OpeningLogs.{is_decided}
 use Rattle.one_caller.proofs.Shown.{number-known}
 
--- whether one of the records is a decision on the counter of the card
+-- whether one of the records is a decision on the ATC of the card
 record HasDecision (issuer : Setup) (card counter : ℕ) (history : List Entry) : Type 0 where
   place : ℕ
   request : Request
@@ -88,7 +88,7 @@ module _ (issuer : Setup) (card counter : ℕ) where
   decision-found (entry ∷ history) (suc place) request reply there number_is on_counter =
       or-right (test (Record entry)) (list_any test (map Record history)) (decision-found history place request reply there number_is on_counter)
 
-  -- a counter is recorded of a card of the shard just where a record of the shard's decides it
+  -- an ATC is recorded of a card of the shard just where a record of the shard's decides it
   pub recorded-decides : (history : List Entry) → AreCards issuer.cards → IsRecorded issuer (card % issuer.shards) history card counter
       → is_decided issuer (map Record history) card counter ≡ true
   recorded-decides history valid recorded =
@@ -112,7 +112,7 @@ module _ (issuer : Setup) (card counter : ℕ) where
         on_counter = it.on_counter;
       }
 
-  -- so a number that is at most 1, and above 0 just where the counter is recorded, tells whether it is
+  -- so a number that is at most 1, and above 0 just where the ATC is recorded, tells whether it is
   pub as-decided : (history : List Entry) (count : ℕ) → AreCards issuer.cards → count ≤ 1
       → ((0 < count) ↔ IsRecorded issuer (card % issuer.shards) history card counter)
       → count ≡ one_if (is_decided issuer (map Record history) card counter)

@@ -1,4 +1,4 @@
--- The list of recorded counters grows by those of one shard after another.
+-- The list of recorded ATCs grows by those of one shard after another.
 use Rattle.std.proofs.Common.{◌≡◌, ℕ, ◌+◌, ◌%◌, ◌<◌, List, [], Some}
 use Rattle.std.proofs.Common.{sym, ap, ◌∙◌, subst, inl, inr, arith}
 use Rattle.std.proofs.lemmas.Bool.{cases_eq, cases_lt}

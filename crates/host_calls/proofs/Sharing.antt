@@ -1,4 +1,4 @@
--- Shards that were loaded, as callers share them: their logs, and the counters that are recorded.
+-- Shards that were loaded, as callers share them: their logs, and the ATCs that are recorded.
 use Rattle.std.proofs.Common.{◌≡◌, ℕ, zero, suc, ◌+◌, ◌%◌, ◌<◌, ◌≤◌, List, [], ◌∷◌, ◌++◌, length, map, Option, false, ◌&&◌, eqb, Some, get_or}
 use Rattle.std.proofs.Common.{refl, sym, ap, ◌∙◌, subst, arith}
 use Rattle.std.proofs.Math.Nat.{mod-lt}
@@ -155,7 +155,7 @@ module _ {S : Type 0} {G : Ghosts S} (issuer : Setup) (stores : List S)
     }
 
     module _ (valid : AreCards issuer.cards) (list : List (ℕ × ℕ)) (recorded : AreRecordedOf issuer shards (length shards) list) where
-      -- the list tells whether the opening log of a card's shard has a decision on the counter
+      -- the list tells whether the opening log of a card's shard has a decision on the ATC
       pub list-decided : (card counter : ℕ) → times_claimed card counter list ≡ one_if (is_decided issuer (items_at logs (card % issuer.shards)) card counter)
       list-decided card counter =
           let home : ℕ = card % issuer.shards in
@@ -188,7 +188,8 @@ all-come-back {S} {G} issuer stores shards loaded =
     }
 
 -- the heads of logs that were opened so tell how many records they have
-pub opened-counted : {S : Type 0} (bytes : S → Option (List ℕ)) (disk : S → Option Disk) (faults : S → ℕ) (issuer : Setup) (stores : List S) (logs : List (Log LogItem LogHead))
+pub opened-counted : {S : Type 0} (bytes : S → Option (List ℕ)) (disk : S → Option Disk) (faults : S → ℕ) (issuer : Setup)
+    (stores : List S) (logs : List (Log LogItem LogHead))
     → AreOpenedFrom bytes disk faults issuer stores logs → AreCounted logs
 opened-counted bytes disk faults issuer stores logs opened number log is =
     let below = slice_get_within logs number log is in

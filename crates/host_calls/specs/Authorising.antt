@@ -16,15 +16,19 @@ use Rattle.host_calls.specs.PreChecks.{asked_of, PreChecks}
 
 -- a refusal is the answer, and changes nothing more; what was checked is what the line asks, and is finished: a won
 -- request to which the shard's records are open then is decided, or the store failed
-abbrev pub EndsIn : Setup → Result Asked Refusal → Result Checked Refusal → ClaimView → TurnView LogItem LogHead → Answer → ClaimView
+abbrev pub EndsIn : Setup → Result Asked Refusal → Result Checked Refusal → ClaimView → TurnView LogItem LogHead
+    → Answer → ClaimView
     → TurnView LogItem LogHead → Type 0
-EndsIn issuer says (Err refusal) claims logs answer claims_now logs_now = (answer ≡ Refused refusal) × (claims_now ≡ claims) × (logs_now ≡ logs)
+EndsIn issuer says (Err refusal) claims logs answer claims_now logs_now =
+    (answer ≡ Refused refusal) × (claims_now ≡ claims) × (logs_now ≡ logs)
 EndsIn issuer says (Ok checked) claims logs answer claims_now logs_now =
-    (Ok (asked_of checked) ≡ says) × FinishesInTurn issuer checked logs answer logs_now × (claims_now ≡ claims_after checked answer claims)
+    (Ok (asked_of checked) ≡ says) × FinishesInTurn issuer checked logs answer logs_now
+    × (claims_now ≡ claims_after checked answer claims)
     × WonIsDecided issuer checked answer logs_now
 
 -- the line that asks this is answered so, by a pass with these claims that has seen these logs
-pub record Authorises (issuer : Setup) (says : Result Asked Refusal) (claims : ClaimView) (logs : TurnView LogItem LogHead) (answer : Answer)
+pub record Authorises (issuer : Setup) (says : Result Asked Refusal) (claims : ClaimView)
+    (logs : TurnView LogItem LogHead) (answer : Answer)
     (claims_now : ClaimView) (logs_now : TurnView LogItem LogHead) : Type 0 where
   pub checked : Result Checked Refusal
   pub between : ClaimView
@@ -34,5 +38,6 @@ pub record Authorises (issuer : Setup) (says : Result Asked Refusal) (claims : C
 -- a line with a request that passes every check, and whose ATC the pass had seen recorded, is answered by a record
 abbrev pub LineSeenIsAnswered : Setup → Result Asked Refusal → TurnView LogItem LogHead → Answer → Type 0
 LineSeenIsAnswered issuer (Err refusal) logs answer = ⊤
-LineSeenIsAnswered issuer (Ok (AsksDecision request)) logs answer = IsRecorded (seen_for issuer request logs) request → is_by_record answer ≡ true
+LineSeenIsAnswered issuer (Ok (AsksDecision request)) logs answer =
+    IsRecorded (seen_for issuer request logs) request → is_by_record answer ≡ true
 LineSeenIsAnswered issuer (Ok order) logs answer = ⊤

@@ -42,17 +42,19 @@ module _ {S : Type 0} (bytes : S → Option (List ℕ)) (disk : S → Option Dis
   -- so it is with each shard, in order
   pub record AreClosed (issuer : Setup) (opening seen : List (Log LogItem LogHead)) (stores : List S) : Type 0 where
     pub count_is : length stores ≡ issuer.shards
-    pub each : (number : ℕ) (first last : Log LogItem LogHead) (store : S) → slice_get opening number ≡ Some first → slice_get seen number ≡ Some last
+    pub each : (number : ℕ) (first last : Log LogItem LogHead) (store : S) → slice_get opening number ≡ Some first
+        → slice_get seen number ≡ Some last
         → slice_get stores number ≡ Some store → IsClosed issuer number first last store
 
 -- the indices of the items after the opening logs are exactly the view's own, each once
 abbrev pub AreItsOwn : Setup → List (Log LogItem LogHead) → TurnView LogItem LogHead → Type 0
 AreItsOwn issuer opening view =
     (shard place : ℕ) → shard < issuer.shards
-    → times_placed shard place view.mine ≡ between (length (items_at opening shard)) (length (items_at view.seen shard)) place
+    → times_placed shard place view.mine ≡ between (length (items_at opening shard))
+    (length (items_at view.seen shard)) place
 
 -- what the view knows of claims is what became of them
-pub record AreSettled (issuer : Setup) (opening : List (Log LogItem LogHead)) (view : ClaimView) : Type 0 where
+pub record AreClaimsSettled (issuer : Setup) (opening : List (Log LogItem LogHead)) (view : ClaimView) : Type 0 where
   -- an ATC whose claim was lost is recorded in the opening logs, or among the claims
   pub found : (card counter : ℕ) → counter < COUNTERS → 0 < times card counter view.found
       → 0 < opened_on issuer opening card counter + claims_on is_any card counter view.claims

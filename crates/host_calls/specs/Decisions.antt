@@ -1,5 +1,6 @@
 -- The decisions in the logs of shards, by the number of the card and the ATC.
-use Rattle.std.specs.Prelude.{◌≡◌, ℕ, zero, suc, ◌<◌, List, [], ◌∷◌, length, Bool, false, ◌==◌, ◌&&◌, Option, None, Some, All, slice_get}
+use Rattle.std.specs.Prelude.{◌≡◌, ℕ, zero, suc, ◌<◌, List, [], ◌∷◌, length, Bool, false, ◌==◌, ◌&&◌, Option, None}
+use Rattle.std.specs.Prelude.{Some, All, slice_get}
 use Rattle.issuer_base.specs.declared.entry.Entry.TheVariants.{Decided}
 use Rattle.card_history.specs.Records.{card_of}
 use Rattle.issuer_setup.specs.CardList.{number_of}
@@ -21,7 +22,8 @@ is_number number (Some found) = found == number
 
 -- whether the item is the record of a decision on this ATC of the issuer's card with this number
 abbrev pub decides : Setup → ℕ → ℕ → Option LogItem → Bool
-decides issuer card counter (Some (Record (Decided request reply))) = is_number card (number_of (card_of request) issuer.cards) && (request.atc == counter)
+decides issuer card counter (Some (Record (Decided request reply))) =
+    is_number card (number_of (card_of request) issuer.cards) && (request.atc == counter)
 decides issuer card counter _ = false
 
 -- the same of the item at an index of a shard's log
@@ -43,4 +45,5 @@ AreWithin logs places = All (λ pair. pair.1 < length (items_at logs pair.0)) pl
 pub record AreTied (claims : ClaimView) (logs : TurnView LogItem LogHead) : Type 0 where
   pub one_name : claims.names ≡ logs.names
   pub seen : AreWithin logs.seen logs.mine
-  pub kept : (card counter : ℕ) → claims_on is_kept card counter claims.claims ≡ decisions_at logs.seen logs.mine card counter
+  pub kept : (card counter : ℕ) → claims_on is_kept card counter claims.claims
+      ≡ decisions_at logs.seen logs.mine card counter

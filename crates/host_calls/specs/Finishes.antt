@@ -46,7 +46,8 @@ claims_after (Order found) answer claims = claims
 
 -- what was checked is answered at a turn in the shard of its card: a request by whether its claim was won
 abbrev pub FinishesInTurn : Setup → Checked → TurnView LogItem LogHead → Answer → TurnView LogItem LogHead → Type 0
-FinishesInTurn issuer (Decide found claim) before answer after = DecidesInTurn issuer (is_won claim) found.request before answer after
+FinishesInTurn issuer (Decide found claim) before answer after =
+    DecidesInTurn issuer (is_won claim) found.request before answer after
 FinishesInTurn issuer (Order found) before answer after = OrdersInTurn issuer found before answer after
 
 -- ---- what a request may count on
@@ -76,11 +77,13 @@ IsOwn _ decision = ⊥
 -- these records have none on the request's ATC but the answer's own, and none that puts the ATC below the window
 pub record IsOpenTo (history : List Entry) (request : Request) (answer : Answer) : Type 0 where
   pub in_window : IsBelow (greatest (decided_for request history)) request.atc → ⊥
-  pub unrecorded : (decision : Decision) → Contains (decided_for request history) decision → decision.request.atc ≡ request.atc → IsOwn answer decision
+  pub unrecorded : (decision : Decision) → Contains (decided_for request history) decision
+      → decision.request.atc ≡ request.atc → IsOwn answer decision
 
 -- these records have one on the request's ATC
 abbrev pub IsRecorded : List Entry → Request → Type 0
-IsRecorded history request = (decision : Decision) × Contains (decided_for request history) decision × (decision.request.atc ≡ request.atc)
+IsRecorded history request =
+    (decision : Decision) × Contains (decided_for request history) decision × (decision.request.atc ≡ request.atc)
 
 -- a request whose claim was won, and to which the shard's records are open once it is answered, is decided, or the
 -- store failed

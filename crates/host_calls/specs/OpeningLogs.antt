@@ -43,7 +43,9 @@ AreRecordedIn issuer logs words =
 
 -- the head of each log has the number of its records
 abbrev pub AreCounted : List (Log LogItem LogHead) → Type 0
-AreCounted logs = (shard : ℕ) (log : Log LogItem LogHead) → slice_get logs shard ≡ Some log → log.head.records ≡ length (records_of log.items)
+AreCounted logs =
+    (shard : ℕ) (log : Log LogItem LogHead) → slice_get logs shard ≡ Some log
+    → log.head.records ≡ length (records_of log.items)
 
 -- by the stores' observable bytes and disks, and their fault counts
 module _ {S : Type 0} (bytes : S → Option (List ℕ)) (disk : S → Option Disk) (faults : S → ℕ) where
@@ -59,23 +61,27 @@ module _ {S : Type 0} (bytes : S → Option (List ℕ)) (disk : S → Option Dis
     pub records : All IsRecord history
     pub legal : IsLegalHistory (grounds_of issuer) number history
     pub log_is : log ≡ log_with (head_with issuer number log.head.faults (length history) log.head.opened) history
-    pub leaves : BothTold (λ old new. LeavesOnly (IsCutImage (length (texts_of history)) old.now) old new) (disk store) log.head.opened
+    pub leaves : BothTold (λ old new. LeavesOnly (IsCutImage (length (texts_of history)) old.now) old new)
+        (disk store) log.head.opened
     pub counts : CountsFaults (faults store) log.head.faults false
 
   -- so it is with the log of each shard, and the store at its index
   pub record AreOpenedFrom (issuer : Setup) (stores : List S) (logs : List (Log LogItem LogHead)) : Type 0 where
     pub count_is : length logs ≡ length stores
-    pub each : (number : ℕ) (store : S) (log : Log LogItem LogHead) → slice_get stores number ≡ Some store → slice_get logs number ≡ Some log
+    pub each : (number : ℕ) (store : S) (log : Log LogItem LogHead) → slice_get stores number ≡ Some store
+        → slice_get logs number ≡ Some log
         → IsOpenedFrom issuer number store log
 
 -- the stores of a host that wasn't loaded come back: at the first shard that can't be loaded, or all of them once they
 -- were loaded, if the host's own allocation failed
 module _ {S : Type 0} (bytes : S → Option (List ℕ)) (disk : S → Option Disk) (faults : S → ℕ) where
-  pub record AllComeBack (issuer : Setup) (stores : List S) (failed : ℕ) (fault : LoadFault) (back : List S) : Type 0 where
+  pub record AllComeBack (issuer : Setup) (stores : List S) (failed : ℕ) (fault : LoadFault)
+      (back : List S) : Type 0 where
     pub count_is : length back ≡ length stores
     pub first : failed ≡ 0
     pub fault_is : fault ≡ NoMemory
-    pub each : (number : ℕ) (store after : S) → slice_get stores number ≡ Some store → slice_get back number ≡ Some after
+    pub each : (number : ℕ) (store after : S) → slice_get stores number ≡ Some store
+        → slice_get back number ≡ Some after
         → IsGivenBack bytes disk faults issuer number store after
 
   abbrev pub HostComesBack : Setup → List S → ℕ → LoadFault → List S → Type 0

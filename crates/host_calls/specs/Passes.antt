@@ -50,5 +50,6 @@ module _ {S : Type 0} {G : Ghosts S} where
   -- is free, and if it lost the claim, it found the ATC claimed
   abbrev pub Holds : Host S G → Pass → Checked → Type 0
   Holds host pass (Decide found Won) = HasClaimed host pass found.card found.request.atc
-  Holds host pass (Decide found Lost) = IsFree host pass × (0 < times found.card found.request.atc (claims_of pass).found)
+  Holds host pass (Decide found Lost) =
+      IsFree host pass × (0 < times found.card found.request.atc (claims_of pass).found)
   Holds host pass (Order found) = IsFree host pass

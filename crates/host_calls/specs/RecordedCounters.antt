@@ -13,7 +13,8 @@ module _ {S : Type 0} {G : Ghosts S} where
   pub record AreStanding (issuer : Setup) (shards : List (Shard S G)) : Type 0 where
     pub count_is : length shards ≡ issuer.shards
     pub numbers_are : (number : ℕ) (shard : Shard S G) → slice_get shards number ≡ Some shard → number_in shard ≡ number
-    pub stand : (number : ℕ) (shard : Shard S G) → slice_get shards number ≡ Some shard → (history : List Entry) × StandsFor issuer shard history
+    pub stand : (number : ℕ) (shard : Shard S G) → slice_get shards number ≡ Some shard → (history : List Entry)
+        × StandsFor issuer shard history
 
   -- the list has just the recorded ATCs of the cards of the first so many shards, each once, whatever histories the
   -- shards stand for

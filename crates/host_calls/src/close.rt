@@ -3,7 +3,7 @@ ghost use Rattle.std.specs.Prelude.{◌≡◌, ℕ};
 ghost use Rattle.claim_words.specs.ClaimViews.{claims_on, is_kept};
 ghost use Rattle.shared_seats.specs.SeatNames.{IsWhole};
 ghost use Rattle.shared_shards.specs.ShardSeats.{opening_in};
-ghost use Rattle.host_calls.specs.Closing.{AreClosed, AreItsOwn, AreSettled};
+ghost use Rattle.host_calls.specs.Closing.{AreClosed, AreItsOwn, AreClaimsSettled};
 ghost use Rattle.host_calls.specs.Decisions.{decisions_at};
 ghost use Rattle.host_calls.specs.Passes.{claims_of, logs_of, IsFree};
 
@@ -27,7 +27,7 @@ impl<S: Store> Host<S> {
         ensures places { AreItsOwn self.issuer (opening_in self.turns) (logs_of pass) }
         ensures kept { (card counter : ℕ) → claims_on is_kept card counter (claims_of pass).claims
             ≡ decisions_at (logs_of pass).seen (logs_of pass).mine card counter }
-        ensures claims { AreSettled self.issuer (opening_in self.turns) (claims_of pass) }
+        ensures claims { AreClaimsSettled self.issuer (opening_in self.turns) (claims_of pass) }
     {
         let Pass {
             claims: claiming,

@@ -16,7 +16,7 @@ use std::sync::Mutex;
 pub struct Host<S: Store> {
     pub(crate) issuer: Issuer,
 
-    /// The claims on the counters of the issuer's cards.
+    /// The claims on the ATCs of the issuer's cards.
     pub(crate) claims: ClaimWords,
 
     /// The issuer's shards, at which callers take turns.

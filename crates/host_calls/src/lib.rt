@@ -1,4 +1,4 @@
-//! The host of several callers over stores: each caller has a pass of its own, claims a counter, and takes its turn at
+//! The host of several callers over stores: each caller has a pass of its own, claims an ATC, and takes its turn at
 //! the shard.
 //!
 //! `specs/Authorising.antt` says what a line may be answered, `specs/Closing.antt` what is known once all passes are

@@ -1,6 +1,7 @@
 //! Passes for more callers, and their end.
 ghost use Rattle.std.specs.Prelude.{◌≡◌, ℕ};
-ghost use Rattle.claim_words.specs.ClaimViews.{parent_view as parent_claims, child_view as child_claims, joined as joined_claims};
+ghost use Rattle.claim_words.specs.ClaimViews.{parent_view as parent_claims, child_view as child_claims};
+ghost use Rattle.claim_words.specs.ClaimViews.{joined as joined_claims};
 ghost use Rattle.turn_book.specs.Logs.{items_at, IsFront};
 ghost use Rattle.turn_book.specs.TurnViews.{parent_view, child_view, joined};
 ghost use Rattle.host_calls.specs.Passes.{claims_of, logs_of, IsFree};
@@ -24,8 +25,8 @@ impl<S: Store> Host<S> {
         Pass { claims, turns }
     }
 
-    /// Merges `other` into `pass`. The pass then has the claims and the records of both, what both have read of claims and
-    /// tops, and for each log the longer prefix that either has seen.
+    /// Merges `other` into `pass`. The pass then has the claims and the records of both, what both have read of claims
+    /// and tops, and for each log the longer prefix that either has seen.
     pub fn join(&self, pass: &mut Pass, other: Pass)
         requires { IsFree self.now pass.old × IsFree self.now other }
         ensures pass { IsFree self.now pass.new }

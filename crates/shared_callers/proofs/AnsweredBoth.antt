@@ -4,7 +4,7 @@ use Rattle.std.proofs.lemmas.List.{length-append}
 use Rattle.std.specs.List.{slice_get}
 use Rattle.issuer_base.specs.declared.outside.store.Store.{Ghosts}
 use Rattle.host_calls.specs.declared.host.Host.{Host}
-use Rattle.shared_callers.specs.OneLane.{HaveAnswered}
+use Rattle.shared_callers.specs.OneLane.{LanesAnswer}
 use Rattle.shared_callers.specs.declared.lane.Lane.{Lane}
 
 -- an item of two lists of so many is one of the first of each or one of the others
@@ -20,9 +20,9 @@ in-both (x ∷ first) (y ∷ first_now) others others_now (suc number) before af
     in-both first first_now others others_now number before after (omega (arith, same)) was is
 
 pub answered-both : {S : Type 0} {G : Ghosts S} (host : Host S G) (lanes first first_now others others_now : List Lane) → lanes ≡ first ++ others
-    → HaveAnswered host first first_now → HaveAnswered host others others_now → HaveAnswered host lanes (first_now ++ others_now)
+    → LanesAnswer host first first_now → LanesAnswer host others others_now → LanesAnswer host lanes (first_now ++ others_now)
 answered-both host lanes first first_now others others_now all first_did others_did =
-    subst (λ (old : List Lane). HaveAnswered host old (first_now ++ others_now)) (sym all) (record {
+    subst (λ (old : List Lane). LanesAnswer host old (first_now ++ others_now)) (sym all) (record {
       count_is = length-append first_now others_now ∙ ap (λ n. n + length others_now) first_did.count_is
           ∙ ap (λ n. length first + n) others_did.count_is ∙ sym (length-append first others);
       each = λ number before after was is. elim (in-both first first_now others others_now number before after first_did.count_is was is) [

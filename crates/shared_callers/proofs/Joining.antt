@@ -1,10 +1,11 @@
 -- Passes that are joined, one after another, and what the close of the host says of all callers together.
-use Rattle.std.proofs.Common.{◌≡◌, ℕ, zero, suc, ◌<◌, List, [], ◌∷◌, length, Some, refl, sym, ap, subst, ◌∙◌, arith, Option}
+use Rattle.std.proofs.Common.{◌≡◌, ℕ, zero, suc, ◌<◌, List, [], ◌∷◌, length, map, take, Some, refl, sym, ap, subst, ◌∙◌, arith, Option}
 use Rattle.std.proofs.lemmas.Option.{slice_get_within}
 use Rattle.std.specs.List.{slice_get}
 use Rattle.std.specs.Prelude.{Bool, ◌==◌, ◌&&◌}
 use Rattle.issuer_base.specs.Stores.{Disk}
 use Rattle.issuer_base.specs.declared.answer.Answer.{Answer}
+use Rattle.issuer_base.specs.declared.limits.TheConstants.{KEPT_BYTES}
 use Rattle.issuer_setup.specs.IssuerSetup.{Setup}
 use Rattle.shared_seats.specs.Totals.{total, one_if}
 use Rattle.shared_seats.proofs.Totals.{total-append}
@@ -20,18 +21,22 @@ use Rattle.turn_book.proofs.LogLemmas.{front_refl, front_trans, heads-length}
 use Rattle.shared_shards.specs.declared.logs.LogItem.{LogItem}
 use Rattle.shared_shards.specs.declared.logs.LogHead.{LogHead}
 use Rattle.shared_shards.specs.ShardLogs.{records_of, faults_of}
-use Rattle.host_calls.specs.Closing.{AreClosed, AreItsOwn, AreSettled}
+use Rattle.host_calls.specs.Closing.{AreClosed, AreItsOwn, AreClaimsSettled}
 use Rattle.one_caller.specs.OneHistory.{LegallyGoesOn}
 use Rattle.host_calls.specs.Passes.{claims_of, logs_of}
 use Rattle.host_calls.specs.declared.pass.Pass.{Pass}
 use Rattle.one_caller.proofs.Places.{read-within, choose}
-use Rattle.shared_laws.specs.Callers.{Caller, IsCaller, AreCallers}
+use Rattle.shared_callers.specs.Callers.{Caller, IsCaller}
 use Rattle.shared_callers.specs.Dealing.{every}
 use Rattle.shared_callers.specs.Joins.{HasJoined}
 use Rattle.shared_callers.specs.Lanes.{HasClosed}
-use Rattle.shared_callers.specs.OneLane.{IsServed}
+use Rattle.shared_callers.specs.OneLane.{HadLines}
 use Rattle.shared_callers.specs.Seated.{IsUntouched}
 use Rattle.shared_callers.specs.declared.lane.Lane.{Lane}
+use Rattle.shared_callers.proofs.CallersAnswers.{AreCallers, shares_of}
+use Rattle.shared_callers.proofs.Lawful.{lawful-shares}
+use Rattle.shared_callers.proofs.SharesOfCallers.{dealt-shares}
+use Rattle.shared_callers.proofs.Truncated.{whole-lines}
 
 -- ---- joining
 
@@ -123,23 +128,23 @@ pub record AreJoined (issuer : Setup) (opening : List (Log LogItem LogHead)) (fi
   pub opened : (logs_of first).seen ≡ opening
   pub joined : HasJoined first lanes pass
   pub own : AreItsOwn issuer opening (logs_of pass)
-  pub settled : AreSettled issuer opening (claims_of pass)
+  pub settled : AreClaimsSettled issuer opening (claims_of pass)
 
 module _ {S : Type 0} (bytes : S → Option (List ℕ)) (disk : S → Option Disk) (faults : S → ℕ) (issuer : Setup) (opening : List (Log LogItem LogHead))
     (first pass : Pass) (lanes : List Lane) (lines : List (List ℕ)) (answers : List Answer) (stores : List S)
     (all : AreJoined issuer opening first pass lanes) (closed : AreClosed bytes disk faults issuer opening (logs_of pass).seen stores)
     (told : length answers ≡ length lines)
     (served : (number : ℕ) (lane : Lane) → slice_get lanes number ≡ Some lane
-    → IsServed issuer opening lane.pass (every (length lanes) number lines) (every (length lanes) number answers)) where
+    → HadLines issuer opening lane.pass (every (length lanes) number (map (take KEPT_BYTES) lines)) (every (length lanes) number answers)) where
   all-callers : (callers : List Caller) × (length callers ≡ length lanes)
       × ((number : ℕ) (lane : Lane) (caller : Caller) → slice_get lanes number ≡ Some lane → slice_get callers number ≡ Some caller
       → IsCallerOf issuer opening (length lanes) lines answers number lane caller)
   all-callers = choose lanes (IsCallerOf issuer opening (length lanes) lines answers) (λ number lane is.
       let its = served number lane is in (
-        its.caller,
+        record its.caller { lines = every (length lanes) number lines },
         record {
-          caller_is = its.caller_is;
-          lines_are = its.lines_are;
+          caller_is = whole-lines issuer opening (length lanes) number lines its.caller its.caller_is its.lines_are;
+          lines_are = refl;
           answers_are = its.answers_are;
           claims_are = its.claims_are;
           logs_are = its.logs_are;
@@ -247,14 +252,15 @@ module _ {S : Type 0} (bytes : S → Option (List ℕ)) (disk : S → Option Dis
     closes : HasClosed bytes disk faults issuer opening (length lanes) lines answers stores
     closes = record {
       logs = (logs_of pass).seen;
-      callers = callers;
-      dealt = record {
+      same_count = long-logs;
+      shares = shares_of callers;
+      dealt = dealt-shares (length lanes) lines answers callers (record {
         count_is = long;
         answered = told;
         lines_are = λ number caller is. (lane-of number caller is).2.lines_are;
         answers_are = λ number caller is. (lane-of number caller is).2.answers_are;
-      };
-      shared = shared;
+      });
+      lawful = lawful-shares issuer opening (logs_of pass).seen callers shared;
       closed = closed;
     }
 

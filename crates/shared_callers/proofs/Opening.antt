@@ -26,7 +26,8 @@ plain-each (log ∷ logs) each zero = each 0 log refl
 plain-each (log ∷ logs) each (suc shard) = plain-each logs (λ number. each (suc number)) shard
 
 -- so it is with logs that were opened from stores
-pub opened-plain : {S : Type 0} (bytes : S → Option (List ℕ)) (disk : S → Option Disk) (faults : S → ℕ) (issuer : Setup) (stores : List S) (logs : List (Log LogItem LogHead))
+pub opened-plain : {S : Type 0} (bytes : S → Option (List ℕ)) (disk : S → Option Disk) (faults : S → ℕ) (issuer : Setup)
+    (stores : List S) (logs : List (Log LogItem LogHead))
     → AreOpenedFrom bytes disk faults issuer stores logs → (shard : ℕ) → faults_of (items_at logs shard) ≡ []
 opened-plain bytes disk faults issuer stores logs opened =
     plain-each logs (λ number log is.

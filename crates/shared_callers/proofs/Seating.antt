@@ -20,7 +20,7 @@ use Rattle.shared_shards.specs.ShardSeats.{opening_in}
 use Rattle.host_calls.specs.Passes.{claims_of, logs_of, IsFree}
 use Rattle.host_calls.specs.declared.host.Host.{Host}
 use Rattle.host_calls.specs.declared.pass.Pass.{Pass}
-use Rattle.shared_callers.specs.OneLane.{waiting_lines, due_answers, IsNew, IsServed}
+use Rattle.shared_callers.specs.OneLane.{waiting_lines, due_answers, IsNewLane, HadLines}
 use Rattle.shared_callers.specs.Seated.{AreSeated}
 use Rattle.shared_callers.specs.Turns.{AreInTurns}
 use Rattle.shared_callers.specs.declared.lane.Lane.{Lane}
@@ -30,7 +30,7 @@ use Rattle.shared_callers.proofs.Serving.{AreServed, at-all}
 
 -- a pass that was split off was asked nothing
 pub new-served : (issuer : Setup) (opening : List (Log LogItem LogHead)) (first pass : Pass) → claims_of pass ≡ child_claims (claims_of first)
-    → logs_of pass ≡ child_view (logs_of first) → (logs_of first).seen ≡ opening → IsServed issuer opening pass [] []
+    → logs_of pass ≡ child_view (logs_of first) → (logs_of first).seen ≡ opening → HadLines issuer opening pass [] []
 new-served issuer opening first pass claims logs opened = record {
   caller = record {
     lines = [];
@@ -96,7 +96,7 @@ module _ {S : Type 0} {G : Ghosts S} (host : Host S G) where
       }
 
 -- lanes that were asked nothing are in turn
-pub new-in-turns : (issuer : Setup) (opening : List (Log LogItem LogHead)) (lanes : List Lane) (progress : Progress) → All (IsNew issuer opening) lanes
+pub new-in-turns : (issuer : Setup) (opening : List (Log LogItem LogHead)) (lanes : List Lane) (progress : Progress) → All (IsNewLane issuer opening) lanes
     → progress.next ≡ 0 → progress.from ≡ 0 → progress.waiting ≡ 0 → progress.due ≡ 0 → AreInTurns lanes progress [] [] [] []
 new-in-turns issuer opening lanes progress new next from waiting due = record {
   answered = refl;
@@ -104,14 +104,14 @@ new-in-turns issuer opening lanes progress new next from waiting due = record {
   due_is = due;
   next_is = next ∙ sym (zero-mod (length lanes));
   from_is = from ∙ sym (zero-mod (length lanes));
-  waits = turns-nothing waiting_lines lanes [] (λ number lane is. (at-all (IsNew issuer opening) lanes number lane new is).none_wait);
-  dues = turns-nothing due_answers lanes [] (λ number lane is. (at-all (IsNew issuer opening) lanes number lane new is).none_due);
+  waits = turns-nothing waiting_lines lanes [] (λ number lane is. (at-all (IsNewLane issuer opening) lanes number lane new is).none_wait);
+  dues = turns-nothing due_answers lanes [] (λ number lane is. (at-all (IsNewLane issuer opening) lanes number lane new is).none_due);
 }
 
 -- and their callers were answered nothing
-pub new-all-served : (issuer : Setup) (opening : List (Log LogItem LogHead)) (lanes : List Lane) → All (IsNew issuer opening) lanes
+pub new-all-served : (issuer : Setup) (opening : List (Log LogItem LogHead)) (lanes : List Lane) → All (IsNewLane issuer opening) lanes
     → AreServed issuer opening lanes [] []
-new-all-served issuer opening lanes new number lane is = (at-all (IsNew issuer opening) lanes number lane new is).served
+new-all-served issuer opening lanes new number lane is = (at-all (IsNewLane issuer opening) lanes number lane new is).served
 
 -- so many lanes with room for their part of so many lines
 pub room-some : (lines count : ℕ) → 0 < count → count ≤ lines → 0 < count * (lines / count)

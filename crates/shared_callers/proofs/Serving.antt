@@ -23,10 +23,10 @@ use Rattle.host_calls.specs.Passes.{claims_of, logs_of, IsFree}
 use Rattle.host_calls.specs.declared.host.Host.{Host}
 use Rattle.host_calls.specs.declared.pass.Pass.{Pass}
 use Rattle.one_caller.proofs.Places.{read-map, read-mapped}
-use Rattle.shared_laws.specs.Callers.{Caller, Calls, IsCaller}
-use Rattle.shared_laws.proofs.MoreLines.{calls-more}
+use Rattle.shared_callers.specs.Callers.{Caller, AuthorisesAll, IsCaller}
+use Rattle.shared_callers.proofs.MoreLines.{calls-more}
 use Rattle.shared_callers.specs.Dealing.{every}
-use Rattle.shared_callers.specs.OneLane.{waiting_lines, due_answers, IsServed, HasAnswered, HaveAnswered}
+use Rattle.shared_callers.specs.OneLane.{waiting_lines, due_answers, HadLines, LaneAnswers, LanesAnswer}
 use Rattle.shared_callers.specs.Seated.{AreSeated}
 use Rattle.shared_callers.specs.Turns.{AreInTurns, IsInTurn}
 use Rattle.shared_callers.specs.declared.dealer.Progress.{Progress}
@@ -41,7 +41,7 @@ pass_of lane = lane.pass
 abbrev pub AreServed : Setup → List (Log LogItem LogHead) → List Lane → List (List ℕ) → List Answer → Type 0
 AreServed issuer opening lanes lines answers =
     (number : ℕ) (lane : Lane) → slice_get lanes number ≡ Some lane
-    → IsServed issuer opening lane.pass (every (length lanes) number lines) (every (length lanes) number answers)
+    → HadLines issuer opening lane.pass (every (length lanes) number lines) (every (length lanes) number answers)
 
 -- ---- lanes whose passes are the same
 
@@ -58,8 +58,8 @@ pub served-alike : (issuer : Setup) (opening : List (Log LogItem LogHead)) (old 
     → map pass_of new ≡ map pass_of old → AreServed issuer opening old lines answers → AreServed issuer opening new lines answers
 served-alike issuer opening old new lines answers same served number lane is =
     let before = lane-before old new number lane same is in
-    subst (λ (pass : Pass). IsServed issuer opening pass (every (length new) number lines) (every (length new) number answers)) before.2
-    (subst (λ count. IsServed issuer opening before.0.pass (every count number lines) (every count number answers)) (sym (same-length old new same))
+    subst (λ (pass : Pass). HadLines issuer opening pass (every (length new) number lines) (every (length new) number answers)) before.2
+    (subst (λ count. HadLines issuer opening before.0.pass (every count number lines) (every count number answers)) (sym (same-length old new same))
     (served number before.0 before.1))
 
 all-at : {X : Type 0} (P : X → Type 0) (xs : List X) → ((number : ℕ) (x : X) → slice_get xs number ≡ Some x → P x) → All P xs
@@ -87,10 +87,10 @@ module _ {S : Type 0} {G : Ghosts S} (host : Host S G) (first : Pass) where
 
   -- ---- lanes that answered
 
-  pub seated-answered : (old new : List Lane) → HaveAnswered host old new → AreSeated host first old → AreSeated host first new
+  pub seated-answered : (old new : List Lane) → LanesAnswer host old new → AreSeated host first old → AreSeated host first new
   seated-answered old new answered seated =
       let names : Lane → List SeatName = λ lane. (claims_of lane.pass).names in
-      let before : (number : ℕ) (lane : Lane) → slice_get new number ≡ Some lane → HasAnswered host (get_or old number lane) lane =
+      let before : (number : ℕ) (lane : Lane) → slice_get new number ≡ Some lane → LaneAnswers host (get_or old number lane) lane =
       λ number lane is.
       let within = slice_get_within new number lane is in
       answered.each number (get_or old number lane) lane (slice_get-get_or old number lane (omega (arith, within, answered.count_is))) is in
@@ -109,11 +109,11 @@ module _ {S : Type 0} {G : Ghosts S} (host : Host S G) (first : Pass) where
 -- more calls, behind the others
 pub calls-join : (issuer : Setup) (lines : List (List ℕ)) (answers : List Answer) (claims : ClaimView) (logs : TurnView LogItem LogHead)
     (claims_then : ClaimView) (logs_then : TurnView LogItem LogHead) (more : List (List ℕ)) (told : List Answer) (claims_now : ClaimView)
-    (logs_now : TurnView LogItem LogHead) → Calls issuer lines answers claims logs claims_then logs_then
-    → Calls issuer more told claims_then logs_then claims_now logs_now → Calls issuer (lines ++ more) (answers ++ told) claims logs claims_now logs_now
+    (logs_now : TurnView LogItem LogHead) → AuthorisesAll issuer lines answers claims logs claims_then logs_then
+    → AuthorisesAll issuer more told claims_then logs_then claims_now logs_now → AuthorisesAll issuer (lines ++ more) (answers ++ told) claims logs claims_now logs_now
 calls-join issuer [] [] claims logs claims_then logs_then more told claims_now logs_now (claims_same, logs_same) calls =
-    subst (λ (claims : ClaimView). Calls issuer more told claims logs claims_now logs_now) claims_same
-    (subst (λ (logs : TurnView LogItem LogHead). Calls issuer more told claims_then logs claims_now logs_now) logs_same calls)
+    subst (λ (claims : ClaimView). AuthorisesAll issuer more told claims logs claims_now logs_now) claims_same
+    (subst (λ (logs : TurnView LogItem LogHead). AuthorisesAll issuer more told claims_then logs claims_now logs_now) logs_same calls)
 calls-join issuer [] (answer ∷ answers) claims logs claims_then logs_then more told claims_now logs_now before calls = absurd before
 calls-join issuer (line ∷ lines) [] claims logs claims_then logs_then more told claims_now logs_now before calls = absurd before
 calls-join issuer (line ∷ lines) (answer ∷ answers) claims logs claims_then logs_then more told claims_now logs_now
@@ -122,7 +122,7 @@ calls-join issuer (line ∷ lines) (answer ∷ answers) claims logs claims_then 
 
 -- as many answers as lines
 pub calls-length : (issuer : Setup) (lines : List (List ℕ)) (answers : List Answer) (claims : ClaimView) (logs : TurnView LogItem LogHead)
-    (claims_now : ClaimView) (logs_now : TurnView LogItem LogHead) → Calls issuer lines answers claims logs claims_now logs_now
+    (claims_now : ClaimView) (logs_now : TurnView LogItem LogHead) → AuthorisesAll issuer lines answers claims logs claims_now logs_now
     → length answers ≡ length lines
 calls-length issuer [] [] claims logs claims_now logs_now calls = refl
 calls-length issuer [] (answer ∷ answers) claims logs claims_now logs_now calls = absurd calls
@@ -134,21 +134,21 @@ calls-length issuer (line ∷ lines) (answer ∷ answers) claims logs claims_now
 pub calls-line : (issuer : Setup) (lines : List (List ℕ)) (place : ℕ) (line : List ℕ) (answers all : List Answer)
     (answer : Answer) (claims : ClaimView) (logs : TurnView LogItem LogHead) (claims_then : ClaimView) (logs_then : TurnView LogItem LogHead)
     (claims_now : ClaimView) (logs_now : TurnView LogItem LogHead) → slice_get lines place ≡ Some line
-    → all ≡ answers ++ answer ∷ [] → Calls issuer (take place lines) answers claims logs claims_then logs_then
+    → all ≡ answers ++ answer ∷ [] → AuthorisesAll issuer (take place lines) answers claims logs claims_then logs_then
     → Authorises issuer (reading issuer line) claims_then logs_then answer claims_now logs_now
-    → Calls issuer (take (place + 1) lines) all claims logs claims_now logs_now
+    → AuthorisesAll issuer (take (place + 1) lines) all claims logs claims_now logs_now
 calls-line issuer lines place line answers all answer claims logs claims_then logs_then claims_now logs_now at grown calls call =
     let lines_are : take (place + 1) lines ≡ take place lines ++ line ∷ [] =
     take_more lines place line (slice_get_within lines place line at)
     ∙ ap (λ (next : List ℕ). take place lines ++ next ∷ []) (get_or_from_slice_get lines place line line at) in
-    subst (λ (lines : List (List ℕ)). Calls issuer lines all claims logs claims_now logs_now) (sym lines_are)
-    (subst (λ (answers : List Answer). Calls issuer (take place lines ++ line ∷ []) answers claims logs claims_now logs_now) (sym grown)
+    subst (λ (lines : List (List ℕ)). AuthorisesAll issuer lines all claims logs claims_now logs_now) (sym lines_are)
+    (subst (λ (answers : List Answer). AuthorisesAll issuer (take place lines ++ line ∷ []) answers claims logs claims_now logs_now) (sym grown)
     (calls-more issuer (take place lines) answers claims logs claims_then logs_then line answer claims_now logs_now calls call))
 
 -- a caller that answered more
 served-more : (issuer : Setup) (opening : List (Log LogItem LogHead)) (old new : Pass) (lines more : List (List ℕ)) (answers told : List Answer)
-    → Calls issuer more told (claims_of old) (logs_of old) (claims_of new) (logs_of new) → IsServed issuer opening old lines answers
-    → IsServed issuer opening new (lines ++ more) (answers ++ told)
+    → AuthorisesAll issuer more told (claims_of old) (logs_of old) (claims_of new) (logs_of new) → HadLines issuer opening old lines answers
+    → HadLines issuer opening new (lines ++ more) (answers ++ told)
 served-more issuer opening old new lines more answers told calls served =
     let caller : Caller = served.caller in
     let its : IsCaller issuer opening caller = served.caller_is in
@@ -169,8 +169,8 @@ served-more issuer opening old new lines more answers told calls served =
         opened = its.opened;
         calls =
             calls-join issuer caller.lines caller.answers caller.claims caller.logs (claims_of old) (logs_of old) more told (claims_of new) (logs_of new)
-            (subst (λ (claims : ClaimView). Calls issuer caller.lines caller.answers caller.claims caller.logs claims (logs_of old)) served.claims_are
-            (subst (λ (logs : TurnView LogItem LogHead). Calls issuer caller.lines caller.answers caller.claims caller.logs caller.claims_now logs)
+            (subst (λ (claims : ClaimView). AuthorisesAll issuer caller.lines caller.answers caller.claims caller.logs claims (logs_of old)) served.claims_are
+            (subst (λ (logs : TurnView LogItem LogHead). AuthorisesAll issuer caller.lines caller.answers caller.claims caller.logs caller.claims_now logs)
             served.logs_are its.calls))
             calls;
       };
@@ -182,7 +182,7 @@ served-more issuer opening old new lines more answers told calls served =
 
 -- all callers answered what waited for them
 pub served-answered : {S : Type 0} {G : Ghosts S} (host : Host S G) (opening : List (Log LogItem LogHead)) (old new : List Lane) (lines waiting : List (List ℕ))
-    (answers more : List Answer) → HaveAnswered host old new
+    (answers more : List Answer) → LanesAnswer host old new
     → ((number : ℕ) (lane : Lane) → slice_get old number ≡ Some lane
     → every (length old) number (lines ++ waiting) ≡ every (length old) number lines ++ waiting_lines lane)
     → ((number : ℕ) (lane : Lane) → slice_get new number ≡ Some lane
@@ -198,8 +198,8 @@ served-answered host opening old new lines waiting answers more answered waits d
     sym (waits number before before_is) ∙ ap (λ count. every count number (lines ++ waiting)) (sym answered.count_is) in
     let all_answers : every (length old) number answers ++ due_answers lane ≡ every (length new) number (answers ++ more) =
     ap (λ count. every count number answers ++ due_answers lane) (sym answered.count_is) ∙ sym (dues number lane is) in
-    subst (λ (lines : List (List ℕ)). IsServed host.issuer opening lane.pass lines (every (length new) number (answers ++ more))) all_lines
-    (subst (IsServed host.issuer opening lane.pass (every (length old) number lines ++ waiting_lines before)) all_answers all)
+    subst (λ (lines : List (List ℕ)). HadLines host.issuer opening lane.pass lines (every (length new) number (answers ++ more))) all_lines
+    (subst (HadLines host.issuer opening lane.pass (every (length old) number lines ++ waiting_lines before)) all_answers all)
 
 -- ---- lanes that were lent to threads
 
@@ -208,9 +208,9 @@ back-whole : {X : Type 0} (count : ℕ) (old new : List X) → length old ≡ co
 back-whole count old new long also = lent_whole count new old also long
 
 module _ {S : Type 0} {G : Ghosts S} (host : Host S G) (old lent new : List Lane) (count : ℕ) (is : lent ≡ old) (long : length old ≡ count)
-    (answered : HaveAnswered host lent new) where
-  all-answered : HaveAnswered host old new
-  all-answered = subst (λ (lanes : List Lane). HaveAnswered host lanes new) is answered
+    (answered : LanesAnswer host lent new) where
+  all-answered : LanesAnswer host old new
+  all-answered = subst (λ (lanes : List Lane). LanesAnswer host lanes new) is answered
 
   back : take count (new ++ drop (length new) old) ≡ new
   back = back-whole count old new long (all-answered.count_is ∙ long)
@@ -224,8 +224,8 @@ module _ {S : Type 0} {G : Ghosts S} (host : Host S G) (old lent new : List Lane
             its.calls,
       )
 
-  pub lent-answered : HaveAnswered host old (take count (new ++ drop (length new) old))
-  lent-answered = subst (HaveAnswered host old) (sym back) all-answered
+  pub lent-answered : LanesAnswer host old (take count (new ++ drop (length new) old))
+  lent-answered = subst (LanesAnswer host old) (sym back) all-answered
 
   pub lent-rooms : (room : ℕ) → All (λ (lane : Lane). count * lane.room ≡ room) old
       → All (λ (lane : Lane). count * lane.room ≡ room) (take count (new ++ drop (length new) old))

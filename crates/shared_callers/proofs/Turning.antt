@@ -15,7 +15,8 @@ use Rattle.shared_callers.specs.Turns.{AreInTurns, IsBehind, IsInTurn}
 use Rattle.shared_callers.specs.declared.lane.Lane.{Lane}
 use Rattle.shared_callers.specs.declared.dealer.Progress.{Progress}
 use Rattle.shared_callers.proofs.Every.{turn-next}
-use Rattle.shared_callers.proofs.HavingTurns.{length-same, turns-deal, turns-take, turns-none, turns-same, turns-nothing, turns-answered, turns-empty, turns-room}
+use Rattle.shared_callers.proofs.HavingTurns.{length-same, turns-deal, turns-take, turns-none, turns-same}
+use Rattle.shared_callers.proofs.HavingTurns.{turns-nothing, turns-answered, turns-empty, turns-room}
 
 pub next-turn : (n count place next : ℕ) → 0 < count → place ≡ n % count → IsBehind count place next → next ≡ suc n % count
 next-turn n count place next some turn behind = elim (turn-next n count some) [

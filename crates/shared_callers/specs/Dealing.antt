@@ -1,20 +1,11 @@
 -- Lines that are dealt in turns to callers.
 use Rattle.std.specs.Prelude.{◌≡◌, ℕ, zero, suc, ◌-◌, List, [], ◌∷◌, ◌++◌, length, slice_get, Some}
-use Rattle.issuer_base.specs.declared.answer.Answer.{Answer}
-use Rattle.shared_laws.specs.Callers.{Caller}
 
 -- every `count`-th item from index `skip` on: the items that are dealt in turns to the caller with number `skip`
 abbrev pub every : {A : Type 0} → ℕ → ℕ → List A → List A
 every count skip [] = []
 every count zero (item ∷ items) = item ∷ every count (count - 1) items
 every count (suc skip) (item ∷ items) = every count skip items
-
--- there are `count` callers, each has the lines and the answers of its turns, and each line has an answer
-pub record AreDealt (count : ℕ) (lines : List (List ℕ)) (answers : List Answer) (callers : List Caller) : Type 0 where
-  pub count_is : length callers ≡ count
-  pub answered : length answers ≡ length lines
-  pub lines_are : (number : ℕ) (caller : Caller) → slice_get callers number ≡ Some caller → caller.lines ≡ every count number lines
-  pub answers_are : (number : ℕ) (caller : Caller) → slice_get callers number ≡ Some caller → caller.answers ≡ every count number answers
 
 -- these items are dealt in turns to the lanes after those of `before`, and each lane has its own of them
 abbrev pub HaveTurns : {L A : Type 0} → (L → List A) → List L → List A → List A → Type 0

@@ -10,9 +10,10 @@ use Rattle.shared_shards.specs.declared.logs.LogItem.{LogItem}
 use Rattle.shared_shards.specs.declared.logs.LogHead.{LogHead}
 use Rattle.host_calls.specs.Closing.{AreClosed}
 use Rattle.host_calls.specs.OpeningLogs.{AreOpenedFrom}
-use Rattle.shared_laws.specs.Callers.{Caller, AreCallers}
-use Rattle.shared_callers.specs.Dealing.{every, AreDealt}
-use Rattle.shared_callers.specs.OneLane.{IsServed}
+use Rattle.shared_callers.specs.Dealing.{every}
+use Rattle.shared_callers.specs.Laws.{AreLawfulShares}
+use Rattle.shared_callers.specs.OneLane.{HadLines}
+use Rattle.shared_callers.specs.Shares.{Share, AreDealt}
 use Rattle.shared_callers.specs.Turns.{AreInTurns}
 use Rattle.shared_callers.specs.declared.lane.Lane.{Lane}
 use Rattle.shared_callers.specs.declared.lanes.Lanes.{Lanes}
@@ -50,30 +51,34 @@ module _ {S : Type 0} {G : Ghosts S} where
 
   -- since the host was loaded, its callers gave these answers to these lines; the answers `due`, which are the last,
   -- weren't taken yet; these lines wait
-  pub record HasServed (lanes : Lanes S G) (lines : List (List ℕ)) (answers due : List Answer) (waiting : List (List ℕ)) : Type 0 where
+  pub record LanesServe (lanes : Lanes S G) (lines : List (List ℕ)) (answers due : List Answer)
+      (waiting : List (List ℕ)) : Type 0 where
     pub taken : List Answer
     pub answers_are : answers ≡ taken ++ due
     pub turns : AreInTurns lanes.dealer.lanes.items lanes.dealer.progress lines taken due waiting
     pub served : (number : ℕ) (lane : Lane) → slice_get lanes.dealer.lanes.items number ≡ Some lane
-        → IsServed (issuer_in lanes) (opening_logs lanes) lane.pass (every (callers_in lanes) number lines) (every (callers_in lanes) number answers)
+        → HadLines (issuer_in lanes) (opening_logs lanes) lane.pass (every (callers_in lanes) number lines)
+        (every (callers_in lanes) number answers)
 
   -- the lanes of an issuer with so many callers were loaded from these stores: no line was answered, and none waits
   pub record AreLoadedFrom (issuer : Setup) (callers : ℕ) (stores : List S) (lanes : Lanes S G) : Type 0 where
     pub issuer_is : issuer_in lanes ≡ issuer
     pub callers_are : callers_in lanes ≡ callers
     pub opening : AreOpenedFrom G.bytes G.disk G.faults issuer stores (opening_logs lanes)
-    pub served : HasServed lanes [] [] [] []
+    pub served : LanesServe lanes [] [] [] []
     pub none_wait : waiting_in lanes ≡ 0
     pub none_due : due_in lanes ≡ 0
 
 -- by the stores' observable bytes and disks, and their fault counters
 module _ {S : Type 0} (bytes : S → Option (List ℕ)) (disk : S → Option Disk) (faults : S → ℕ) where
-  -- a host with these opening logs was closed: its `count` callers were dealt these lines in turns, gave these answers
-  -- and shared the host, whose stores hold the journals of the logs at close
-  pub record HasClosed (issuer : Setup) (opening : List (Log LogItem LogHead)) (count : ℕ) (lines : List (List ℕ)) (answers : List Answer)
+  -- a host with these opening logs was closed: its `count` callers were dealt these lines in turns and gave these
+  -- answers, which are lawful by the logs at close; its stores hold the journals of these logs
+  pub record HasClosed (issuer : Setup) (opening : List (Log LogItem LogHead)) (count : ℕ) (lines : List (List ℕ))
+      (answers : List Answer)
       (stores : List S) : Type 0 where
     pub logs : List (Log LogItem LogHead)
-    pub callers : List Caller
-    pub dealt : AreDealt count lines answers callers
-    pub shared : AreCallers issuer opening logs callers
+    pub same_count : length logs ≡ length opening
+    pub shares : List Share
+    pub dealt : AreDealt count lines answers shares
+    pub lawful : AreLawfulShares issuer opening logs shares
     pub closed : AreClosed bytes disk faults issuer opening logs stores

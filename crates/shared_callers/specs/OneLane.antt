@@ -9,7 +9,7 @@ use Rattle.shared_shards.specs.declared.logs.LogHead.{LogHead}
 use Rattle.host_calls.specs.Passes.{claims_of, logs_of, IsFree}
 use Rattle.host_calls.specs.declared.host.Host.{Host}
 use Rattle.host_calls.specs.declared.pass.Pass.{Pass}
-use Rattle.shared_laws.specs.Callers.{Caller, Calls, IsCaller}
+use Rattle.shared_callers.specs.Callers.{Caller, AuthorisesAll, IsCaller}
 use Rattle.shared_callers.specs.declared.lane.Lane.{Lane}
 
 -- the lines that wait
@@ -21,7 +21,8 @@ abbrev pub due_answers : Lane → List Answer
 due_answers lane = lane.answers.items
 
 -- since the opening logs, the caller with this pass had these lines and these answers
-pub record IsServed (issuer : Setup) (opening : List (Log LogItem LogHead)) (pass : Pass) (lines : List (List ℕ)) (answers : List Answer) : Type 0 where
+pub record HadLines (issuer : Setup) (opening : List (Log LogItem LogHead)) (pass : Pass) (lines : List (List ℕ))
+    (answers : List Answer) : Type 0 where
   pub caller : Caller
   pub caller_is : IsCaller issuer opening caller
   pub lines_are : caller.lines ≡ lines
@@ -30,22 +31,24 @@ pub record IsServed (issuer : Setup) (opening : List (Log LogItem LogHead)) (pas
   pub logs_are : caller.logs_now ≡ logs_of pass
 
 -- the lane's caller has had no line
-pub record IsNew (issuer : Setup) (opening : List (Log LogItem LogHead)) (lane : Lane) : Type 0 where
+pub record IsNewLane (issuer : Setup) (opening : List (Log LogItem LogHead)) (lane : Lane) : Type 0 where
   pub none_wait : waiting_lines lane ≡ []
   pub none_due : due_answers lane ≡ []
-  pub served : IsServed issuer opening lane.pass [] []
+  pub served : HadLines issuer opening lane.pass [] []
 
 module _ {S : Type 0} {G : Ghosts S} where
   -- the lane's caller answered the lines that waited, in their order; its pass is free again, and its answers can be
   -- taken
-  pub record HasAnswered (host : Host S G) (old new : Lane) : Type 0 where
-    pub calls : Calls host.issuer (waiting_lines old) (due_answers new) (claims_of old.pass) (logs_of old.pass) (claims_of new.pass) (logs_of new.pass)
+  pub record LaneAnswers (host : Host S G) (old new : Lane) : Type 0 where
+    pub calls : AuthorisesAll host.issuer (waiting_lines old) (due_answers new) (claims_of old.pass) (logs_of old.pass)
+        (claims_of new.pass) (logs_of new.pass)
     pub none_wait : waiting_lines new ≡ []
     pub free : IsFree host new.pass
     pub names : (claims_of new.pass).names ≡ (claims_of old.pass).names
     pub room : new.room ≡ old.room
 
   -- each of the lanes has answered so
-  pub record HaveAnswered (host : Host S G) (old new : List Lane) : Type 0 where
+  pub record LanesAnswer (host : Host S G) (old new : List Lane) : Type 0 where
     pub count_is : length new ≡ length old
-    pub each : (number : ℕ) (before after : Lane) → slice_get old number ≡ Some before → slice_get new number ≡ Some after → HasAnswered host before after
+    pub each : (number : ℕ) (before after : Lane) → slice_get old number ≡ Some before
+        → slice_get new number ≡ Some after → LaneAnswers host before after

@@ -12,7 +12,8 @@ IsBehind count turn next = (turn + 1 < count → next ≡ turn + 1) × (turn + 1
 
 -- these lines were answered, their answers were `taken` or are `due`, and other lines wait; each lane has its turns of
 -- the waiting lines and of the due answers
-pub record AreInTurns (lanes : List Lane) (progress : Progress) (lines : List (List ℕ)) (taken due : List Answer) (waiting : List (List ℕ)) : Type 0 where
+pub record AreInTurns (lanes : List Lane) (progress : Progress) (lines : List (List ℕ)) (taken due : List Answer)
+    (waiting : List (List ℕ)) : Type 0 where
   pub answered : length (taken ++ due) ≡ length lines
   pub waiting_is : progress.waiting ≡ length waiting
   pub due_is : progress.due ≡ length due

@@ -1,6 +1,7 @@
 //! The close of a host of several callers to which lines were dealt.
-ghost use Rattle.std.specs.Prelude.{◌≡◌, ℕ, List, []};
+ghost use Rattle.std.specs.Prelude.{◌≡◌, ℕ, List, [], map, take};
 ghost use Rattle.issuer_base.specs.declared.answer.Answer.{Answer};
+ghost use Rattle.issuer_base.specs.declared.limits.TheConstants.{KEPT_BYTES};
 ghost use Rattle.shared_seats.specs.SeatNames.{IsWhole};
 ghost use Rattle.host_calls.specs.Passes.{claims_of, IsFree};
 ghost use Rattle.shared_callers.specs.Joins.{HasJoined};
@@ -13,13 +14,17 @@ use host_calls::{Host, Pass};
 use issuer_base::Store;
 
 impl<S: Store> Lanes<S> {
-    ghost use Rattle.shared_callers.specs.Lanes.{issuer_in, opening_logs, callers_in, waiting_in, HasServed, HasClosed};
+    ghost use Rattle.shared_callers.specs.Lanes.{issuer_in, opening_logs, callers_in, waiting_in, LanesServe, HasClosed};
 
     /// Joins all passes, closes the host, and returns the stores in the order of their shards' numbers. It doesn't
     /// allocate.
+    ///
+    /// The callers' answers obey the laws of several callers, for lines of any length: `lines` are those of the run, of
+    /// which `deal` took the first [`KEPT_BYTES`](issuer_base::KEPT_BYTES) bytes each.
     pub fn close(self) -> Vec<S>
         requires { waiting_in self ≡ 0 }
-        ensures { (lines : List (List ℕ)) (answers due : List Answer) → HasServed self lines answers due []
+        ensures { (lines : List (List ℕ)) (answers due : List Answer)
+            → LanesServe self (map (take KEPT_BYTES) lines) answers due []
             → HasClosed S.bytes S.disk S.faults (issuer_in self) (opening_logs self) (callers_in self)
             lines answers result.items }
     {

@@ -4,7 +4,7 @@ ghost use Rattle.std.specs.Thread.{IsSync, IsSend};
 ghost use Rattle.issuer_base.specs.declared.answer.Answer.{Answer};
 ghost use Rattle.issuer_base.specs.declared.limits.TheConstants.{KEPT_BYTES};
 ghost use Rattle.host_calls.specs.Passes.{IsFree};
-ghost use Rattle.shared_callers.specs.OneLane.{HaveAnswered};
+ghost use Rattle.shared_callers.specs.OneLane.{LanesAnswer};
 ghost use Rattle.shared_callers.specs.Turns.{AreInTurns, IsInTurn, IsBehind};
 
 use crate::lane::Lane;
@@ -94,7 +94,7 @@ impl Dealer {
             → AreInTurns self.old.lanes.items self.old.progress lines answers [] waiting
             → (more : List Answer)
             × AreInTurns self.new.lanes.items self.new.progress (lines ++ waiting) answers more [] }
-        ensures lanes { HaveAnswered host.now self.old.lanes.items self.new.lanes.items }
+        ensures lanes { LanesAnswer host.now self.old.lanes.items self.new.lanes.items }
         ensures counts { (self.new.progress.waiting ≡ 0) × (self.new.progress.due ≡ self.old.progress.waiting) }
         ensures room { self.new.room ≡ self.old.room }
     {
@@ -116,7 +116,7 @@ fn answer_at_once<S: Store + Send, R: Threads + Wait + Sync, G: Gate + Sync>(
     requires free { All (λ lane. IsFree host.now lane.pass) lanes.old }
     requires none { All (λ lane. lane.answers.items ≡ []) lanes.old }
     requires some { 0 < length lanes.old }
-    ensures { HaveAnswered host.now lanes.old lanes.new }
+    ensures { LanesAnswer host.now lanes.old lanes.new }
 {
     if lanes.len() == 1 {
         lanes[0].answer(rt, host, gate);
@@ -140,18 +140,18 @@ fn answer_beside<S: Store + Send, R: Threads + Wait + Sync, G: Gate + Sync>(
     requires none { All (λ lane. lane.answers.items ≡ []) first.old × All (λ lane. lane.answers.items ≡ []) others.old }
     requires one { length first.old ≡ 1 }
     requires some { 0 < length others.old }
-    ensures first { HaveAnswered host.now first.old first.new }
-    ensures others { HaveAnswered host.now others.old others.new }
+    ensures first { LanesAnswer host.now first.old first.new }
+    ensures others { LanesAnswer host.now others.old others.new }
 {
     let mut front = ||
         requires { IsSync R.row × IsSync G.row × IsSend S.row × (length first.now ≡ 1)
             × All (λ lane. IsFree host.now lane.pass) first.now × All (λ lane. lane.answers.items ≡ []) first.now }
-        ensures { HaveAnswered host.entry.now first.entry.now first.exit.now }
+        ensures { LanesAnswer host.entry.now first.entry.now first.exit.now }
     { answer_at_once(rt, host, gate, first) };
     let mut back = ||
         requires { IsSync R.row × IsSync G.row × IsSend S.row × (0 < length others.now)
             × All (λ lane. IsFree host.now lane.pass) others.now × All (λ lane. lane.answers.items ≡ []) others.now }
-        ensures { HaveAnswered host.entry.now others.entry.now others.exit.now }
+        ensures { LanesAnswer host.entry.now others.entry.now others.exit.now }
     { answer_at_once(rt, host, gate, others) };
     thread::join_mut(rt, &mut front, &mut back);
 }

@@ -52,7 +52,7 @@ pub(crate) struct Lane {
 }
 
 impl Lane {
-    ghost use Rattle.shared_callers.specs.OneLane.{waiting_lines, due_answers, HasAnswered};
+    ghost use Rattle.shared_callers.specs.OneLane.{waiting_lines, due_answers, LaneAnswers};
 
     /// A caller with this pass. `number` is that of its first line in the run, and `step` the stride between its lines.
     pub(crate) fn new(pass: Pass, room: LaneRoom, number: u64, step: u64) -> Lane
@@ -115,7 +115,7 @@ impl Lane {
     pub(crate) fn answer<S: Store, R: Wait, G: Gate>(&mut self, rt: &R, host: &Host<S>, gate: &G)
         requires free { IsFree host.now self.old.pass }
         requires none { self.old.answers.items ≡ [] }
-        ensures { HasAnswered host.now self.old self.new }
+        ensures { LaneAnswers host.now self.old self.new }
     {
         for place in 0..self.lines.len() {
             let line = self.lines.line(place);

@@ -34,7 +34,7 @@ pub struct Lanes<S: Store> {
 }
 
 impl<S: Store> Lanes<S> {
-    ghost use Rattle.shared_callers.specs.Lanes.{issuer_in, waiting_in, due_in, is_full_in, HasSameHost, HasServed};
+    ghost use Rattle.shared_callers.specs.Lanes.{issuer_in, waiting_in, due_in, is_full_in, HasSameHost, LanesServe};
 
     /// The issuer that was passed to `load`.
     pub fn issuer(&self) -> &Issuer
@@ -55,8 +55,8 @@ impl<S: Store> Lanes<S> {
         requires room { is_full_in self.old ≡ false }
         requires kept { length line.now ≤ KEPT_BYTES }
         ensures served { (lines : List (List ℕ)) (answers due : List Answer) (waiting : List (List ℕ))
-            → HasServed self.old lines answers due waiting
-            → HasServed self.new lines answers due (waiting ++ line.now ∷ []) }
+            → LanesServe self.old lines answers due waiting
+            → LanesServe self.new lines answers due (waiting ++ line.now ∷ []) }
         ensures counts { (waiting_in self.new ≡ waiting_in self.old + 1) × (due_in self.new ≡ due_in self.old) }
         ensures host { HasSameHost self.old self.new }
     {
@@ -72,8 +72,8 @@ impl<S: Store> Lanes<S> {
         S: Send,
         requires { due_in self.old ≡ 0 }
         ensures served { (lines : List (List ℕ)) (answers : List Answer) (waiting : List (List ℕ))
-            → HasServed self.old lines answers [] waiting
-            → (more : List Answer) × HasServed self.new (lines ++ waiting) (answers ++ more) more [] }
+            → LanesServe self.old lines answers [] waiting
+            → (more : List Answer) × LanesServe self.new (lines ++ waiting) (answers ++ more) more [] }
         ensures counts { (waiting_in self.new ≡ 0) × (due_in self.new ≡ waiting_in self.old) }
         ensures host { HasSameHost self.old self.new }
     {
@@ -83,9 +83,9 @@ impl<S: Store> Lanes<S> {
     /// Takes the next answer in the order of the lines; `None` once all were taken.
     pub fn next_answer(&mut self) -> Option<Answer>
         ensures served { (lines : List (List ℕ)) (answers due : List Answer) (waiting : List (List ℕ))
-            → HasServed self.old lines answers due waiting
+            → LanesServe self.old lines answers due waiting
             → MatchOption result (due ≡ []) (λ answer. (rest : List Answer) × (due ≡ answer ∷ rest)
-            × HasServed self.new lines answers rest waiting) }
+            × LanesServe self.new lines answers rest waiting) }
 
         // If all answers were taken, nothing changes.
         ensures counts { MatchOption result ((due_in self.old ≡ 0) × (self.new ≡ self.old))

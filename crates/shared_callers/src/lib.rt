@@ -1,5 +1,5 @@
 //! Lines dealt in turns to several callers of one host, which answer them concurrently, and the answers in the order of
-//! the lines.
+//! the lines; and the laws of what several callers answer.
 #![tactic(auto)]
 
 mod close;

@@ -3,7 +3,7 @@ ghost use Rattle.std.specs.Prelude.{◌≡◌, ℕ, ◌<◌, ◌≤◌, ◌*◌,
 ghost use Rattle.issuer_base.specs.declared.limits.TheConstants.{MAX_CALLERS};
 ghost use Rattle.host_calls.specs.OpeningLogs.{HostComesBack};
 ghost use Rattle.shared_shards.specs.ShardSeats.{opening_in};
-ghost use Rattle.shared_callers.specs.OneLane.{IsNew};
+ghost use Rattle.shared_callers.specs.OneLane.{IsNewLane};
 ghost use Rattle.shared_callers.specs.Seated.{AreSeated};
 ghost use Rattle.shared_callers.specs.declared.lanes.TheConstants.{BLOCK_LINES};
 
@@ -98,7 +98,7 @@ fn seat_all<S: Store>(
     requires first { AreSeated host.now first.old [] }
     requires room { (lanes.items ≡ []) × (vec_len rooms ≤ vec_capacity lanes) }
     ensures seated { AreSeated host.now first.new result.items }
-    ensures new { All (IsNew host.now.issuer (opening_in host.now.turns)) result.items }
+    ensures new { All (IsNewLane host.now.issuer (opening_in host.now.turns)) result.items }
     ensures count { vec_len result ≡ vec_len rooms }
     ensures room { (count : ℕ) → All (λ room. room.count ≡ count) rooms.items
         → All (λ lane. lane.room ≡ count) result.items }

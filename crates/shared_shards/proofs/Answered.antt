@@ -187,7 +187,8 @@ pub record IsCalled {S : Type 0} {G : Ghosts S} (issuer : Setup) (old new : Shar
   pub keeps : KeepsShard issuer old answer new
   pub leaves : LeavesImages issuer old new
 
-module _ {S : Type 0} {G : Ghosts S} (issuer : Setup) (shard first faults : ℕ) (disk : Option Disk) (old new : Shard S G) (answer : Answer) (items : List LogItem)
+module _ {S : Type 0} {G : Ghosts S} (issuer : Setup) (shard first faults : ℕ) (disk : Option Disk)
+    (old new : Shard S G) (answer : Answer) (items : List LogItem)
     (stands : StandsForLog old (head_with issuer shard faults first disk) items) (called : IsCalled issuer old new answer) (after : List Entry)
     (now : StandsFor issuer new after) where
   -- each image that a crash may leave since the log was opened, where the log's records go on to these

@@ -157,7 +157,8 @@ module _ {S : Type 0} {G : Ghosts S} where
         subst (λ (told : ℕ). StandsIn new (with_items logs number (log_after items (adding told))) number) (sym call.told_is)
         (stands-close (λ (shard : Shard S G) head items. StandsForLog shard head items) new logs number
         (head_with issuer number call.found.faults call.found.first call.found.disk) (log_after items (adding (told_in old))) call.found.head_is
-        (log-step issuer number call.found.first call.found.faults call.found.disk old new answer items call.found.stands call.called said.0 said.1 entry
+        (log-step issuer number call.found.first call.found.faults call.found.disk old new answer items
+        call.found.stands call.called said.0 said.1 entry
         answered))
 
     -- and the turn answers so, at the shard of the card
@@ -171,7 +172,8 @@ module _ {S : Type 0} {G : Ghosts S} where
           added = added;
           front = front;
           changes = subst (Changes number (records_of items))
-              (sym (records-after issuer number call.found.first call.found.faults call.found.disk old new answer items call.found.stands call.called said.0 said.1 entry
+              (sym (records-after issuer number call.found.first call.found.faults call.found.disk old new answer items
+              call.found.stands call.called said.0 said.1 entry
               (is_store_fault answer && ltb told MAX_FAULTS_TOLD) (faults_in new) answered)) changed;
           adds = answered.adds items told (faults_in new) refl (call.told_is ∙ call.found.stands.told_is);
           after_is = after_is

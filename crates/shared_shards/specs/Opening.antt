@@ -38,15 +38,20 @@ module _ {S : Type 0} {G : Ghosts S} where
   -- so is each of the shards
   pub record AreJustLoaded (issuer : Setup) (stores : List S) (shards : List (Shard S G)) : Type 0 where
     pub count_is : length shards ≡ issuer.shards
-    pub each : (number : ℕ) (shard : Shard S G) → slice_get shards number ≡ Some shard → IsJustLoaded issuer stores number shard
+    pub each : (number : ℕ) (shard : Shard S G) → slice_get shards number ≡ Some shard
+        → IsJustLoaded issuer stores number shard
 
   -- the shard's log has just the records of the history that was loaded
-  pub record IsOpeningLog (issuer : Setup) (stores : List S) (number : ℕ) (shard : Shard S G) (log : Log LogItem LogHead) : Type 0 where
+  pub record IsOpeningLog (issuer : Setup) (stores : List S) (number : ℕ) (shard : Shard S G)
+      (log : Log LogItem LogHead) : Type 0 where
     pub loaded : IsLoaded issuer number (bytes_at G.bytes stores number) shard
-    pub log_is : log ≡ log_with (head_with issuer number (faults_in shard) (length loaded.history) (disk_in shard)) loaded.history
+    pub log_is : log ≡ log_with
+        (head_with issuer number (faults_in shard) (length loaded.history) (disk_in shard)) loaded.history
 
   -- so it is with each log
-  pub record AreOpeningLogs (issuer : Setup) (stores : List S) (shards : List (Shard S G)) (logs : List (Log LogItem LogHead)) : Type 0 where
+  pub record AreOpeningLogs (issuer : Setup) (stores : List S) (shards : List (Shard S G))
+      (logs : List (Log LogItem LogHead)) : Type 0 where
     pub count_is : length logs ≡ length shards
-    pub each : (number : ℕ) (shard : Shard S G) (log : Log LogItem LogHead) → slice_get shards number ≡ Some shard → slice_get logs number ≡ Some log
+    pub each : (number : ℕ) (shard : Shard S G) (log : Log LogItem LogHead) → slice_get shards number ≡ Some shard
+        → slice_get logs number ≡ Some log
         → IsOpeningLog issuer stores number shard log

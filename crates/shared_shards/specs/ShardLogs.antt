@@ -41,7 +41,8 @@ abbrev pub opening_records : LogHead → List LogItem → List Entry
 opening_records head items = take head.records (records_of items)
 
 -- the shard stands for the log with this head and these items
-pub record StandsForLog {S : Type 0} {G : Ghosts S} (shard : Shard S G) (head : LogHead) (items : List LogItem) : Type 0 where
+pub record StandsForLog {S : Type 0} {G : Ghosts S} (shard : Shard S G) (head : LogHead)
+    (items : List LogItem) : Type 0 where
   pub number_is : number_in shard ≡ head.shard
   pub under : IsUnder head.issuer shard
   pub stands : StandsFor head.issuer shard (records_of items)
@@ -58,4 +59,6 @@ pub record StandsForLog {S : Type 0} {G : Ghosts S} (shard : Shard S G) (head : 
   -- below the limit the store's count is the last one in the log, so each such answer has the count after it
   pub last_is : length (faults_of items) < MAX_FAULTS_TOLD → faults_in shard ≡ last_count head.faults (faults_of items)
   -- whatever a crash since the log was opened may leave is an image of a history between the opening one and the log's
-  pub since : BothTold (LeavesOnly (IsImageBetween head.issuer head.shard (opening_records head items) (records_of items))) head.opened (disk_in shard)
+  pub since : BothTold
+      (LeavesOnly (IsImageBetween head.issuer head.shard (opening_records head items) (records_of items))) head.opened
+      (disk_in shard)

@@ -42,5 +42,6 @@ module _ {S : Type 0} {G : Ghosts S} where
   -- the shards stand for the logs, one for each
   pub record StandForLogs (shards : List (Shard S G)) (logs : List (Log LogItem LogHead)) : Type 0 where
     pub count_is : length shards ≡ length logs
-    pub each : (number : ℕ) (shard : Shard S G) (log : Log LogItem LogHead) → slice_get shards number ≡ Some shard → slice_get logs number ≡ Some log
+    pub each : (number : ℕ) (shard : Shard S G) (log : Log LogItem LogHead) → slice_get shards number ≡ Some shard
+        → slice_get logs number ≡ Some log
         → StandsForLog shard log.head log.items

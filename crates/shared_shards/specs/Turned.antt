@@ -1,5 +1,6 @@
 -- What a turn at a shard may answer, what it appends to the shard's log, and what the seat has seen then.
-use Rattle.std.specs.Prelude.{◌≡◌, ℕ, ◌%◌, ◌<◌, ◌≤◌, ◌&&◌, nat_lt, Bool, true, false, List, [], ◌∷◌, ◌++◌, length, slice_get, Option, None, Some}
+use Rattle.std.specs.Prelude.{◌≡◌, ℕ, ◌%◌, ◌<◌, ◌≤◌, ◌&&◌, nat_lt, Bool, true, false, List, [], ◌∷◌, ◌++◌, length}
+use Rattle.std.specs.Prelude.{slice_get, Option, None, Some}
 use Rattle.issuer_base.specs.declared.request.Request.{Request}
 use Rattle.issuer_base.specs.declared.answer.Answer.{Answer}
 use Rattle.issuer_base.specs.declared.answer.Answer.TheVariants.{Fresh, Queued, Set, Refused}
@@ -53,7 +54,8 @@ turned shard between added view = record view {
 
 -- a record is appended, which is a valid successor by the issuer's own decision
 abbrev pub AddsRecord : Setup → ℕ → List LogItem → Option LogItem → Type 0
-AddsRecord issuer shard between added = (entry : Entry) × (added ≡ Some (Record entry)) × IsLegal (grounds_now issuer) shard (records_of between) entry
+AddsRecord issuer shard between added =
+    (entry : Entry) × (added ≡ Some (Record entry)) × IsLegal (grounds_now issuer) shard (records_of between) entry
 
 -- a fault is appended, while the log has fewer than the limit
 abbrev pub AddsFault : List LogItem → Option LogItem → Type 0
@@ -72,7 +74,8 @@ IsAdded issuer shard between _ added = added ≡ None
 
 -- a turn at the shard: when it came, what the seat had seen was a prefix of the log; the answer changes the log's
 -- records as it says, and the seat has then seen the whole log
-pub record AnswersInTurn (issuer : Setup) (shard : ℕ) (Changes : List Entry → List Entry → Type 0) (before : TurnView LogItem LogHead) (answer : Answer)
+pub record AnswersInTurn (issuer : Setup) (shard : ℕ) (Changes : List Entry → List Entry → Type 0)
+    (before : TurnView LogItem LogHead) (answer : Answer)
     (after : TurnView LogItem LogHead) : Type 0 where
   pub between : List LogItem
   pub added : Option LogItem
@@ -82,22 +85,27 @@ pub record AnswersInTurn (issuer : Setup) (shard : ℕ) (Changes : List Entry �
   pub after_is : after ≡ turned shard between added before
 
 -- a request whose claim was won or not is answered in the shard of its card
-abbrev pub DecidesInTurn : Setup → Bool → Request → TurnView LogItem LogHead → Answer → TurnView LogItem LogHead → Type 0
+abbrev pub DecidesInTurn : Setup → Bool → Request → TurnView LogItem LogHead → Answer → TurnView LogItem LogHead
+    → Type 0
 DecidesInTurn issuer won request before answer after =
     AnswersInTurn issuer (shard_of issuer (card_of request))
-    (λ old new. AnswersClaimed (shard_of issuer (card_of request)) (reply_to issuer) won old request answer new) before answer after
+    (λ old new. AnswersClaimed (shard_of issuer (card_of request))
+    (reply_to issuer) won old request answer new) before answer after
 
 -- so is an order: a command to be queued, or a status to be set
 abbrev pub OrdersInTurn : Setup → CheckedOrder → TurnView LogItem LogHead → Answer → TurnView LogItem LogHead → Type 0
 OrdersInTurn issuer order before answer after =
     AnswersInTurn issuer (shard_of issuer (card_of_order order))
-    (λ old new. AnswersOrder (shard_of issuer (card_of_order order)) old (order_asked order) answer new) before answer after
+    (λ old new. AnswersOrder (shard_of issuer (card_of_order order)) old
+    (order_asked order) answer new) before answer after
 
 -- the card with this number is shown as its shard's log says, and nothing is appended
-pub record ShowsInTurn (issuer : Setup) (card : ℕ) (before : TurnView LogItem LogHead) (view : CardView) (after : TurnView LogItem LogHead) : Type 0 where
+pub record ShowsInTurn (issuer : Setup) (card : ℕ) (before : TurnView LogItem LogHead) (view : CardView)
+    (after : TurnView LogItem LogHead) : Type 0 where
   pub between : List LogItem
   pub front : IsFront (items_at before.seen (card % issuer.shards)) between
-  pub shown : (info : CardInfo) → slice_get issuer.cards card ≡ Some info → view ≡ card_shown (name_of info) (records_of between)
+  pub shown : (info : CardInfo) → slice_get issuer.cards card ≡ Some info
+      → view ≡ card_shown (name_of info) (records_of between)
   pub after_is : after ≡ turned (card % issuer.shards) between None before
 
 -- ---- inside a turn
@@ -131,7 +139,8 @@ added_by None false count = None
 -- what a call appends to its shard's log: its record, or that the store failed, up to a limit
 abbrev pub added_in : {S : Type 0} {G : Ghosts S} → Called S G → Option LogItem
 added_in called =
-    added_by (record_by called.call called.answer.now) (is_store_fault called.answer.now && nat_lt called.told MAX_FAULTS_TOLD)
+    added_by (record_by called.call called.answer.now)
+    (is_store_fault called.answer.now && nat_lt called.told MAX_FAULTS_TOLD)
     (faults_in called.shard)
 
 -- the view with one item more in the shard's log, where there is one

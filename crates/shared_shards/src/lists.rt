@@ -41,14 +41,13 @@ impl<S: Store> Spare<S> {
 pub(crate) struct Lists<S: Store> {
     pub(crate) held: Vec<HeldShard<S>>,
     pub(crate) counts: Vec<u64>,
-    pub(crate) spare: Vec<Shard<S>>,
+    pub(crate) spare: Spare<S>,
 }
 
-/// Empty lists with room for so many shards.
+/// Empty lists, the first two with room for so many shards.
 pub(crate) fn take_lists<S: Store>(alloc: Global, count: usize) -> Result<Lists<S>, NoMemory>
     ensures held { IfOk result (λ lists. (lists.held.items ≡ []) × (count ≤ vec_capacity lists.held)) }
     ensures counts { IfOk result (λ lists. (lists.counts.items ≡ []) × (count ≤ vec_capacity lists.counts)) }
-    ensures spare { IfOk result (λ lists. (lists.spare.items ≡ []) × (MAX_SHARDS ≤ vec_capacity lists.spare)) }
 {
     let counts = Vec::with_capacity(alloc, count)?;
     let spare = Vec::with_capacity(alloc, usize::from(MAX_SHARDS))?;
@@ -59,7 +58,7 @@ pub(crate) fn take_lists<S: Store>(alloc: Global, count: usize) -> Result<Lists<
     Ok(Lists {
         held,
         counts,
-        spare,
+        spare: Spare::new(spare),
     })
 }
 
@@ -76,7 +75,6 @@ pub(crate) fn hold_all<S: Store>(
     requires room { (vec_len shards ≤ vec_capacity lists.old.held) × (vec_len shards ≤ vec_capacity lists.old.counts) }
     ensures shards { map (λ held. held.shard) lists.new.held.items ≡ shards.items }
     ensures counts { lists.new.counts.items ≡ map (λ log. length log.items) logs.now.view }
-    ensures spare { lists.new.spare ≡ lists.old.spare }
 {
     let _ = issuer;
     let _ = stores;
@@ -90,19 +88,16 @@ pub(crate) fn hold_all<S: Store>(
     ahead.destroy_empty();
 }
 
-/// The shards of these values, in order, in an empty list that has room for them.
-pub(crate) fn release_all<S: Store>(
-    mut held: Vec<HeldShard<S>>,
-    mut spare: Vec<Shard<S>>,
-) -> Vec<Shard<S>>
-    requires empty { spare.items ≡ [] }
-    requires room { vec_len held ≤ vec_capacity spare }
+/// The shards of these values, in order. It doesn't allocate.
+pub(crate) fn release_all<S: Store>(mut held: Vec<HeldShard<S>>, spare: Spare<S>) -> Vec<Shard<S>>
+    requires { vec_len held ≤ MAX_SHARDS }
     ensures { result.items ≡ map (λ held. held.shard) held.items }
 {
+    let mut shards = spare.into_list();
     while let Some(HeldShard { shard }) = held.pop() {
-        spare.push_reserved(shard);
+        shards.push_reserved(shard);
     }
     held.destroy_empty();
-    spare.reverse();
-    spare
+    shards.reverse();
+    shards
 }

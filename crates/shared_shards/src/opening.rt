@@ -9,9 +9,12 @@ ghost use Rattle.turn_book.specs.Seats.{opening_of, view_of, IsOf};
 ghost use Rattle.turn_book.specs.TurnViews.{first_view};
 ghost use Rattle.shared_shards.specs.ShardLogs.{StandsForLog};
 ghost use Rattle.shared_shards.specs.Opening.{AreJustLoaded, AreOpeningLogs};
+ghost use Rattle.shared_shards.specs.ShardSeats.{opening_in, IsSeatOf};
 
 use crate::held::HeldShard;
+use crate::lists::{Lists, release_all};
 use crate::logs::{LogHead, LogItem};
+use crate::turns::{ShardSeat, ShardTurns};
 use atomic_table::{Mark, PerchPlay, PerchRule, RuledPerch, Table, TableRule};
 use issuer_base::{MAX_SHARDS, Store};
 use issuer_setup::Issuer;
@@ -20,6 +23,7 @@ use std::alloc::{AllocError, Global};
 use std::collections::LinkedList;
 use std::marker::{Brand, PhantomData};
 use std::snapshot::Snapshot;
+use std::sync::Mutex;
 use turn_book::{Log, OpeningLogs, TurnSeat, Turns};
 
 /// The log of each shard.
@@ -89,30 +93,35 @@ pub(crate) fn opening_logs<S: Store>(
     shown::<Brand, S>(alloc, issuer, stores, shards)
 }
 
-/// The turns at these shards, which stand for the logs that the mark shows.
+/// The turns at these shards, which stand for the logs that the mark shows, and the first seat. Only if an allocation
+/// fails, the shards come back in order.
 pub(crate) fn start<S: Store>(
     alloc: Global,
-    held: Vec<HeldShard<S>>,
-    counts: &[u64],
+    lists: Lists<S>,
     logs: &Mark<Logs>,
-) -> Result<
-    (
-        Turns<HeldShard<S>, LogItem, LogHead>,
-        TurnSeat<LogItem, LogHead>,
-    ),
-    Vec<HeldShard<S>>,
->
-    requires shards { (0 < vec_len held) × (vec_len held ≤ MAX_SHARDS) }
-    requires counts { counts.now ≡ map (λ log. length log.items) logs.now.view }
-    requires stand { StandFor (λ held head items. StandsForLog held.shard head items) held.items logs.now.view }
-    ensures opening { IfOk result (λ made. opening_of made.0 ≡ logs.now.view) }
-    ensures seat { IfOk result (λ made. IsOf made.1 made.0 × (view_of made.1 ≡ first_view logs.now.view)) }
-    ensures refused { IfErr result (λ back. back.items ≡ held.items) }
+) -> Result<(ShardTurns<S>, ShardSeat), Vec<Shard<S>>>
+    requires shards { (0 < vec_len lists.held) × (vec_len lists.held ≤ MAX_SHARDS) }
+    requires counts { lists.counts.items ≡ map (λ log. length log.items) logs.now.view }
+    requires stand { StandFor (λ held head items. StandsForLog held.shard head items) lists.held.items logs.now.view }
+    ensures opening { IfOk result (λ made. opening_in made.0 ≡ logs.now.view) }
+    ensures seat { IfOk result (λ made. IsSeatOf made.0 made.1 × (view_of made.1 ≡ first_view (opening_in made.0))) }
+    ensures refused { IfErr result (λ back. back.items ≡ map (λ held. held.shard) lists.held.items) }
 {
-    start_with::<Brand, S>(alloc, held, counts, logs)
+    let Lists {
+        held,
+        counts,
+        spare,
+    } = lists;
+    match start_with::<Brand, S>(alloc, held, counts.as_slice(), logs) {
+        Ok((turns, seat)) => {
+            let spare = Mutex::new(spare);
+            Ok((ShardTurns { turns, spare }, seat))
+        }
+        Err(held) => Err(release_all(held, spare)),
+    }
 }
 
-/// The same, where the logs are those that the caller picks.
+/// The turns at these shards, which stand for the logs that the caller picks.
 fn start_with<J: OpeningLogs<LogItem, LogHead>, S: Store>(
     alloc: Global,
     held: Vec<HeldShard<S>>,

@@ -12,7 +12,7 @@ ghost use Rattle.shared_shards.specs.Opening.{AreJustLoaded, AreOpeningLogs};
 ghost use Rattle.shared_shards.specs.Turned.{DecidesInTurn, OrdersInTurn, ShowsInTurn, added_in, log_after, counted_if};
 
 use crate::held::{Call, Called, HeldShard};
-use crate::lists::{Lists, Spare, hold_all, release_all, take_lists};
+use crate::lists::{Spare, hold_all, release_all, take_lists};
 use crate::logs::{LogHead, LogItem};
 use crate::opening::{opening_logs, start};
 use card_history::CardView;
@@ -37,7 +37,8 @@ pub struct ShardTurns<S: Store> {
 }
 
 impl<S: Store> ShardTurns<S> {
-    ghost use Rattle.shared_shards.specs.ShardSeats.{opening_in, AreTurnsOf, IsSeatOf, IsInside, StandsIn, StandForLogs};
+    ghost use Rattle.shared_shards.specs.ShardSeats.{opening_in, AreTurnsOf, IsSeatOf, IsInside, StandsIn};
+    ghost use Rattle.shared_shards.specs.ShardSeats.{StandForLogs};
 
     /// The turns at the shards of this issuer, which were loaded from these stores, in order, and the first seat. Each
     /// shard's log opens with the records of the history that it was loaded with. Only if an allocation fails, the
@@ -63,18 +64,7 @@ impl<S: Store> ShardTurns<S> {
             return Err(shards);
         };
         hold_all(issuer, stores, &logs, shards, &mut lists);
-        let Lists {
-            held,
-            counts,
-            spare,
-        } = lists;
-        match start(alloc, held, counts.as_slice(), &logs) {
-            Ok((turns, seat)) => {
-                let spare = Mutex::new(Spare::new(spare));
-                Ok((ShardTurns { turns, spare }, seat))
-            }
-            Err(held) => Err(release_all(held, spare)),
-        }
+        start(alloc, lists, &logs)
     }
 
     /// The answer to a checked request, in the shard of its card. `won` says whether the caller may decide it. It waits
@@ -198,8 +188,7 @@ impl<S: Store> ShardTurns<S> {
             ≡ between (length (items_at (opening_in self) shard)) (length (items_at (view_of seat).seen shard)) place }
     {
         let ShardTurns { turns, spare } = self;
-        let spare = spare.into_inner().into_list();
-        release_all(turns.close(seat), spare)
+        release_all(turns.close(seat), spare.into_inner())
     }
 
     /// Appends to the shard's log what a call appends, and ends the seat's turn.

@@ -1,4 +1,4 @@
--- The mask of a counter has exactly the counter's bit of its word.
+-- The mask of an ATC has exactly the ATC's bit of its word.
 use Rattle.claim_words.proofs.ClaimBits.{mask_is}
 use Rattle.claim_words.proofs.layout.claim_mask.Goals as goal
 

@@ -1,4 +1,4 @@
--- One more recorded counter sets its bit and raises its card's top, and nothing else.
+-- One more recorded ATC sets its bit and raises its card's top, and nothing else.
 use Rattle.std.proofs.Common.{arith}
 use Rattle.claim_words.proofs.OpeningLemmas.{opening_step}
 use Rattle.claim_words.proofs.opening.opening_words.Goals as goal

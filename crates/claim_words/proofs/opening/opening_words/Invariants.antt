@@ -1,4 +1,4 @@
--- The words are the initial ones for the recorded counters so far.
+-- The words are the initial ones for the recorded ATCs so far.
 use Rattle.std.proofs.Common.{take}
 use Rattle.claim_words.specs.Opening.{AreOpening}
 use Rattle.claim_words.proofs.opening.opening_words.Given as goal

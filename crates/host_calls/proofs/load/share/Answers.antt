@@ -1,4 +1,4 @@
--- The claim words have the recorded counters, and the turns the logs, of the shards that were loaded.
+-- The claim words have the recorded ATCs, and the turns the logs, of the shards that were loaded.
 use Rattle.std.proofs.Common.{List, length, subst, sym, ap, ◌∙◌, rules}
 use Rattle.shared_seats.specs.SeatNames.{IsWhole}
 use Rattle.shared_seats.proofs.SeatNameLemmas.{whole_first}

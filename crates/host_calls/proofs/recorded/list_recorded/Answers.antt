@@ -1,4 +1,4 @@
--- One shard more has its recorded counters listed.
+-- One shard more has its recorded ATCs listed.
 use Rattle.std.proofs.Common.{◌≡◌, ◌<◌, length, refl, subst, arith}
 use Rattle.std.proofs.lemmas.Option.{slice_get_read}
 use Rattle.host_calls.specs.RecordedCounters.{AreRecordedOf}

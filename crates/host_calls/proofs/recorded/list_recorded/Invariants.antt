@@ -1,4 +1,4 @@
--- The list has the recorded counters of the shards so far.
+-- The list has the recorded ATCs of the shards so far.
 use Rattle.issuer_setup.specs.IssuerSetup.{Setup}
 use Rattle.host_calls.specs.RecordedCounters.{AreStanding, AreRecordedOf}
 use Rattle.host_calls.proofs.recorded.list_recorded.Given as goal

@@ -3,7 +3,7 @@ use Rattle.std.proofs.Common.{◌≡◌, rules, sym, ap, ◌∙◌, subst}
 use Rattle.std.proofs.lemmas.List.Elements.{All-pop, All-push}
 use Rattle.shared_shards.specs.ShardSeats.{opening_in}
 use Rattle.host_calls.specs.Passes.{claims_of, logs_of, IsFree}
-use Rattle.shared_callers.specs.OneLane.{IsNew}
+use Rattle.shared_callers.specs.OneLane.{IsNewLane}
 use Rattle.shared_callers.specs.declared.lane.Lane.{Lane}
 use Rattle.shared_callers.specs.declared.lane.LaneRoom.{LaneRoom}
 use Rattle.shared_callers.proofs.Seating.{new-served, seated-more}
@@ -23,7 +23,7 @@ loop-room-preserved g c =
       seated = rw c.push_reserved.ensures.items
           (seated-more host c.loop-room.first c.split-pass.new.pass lanes lane c.loop-room.first.claims.named c.split-pass.ensures.pass.0
           c.split-pass.ensures.pass.1 c.split-pass.ensures.pass.2 lane_free claims before.seated);
-      new = rw c.push_reserved.ensures.items (All-push (IsNew host.issuer (opening_in host.turns)) lanes lane before.new (record {
+      new = rw c.push_reserved.ensures.items (All-push (IsNewLane host.issuer (opening_in host.turns)) lanes lane before.new (record {
         none_wait = c.new-lane.ensures.none.0;
         none_due = c.new-lane.ensures.none.1;
         served = new-served host.issuer (opening_in host.turns) c.loop-room.first lane.pass claims logs before.seated.opened;

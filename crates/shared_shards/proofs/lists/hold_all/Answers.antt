@@ -24,5 +24,4 @@ loop-shard-preserved g c =
           c.loop-shard.invariant.counts c.places.ensures.history);
       held_room = search rules;
       counts_room = search rules;
-      spare = search rules;
     }

@@ -8,7 +8,6 @@ invariant-loop-shard g l = record {
   counts : l.lists.counts.items ≡ map (λ log. length log.items) (take (length l.lists.held.items) l.logs.view);
   held_room : vec_len l.ahead + vec_len l.lists.held ≤ vec_capacity l.lists.held;
   counts_room : vec_len l.ahead + vec_len l.lists.counts ≤ vec_capacity l.lists.counts;
-  spare : l.lists.spare ≡ l.initial.lists.spare;
 }
 
 abbrev pub decreases-loop-shard : goal.decreases-loop-shard

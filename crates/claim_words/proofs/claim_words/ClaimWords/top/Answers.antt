@@ -1,4 +1,4 @@
--- A seat may read any card's top, which is at least each counter that the seat knows of.
+-- A seat may read any card's top, which is at least each ATC that the seat knows of.
 use Rattle.std.proofs.Common.{rules, arith, ap, ◌∙◌, sym, subst, length, ◌<◌, Option, ℕ}
 use Rattle.claim_words.specs.ClaimViews.{after_top}
 use Rattle.claim_words.specs.Seats.{IsTopFor}

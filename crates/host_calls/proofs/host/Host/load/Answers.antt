@@ -14,7 +14,8 @@ pub invariant_of-host : goal.invariant_of-host
 invariant_of-host g c = record {
   cards = c.in-Ok-share.ensures.shared.cards_are;
   shards = c.in-Ok-share.ensures.shared.turns_are;
-  counted = opened-counted g.S.Store.bytes g.S.Store.disk g.S.Store.faults c.keep_all.new.self c.of-before.result.value.items _ c.in-Ok-share.ensures.shared.opening;
+  counted = opened-counted g.S.Store.bytes g.S.Store.disk g.S.Store.faults c.keep_all.new.self c.of-before.result.value.items _
+      c.in-Ok-share.ensures.shared.opening;
   recorded = c.in-Ok-share.ensures.shared.recorded;
 }
 

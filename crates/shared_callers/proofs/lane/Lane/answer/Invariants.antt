@@ -1,7 +1,7 @@
 -- The lines so far were answered in their order, and the pass is free.
 use Rattle.std.proofs.Common.{◌≡◌, length, take}
 use Rattle.host_calls.specs.Passes.{claims_of, logs_of, IsFree}
-use Rattle.shared_laws.specs.Callers.{Calls}
+use Rattle.shared_callers.specs.Callers.{AuthorisesAll}
 use Rattle.shared_callers.proofs.lane.Lane.answer.Given as goal
 
 abbrev pub invariant-loop-place : goal.invariant-loop-place
@@ -11,6 +11,6 @@ invariant-loop-place g l = record {
   lines : l.self.lines ≡ l.fn.self.lines;
   room : l.self.room ≡ l.fn.self.room;
   count : length l.self.answers.items ≡ l.place;
-  calls : Calls l.host.issuer (take l.place l.fn.self.lines.lines) l.self.answers.items (claims_of l.fn.self.pass)
+  calls : AuthorisesAll l.host.issuer (take l.place l.fn.self.lines.lines) l.self.answers.items (claims_of l.fn.self.pass)
       (logs_of l.fn.self.pass) (claims_of l.self.pass) (logs_of l.self.pass);
 }

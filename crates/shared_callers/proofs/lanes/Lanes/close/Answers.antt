@@ -1,6 +1,8 @@
 -- All others are joined into the first pass, and the close of the host with it says what all callers shared.
-use Rattle.std.proofs.Common.{ap, ◌∙◌, List, length}
+use Rattle.std.proofs.Common.{ap, ◌∙◌, List, length, take}
+use Rattle.std.proofs.lemmas.List.{length-map}
 use Rattle.issuer_base.specs.declared.answer.Answer.{Answer}
+use Rattle.issuer_base.specs.declared.limits.TheConstants.{KEPT_BYTES}
 use Rattle.shared_shards.specs.ShardSeats.{opening_in}
 use Rattle.shared_callers.proofs.Joining.{closed-lanes}
 use Rattle.shared_callers.proofs.lanes.Lanes.close.Goals as goal
@@ -20,4 +22,5 @@ returns g c =
       joined = c.join_all.ensures.joined;
       own = c.close.ensures.places;
       settled = c.close.ensures.claims;
-    }) c.close.ensures.stores (ap (λ (answers : List Answer). length answers) has.answers_are ∙ has.turns.answered) has.served
+    }) c.close.ensures.stores (ap (λ (answers : List Answer). length answers) has.answers_are ∙ has.turns.answered
+    ∙ length-map lines (take KEPT_BYTES)) has.served

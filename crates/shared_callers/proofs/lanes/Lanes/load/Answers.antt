@@ -40,7 +40,8 @@ invariant_of-dealer-clause-in_turn g c =
 
 pub invariant_of-result-clause-plain : goal.invariant_of-result-clause-plain
 invariant_of-result-clause-plain g c =
-    opened-plain g.S.Store.bytes g.S.Store.disk g.S.Store.faults c.args.issuer c.args.stores.items (opening_in c.in-Ok-load.made.0.turns) c.in-Ok-load.ensures.opening
+    opened-plain g.S.Store.bytes g.S.Store.disk g.S.Store.faults c.args.issuer c.args.stores.items
+    (opening_in c.in-Ok-load.made.0.turns) c.in-Ok-load.ensures.opening
 
 pub invariant_of-result-clause-some_room : goal.invariant_of-result-clause-some_room
 invariant_of-result-clause-some_room g c =

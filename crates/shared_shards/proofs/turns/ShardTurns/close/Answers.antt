@@ -13,8 +13,8 @@ use Rattle.shared_shards.specs.ShardSeats.{opening_in, StandForLogs}
 use Rattle.shared_shards.proofs.ListLemmas.{stand-each}
 use Rattle.shared_shards.proofs.turns.ShardTurns.close.Goals as goal
 
-pub release_all-requires-clause-room : goal.release_all-requires-clause-room
-release_all-requires-clause-room g c =
+pub release_all-requires : goal.release_all-requires
+release_all-requires g c =
     let held = c.close.result in
     let seen : List (Log LogItem LogHead) = (view_of c.args.seat).seen in
     let opening : List (Log LogItem LogHead) = opening_in c.args.self in
@@ -22,8 +22,7 @@ release_all-requires-clause-room g c =
     stand-length (λ (held : HeldShard _ g.S.Store) head items. StandsForLog held.shard head items) held.items seen c.close.ensures.values in
     let same : length seen ≡ length opening = heads-length seen opening c.requires.seat.of.heads in
     let few = c.args.self.turns.few in
-    let room = c.into_list-spare.ensures.1 in
-    omega (arith, held.ok, long, same, few, room)
+    omega (arith, held.ok, long, same, few)
 
 pub returns-clause-shards : goal.returns-clause-shards
 returns-clause-shards g c =

@@ -29,7 +29,8 @@ leave-requires-clause-value g c =
           let is = added-is (record_by called.call called.answer.now) _ (faults_in called.shard) (sym c.adds.ensures ∙ w.if-adds.true) in
           stands-held held (view_of c.if-adds.seat).seen c.args.number
           (subst (λ (seat : TurnSeat LogItem LogHead). StandsIn called.shard (view_of seat).seen c.args.number) (sym w.seat-is)
-          (stands-with called.shard view c.args.number added c.requires.stands (item_by (record_by called.call called.answer.now) (faults_in called.shard)) (view_of w.added.new.seat) is
+          (stands-with called.shard view c.args.number added c.requires.stands
+          (item_by (record_by called.call called.answer.now) (faults_in called.shard)) (view_of w.added.new.seat) is
           w.added.ensures.view))
       | else-adds w ↦
           let is = added-none added (sym c.adds.ensures ∙ w.if-adds.false) in

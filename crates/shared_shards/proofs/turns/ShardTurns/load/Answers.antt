@@ -1,5 +1,6 @@
 -- The shards stand for the logs that they open with.
 use Rattle.std.proofs.Common.{List, sym, subst}
+use Rattle.std.proofs.lemmas.Result.{IfOk-weaker}
 use Rattle.turn_book.specs.declared.logs.Log.{Log}
 use Rattle.shared_shards.specs.declared.logs.LogHead.{LogHead}
 use Rattle.shared_shards.specs.declared.logs.LogItem.{LogItem}
@@ -13,8 +14,15 @@ start-requires-clause-stand g c =
     c.hold_all.new.lists.held.items c.requires c.in-Ok.ensures
     c.hold_all.ensures.shards
 
-pub returns-in-Ok-start-clause-turns : goal.returns-in-Ok-start-clause-turns
-returns-in-Ok-start-clause-turns g c =
-    are-turns_of c.args.issuer.now c.args.stores.now.value.items c.args.shards.items _ c.requires
+pub returns-clause-opening : goal.returns-clause-opening
+returns-clause-opening g c =
+    IfOk-weaker c.start.result _ _ (λ made same.
+    subst (λ (logs : List (Log LogItem LogHead)). AreOpeningLogs c.args.issuer.now c.args.stores.now.value.items c.args.shards.items logs)
+    (sym same) c.in-Ok.ensures) c.start.ensures.opening
+
+pub returns-clause-turns : goal.returns-clause-turns
+returns-clause-turns g c =
+    IfOk-weaker c.start.result _ _ (λ made same.
+    are-turns_of c.args.issuer.now c.args.stores.now.value.items c.args.shards.items made.0 c.requires
     (subst (λ (logs : List (Log LogItem LogHead)). AreOpeningLogs c.args.issuer.now c.args.stores.now.value.items c.args.shards.items logs)
-    (sym c.in-Ok-start.ensures.opening) c.in-Ok.ensures)
+    (sym same) c.in-Ok.ensures)) c.start.ensures.opening
