@@ -10,16 +10,13 @@ use Rattle.issuer_base.specs.OutsideFaults.{Rose, CountsFaults}
 use Rattle.issuer_base.specs.declared.outside.DeskCall.TheVariants.{Log}
 use Rattle.issuer_base.specs.declared.outside.store.Store.{Ghosts}
 use Rattle.issuer_base.proofs.ManyCalls.{Rose-from_none}
-use Rattle.answer_text.specs.declared.stop_line.Stop.{Stop}
-use Rattle.answer_text.specs.declared.stop_line.Stop.TheVariants.{StoreFault as StopStoreFault}
-use Rattle.answer_text.specs.declared.stop_line.Stop.TheVariants.{NoMemory as StopNoMemory}
 use Rattle.issuer_setup.specs.IssuerSetup.{Setup}
 use Rattle.journal_rec.specs.RecordText.{texts_of}
 use Rattle.shard_book.specs.declared.replay.LoadFault.{LoadFault}
 use Rattle.shard_book.specs.declared.replay.LoadFault.TheVariants.{BadLine, BadRecord, StoreFault, NoMemory}
 use Rattle.shard_book.specs.Loads.{IsNotLoaded}
 use Rattle.one_caller.specs.Loading.{IsGivenBack, ComeBack}
-use Rattle.desk_host.specs.SeenStores.{Logged, SeenStore, store_seen}
+use Rattle.desk_host.specs.SeenStores.{Logged, store_seen}
 use Rattle.desk_host.specs.Journals.{journal_name, IsOpened, AreOpened}
 use Rattle.desk_host.specs.Loading.{DeskFaults, HasOpenedAll, HasLoaded, HaveLoadedBelow, GivesNoHost, IsUnopened}
 use Rattle.desk_host.specs.Loading.{is_log_fault, stop_of_load}
@@ -31,15 +28,6 @@ told-held : (P : List ℕ → Type 0) (held bytes : Option (List ℕ)) → IfSom
     → IfSome bytes P → IfSome held P
 told-held P None bytes same holds = tt
 told-held P (Some told) bytes same holds = subst (λ (b : Option (List ℕ)). IfSome b P) same holds
-
--- why there is no host, of the stores that are handed on with the cause
-pub no_host-given : (issuer : Setup) (prefix : List ℕ) (logs : Logged) (desk : DeskFaults)
-    (stores given : List SeenStore) (cause told : Stop)
-    → cause ≡ told → stores ≡ given → GivesNoHost issuer prefix logs desk given told
-    → GivesNoHost issuer prefix logs desk stores cause
-no_host-given issuer prefix logs desk stores given cause told same handed none =
-    subst (λ (c : Stop). GivesNoHost issuer prefix logs desk stores c) (sym same)
-    (subst (λ (ss : List SeenStore). GivesNoHost issuer prefix logs desk ss told) (sym handed) none)
 
 -- a store that was loaded from a new one, and is given back
 loaded-given : {S : Type 0} (G : Ghosts S) (issuer : Setup) (shard : ℕ) (held : Option (List ℕ)) (store back : S)
@@ -126,18 +114,18 @@ module _ {S : Type 0} (G : Ghosts S) (issuer : Setup) (prefix : List ℕ) (logs 
 
 -- a journal that can't be opened stops it, once those of the shards before were opened
 pub gives-unopened : {S : Type 0} (G : Ghosts S) (issuer : Setup) (prefix : List ℕ) (logs : Logged)
-    (desk : DeskFaults) (stores : List S) (shard faults : ℕ) (was : Option FailedCall) (cause : Stop)
-    → shard < issuer.shards → length stores ≡ shard → faults ≡ desk.before → IsUnopened shard cause
-    → CountsFaults faults desk.after (is_log_fault {T = Unit {0}} (Err cause))
-    → desk.last ≡ last_after Log (journal_name prefix shard) (is_log_fault {T = Unit {0}} (Err cause)) was
-    → GivesNoHost issuer prefix logs desk (map (store_seen G) stores) cause
-gives-unopened G issuer prefix logs desk stores shard faults was cause below count stood unopened counts last =
-    let P : Stop → Type 0 =
-    λ cause. CountsFaults faults desk.after (is_log_fault {T = Unit {0}} (Err cause))
-    → desk.last ≡ last_after Log (journal_name prefix shard) (is_log_fault {T = Unit {0}} (Err cause)) was
-    → GivesNoHost issuer prefix logs desk (map (store_seen G) stores) cause in
+    (desk : DeskFaults) (stores : List S) (shard faults : ℕ) (was : Option FailedCall) (fault : LoadFault)
+    → shard < issuer.shards → length stores ≡ shard → faults ≡ desk.before → IsUnopened fault
+    → CountsFaults faults desk.after (is_log_fault {T = Unit {0}} (Err fault))
+    → desk.last ≡ last_after Log (journal_name prefix shard) (is_log_fault {T = Unit {0}} (Err fault)) was
+    → GivesNoHost issuer prefix logs desk (map (store_seen G) stores) (stop_of_load fault shard)
+gives-unopened G issuer prefix logs desk stores shard faults was fault below count stood unopened counts last =
+    let P : LoadFault → Type 0 =
+    λ fault. CountsFaults faults desk.after (is_log_fault {T = Unit {0}} (Err fault))
+    → desk.last ≡ last_after Log (journal_name prefix shard) (is_log_fault {T = Unit {0}} (Err fault)) was
+    → GivesNoHost issuer prefix logs desk (map (store_seen G) stores) (stop_of_load fault shard) in
     ⊎_elim
-    (λ (failed : cause ≡ StopStoreFault shard).
+    (λ (failed : fault ≡ StoreFault).
     subst P (sym failed)
     (λ counts last. inl (record {
       within = below;
@@ -145,5 +133,5 @@ gives-unopened G issuer prefix logs desk stores shard faults was cause below cou
       rose = subst (λ (n : ℕ). Rose n desk.after) stood counts.counted;
       call_is = last;
     })))
-    (λ (none : cause ≡ StopNoMemory). subst P (sym none) (λ counts last. counts.counted ∙ stood))
+    (λ (none : fault ≡ NoMemory). subst P (sym none) (λ counts last. counts.counted ∙ stood))
     unopened counts last

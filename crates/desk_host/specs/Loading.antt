@@ -1,12 +1,13 @@
 -- Why the journals of an issuer's shards gave no host.
 use Rattle.std.specs.Prelude.{◌≡◌, ℕ, ◌<◌, ◌⊎◌, Bool, true, false, List, [], ◌++◌, length, slice_get, Option, Some}
-use Rattle.std.specs.Prelude.{IfSome, Result, Err, All}
+use Rattle.std.specs.Prelude.{IfSome, Result, Err, All, map}
 use Rattle.issuer_base.specs.Desk.{FailedCall}
 use Rattle.issuer_base.specs.OutsideFaults.{Rose}
 use Rattle.issuer_base.specs.Tells.{Tells}
 use Rattle.issuer_base.specs.declared.entry.Entry.{Entry}
 use Rattle.issuer_base.specs.declared.outside.Desk.{Ghosts as Desk}
 use Rattle.issuer_base.specs.declared.outside.DeskCall.TheVariants.{Log}
+use Rattle.issuer_base.specs.declared.outside.store.Store.{Ghosts as Store}
 use Rattle.answer_text.specs.declared.stop_line.Stop.{Stop}
 use Rattle.answer_text.specs.declared.stop_line.Stop.TheVariants.{Usage, Config, ReadFault, StoreFault, BadJournal}
 use Rattle.answer_text.specs.declared.stop_line.Stop.TheVariants.{NoMemory, TooLong, BadDol, BadData}
@@ -19,7 +20,8 @@ use Rattle.shard_book.specs.declared.replay.LoadFault.TheVariants.{BadLine, BadR
 use Rattle.shard_book.specs.declared.replay.LoadFault.TheVariants.{NoMemory as NoRoom}
 use Rattle.shard_book.specs.Grounds.{grounds_of}
 use Rattle.shard_book.specs.Loading.{StopsAt}
-use Rattle.desk_host.specs.SeenStores.{Logged, SeenStore}
+use Rattle.one_caller.specs.declared.loading.HostBack.{HostBack}
+use Rattle.desk_host.specs.SeenStores.{Logged, SeenStore, store_seen}
 use Rattle.desk_host.specs.Journals.{journal_name}
 use Rattle.desk_host.specs.Left.{LeaveJournals}
 
@@ -106,24 +108,25 @@ GivesNoHost issuer prefix logs desk stores (TooLong line) = ⊥
 GivesNoHost issuer prefix logs desk stores (BadDol at) = ⊥
 GivesNoHost issuer prefix logs desk stores (BadData at) = ⊥
 
--- there is no host, for this cause, and all whole lines of the journals that were opened stay
-pub record ComesToNoHost (issuer : Setup) (prefix : List ℕ) (logs : Logged) (desk : DeskFaults)
-    (stores : List SeenStore) (cause : Stop) : Type 0 where
-  pub why : GivesNoHost issuer prefix logs desk stores cause
-  pub left : LeaveJournals prefix logs stores
-
--- how a run stops where a shard can't be loaded
+-- how a run stops where this shard can't be opened or loaded
 abbrev pub stop_of_load : LoadFault → ℕ → Stop
 stop_of_load FailedStore shard = StoreFault shard
 stop_of_load (BadLine line) shard = BadJournal shard line
 stop_of_load (BadRecord line) shard = BadJournal shard line
 stop_of_load NoRoom shard = NoMemory
 
+-- a desk's journals gave no host, for the fault of this shard, and all whole lines of those that were opened stay
+pub record ComesToNoHost {D I J : Type 0} (desk : Desk D I J) (store : Store J) (issuer : Setup) (prefix : List ℕ)
+    (before after : D) (back : HostBack J) : Type 0 where
+  pub why : GivesNoHost issuer prefix (desk.logs before) (faults_seen desk before after)
+      (map (store_seen store) back.stores.items) (stop_of_load back.fault back.shard)
+  pub left : LeaveJournals prefix (desk.logs before) (map (store_seen store) back.stores.items)
+
 -- why a journal can't be opened
-abbrev pub IsUnopened : ℕ → Stop → Type 0
-IsUnopened shard stop = (stop ≡ StoreFault shard) ⊎ (stop ≡ NoMemory)
+abbrev pub IsUnopened : LoadFault → Type 0
+IsUnopened fault = (fault ≡ FailedStore) ⊎ (fault ≡ NoRoom)
 
 -- whether the desk failed at it
-abbrev pub is_log_fault : {T : Type 0} → Result T Stop → Bool
-is_log_fault (Err (StoreFault shard)) = true
+abbrev pub is_log_fault : {T : Type 0} → Result T LoadFault → Bool
+is_log_fault (Err FailedStore) = true
 is_log_fault _ = false

@@ -1,11 +1,10 @@
 //! The journals of an issuer's shards, opened at a desk and loaded.
-ghost use Rattle.std.specs.Prelude.{◌≡◌, ◌<◌, length, map, true, is_ok, string_bytes, IfOk, IfErr};
+ghost use Rattle.std.specs.Prelude.{◌≡◌, ◌<◌, length, true, is_ok, string_bytes, IfOk, IfErr};
 ghost use Rattle.issuer_base.specs.Desk.{last_after};
 ghost use Rattle.issuer_base.specs.OutsideFaults.{CountsFaults};
 ghost use Rattle.issuer_base.specs.declared.outside.DeskCall.TheVariants.{Log};
-ghost use Rattle.desk_host.specs.SeenStores.{store_seen};
 ghost use Rattle.desk_host.specs.Journals.{journal_name, IsOpened, AreOpened, IsSameElsewhere, IsReadySolo};
-ghost use Rattle.desk_host.specs.Loading.{ComesToNoHost, faults_seen, IsUnopened, is_log_fault, stop_of_load};
+ghost use Rattle.desk_host.specs.Loading.{ComesToNoHost, IsUnopened, is_log_fault, stop_of_load};
 
 use answer_text::Stop;
 use issuer_base::{Desk, DeskFault};
@@ -13,56 +12,27 @@ use issuer_setup::Issuer;
 use one_caller::{HostBack, LoadFault, Solo};
 use std::alloc::{AllocError, Global};
 
-/// Why the journals gave no host, and the stores of those that were opened.
-pub struct NoHost<S> {
-    /// How the run stops: a store failed, a journal is bad, or memory was wanting.
-    pub cause: Stop,
-    /// The stores, in the order of their shards.
-    pub stores: Vec<S>,
-}
-
 /// The host of one caller of an issuer, over the journals under these names: they are opened at the desk, and loaded.
 ///
-/// The first journal that can't be opened or loaded stops it, and the stores that were opened come back.
+/// The first journal that can't be opened or loaded stops it: its fault comes back with the stores that were opened.
 pub fn load_alone<D: Desk>(
     alloc: Global,
     desk: &mut D,
     prefix: &str,
     issuer: Issuer,
-) -> Result<Solo<D::Journal>, NoHost<D::Journal>>
+) -> Result<Solo<D::Journal>, HostBack<D::Journal>>
     ensures ready { IfOk result (IsReadySolo issuer prefix.now (D.logs desk.old)) }
     ensures some { IfOk result (λ host. 0 < host.issuer.shards) }
     ensures stood { is_ok result ≡ true → D.faults desk.new ≡ D.faults desk.old }
-    ensures none { IfErr result (λ back. ComesToNoHost issuer prefix.now (D.logs desk.old)
-        (faults_seen D.Desk desk.old desk.new)
-        (map (store_seen D.Journal.Store) back.stores.items) back.cause) }
+    ensures none { IfErr result (ComesToNoHost D.Desk D.Journal.Store issuer prefix.now desk.old desk.new) }
     ensures kept { D.holds desk.new ≡ D.holds desk.old }
 {
     let stores = open_journals(alloc, desk, prefix, &issuer)?;
-    match Solo::load(alloc, stores, issuer) {
-        Ok(host) => Ok(host),
-        Err(back) => Err(no_host(back)),
-    }
+    Solo::load(alloc, stores, issuer)
 }
 
-/// The stores of journals that gave no host, and why the run stops.
-pub fn no_host<S>(back: HostBack<S>) -> NoHost<S>
-    ensures cause { result.cause ≡ stop_of_load back.fault back.shard }
-    ensures stores { result.stores ≡ back.stores }
-{
-    let HostBack {
-        fault,
-        shard,
-        stores,
-    } = back;
-    NoHost {
-        cause: stop_of_load(fault, shard),
-        stores,
-    }
-}
-
-/// How a run stops where a shard can't be loaded.
-fn stop_of_load(fault: LoadFault, shard: u8) -> Stop
+/// How a run stops where this shard can't be opened or loaded.
+pub fn stop_of_load(fault: LoadFault, shard: u8) -> Stop
     ensures { result ≡ stop_of_load fault shard }
 {
     match fault {
@@ -72,34 +42,39 @@ fn stop_of_load(fault: LoadFault, shard: u8) -> Stop
     }
 }
 
-/// The stores of the journals of all shards of an issuer, in order, each new; the first journal that can't be opened
-/// stops it.
+/// The stores of the journals of all shards of an issuer, in order, each new. The first journal that can't be opened
+/// stops it: its fault comes back with the stores that were opened.
 pub fn open_journals<D: Desk>(
     alloc: Global,
     desk: &mut D,
     prefix: &str,
     issuer: &Issuer,
-) -> Result<Vec<D::Journal>, NoHost<D::Journal>>
+) -> Result<Vec<D::Journal>, HostBack<D::Journal>>
     ensures count { IfOk result (λ stores. length stores.items ≡ issuer.now.shards) }
     ensures some { 0 < issuer.now.shards }
     ensures opened { IfOk result (λ stores. AreOpened D.Journal.Store prefix.now (D.logs desk.old) stores.items) }
     ensures stood { is_ok result ≡ true → D.faults desk.new ≡ D.faults desk.old }
-    ensures none { IfErr result (λ back. ComesToNoHost issuer.now prefix.now (D.logs desk.old)
-        (faults_seen D.Desk desk.old desk.new)
-        (map (store_seen D.Journal.Store) back.stores.items) back.cause) }
+    ensures none { IfErr result (ComesToNoHost D.Desk D.Journal.Store issuer.now prefix.now desk.old desk.new) }
     ensures kept { D.holds desk.new ≡ D.holds desk.old }
 {
     let shards = issuer.shards();
     let Ok(mut stores) = Vec::with_capacity(alloc, usize::from(shards)) else {
-        return Err(NoHost {
-            cause: Stop::NoMemory,
+        return Err(HostBack {
+            fault: LoadFault::NoMemory,
+            shard: 0,
             stores: Vec::new(alloc),
         });
     };
     for shard in 0..shards {
         match open_journal(alloc, desk, prefix, shard) {
             Ok(store) => stores.push_reserved(store),
-            Err(cause) => return Err(NoHost { cause, stores }),
+            Err(fault) => {
+                return Err(HostBack {
+                    fault,
+                    shard,
+                    stores,
+                });
+            }
         }
     }
     Ok(stores)
@@ -111,22 +86,22 @@ fn open_journal<D: Desk>(
     desk: &mut D,
     prefix: &str,
     shard: u8,
-) -> Result<D::Journal, Stop>
+) -> Result<D::Journal, LoadFault>
     requires { shard < 100 }
     ensures opened { IfOk result (IsOpened D.Journal.Store (D.logs desk.old (journal_name prefix.now shard))) }
-    ensures cause { IfErr result (IsUnopened shard) }
+    ensures fault { IfErr result IsUnopened }
     ensures count { CountsFaults (D.faults desk.old) (D.faults desk.new) (is_log_fault result) }
     ensures last { D.last_fault desk.new ≡ last_after Log (journal_name prefix.now shard) (is_log_fault result)
         (D.last_fault desk.old) }
     ensures elsewhere { IsSameElsewhere D.Desk (journal_name prefix.now shard) desk.old desk.new }
 {
     let Ok(name) = journal_name(alloc, prefix, shard) else {
-        return Err(Stop::NoMemory);
+        return Err(LoadFault::NoMemory);
     };
     match desk.log(name.as_str()) {
         Ok(store) => Ok(store),
-        Err(DeskFault::Fault) => Err(Stop::StoreFault { shard }),
-        Err(DeskFault::NoMemory) => Err(Stop::NoMemory),
+        Err(DeskFault::Fault) => Err(LoadFault::StoreFault),
+        Err(DeskFault::NoMemory) => Err(LoadFault::NoMemory),
     }
 }
 

@@ -20,7 +20,7 @@ pub(crate) fn fill_dol<W: Sink>(texts: &DolTexts, out: &mut W) -> Ending
         (W.faults out.old) (W.faults out.new) result }
 {
     match filled_bytes(texts) {
-        Ok(filled) => tell(filled.as_slice(), out),
+        Ok(filled) => print_filled(filled.as_slice(), out),
         Err(stop) => stop_with(stop, out),
     }
 }
@@ -43,7 +43,7 @@ fn filled_bytes(texts: &DolTexts) -> Result<ArrayVec<u8, MAX_FILLED_BYTES>, Stop
 }
 
 /// Writes the line of a filled DOL, and says how the run ends.
-fn tell<W: Sink>(filled: &[u8], out: &mut W) -> Ending
+fn print_filled<W: Sink>(filled: &[u8], out: &mut W) -> Ending
     requires { length filled.now ≤ MAX_FILLED_BYTES }
     ensures { GivesText (W.held out.old) (W.held out.new) (W.faults out.old) (W.faults out.new)
         (bytes_text filled.now) result }

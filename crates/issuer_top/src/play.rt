@@ -19,13 +19,13 @@ pub(crate) fn play_world<W: Sink>(alloc: Global, size: WorldSize, out: &mut W) -
         (W.faults out.new) result }
 {
     match play(alloc, size.cards, size.steps, size.seed) {
-        Ok(summary) => tell(&summary, out),
+        Ok(summary) => print_summary(&summary, out),
         Err(NoMemory) => stop_with(Stop::NoMemory, out),
     }
 }
 
 /// Writes the text of a summary, and says how the run ends.
-fn tell<W: Sink>(summary: &Summary, out: &mut W) -> Ending
+fn print_summary<W: Sink>(summary: &Summary, out: &mut W) -> Ending
     ensures { GivesText (W.held out.old) (W.held out.new) (W.faults out.old) (W.faults out.new)
         (summary_text summary.now) result }
 {

@@ -1,19 +1,19 @@
 //! The top call.
-ghost use Rattle.std.specs.Prelude.{◌≡◌, ◌<◌, ℕ, List, [], map, None, Some, IfSome};
+ghost use Rattle.std.specs.Prelude.{◌≡◌, ◌<◌, ℕ, List, [], None, Some, IfSome};
 ghost use Rattle.std.specs.Option.{option_map};
 ghost use Rattle.issuer_setup.specs.IssuerSetup.{Setup};
 ghost use Rattle.desk_host.specs.Configuration.{HasSoundParts};
-ghost use Rattle.issuer_top.specs.Opening.{stop_of};
 ghost use Rattle.desk_host.specs.Journals.{IsReadySolo};
+ghost use Rattle.desk_host.specs.Loading.{stop_of_load};
 ghost use Rattle.line_serving.specs.Hosts.{callers_of, IsReady, HasServed, IsIdle};
-ghost use Rattle.issuer_top.specs.Stopping.{EndsServing, GivesStop};
-ghost use Rattle.desk_host.specs.SeenStores.{store_seen};
-ghost use Rattle.issuer_top.specs.Seen.{SeenDesk, IsSameDesk, seen_of, seen_by, desk_seen, input_seen};
-ghost use Rattle.issuer_top.specs.Seen.{sink_seen};
 ghost use Rattle.command_line.specs.Command.{IsCommand, IsGroup};
 ghost use Rattle.command_line.specs.Pairs.{request_file};
-ghost use Rattle.issuer_top.specs.Endings.{IsSetUp, EndsBy, Ends, Completes};
+ghost use Rattle.issuer_top.specs.Endings.{IsSetUp, Ends, Completes};
 ghost use Rattle.issuer_top.specs.Filling.{Fills};
+ghost use Rattle.issuer_top.specs.Opening.{stop_of};
+ghost use Rattle.issuer_top.specs.Seen.{IsSameDesk, seen_by};
+ghost use Rattle.issuer_top.specs.Status.{status_of};
+ghost use Rattle.issuer_top.specs.Stopping.{EndsServing, GivesStop};
 
 use crate::ending::{Ending, end_writing, status_of};
 use crate::filling::fill_dol;
@@ -21,12 +21,11 @@ use crate::play::play_world;
 use crate::stopping::stop_with;
 use answer_text::Stop;
 use command_line::{Names, Task, read_words};
-use desk_host::{NoHost, load_alone, read_issuer, show};
+use desk_host::{load_alone, read_issuer, show, stop_of_load};
 use issuer_base::{Desk, DeskFault, Gate, NoMemory, Sink, Store, Words};
 use issuer_setup::Issuer;
 use line_serving::{LineHost, Served, Server, load_host};
-use one_caller::Solo;
-use std::alloc::Global;
+use one_caller::{HostBack, Solo};
 use std::sync::Wait;
 use std::thread::Threads;
 
@@ -53,7 +52,7 @@ pub struct Ended<D: Desk> {
 ///
 /// The gate is told of each request line by its number, from 1: before it is answered and once it is. It may wait for
 /// the gate.
-pub fn issue<R, D, W, G>(rt: &R, words: &Words, mut desk: D, out: &mut W, gate: &G) -> Ended<D>
+pub fn issue<R, D, W, G>(rt: &R, words: &Words, desk: D, out: &mut W, gate: &G) -> Ended<D>
 where
     R: AllocGlobal + Threads + Wait + Sync,
     D: Desk,
@@ -74,236 +73,221 @@ where
     ensures fills { Fills result.status
         (seen_by D.Desk D.Input.Source D.Journal.Store W.Sink words.now desk result out.old out.new) }
 {
-    let Outcome {
-        ending,
-        config,
-        requests,
-        stores,
-    } = run(rt, words, &mut desk, out, gate);
-    Ended {
-        status: status_of(ending),
-        desk,
-        config,
-        requests,
-        stores,
+    Run { rt, gate, desk }.do_task(words, out)
+}
+
+/// What a run works with: the threads and the gate of its lines, and the desk.
+struct Run<'a, R, D, G> {
+    rt: &'a R,
+    gate: &'a G,
+    desk: D,
+}
+
+impl<R, D: Desk, G> Run<'_, R, D, G> {
+    /// What the run gives back where it ended so and opened this.
+    fn ended(
+        self,
+        ending: Ending,
+        config: Option<D::Input>,
+        requests: Option<D::Input>,
+        stores: Vec<D::Journal>,
+    ) -> Ended<D>
+        ensures { result ≡ record {
+          status = status_of ending;
+          desk = self.entry.desk;
+          config = config;
+          requests = requests;
+          stores = stores;
+        } }
+    {
+        let Run {
+            rt: _,
+            gate: _,
+            desk,
+        } = self;
+        Ended {
+            status: status_of(ending),
+            desk,
+            config,
+            requests,
+            stores,
+        }
+    }
+
+    /// Stops the run before its request file is opened: writes the last line, and gives back what was opened.
+    fn stop<W: Sink>(
+        self,
+        stop: Stop,
+        config: Option<D::Input>,
+        stores: Vec<D::Journal>,
+        out: &mut W,
+    ) -> Ended<D>
+        ensures { (ending : Ending)
+            × GivesStop (W.held out.old) (W.held out.new) (W.faults out.old) (W.faults out.new) stop ending
+            × (result ≡ record
+            { status = status_of ending; desk = self.entry.desk; config = config; requests = None; stores = stores }) }
+    {
+        let ending = stop_with(stop, out);
+        self.ended(ending, config, None, stores)
+    }
+
+    /// Stops the run whose journals gave no host.
+    fn not_loaded<W: Sink>(
+        self,
+        back: HostBack<D::Journal>,
+        config: D::Input,
+        out: &mut W,
+    ) -> Ended<D>
+        ensures { (ending : Ending)
+            × GivesStop (W.held out.old) (W.held out.new) (W.faults out.old) (W.faults out.new)
+            (stop_of_load back.fault back.shard) ending
+            × (result ≡ record {
+              status = status_of ending;
+              desk = self.entry.desk;
+              config = Some config;
+              requests = None;
+              stores = back.stores;
+            }) }
+    {
+        let HostBack {
+            fault,
+            shard,
+            stores,
+        } = back;
+        self.stop(stop_of_load(fault, shard), Some(config), stores, out)
+    }
+
+    /// Shows all cards of the host.
+    fn show_cards<W: Sink>(self, host: Solo<D::Journal>, config: D::Input, out: &mut W) -> Ended<D>
+        requires { 0 < host.issuer.shards }
+        ensures { (words : List (List ℕ)) (given : D) (journal : List ℕ) (issuer : Setup)
+            → let seen = seen_by D.Desk D.Input.Source D.Journal.Store W.Sink words given result out.old out.new in
+            IsSetUp seen None journal issuer → IsReadySolo issuer journal (D.logs given) host → HasSoundParts issuer
+            → D.faults self.entry.desk ≡ D.faults given → Ends result.status seen }
+    {
+        let ending = end_writing(show(&host, out));
+        self.ended(ending, Some(config), None, host.close())
     }
 }
 
-/// How a run ended, and all that it opened.
-struct Outcome<I, J> {
-    ending: Ending,
-    config: Option<I>,
-    requests: Option<I>,
-    stores: Vec<J>,
-}
-
-/// Reads the words, does what they ask for, and says how the run ended.
-fn run<R, D, W, G>(
-    rt: &R,
-    words: &Words,
-    desk: &mut D,
-    out: &mut W,
-    gate: &G,
-) -> Outcome<D::Input, D::Journal>
+impl<R, D, G> Run<'_, R, D, G>
 where
     R: AllocGlobal + Threads + Wait + Sync,
     D: Desk,
     D::Journal: Send,
-    W: Sink,
     G: Gate + Sync,
-    ensures { EndsBy (seen_of words.now (desk_seen D.Desk desk.old desk.new)
-        (option_map (input_seen D.Input.Source) result.config) (option_map (input_seen D.Input.Source) result.requests)
-        (map (store_seen D.Journal.Store) result.stores.items) (sink_seen W.Sink out.old out.new)) result.ending }
 {
-    let alloc = rt.alloc();
-    match read_words(words) {
-        Some(Task::Host(names)) => run_host(rt, names, desk, out, gate),
-        Some(Task::Play(size)) => nothing_opened(alloc, play_world(alloc, size, out)),
-        Some(Task::Fill(texts)) => nothing_opened(alloc, fill_dol(&texts, out)),
-        None => nothing_opened(alloc, stop_with(Stop::Usage, out)),
-    }
-}
-
-/// How a run ended that opened nothing.
-fn nothing_opened<I, J>(alloc: Global, ending: Ending) -> Outcome<I, J>
-    ensures ending { result.ending ≡ ending }
-    ensures no_config { result.config ≡ None }
-    ensures no_requests { result.requests ≡ None }
-    ensures no_stores { result.stores.items ≡ [] }
-{
-    Outcome {
-        ending,
-        config: None,
-        requests: None,
-        stores: Vec::new(alloc),
-    }
-}
-
-/// Reads the configuration, loads the journals, and does what the command asks.
-fn run_host<R, D, W, G>(
-    rt: &R,
-    names: Names<'_>,
-    desk: &mut D,
-    out: &mut W,
-    gate: &G,
-) -> Outcome<D::Input, D::Journal>
-where
-    R: AllocGlobal + Threads + Wait + Sync,
-    D: Desk,
-    D::Journal: Send,
-    W: Sink,
-    G: Gate + Sync,
-    requires { IfSome names.requests (λ requests. IsGroup requests.callers) }
-    ensures { (words : List (List ℕ)) → IsCommand words names.entry.config.now
-        (option_map request_file names.entry.requests) names.entry.journal.now
-        → EndsBy (seen_of words (desk_seen D.Desk desk.old desk.new)
-        (option_map (input_seen D.Input.Source) result.config) (option_map (input_seen D.Input.Source) result.requests)
-        (map (store_seen D.Journal.Store) result.stores.items) (sink_seen W.Sink out.old out.new)) result.ending }
-{
-    let alloc = rt.alloc();
-    let mut config = match desk.read(names.config) {
-        Ok(config) => config,
-        Err(fault) => {
-            let ending = stop_with(stop_at(fault), out);
-            return nothing_opened(alloc, ending);
+    /// Reads the words, and does what they ask for.
+    fn do_task<W: Sink>(self, words: &Words, out: &mut W) -> Ended<D>
+        ensures { Ends result.status
+            (seen_by D.Desk D.Input.Source D.Journal.Store W.Sink words.now self.entry.desk result out.old out.new) }
+    {
+        let alloc = self.rt.alloc();
+        match read_words(words) {
+            Some(Task::Host(names)) => self.run_host(names, out),
+            Some(Task::Play(size)) => {
+                let ending = play_world(alloc, size, out);
+                self.ended(ending, None, None, Vec::new(alloc))
+            }
+            Some(Task::Fill(texts)) => {
+                let ending = fill_dol(&texts, out);
+                self.ended(ending, None, None, Vec::new(alloc))
+            }
+            None => self.stop(Stop::Usage, None, Vec::new(alloc), out),
         }
-    };
-    let issuer = match read_issuer(alloc, &mut config) {
-        Ok(issuer) => issuer,
-        Err(cause) => {
-            return Outcome {
-                ending: stop_with(cause, out),
-                config: Some(config),
-                requests: None,
-                stores: Vec::new(alloc),
-            };
+    }
+
+    /// Reads the configuration, loads the journals, and does what the command asks.
+    fn run_host<W: Sink>(mut self, names: Names<'_>, out: &mut W) -> Ended<D>
+        requires { IfSome names.requests (λ requests. IsGroup requests.callers) }
+        ensures { (words : List (List ℕ)) → IsCommand words names.entry.config.now
+            (option_map request_file names.entry.requests) names.entry.journal.now
+            → Ends result.status
+            (seen_by D.Desk D.Input.Source D.Journal.Store W.Sink words self.entry.desk result out.old out.new) }
+    {
+        let alloc = self.rt.alloc();
+        let mut config = match self.desk.read(names.config) {
+            Ok(config) => config,
+            Err(fault) => return self.stop(stop_of(fault), None, Vec::new(alloc), out),
+        };
+        match read_issuer(alloc, &mut config) {
+            Ok(issuer) => self.do_command(issuer, config, names, out),
+            Err(cause) => self.stop(cause, Some(config), Vec::new(alloc), out),
         }
-    };
-    do_command(rt, issuer, config, names, desk, out, gate)
+    }
+
+    /// Loads the journals of an issuer, and answers all lines of the request file, or shows all cards if there is none.
+    fn do_command<W: Sink>(
+        mut self,
+        issuer: Issuer,
+        config: D::Input,
+        names: Names<'_>,
+        out: &mut W,
+    ) -> Ended<D>
+        requires { IfSome names.requests (λ requests. IsGroup requests.callers) }
+        ensures { (words : List (List ℕ)) (given : D)
+            → let seen = seen_by D.Desk D.Input.Source D.Journal.Store W.Sink words given result out.old out.new in
+            IsSetUp seen (option_map request_file names.entry.requests) names.entry.journal.now issuer
+            → HasSoundParts issuer → IsSameDesk D.Desk given self.entry.desk
+            → D.logs self.entry.desk ≡ D.logs given → Ends result.status seen }
+    {
+        let alloc = self.rt.alloc();
+        match names.requests {
+            None => match load_alone(alloc, &mut self.desk, names.journal, issuer) {
+                Ok(host) => self.show_cards(host, config, out),
+                Err(back) => self.not_loaded(back, config, out),
+            },
+            Some(requests) => {
+                match load_host(
+                    alloc,
+                    &mut self.desk,
+                    names.journal,
+                    issuer,
+                    requests.callers,
+                ) {
+                    Ok(host) => self.serve_requests(host, config, requests.file, out),
+                    Err(back) => self.not_loaded(back, config, out),
+                }
+            }
+        }
+    }
+
+    /// Answers all lines of the request file under this name.
+    fn serve_requests<W: Sink>(
+        mut self,
+        mut host: LineHost<D::Journal>,
+        config: D::Input,
+        name: &str,
+        out: &mut W,
+    ) -> Ended<D>
+        requires idle { IsIdle host 0 }
+        ensures { (words : List (List ℕ)) (given : D) (journal : List ℕ) (issuer : Setup)
+            → let seen = seen_by D.Desk D.Input.Source D.Journal.Store W.Sink words given result out.old out.new in
+            IsSetUp seen (Some (record { name = name.now; callers = callers_of host })) journal issuer
+            → IsReady issuer journal (D.logs given) host → HasServed host [] [] [] host
+            → HasSoundParts issuer → IsSameDesk D.Desk given self.entry.desk → Ends result.status seen }
+    {
+        let mut server = match Server::new(self.rt.alloc()) {
+            Ok(server) => server,
+            Err(NoMemory) => return self.stop(Stop::NoMemory, Some(config), host.close(), out),
+        };
+        let mut requests = match self.desk.read(name) {
+            Ok(requests) => requests,
+            Err(fault) => return self.stop(stop_of(fault), Some(config), host.close(), out),
+        };
+        let served = server.serve(self.rt, self.gate, &mut host, &mut requests, out);
+        let ending = end_serving(served, out);
+        self.ended(ending, Some(config), Some(requests), host.close())
+    }
 }
 
 /// Why a run stops where the desk gives no input.
-fn stop_at(fault: DeskFault) -> Stop
+fn stop_of(fault: DeskFault) -> Stop
     ensures { result ≡ stop_of fault }
 {
     match fault {
         DeskFault::Fault => Stop::ReadFault,
         DeskFault::NoMemory => Stop::NoMemory,
-    }
-}
-
-/// Loads the journals of an issuer, and answers all lines of the request file, or shows all cards if there is none.
-fn do_command<R, D, W, G>(
-    rt: &R,
-    issuer: Issuer,
-    config: D::Input,
-    names: Names<'_>,
-    desk: &mut D,
-    out: &mut W,
-    gate: &G,
-) -> Outcome<D::Input, D::Journal>
-where
-    R: AllocGlobal + Threads + Wait + Sync,
-    D: Desk,
-    D::Journal: Send,
-    W: Sink,
-    G: Gate + Sync,
-    requires { IfSome names.requests (λ requests. IsGroup requests.callers) }
-    ensures { (words : List (List ℕ)) (given : D)
-        → let seen =
-        seen_of words (desk_seen D.Desk given desk.new) (option_map (input_seen D.Input.Source) result.config)
-        (option_map (input_seen D.Input.Source) result.requests)
-        (map (store_seen D.Journal.Store) result.stores.items) (sink_seen W.Sink out.old out.new) in
-        IsSetUp seen (option_map request_file
-        names.entry.requests) names.entry.journal.now issuer → HasSoundParts issuer
-        → IsSameDesk D.Desk given desk.old → D.logs desk.old ≡ D.logs given → EndsBy seen result.ending }
-{
-    let alloc = rt.alloc();
-    match names.requests {
-        None => match load_alone(alloc, desk, names.journal, issuer) {
-            Ok(host) => show_cards::<D, W>(host, config, out),
-            Err(back) => not_loaded(back, config, out),
-        },
-        Some(requests) => {
-            match load_host(alloc, desk, names.journal, issuer, requests.callers) {
-                Ok(host) => serve_requests(rt, host, config, desk, requests.file, out, gate),
-                Err(back) => not_loaded(back, config, out),
-            }
-        }
-    }
-}
-
-/// How a run ends whose journals gave no host.
-fn not_loaded<I, J, W: Sink>(back: NoHost<J>, config: I, out: &mut W) -> Outcome<I, J>
-    ensures config { result.config ≡ Some config }
-    ensures requests { result.requests ≡ None }
-    ensures stores { result.stores ≡ back.stores }
-    ensures ending { GivesStop (W.held out.old) (W.held out.new) (W.faults out.old) (W.faults out.new) back.cause
-        result.ending }
-{
-    let NoHost { cause, stores } = back;
-    Outcome {
-        ending: stop_with(cause, out),
-        config: Some(config),
-        requests: None,
-        stores,
-    }
-}
-
-/// Answers all lines of the request file under this name.
-fn serve_requests<R, D, W, G>(
-    rt: &R,
-    mut host: LineHost<D::Journal>,
-    config: D::Input,
-    desk: &mut D,
-    name: &str,
-    out: &mut W,
-    gate: &G,
-) -> Outcome<D::Input, D::Journal>
-where
-    R: AllocGlobal + Threads + Wait + Sync,
-    D: Desk,
-    D::Journal: Send,
-    W: Sink,
-    G: Gate + Sync,
-    requires idle { IsIdle host 0 }
-    ensures { (words : List (List ℕ)) (given : D) (journal : List ℕ) (issuer : Setup)
-        → let seen =
-        seen_of words (desk_seen D.Desk given desk.new) (option_map (input_seen D.Input.Source) result.config)
-        (option_map (input_seen D.Input.Source) result.requests)
-        (map (store_seen D.Journal.Store) result.stores.items) (sink_seen W.Sink out.old out.new) in
-        IsSetUp seen (Some (record { name = name.now; callers = callers_of host })) journal issuer
-        → IsReady issuer journal (D.logs given) host → HasServed host [] [] [] host
-        → HasSoundParts issuer → IsSameDesk D.Desk given desk.old → EndsBy seen result.ending }
-{
-    let mut server = match Server::new(rt.alloc()) {
-        Ok(server) => server,
-        Err(NoMemory) => {
-            return Outcome {
-                ending: stop_with(Stop::NoMemory, out),
-                config: Some(config),
-                requests: None,
-                stores: host.close(),
-            };
-        }
-    };
-    let mut requests = match desk.read(name) {
-        Ok(requests) => requests,
-        Err(fault) => {
-            return Outcome {
-                ending: stop_with(stop_at(fault), out),
-                config: Some(config),
-                requests: None,
-                stores: host.close(),
-            };
-        }
-    };
-    let served = server.serve(rt, gate, &mut host, &mut requests, out);
-    Outcome {
-        ending: end_serving(served, out),
-        config: Some(config),
-        requests: Some(requests),
-        stores: host.close(),
     }
 }
 
@@ -316,29 +300,5 @@ fn end_serving<W: Sink>(served: Served, out: &mut W) -> Ending
         Served::ReadFault => stop_with(Stop::ReadFault, out),
         Served::WriteFault => Ending::WriteFault,
         Served::TooLong { line } => stop_with(Stop::TooLong { line }, out),
-    }
-}
-
-/// Shows all cards of the host.
-fn show_cards<D: Desk, W: Sink>(
-    host: Solo<D::Journal>,
-    config: D::Input,
-    out: &mut W,
-) -> Outcome<D::Input, D::Journal>
-    requires { 0 < host.issuer.shards }
-    ensures { (words : List (List ℕ)) (desk : SeenDesk) (journal : List ℕ) (issuer : Setup)
-        → let seen = seen_of words desk (option_map (input_seen D.Input.Source) result.config)
-        (option_map (input_seen D.Input.Source) result.requests)
-        (map (store_seen D.Journal.Store) result.stores.items) (sink_seen W.Sink out.old out.new) in
-        IsSetUp seen None journal issuer → IsReadySolo issuer journal desk.logs host → HasSoundParts issuer
-        → desk.faults_after ≡ desk.faults_before
-        → EndsBy seen result.ending }
-{
-    let ending = end_writing(show(&host, out));
-    Outcome {
-        ending,
-        config: Some(config),
-        requests: None,
-        stores: host.close(),
     }
 }

@@ -1,7 +1,5 @@
 -- The lemmas of this crate.
 pub mod ServingSteps
-pub mod DealtAnswers
-pub mod SharesOfCallers
 pub mod AloneSteps
 pub mod TogetherSteps
 pub mod LoadingTogether

@@ -22,7 +22,7 @@ use Rattle.line_serving.specs.declared.serve.Served.{Served}
 use Rattle.line_serving.specs.declared.serve.Served.TheVariants.{All, ReadFault, TooLong}
 use Rattle.line_serving.specs.Answered.{WasRead, AreWholeLines, AreLinesBefore, AreFirstLines}
 use Rattle.line_serving.specs.Hosts.{TakesLine}
-use Rattle.line_serving.specs.Serving.{ServesLines, Serves, WritesDue, EndsBy}
+use Rattle.line_serving.specs.Serving.{ServesLines, Serves, WritesDue, Finishes}
 
 -- ---- what an input had
 
@@ -368,7 +368,7 @@ module _ (Before After : List (List ℕ) → List ℕ → List (List ℕ) → Ty
 
   module _ (later : Option (List ℕ)) (how result : Served)
       (ends : (answered : List (List ℕ)) (text : List ℕ) (waiting : List (List ℕ)) → Before answered text waiting
-      → EndsBy After answered text waiting due held next how result) where
+      → Finishes After answered text waiting due held next how result) where
     -- serving ended so, once these bytes more were read; `Which` says which lines were answered
     ends_reading : (Which : List ℕ → List ℕ → List (List ℕ) → Type 0) (given : List ℕ) → Consumes now later given
         → ((file : List ℕ) → Which file (so_far.read ++ given) so_far.whole)
@@ -406,7 +406,7 @@ module _ (Before After : List (List ℕ) → List ℕ → List (List ℕ) → Ty
   -- the input failed
   pub serves-fault : (new : Reading) (later : Option (List ℕ)) (result : Served) → StopsAtFault now later reader new
       → ((answered : List (List ℕ)) (text : List ℕ) (waiting : List (List ℕ)) → Before answered text waiting
-      → EndsBy After answered text waiting due held next ReadFault result)
+      → Finishes After answered text waiting due held next ReadFault result)
       → Serves (AnswersAll After) was later held_before next result
   serves-fault new later result stops ends =
       let behind = reader.ahead ++ stops.given in
@@ -425,7 +425,7 @@ module _ (Before After : List (List ℕ) → List ℕ → List (List ℕ) → Ty
   pub serves-limit : (new : Reading) (later : Option (List ℕ)) (number : ℕ) (result : Served)
       → StopsAtLimit now later reader new → number ≡ reader.lines + 1
       → ((answered : List (List ℕ)) (text : List ℕ) (waiting : List (List ℕ)) → Before answered text waiting
-      → EndsBy After answered text waiting due held next (TooLong number) result)
+      → Finishes After answered text waiting due held next (TooLong number) result)
       → Serves (AnswersAll After) was later held_before next result
   serves-limit new later number result stops counted ends =
       ends_reading later (TooLong number) result ends (λ file read asked. AreLinesBefore number read asked) stops.given
@@ -445,7 +445,7 @@ module _ (Before After : List (List ℕ) → List ℕ → List (List ℕ) → Ty
     (was now held_before held next : Option (List ℕ)) (due : List ℕ)
     (result : Served) (so_far : HasReadFile Before was now held_before held due) where
   pub serves-file : ((answered : List (List ℕ)) (text : List ℕ) (waiting : List (List ℕ)) → Before answered text waiting
-      → EndsBy After answered text waiting due held next All result) → Serves (AnswersAll
+      → Finishes After answered text waiting due held next All result) → Serves (AnswersAll
       After) was now held_before next result
   serves-file ends =
       let end = ends so_far.taken.answered (so_far.taken.early ++ due) so_far.taken.waiting so_far.taken.served in

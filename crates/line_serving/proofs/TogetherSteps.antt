@@ -1,10 +1,10 @@
 -- The host of several callers: a line more, and what it leaves.
-use Rattle.std.proofs.Common.{◌≡◌, ℕ, ◌+◌, ◌-◌, ◌^◌, ◌<◌, ◌≤◌, zero, suc, List, [], ◌∷◌, ◌++◌, length, take, map}
+use Rattle.std.proofs.Common.{◌≡◌, ℕ, ◌+◌, ◌-◌, ◌^◌, ◌<◌, ◌≤◌, zero, suc, List, [], ◌∷◌, ◌++◌, length, map}
 use Rattle.std.proofs.Common.{None, Some}
-use Rattle.std.proofs.Common.{refl, sym, ap, subst, ◌∙◌, arith, append-nil, append_assoc}
+use Rattle.std.proofs.Common.{refl, sym, ap, subst, ◌∙◌, arith, append-nil, append_assoc, length-append}
 use Rattle.std.specs.Prelude.{slice_get, slice_index_or, IfSome, All}
 use Rattle.std.proofs.Math.Path.{fun_ext}
-use Rattle.std.proofs.lemmas.List.{length-map, take_all, flat_map_more}
+use Rattle.std.proofs.lemmas.List.{length-map, flat_map_more}
 use Rattle.std.proofs.lemmas.Grind.{flat_map-append}
 use Rattle.std.proofs.lemmas.Option.{slice_get_within}
 use Rattle.std.specs.List.{flat_map}
@@ -20,43 +20,32 @@ use Rattle.journal_rec.specs.Record.{IsRecord}
 use Rattle.journal_rec.specs.RecordText.{texts_of}
 use Rattle.line_reader.specs.declared.limits.TheConstants.{MAX_LINES}
 use Rattle.line_reader.specs.Reading.{kept}
-use Rattle.line_checks.proofs.KeptLines.{reading-kept}
 use Rattle.answer_text.specs.AnswerText.{printed}
-use Rattle.shared_seats.specs.Totals.{total}
-use Rattle.claim_words.specs.declared.view.ClaimView.{ClaimView}
-use Rattle.claim_words.specs.ClaimViews.{claims_on, times, is_live, is_kept, is_any}
+use Rattle.shared_seats.specs.Totals.{total, how_many}
 use Rattle.turn_book.specs.declared.logs.Log.{Log}
-use Rattle.turn_book.specs.declared.view.TurnView.{TurnView}
 use Rattle.turn_book.specs.Logs.{items_at}
 use Rattle.turn_book.specs.TurnRule.{between}
-use Rattle.turn_book.specs.TurnViews.{times as times_placed}
 use Rattle.shard_book.specs.Grounds.{grounds_of}
+use Rattle.shard_book.specs.Histories.{GoesOn}
 use Rattle.shared_shards.specs.declared.logs.LogItem.{LogItem}
 use Rattle.shared_shards.specs.declared.logs.LogItem.TheVariants.{Record}
 use Rattle.shared_shards.specs.declared.logs.LogHead.{LogHead}
 use Rattle.shared_shards.specs.ShardLogs.{records_of, faults_of, RiseTo}
-use Rattle.host_calls.specs.Authorising.{Authorises}
 use Rattle.one_caller.specs.Books.{Book, histories_of}
 use Rattle.host_calls.specs.Closing.{book_of, IsClosed, AreClosed}
 use Rattle.one_caller.specs.OneHistory.{AreRecorded, GoOnLegally, HasFailed, LegallyGoesOn}
-use Rattle.host_calls.specs.OpeningLogs.{opened_on, IsOpenedFrom, AreOpenedFrom}
-use Rattle.shared_laws.specs.Callers.{Calls, Caller, IsCaller, AreCallers}
-use Rattle.shared_laws.specs.Explained.{history_at, histories_in}
-use Rattle.shared_laws.specs.Explained.{AreExplained as AreCallersExplained}
-use Rattle.shared_laws.specs.FaultCounts.{all_answers, AreFaultsCounted}
-use Rattle.shared_laws.specs.OwnPlaces.{AreOwnPlaces as AreCallersOwnPlaces}
-use Rattle.shared_laws.specs.Settled.{TellNoFault}
-use Rattle.shared_laws.specs.Settled.{AreSettled as AreCallersSettled}
+use Rattle.host_calls.specs.OpeningLogs.{IsOpenedFrom, AreOpenedFrom}
+use Rattle.shared_callers.specs.Explained.{AreExplained, history_at, histories_in}
+use Rattle.shared_callers.specs.FaultCounts.{all_answers}
+use Rattle.shared_callers.specs.Laws.{AreLawfulShares}
+use Rattle.shared_callers.specs.OwnPlaces.{AreOwnPlaces, is_record_at, answers_at, faults_told, all_faults_told, faults_at}
+use Rattle.shared_callers.specs.Settled.{AreSettled, TellNoFault}
+use Rattle.shared_callers.specs.Shares.{Share, AreDealt, history_in, faults_told_in}
 use Rattle.shared_callers.specs.Dealing.{every}
-use Rattle.shared_callers.specs.Dealing.{AreDealt as AreDealtToCallers}
 use Rattle.shared_callers.specs.declared.lanes.Lanes.{Lanes}
 use Rattle.shared_callers.specs.Lanes.{issuer_in, opening_logs, callers_in, HasSameHost, HasClosed}
-use Rattle.shared_callers.specs.Lanes.{HasServed as LanesServe}
+use Rattle.shared_callers.specs.Lanes.{LanesServe}
 use Rattle.line_serving.specs.Answers.{AreAnsweredTogether, ByCallers}
-use Rattle.line_serving.specs.Explained.{AreExplained}
-use Rattle.line_serving.specs.OwnPlaces.{AreOwnPlaces, all_faults_told}
-use Rattle.line_serving.specs.Settled.{AreSettled}
-use Rattle.line_serving.specs.Shares.{Share, history_in, told_in}
 use Rattle.desk_host.specs.Configuration.{HasSoundParts}
 use Rattle.line_serving.specs.Hosts.{TakesLine, Settles, LeavesAnswered, LeavesLoaded, IsReadyTogether, HaveAnswered}
 use Rattle.desk_host.specs.Journals.{journal_name, IsOpened, AreOpened}
@@ -64,164 +53,10 @@ use Rattle.desk_host.specs.Lawful.{IsLawful}
 use Rattle.desk_host.specs.Kept.{WasJournal, KeepsJournal, KeepJournals}
 use Rattle.desk_host.specs.SeenStores.{Logged, SeenStore, store_seen}
 use Rattle.desk_host.proofs.CrashSteps.{crash-leaves, leaves-now}
-use Rattle.line_serving.proofs.DealtAnswers.{answers-dealt}
-use Rattle.line_serving.proofs.SharesOfCallers.{shares_of, faults_at, mapped-at, dealt-shares, explained-shares}
-use Rattle.line_serving.proofs.SharesOfCallers.{own-shares, faults-shares, settled-shares}
+use Rattle.shared_callers.proofs.DealtAnswers.{answers-dealt}
+use Rattle.shared_callers.proofs.Lists.{mapped-at}
 use Rattle.desk_host.proofs.KeptSteps.{at-place, mapped, held-told}
 use Rattle.desk_host.proofs.WorldLaws.{is-lawful}
-
--- ---- lines as far as they are kept
-
-every-map : {A B : Type 0} (f : A → B) (count skip : ℕ) (xs : List A)
-    → every count skip (map f xs) ≡ map f (every count skip xs)
-every-map f count skip [] = refl
-every-map f count zero (x ∷ xs) = ap (λ rest. f x ∷ rest) (every-map f count (count - 1) xs)
-every-map f count (suc skip) (x ∷ xs) = every-map f count skip xs
-
--- calls with lines cut to what is kept of them are those with the lines
-calls-kept : (issuer : Setup) (asked : List (List ℕ)) (answers : List Answer) (claims : ClaimView)
-    (logs : TurnView LogItem LogHead)
-    (claims_now : ClaimView) (logs_now : TurnView LogItem LogHead)
-    → Calls issuer (map kept asked) answers claims logs claims_now logs_now
-    → Calls issuer asked answers claims logs claims_now logs_now
-calls-kept issuer [] [] claims logs claims_now logs_now calls = calls
-calls-kept issuer (line ∷ asked) (answer ∷ answers) claims logs claims_now logs_now calls = (
-  calls.0,
-  calls.1,
-  subst (λ says. Authorises issuer says claims logs answer calls.0 calls.1) (reading-kept issuer line) calls.2,
-  calls-kept issuer asked answers calls.0 calls.1 claims_now logs_now calls.3,
-)
-calls-kept issuer [] (answer ∷ answers) claims logs claims_now logs_now calls = absurd calls
-calls-kept issuer (line ∷ asked) [] claims logs claims_now logs_now calls = absurd calls
-
--- callers, from the one of this number on, with the lines of their turns
-abbrev with_turns : ℕ → ℕ → List (List ℕ) → List Caller → List Caller
-with_turns count number asked [] = []
-with_turns count number asked (caller ∷ callers) =
-    record caller { lines = every count number asked } ∷ with_turns count (suc number) asked callers
-
--- the caller at a place of them
-record IsAt (count number : ℕ) (asked : List (List ℕ)) (callers : List Caller) (place : ℕ)
-    (caller : Caller) : Type 0 where
-  was : Caller
-  was_at : slice_get callers place ≡ Some was
-  is : caller ≡ record was { lines = every count (number + place) asked }
-
-turns-at : (count number : ℕ) (asked : List (List ℕ)) (callers : List Caller) (place : ℕ) (caller : Caller)
-    → slice_get (with_turns count number asked callers) place ≡ Some caller
-    → IsAt count number asked callers place caller
-turns-at count number asked [] place caller is = absurd (let e : None ≡ Some caller = is in cc)
-turns-at count number asked (first ∷ callers) zero caller is = record {
-  was = first;
-  was_at = refl;
-  is = let e : Some (record first { lines = every count number asked }) ≡ Some caller = is in
-      (let same : record first { lines = every count number asked } ≡ caller = cc in
-      sym same ∙ ap (λ (n : ℕ). record first { lines = every count n asked }) (omega arith));
-}
-turns-at count number asked (first ∷ callers) (suc place) caller is =
-    let rest = turns-at count (suc number) asked callers place caller is in
-    record {
-      was = rest.was;
-      was_at = rest.was_at;
-      is = rest.is ∙ ap (λ (n : ℕ). record rest.was { lines = every count n asked }) (omega arith);
-    }
-
--- and of those from the first one on
-first-turn : (count : ℕ) (asked : List (List ℕ)) (callers : List Caller) (place : ℕ) (caller : Caller)
-    → slice_get (with_turns count 0 asked callers) place ≡ Some caller
-    → (was : Caller) × (slice_get callers place ≡ Some was) × (caller ≡ record was { lines = every count place asked })
-first-turn count asked callers place caller is =
-    let at = turns-at count 0 asked callers place caller is in
-    (at.was, at.was_at, at.is ∙ ap (λ (n : ℕ). record at.was { lines = every count n asked }) (omega arith))
-
-length-turns : (count number : ℕ) (asked : List (List ℕ)) (callers : List Caller)
-    → length (with_turns count number asked callers) ≡ length callers
-length-turns count number asked [] = refl
-length-turns count number asked (caller ∷ callers) = ap suc (length-turns count (suc number) asked callers)
-
--- a sum over callers that doesn't look at their lines
-total-turns : (f : Caller → ℕ) → ((caller : Caller) (asked : List (List ℕ))
-    → f (record caller { lines = asked }) ≡ f caller)
-    → (count number : ℕ) (asked : List (List ℕ)) (callers : List Caller)
-    → total f (with_turns count number asked callers) ≡ total f callers
-total-turns f same count number asked [] = refl
-total-turns f same count number asked (caller ∷ callers) =
-    ap (λ (n : ℕ). n + total f (with_turns count (suc number) asked callers)) (same caller (every count number asked))
-    ∙ ap (λ (n : ℕ). f caller + n) (total-turns f same count (suc number) asked callers)
-
-module _ (count : ℕ) (asked : List (List ℕ)) (answers : List Answer) (callers : List Caller)
-    (dealt : AreDealtToCallers count (map kept asked) answers callers) where
-  abbrev askers : List Caller
-  askers = with_turns count 0 asked callers
-
-  pub dealt-kept : AreDealtToCallers count asked answers askers
-  dealt-kept = record {
-    count_is = length-turns count 0 asked callers ∙ dealt.count_is;
-    answered = dealt.answered ∙ length-map asked kept;
-    lines_are =
-        λ number caller is. let at =
-        first-turn count asked callers number caller is in ap (λ (c : Caller). c.lines) at.2;
-    answers_are = λ number caller is.
-        let at = first-turn count asked callers number caller is in
-        ap (λ (c : Caller). c.answers) at.2 ∙ dealt.answers_are number at.0 at.1;
-  }
-
-  pub callers-kept : (issuer : Setup) (opening logs : List (Log LogItem LogHead))
-      → AreCallers issuer opening logs callers
-      → AreCallers issuer opening logs askers
-  callers-kept issuer opening logs are = record {
-    some = are.some;
-    count_is = are.count_is;
-    same_count = are.same_count;
-    heads = are.heads;
-    each = λ number caller is.
-        let at = first-turn count asked callers number caller is in
-        let one = are.each number at.0 at.1 in
-        let lines_are = dealt.lines_are number at.0 at.1 ∙ every-map kept count number asked in
-        subst (IsCaller issuer opening) (sym at.2)
-        (record {
-          no_claims = one.no_claims;
-          no_found = one.no_found;
-          no_tops = one.no_tops;
-          no_places = one.no_places;
-          opened = one.opened;
-          calls =
-              calls-kept issuer (every count number asked) at.0.answers at.0.claims at.0.logs at.0.claims_now
-              at.0.logs_now
-              (subst (λ (ls : List (List ℕ)). Calls issuer ls at.0.answers at.0.claims at.0.logs at.0.claims_now
-              at.0.logs_now) lines_are
-              one.calls);
-        });
-    seen = λ number shard caller is.
-        let at = first-turn count asked callers number caller is in
-        subst (λ (c : Caller). take (length (items_at c.logs_now.seen shard)) (items_at logs shard)
-        ≡ items_at c.logs_now.seen shard) (sym at.2)
-        (are.seen number shard at.0 at.1);
-    opening_front = are.opening_front;
-    own = λ shard place below.
-        total-turns (λ caller. times_placed shard place caller.logs_now.mine) (λ caller lines. refl) count 0 asked
-        callers ∙ are.own shard place below;
-    found = λ card counter below some.
-        let lost = total-turns (λ caller. times card counter caller.claims_now.found) (λ caller lines. refl) count 0
-        asked callers in
-        let any = total-turns (λ caller. claims_on is_any card counter caller.claims_now.claims) (λ caller lines. refl)
-        count 0 asked callers in
-        subst (λ (n : ℕ). 0 < opened_on issuer opening card counter + n) (sym any)
-        (are.found card counter below (subst (λ (n : ℕ). 0 < n) lost some));
-    tops = λ card counter below some.
-        let told = total-turns (λ caller. times card counter caller.claims_now.tops) (λ caller lines. refl) count 0
-        asked callers in
-        let are_kept = total-turns (λ caller. claims_on is_kept card counter caller.claims_now.claims)
-        (λ caller lines. refl) count 0 asked callers in
-        subst (λ (n : ℕ). 0 < opened_on issuer opening card counter + n) (sym are_kept)
-        (are.tops card counter below (subst (λ (n : ℕ). 0 < n) told some));
-    once = λ card counter below.
-        let live = total-turns (λ caller. claims_on is_live card counter caller.claims_now.claims)
-        (λ caller lines. refl) count 0 asked callers in
-        subst (λ (n : ℕ). opened_on issuer opening card counter + n ≤ 1) (sym live) (are.once card counter below);
-    goes_on = are.goes_on;
-    opened_plain = are.opened_plain;
-  }
 
 -- ---- logs and their books
 
@@ -350,6 +185,17 @@ total-zero f (x ∷ xs) none =
 -- where no place is between two counts, the second isn't above the first
 between-none : (first last : ℕ) → between first last first ≡ 0 → last ≤ first
 between-none first last none = grind (arith, none)
+
+-- a history that extends another and is no longer is the same
+as-long : (first last : List Entry) → GoesOn first last → length last ≤ length first → last ≡ first
+as-long first last (more, same) no_longer =
+    same ∙ ap (λ (rest : List Entry). first ++ rest) (none-more more
+    (let long = ap length same ∙ length-append first more in omega (arith, long, no_longer)))
+    ∙ append-nil first
+  where
+    none-more : (more : List Entry) → length more ≡ 0 → more ≡ []
+    none-more [] none = refl
+    none-more (entry ∷ more) none = absurd (omega (arith, none))
 
 -- lists that have the same at each place
 same-lists : {A : Type 0} (xs ys : List A) → length xs ≡ length ys
@@ -525,7 +371,7 @@ module _ {S : Type 0} {G : Ghosts S} (count : ℕ) (issuer : Setup) (prefix : Li
   last-history = fun_ext (λ shard. history-listed logs shard
       ∙ ap (λ (hs : List (List Entry)). slice_index_or hs shard []) last-histories)
 
-  last-counts : faults_at logs ≡ told_in last_books
+  last-counts : faults_at logs ≡ faults_told_in last_books
   last-counts = fun_ext (λ shard. count-listed logs shard
       ∙ ap (λ (ns : List ℕ). slice_index_or ns shard 0) (closing-counts G.faults logs back))
 
@@ -542,11 +388,11 @@ module _ {S : Type 0} {G : Ghosts S} (count : ℕ) (issuer : Setup) (prefix : Li
         last-histories explained))
 
     own-books : AreOwnPlaces issuer (history_at opening) (history_at logs) (faults_at logs) shares
-        → AreOwnPlaces issuer (history_in first_books) (history_in last_books) (told_in last_books) shares
+        → AreOwnPlaces issuer (history_in first_books) (history_in last_books) (faults_told_in last_books) shares
     own-books own =
-        subst (λ (f : ℕ → List Entry). AreOwnPlaces issuer f (history_in last_books) (told_in last_books) shares)
+        subst (λ (f : ℕ → List Entry). AreOwnPlaces issuer f (history_in last_books) (faults_told_in last_books) shares)
         first-history
-        (subst (λ (l : ℕ → List Entry). AreOwnPlaces issuer (history_at opening) l (told_in last_books) shares)
+        (subst (λ (l : ℕ → List Entry). AreOwnPlaces issuer (history_at opening) l (faults_told_in last_books) shares)
         last-history
         (subst (λ (counts : ℕ → ℕ). AreOwnPlaces issuer (history_at opening) (history_at logs) counts shares)
         last-counts own))
@@ -560,17 +406,12 @@ module _ {S : Type 0} {G : Ghosts S} (count : ℕ) (issuer : Setup) (prefix : Li
       is-lawful issuer first_books last_books sound count-first (count-last ∙ sym count-first) goes-on last-recorded
 
   module _ (more : 1 < count) (sound : HasSoundParts issuer) (asked : List (List ℕ)) (answers : List Answer)
-      (callers : List Caller)
-      (dealt : AreDealtToCallers count asked answers callers) (shared : AreCallers issuer opening logs callers)
-      (explained : AreCallersExplained issuer opening logs callers)
-      (own : AreCallersOwnPlaces issuer opening logs callers)
-      (settled : TellNoFault issuer logs → AreCallersSettled issuer opening callers)
-      (counted : AreFaultsCounted issuer logs callers)
-      (within : length asked ≤ MAX_LINES) where
+      (shares : List Share) (dealt : AreDealt count asked answers shares)
+      (law : AreLawfulShares issuer opening logs shares) (within : length asked ≤ MAX_LINES) where
     -- there are fewer answers than a log may have faults
-    few-answers : all_answers callers < MAX_FAULTS_TOLD
+    few-answers : all_answers shares < MAX_FAULTS_TOLD
     few-answers =
-        let all = answers-dealt count asked answers callers (omega (arith, more)) dealt in omega (arith, all, within)
+        let all = answers-dealt count asked answers shares (omega (arith, more)) dealt in omega (arith, all, within)
 
     -- where no store's count rose, no log tells a fault
     none-told : (HasFailed first_books last_books → ⊥) → TellNoFault issuer logs
@@ -592,25 +433,22 @@ module _ {S : Type 0} {G : Ghosts S} (count : ℕ) (issuer : Setup) (prefix : Li
 
     answered-together : AreAnsweredTogether count issuer first_books last_books asked answers
     answered-together = record {
-      shares = shares_of callers;
-      dealt = dealt-shares count asked answers callers dealt;
-      explained = explained-books (shares_of callers) (explained-shares issuer callers opening logs explained);
-      each_record_is_one_answers = own-books (shares_of callers) (own-shares issuer callers opening logs own);
+      shares = shares;
+      dealt = dealt;
+      explained = explained-books shares law.explained;
+      each_record_is_one_answers = own-books shares law.each_record_is_one_answers;
       faults_are_counted = λ shard was is was_at is_at below.
           let at = kept-at shard was is was_at is_at in
           let rises = subst (λ (items : List LogItem).
           RiseTo at.first.head.faults (faults_of items) (G.faults at.after))
           (sym (items-of logs shard at.last at.last_at)) at.closes.rise in
-          subst (λ (w : Book). w.faults + all_faults_told issuer shard (shares_of callers) ≤ is.faults)
+          subst (λ (w : Book). w.faults + all_faults_told issuer shard shares ≤ is.faults)
           (sym at.was_is)
-          (subst (λ (i : Book). at.first.head.faults + all_faults_told issuer shard (shares_of callers) ≤ i.faults)
+          (subst (λ (i : Book). at.first.head.faults + all_faults_told issuer shard shares ≤ i.faults)
           (sym at.is_is)
-          (subst (λ (n : ℕ). at.first.head.faults + n ≤ G.faults at.after)
-          (sym (faults-shares issuer callers shard))
-          (counted shard at.first.head.faults (G.faults at.after) at.within rises
-          (subst (λ (i : Book). i.faults < 2 ^ 64 - 1) at.is_is below) few-answers)));
-      settled = λ stood.
-          settled-books (shares_of callers) (settled-shares issuer callers opening (settled (none-told stood)));
+          (law.faults_are_counted shard at.first.head.faults (G.faults at.after) at.within rises
+          (subst (λ (i : Book). i.faults < 2 ^ 64 - 1) at.is_is below) few-answers));
+      settled = λ stood. settled-books shares (law.settled (none-told stood));
     }
 
     pub leaves-together : (text : List ℕ) → text ≡ flat_map printed answers
@@ -629,37 +467,37 @@ module _ {S : Type 0} {G : Ghosts S} (count : ℕ) (issuer : Setup) (prefix : Li
 
   -- ---- where no line was answered
 
-  module _ (more : 1 < count) (sound : HasSoundParts issuer) (callers : List Caller)
-      (dealt : AreDealtToCallers count [] [] callers)
-      (shared : AreCallers issuer opening logs callers) where
-    no-places : (shard place : ℕ) (caller : Caller) → (number : ℕ) → slice_get callers number ≡ Some caller
-        → times_placed shard place caller.logs_now.mine ≡ 0
-    no-places shard place caller number is =
-        let one = shared.each number caller is in
-        let lines_are : caller.lines ≡ [] = dealt.lines_are number caller is ∙ every-none count number in
-        let answers_are : caller.answers ≡ [] = dealt.answers_are number caller is ∙ every-none count number in
-        let calls = subst (λ (given : List Answer).
-        Calls issuer [] given caller.claims caller.logs caller.claims_now caller.logs_now) answers_are
-        (subst (λ (ls : List (List ℕ)). Calls issuer ls caller.answers caller.claims caller.logs caller.claims_now
-        caller.logs_now) lines_are one.calls) in
-        ap (λ (view : TurnView LogItem LogHead). times_placed shard place view.mine) calls.1
-        ∙ ap (times_placed shard place) one.no_places
+  module _ (more : 1 < count) (sound : HasSoundParts issuer) (shares : List Share)
+      (dealt : AreDealt count [] [] shares) (law : AreLawfulShares issuer opening logs shares) where
+    -- no answer names a record, and none reports a fault
+    names-none : (shard place : ℕ) → answers_at shard place shares ≡ 0
+    names-none shard place =
+        total-zero (λ (share : Share). how_many (is_record_at shard place) share.answers) shares
+        (λ number share is.
+        ap (how_many (is_record_at shard place)) (dealt.answers_are number share is ∙ every-none count number))
 
-    no-items : (shard : ℕ) → shard < issuer.shards → items_at logs shard ≡ items_at opening shard
-    no-items shard within =
-        let none : total (λ (caller : Caller). times_placed shard (length (items_at opening shard))
-        caller.logs_now.mine) callers ≡ 0 =
-        total-zero (λ (caller : Caller). times_placed shard (length (items_at opening shard)) caller.logs_now.mine)
-        callers
-        (λ number caller is. no-places shard (length (items_at opening shard)) caller number is) in
-        let least = between-none (length (items_at opening shard)) (length (items_at logs shard))
-        (sym (shared.own shard (length (items_at opening shard)) within) ∙ none) in
-        sym (take_all (length (items_at opening shard)) (items_at logs shard) least) ∙ shared.opening_front shard
+    tells-none : (shard : ℕ) → all_faults_told issuer shard shares ≡ 0
+    tells-none shard =
+        total-zero (λ (share : Share). faults_told issuer shard share.lines share.answers) shares
+        (λ number share is.
+        ap (λ (lines : List (List ℕ)). faults_told issuer shard lines share.answers)
+        (dealt.lines_are number share is ∙ every-none count number))
 
-    no-items_at : (shard : ℕ) (was is : Book) (at : IsKeptAt shard was is) → at.last.items ≡ at.first.items
-    no-items_at shard was is at =
-        sym (items-of logs shard at.last at.last_at) ∙ no-items shard at.within
-        ∙ items-of opening shard at.first at.first_at
+    -- so no shard has a new record
+    no-records : (shard : ℕ) (was is : Book) (at : IsKeptAt shard was is)
+        → records_of at.last.items ≡ records_of at.first.items
+    no-records shard was is at =
+        let first : List Entry = history_at opening shard in
+        let last : List Entry = history_at logs shard in
+        let least = between-none (length first) (length last)
+        (sym (law.each_record_is_one_answers.places shard (length first) at.within) ∙ names-none shard (length first)) in
+        let first_is : first ≡ records_of at.first.items =
+        ap records_of (items-of opening shard at.first at.first_at) in
+        let last_is : last ≡ records_of at.last.items = ap records_of (items-of logs shard at.last at.last_at) in
+        let no_longer : length (records_of at.last.items) ≤ length (records_of at.first.items) =
+        subst (λ (h : List Entry). length h ≤ length (records_of at.first.items)) last_is
+        (subst (λ (h : List Entry). length last ≤ length h) first_is least) in
+        as-long (records_of at.first.items) (records_of at.last.items) at.closes.goes_on.goes_on no_longer
 
     same-histories : histories_of last_books ≡ histories_of first_books
     same-histories =
@@ -670,7 +508,7 @@ module _ {S : Type 0} {G : Ghosts S} (count : ℕ) (issuer : Setup) (prefix : Li
         let last = mapped-at (λ (b : Book). b.history) last_books shard is is_at in
         let first = mapped-at (λ (b : Book). b.history) first_books shard was was_at in
         let at = kept-at shard first.0 last.0 first.1 last.1 in
-        last.2 ∙ ap (λ (b : Book). b.history) at.is_is ∙ ap records_of (no-items_at shard first.0 last.0 at)
+        last.2 ∙ ap (λ (b : Book). b.history) at.is_is ∙ no-records shard first.0 last.0 at
         ∙ sym (first.2 ∙ ap (λ (b : Book). b.history) at.was_is))
 
     no-fault : (shard : ℕ) (book : Book) → slice_get last_books shard ≡ Some book → book.told ≡ 0
@@ -679,9 +517,13 @@ module _ {S : Type 0} {G : Ghosts S} (count : ℕ) (issuer : Setup) (prefix : Li
         let long = count-last in omega (arith, inside, long)) in
         let was = some-first shard within in
         let at = kept-at shard was.0 book was.1 is in
-        ap (λ (b : Book). b.told) at.is_is ∙ ap (λ (items : List LogItem). length (faults_of items))
-        (no-items_at shard was.0 book at)
-        ∙ (was-journal shard was.0 book at).none_told
+        let most : length (faults_of (items_at logs shard)) ≤ all_faults_told issuer shard shares =
+        law.each_record_is_one_answers.told shard within in
+        let none = tells-none shard in
+        let items_are : length (faults_of (items_at logs shard)) ≡ length (faults_of at.last.items) =
+        ap (λ (items : List LogItem). length (faults_of items)) (items-of logs shard at.last at.last_at) in
+        let told_is : book.told ≡ length (faults_of at.last.items) = ap (λ (b : Book). b.told) at.is_is in
+        omega (arith, most, none, items_are, told_is)
 
     pub leaves-loaded_together : LeavesLoaded count issuer prefix told (map (store_seen G) back)
     leaves-loaded_together = record {
@@ -724,39 +566,19 @@ module _ {S : Type 0} {G : Ghosts S} (told_bytes : (store : S)
       → HasSoundParts issuer
       → (asked : List (List ℕ)) (text : List ℕ) → length asked ≤ MAX_LINES
       → HaveAnswered first (map kept asked) text [] now
-      → ((issuer : Setup) (opening logs : List (Log LogItem LogHead)) (callers : List Caller)
-      → AreCallers issuer opening logs callers
-      → AreCallersExplained issuer opening logs callers)
-      → ((issuer : Setup) (opening logs : List (Log LogItem LogHead)) (callers : List Caller)
-      → AreCallers issuer opening logs callers
-      → AreCallersOwnPlaces issuer opening logs callers)
-      → ((issuer : Setup) (opening logs : List (Log LogItem LogHead)) (callers : List Caller)
-      → AreCallers issuer opening logs callers
-      → TellNoFault issuer logs → AreCallersSettled issuer opening callers)
-      → ((issuer : Setup) (opening logs : List (Log LogItem LogHead)) (callers : List Caller)
-      → AreCallers issuer opening logs callers
-      → AreFaultsCounted issuer logs callers)
-      → ((lines : List (List ℕ)) (answers due : List Answer) → LanesServe now lines answers due []
+      → ((lines : List (List ℕ)) (answers due : List Answer) → LanesServe now (map kept lines) answers due []
       → HasClosed G.bytes G.disk G.faults (issuer_in now) (opening_logs now) (callers_in now) lines answers back)
       → LeavesAnswered (callers_in first) issuer prefix told (map (store_seen G) back) asked text
-  closes-together first now back ready sound asked text within so_far explained own settled counted closes =
-      let answers = so_far.answers in
-      let c = closed-under first now back ready so_far.same (map kept asked) answers
-      (closes (map kept asked) answers [] so_far.served) in
-      let count = callers_in first in
-      let opening = opening_logs first in
-      let callers = askers count asked answers c.callers c.dealt in
-      let shared = callers-kept count asked answers c.callers c.dealt issuer opening c.logs c.shared in
-      leaves-together count issuer prefix told ready.stores back opening c.logs ready.stores_are ready.opened
-      ready.opening c.shared.same_count c.closed told_bytes
-      ready.several sound asked answers callers (dealt-kept count asked answers c.callers c.dealt) shared
-      (explained issuer opening c.logs callers shared) (own issuer opening c.logs callers shared)
-      (settled issuer opening c.logs callers shared)
-      (counted issuer opening c.logs callers shared) within text so_far.text_is
+  closes-together first now back ready sound asked text within so_far closes =
+      let c = closed-under first now back ready so_far.same asked so_far.answers
+      (closes asked so_far.answers [] so_far.served) in
+      leaves-together (callers_in first) issuer prefix told ready.stores back (opening_logs first) c.logs
+      ready.stores_are ready.opened ready.opening c.same_count c.closed told_bytes
+      ready.several sound asked so_far.answers c.shares c.dealt c.lawful within text so_far.text_is
 
   pub closes-loaded_together : (host : Lanes S G) (back : List S) → IsReadyTogether issuer prefix told host
       → HasSoundParts issuer
-      → ((lines : List (List ℕ)) (answers due : List Answer) → LanesServe host lines answers due []
+      → ((lines : List (List ℕ)) (answers due : List Answer) → LanesServe host (map kept lines) answers due []
       → HasClosed G.bytes G.disk G.faults (issuer_in host) (opening_logs host) (callers_in host) lines answers back)
       → LeavesLoaded (callers_in host) issuer prefix told (map (store_seen G) back)
   closes-loaded_together host back ready sound closes =
@@ -765,7 +587,7 @@ module _ {S : Type 0} {G : Ghosts S} (told_bytes : (store : S)
       (closes [] [] [] ready.none) in
       leaves-loaded_together (callers_in host) issuer prefix told ready.stores back (opening_logs host) c.logs
       ready.stores_are ready.opened ready.opening
-      c.shared.same_count c.closed told_bytes ready.several sound c.callers c.dealt c.shared
+      c.same_count c.closed told_bytes ready.several sound c.shares c.dealt c.lawful
 
 -- ---- a line more
 

@@ -5,10 +5,10 @@ use Rattle.issuer_setup.specs.IssuerSetup.{Setup}
 use Rattle.one_caller.specs.Books.{Book, histories_of}
 use Rattle.one_caller.specs.Turns.{Run}
 use Rattle.one_caller.specs.OneHistory.{HasFailed, IsOneHistory}
-use Rattle.line_serving.specs.Shares.{Share, AreDealt, history_in, told_in}
-use Rattle.line_serving.specs.Explained.{AreExplained}
-use Rattle.line_serving.specs.OwnPlaces.{AreOwnPlaces, all_faults_told}
-use Rattle.line_serving.specs.Settled.{AreSettled}
+use Rattle.shared_callers.specs.Shares.{Share, AreDealt, history_in, faults_told_in}
+use Rattle.shared_callers.specs.Explained.{AreExplained}
+use Rattle.shared_callers.specs.OwnPlaces.{AreOwnPlaces, all_faults_told}
+use Rattle.shared_callers.specs.Settled.{AreSettled}
 
 -- one caller's answers to these lines, one turn after another from the first books to the last: each shard's history is
 -- one legal history, no counter of a card was decided twice, and each request has one reply
@@ -25,7 +25,7 @@ pub record AreAnsweredTogether (count : ℕ) (issuer : Setup) (first last : List
   pub shares : List Share
   pub dealt : AreDealt count asked answers shares
   pub explained : AreExplained issuer (history_in first) (history_in last) (histories_of last) shares
-  pub each_record_is_one_answers : AreOwnPlaces issuer (history_in first) (history_in last) (told_in last) shares
+  pub each_record_is_one_answers : AreOwnPlaces issuer (history_in first) (history_in last) (faults_told_in last) shares
   -- at most as many answers are that a shard's store failed as its fault counter increased, unless that is saturated
   pub faults_are_counted : (shard : ℕ) (was is : Book) → slice_get first shard ≡ Some was
       → slice_get last shard ≡ Some is → is.faults < 2 ^ 64 - 1

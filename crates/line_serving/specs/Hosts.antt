@@ -13,7 +13,7 @@ use Rattle.shared_callers.specs.declared.lanes.TheConstants.{BLOCK_LINES}
 use Rattle.line_serving.specs.declared.hosts.LineHost.{LineHost}
 use Rattle.line_serving.specs.declared.hosts.LineHost.TheVariants.{Alone, Together}
 use Rattle.shared_callers.specs.Lanes.{issuer_in, opening_logs, callers_in, waiting_in, due_in, is_full_in, HasSameHost}
-use Rattle.shared_callers.specs.Lanes.{HasServed as LanesServe}
+use Rattle.shared_callers.specs.Lanes.{LanesServe}
 use Rattle.line_serving.specs.Answers.{AreAnsweredBy, AnswersNone}
 use Rattle.host_calls.specs.OpeningLogs.{AreOpenedFrom}
 use Rattle.desk_host.specs.Journals.{AreOpened, IsReadySolo}

@@ -1,8 +1,4 @@
 -- The hosts that lines are served with, and what serving does.
-pub mod Shares
-pub mod Explained
-pub mod OwnPlaces
-pub mod Settled
 pub mod Answers
 pub mod Answered
 pub mod Hosts

@@ -1,35 +1,32 @@
 //! The host that lines are served with, loaded from the journals at a desk.
-ghost use Rattle.std.specs.Prelude.{◌≡◌, ◌<◌, ◌≤◌, map, true, is_ok, IfOk, IfErr};
+ghost use Rattle.std.specs.Prelude.{◌≡◌, ◌<◌, ◌≤◌, true, is_ok, IfOk, IfErr};
 ghost use Rattle.issuer_base.specs.declared.limits.TheConstants.{MAX_CALLERS};
-ghost use Rattle.desk_host.specs.SeenStores.{store_seen};
-ghost use Rattle.desk_host.specs.Loading.{ComesToNoHost, faults_seen};
+ghost use Rattle.desk_host.specs.Loading.{ComesToNoHost};
 ghost use Rattle.line_serving.specs.Hosts.{IsReadyTogether, IsFreshTogether, IsReady, IsFresh};
 
 use crate::hosts::LineHost;
-use desk_host::{NoHost, load_alone, no_host, open_journals};
+use desk_host::{load_alone, open_journals};
 use issuer_base::Desk;
 use issuer_setup::Issuer;
-use shared_callers::Lanes;
+use shared_callers::{HostBack, Lanes};
 use std::alloc::Global;
 
 /// The host of an issuer with so many callers, 1 to 16, over the journals under these names: they are opened at the
 /// desk, and loaded.
 ///
-/// The first journal that can't be opened or loaded stops it, and the stores that were opened come back.
+/// The first journal that can't be opened or loaded stops it: its fault comes back with the stores that were opened.
 pub fn load_host<D: Desk>(
     alloc: Global,
     desk: &mut D,
     prefix: &str,
     issuer: Issuer,
     callers: u8,
-) -> Result<LineHost<D::Journal>, NoHost<D::Journal>>
+) -> Result<LineHost<D::Journal>, HostBack<D::Journal>>
     requires { (1 ≤ callers) × (callers ≤ MAX_CALLERS) }
     ensures ready { IfOk result (IsReady issuer prefix.now (D.logs desk.old)) }
     ensures fresh { IfOk result (IsFresh callers) }
     ensures stood { is_ok result ≡ true → D.faults desk.new ≡ D.faults desk.old }
-    ensures none { IfErr result (λ back. ComesToNoHost issuer prefix.now (D.logs desk.old)
-        (faults_seen D.Desk desk.old desk.new)
-        (map (store_seen D.Journal.Store) back.stores.items) back.cause) }
+    ensures none { IfErr result (ComesToNoHost D.Desk D.Journal.Store issuer prefix.now desk.old desk.new) }
     ensures kept { D.holds desk.new ≡ D.holds desk.old }
 {
     if callers == 1 {
@@ -46,19 +43,14 @@ fn load_together<D: Desk>(
     prefix: &str,
     issuer: Issuer,
     callers: u8,
-) -> Result<Lanes<D::Journal>, NoHost<D::Journal>>
+) -> Result<Lanes<D::Journal>, HostBack<D::Journal>>
     requires { (1 < callers) × (callers ≤ MAX_CALLERS) }
     ensures ready { IfOk result (IsReadyTogether issuer prefix.now (D.logs desk.old)) }
     ensures fresh { IfOk result (IsFreshTogether callers) }
     ensures stood { is_ok result ≡ true → D.faults desk.new ≡ D.faults desk.old }
-    ensures none { IfErr result (λ back. ComesToNoHost issuer prefix.now (D.logs desk.old)
-        (faults_seen D.Desk desk.old desk.new)
-        (map (store_seen D.Journal.Store) back.stores.items) back.cause) }
+    ensures none { IfErr result (ComesToNoHost D.Desk D.Journal.Store issuer prefix.now desk.old desk.new) }
     ensures kept { D.holds desk.new ≡ D.holds desk.old }
 {
     let stores = open_journals(alloc, desk, prefix, &issuer)?;
-    match Lanes::load(alloc, stores, issuer, callers) {
-        Ok(host) => Ok(host),
-        Err(back) => Err(no_host(back)),
-    }
+    Lanes::load(alloc, stores, issuer, callers)
 }

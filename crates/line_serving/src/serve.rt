@@ -37,7 +37,7 @@ pub enum Served {
 
 impl Server {
     ghost use Rattle.line_serving.specs.Hosts.{TakesLine, HasServed, MaySettle, HasRoom, IsSettled, IsIdle};
-    ghost use Rattle.line_serving.specs.Serving.{IsNew, Serves, WritesAnswers, WritesDue, EndsBy, read_failed};
+    ghost use Rattle.line_serving.specs.Serving.{IsNew, Serves, WritesAnswers, WritesDue, Finishes, read_failed};
     ghost use Rattle.line_serving.specs.Serving.{write_failed};
 
     /// All the memory that serving takes.
@@ -199,7 +199,7 @@ impl Server {
         requires open { MaySettle host.old self.old.block.lines }
         ensures ended { (first : LineHost T T.Store) (lines : List (List ℕ)) (text : List ℕ) (waiting : List (List ℕ))
             → HasServed first lines text waiting host.old
-            → EndsBy (λ lines text waiting. HasServed first lines text waiting host.new) lines text waiting
+            → Finishes (λ lines text waiting. HasServed first lines text waiting host.new) lines text waiting
             self.old.block.text.items
             (W.held out.old) (W.held out.new) served result }
         ensures settled { IsSettled host.new }

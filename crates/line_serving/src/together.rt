@@ -12,10 +12,6 @@ ghost use Rattle.desk_host.specs.SeenStores.{Logged, store_seen};
 use crate::block::Block;
 use issuer_base::{Gate, Store};
 use shared_callers::Lanes;
-use shared_laws::{
-    every_answer_is_explained, every_counter_is_settled, every_record_is_one_answers,
-    faults_are_counted,
-};
 use std::sync::Wait;
 use std::thread::Threads;
 
@@ -41,8 +37,7 @@ pub(crate) fn settle_together<S: Store + Send, R: Threads + Wait + Sync, G: Gate
     }
 }
 
-/// The stores of the host's journals, in the order of their shards; what its callers were answered is sure by the laws
-/// of such runs.
+/// The stores of the host's journals, in the order of their shards.
 pub(crate) fn close_together<S: Store>(host: Lanes<S>) -> Vec<S>
     requires { waiting_in host ≡ 0 }
     ensures answered { (issuer : Setup) (prefix : List ℕ) (logs : Logged) (first : Lanes S S.Store)
@@ -54,9 +49,5 @@ pub(crate) fn close_together<S: Store>(host: Lanes<S>) -> Vec<S>
         → HasSoundParts issuer
         → LeavesLoaded (callers_in host) issuer prefix logs (map (store_seen S.Store) result.items) }
 {
-    every_answer_is_explained();
-    every_record_is_one_answers();
-    every_counter_is_settled();
-    faults_are_counted();
     host.close()
 }

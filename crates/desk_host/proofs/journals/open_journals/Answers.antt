@@ -35,8 +35,8 @@ loop-shard-preserved g c =
 pub returns-in-Err-clause-none : goal.returns-in-Err-clause-none
 returns-in-Err-clause-none g c = record {
   why = gives-unopened g.D.Journal.Store c.args.issuer.now c.args.prefix.now (g.D.Desk.logs c.args.desk.now) _
-      c.loop-shard.stores.items c.loop-shard.shard _ _ c.in-Err.cause (search rules) c.loop-shard.invariant.count
-      c.loop-shard.invariant.stood c.in-Err.ensures.cause c.in-Err.ensures.count c.in-Err.ensures.last;
+      c.loop-shard.stores.items c.loop-shard.shard _ _ c.in-Err.fault (search rules) c.loop-shard.invariant.count
+      c.loop-shard.invariant.stood c.in-Err.ensures.fault c.in-Err.ensures.count c.in-Err.ensures.last;
   left = opened-left g.D.Journal.Store (g.met.D.Journal.Store g.world.𝓛 g.world.𝓜 g.world.𝓡
       (λ s h. h, λ h. h, λ h. h, λ h. h)).told_bytes
       c.args.prefix.now (g.D.Desk.logs c.args.desk.now) c.loop-shard.stores.items c.loop-shard.invariant.opened;

@@ -1,12 +1,13 @@
 -- How the run ended, that it is done where all is in order, and the status of a DOL that is filled.
-use Rattle.issuer_top.proofs.Statuses.{ends-as}
 use Rattle.issuer_top.proofs.InOrder.{completes}
 use Rattle.issuer_top.proofs.FillingSteps.{fills}
 use Rattle.issuer_top.proofs.top_call.issue.Goals as goal
 
 pub returns : goal.returns
-returns g c = record {
-  ends = ends-as _ _ _ c.status_of.ensures c.run-ending.ensures;
-  completes = completes _ _ _ c.status_of.ensures c.run-ending.ensures;
-  fills = fills _ _ _ c.status_of.ensures c.run-ending.ensures;
-}
+returns g c =
+    let ends = c.do_task.ensures in
+    record {
+      ends = ends;
+      completes = completes _ _ ends.ending ends.status_is ends.ends_by;
+      fills = fills _ _ ends.ending ends.status_is ends.ends_by;
+    }

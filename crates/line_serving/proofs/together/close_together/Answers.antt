@@ -6,8 +6,6 @@ pub returns-clause-answered : goal.returns-clause-answered
 returns-clause-answered g c = λ issuer prefix logs first lines text ready sound within so_far.
     closes-together g.met.S.Store.told_bytes issuer prefix logs first c.args.host c.close.result.items ready sound lines
     text within so_far
-    c.every_answer_is_explained.ensures c.every_record_is_one_answers.ensures c.every_counter_is_settled.ensures
-    c.faults_are_counted.ensures
     c.close.ensures
 
 pub returns-clause-loaded : goal.returns-clause-loaded

@@ -4,29 +4,32 @@ use Rattle.line_serving.specs.Hosts.{HasServed}
 use Rattle.issuer_top.specs.Opening.{GivesInput}
 use Rattle.line_serving.proofs.ServingSteps.{AnswersAll}
 use Rattle.issuer_top.proofs.EndingSteps.{gives_input, ends_unserved, ends_no_requests, ends_serving}
-use Rattle.issuer_top.proofs.top_call.serve_requests.Goals as goal
+use Rattle.issuer_top.proofs.Statuses.{ends-as}
+use Rattle.issuer_top.proofs.top_call.Run.serve_requests.Goals as goal
 
 pub returns-in-Err : goal.returns-in-Err
-returns-in-Err g c = λ words given journal issuer set_up ready served sound same.
-    ends_unserved _ _ journal issuer set_up _
+returns-in-Err g c =
+    let stopped = c.stop.ensures in
+    rw stopped.2 (λ words given journal issuer set_up ready served sound same.
+    ends-as _ _ stopped.0 refl
+    (ends_unserved _ _ journal issuer set_up _
     (record { config_is = refl; requests_is = refl; desk_stood = same.faults_are })
-    (c.close.ensures.loaded issuer journal (g.D.Desk.logs given) ready sound)
-    (record { stops = c.stop_with.ensures.ended; count = c.stop_with.ensures.count })
+    (c.close.ensures.loaded issuer journal (g.D.Desk.logs given) ready sound) stopped.1))
 
 pub returns-in-Err-read : goal.returns-in-Err-read
-returns-in-Err-read g c = λ words given journal issuer set_up ready served sound same.
-    ends_no_requests _ _ journal issuer set_up (Unit {0}) _ _ c.in-Err-read.fault _ refl refl
+returns-in-Err-read g c =
+    let stopped = c.stop-in-Err-read.ensures in
+    rw stopped.2 (λ words given journal issuer set_up ready served sound same.
+    ends-as _ _ stopped.0 refl
+    (ends_no_requests _ _ journal issuer set_up (Unit {0}) _ _ c.in-Err-read.fault _ refl refl
     (c.close-in-Err-read.ensures.loaded issuer journal (g.D.Desk.logs given) ready sound) same.faults_are
-    c.in-Err-read.ensures.count
-    c.in-Err-read.ensures.last
-    (record {
-      stops = rw c.stop_at.ensures at c.stop_with-in-Err-read.ensures.ended;
-      count = c.stop_with-in-Err-read.ensures.count;
-    })
+    c.in-Err-read.ensures.count c.in-Err-read.ensures.last (rw c.stop_of.ensures at stopped.1)))
 
 pub returns : goal.returns
-returns g c = λ words given journal issuer set_up ready served sound same.
-    ends_serving _ _ journal issuer set_up _ _
+returns g c =
+    rw c.ended.ensures (λ words given journal issuer set_up ready served sound same.
+    ends-as _ _ _ refl
+    (ends_serving _ _ journal issuer set_up _ _
     (record { config_is = refl; requests_is = refl; desk_stood = c.in-Ok-read.ensures.count.counted ∙ same.faults_are })
     refl
     (subst (λ told. GivesInput (told c.args.name.now) (g.D.Input.Source.left c.in-Ok-read.requests)) same.holds_are
@@ -36,4 +39,4 @@ returns g c = λ words given journal issuer set_up ready served sound same.
     c.close-2.ensures.answered issuer journal (g.D.Desk.logs given) c.args.host asked text ready sound within answered)
     _ _ _ _ _ (c.serve-served.ensures.served c.args.host served) c.serve-served.ensures.sink_count
     c.in-Ok-read.ensures.new
-    c.serve-served.ensures.source_count c.end_serving.ensures
+    c.serve-served.ensures.source_count c.end_serving-ending.ensures))

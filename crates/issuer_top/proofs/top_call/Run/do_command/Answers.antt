@@ -1,30 +1,28 @@
 -- Each of the commands, by as many callers as the words say.
 use Rattle.std.proofs.Common.{refl, ap, ◌∙◌, subst}
-use Rattle.std.specs.Prelude.{map, is_some}
 use Rattle.std.specs.Option.{option_map}
-use Rattle.desk_host.specs.SeenStores.{Logged, store_seen}
-use Rattle.issuer_top.specs.Seen.{input_seen}
+use Rattle.desk_host.specs.SeenStores.{Logged}
 use Rattle.command_line.specs.Pairs.{request_file}
 use Rattle.desk_host.specs.Journals.{IsReadySolo}
 use Rattle.line_serving.specs.Hosts.{IsReady}
 use Rattle.issuer_top.proofs.EndingSteps.{ends_unloaded, set_up-named}
-use Rattle.issuer_top.proofs.top_call.do_command.Goals as goal
+use Rattle.issuer_top.proofs.Statuses.{ends-as}
+use Rattle.issuer_top.proofs.top_call.Run.do_command.Goals as goal
 
 pub returns-in-Ok : goal.returns-in-Ok
 returns-in-Ok g c = λ words given set_up sound same same_logs.
-    c.show_cards.ensures words _ _ _ (rw c.in-None.is at set_up)
+    c.show_cards.ensures words given _ _ (rw c.in-None.is at set_up)
     (subst (λ (l : Logged). IsReadySolo c.args.issuer c.args.names.journal.now l c.in-Ok.host) same_logs
     c.in-Ok.ensures.ready)
     sound (c.in-Ok.ensures.stood refl ∙ same.faults_are)
 
 pub returns-in-Err : goal.returns-in-Err
-returns-in-Err g c = λ words given set_up sound same same_logs.
-    ends_unloaded _ _ _ _ _ set_up _ _ _ _
-    (ap (λ input. is_some (option_map (input_seen g.D.Input.Source) input)) c.not_loaded.ensures.config)
-    (ap (λ input. is_some (option_map (input_seen g.D.Input.Source) input)) c.not_loaded.ensures.requests)
-    (ap (λ stores. map (store_seen g.D.Journal.Store) stores.items) c.not_loaded.ensures.stores) same_logs
-    same.faults_are c.in-Err.ensures.none.why
-    c.in-Err.ensures.none.left c.not_loaded.ensures.ending
+returns-in-Err g c =
+    let stopped = c.not_loaded.ensures in
+    rw stopped.2 (λ words given set_up sound same same_logs.
+    ends-as _ _ stopped.0 refl
+    (ends_unloaded _ _ _ _ _ set_up _ _ _ _ refl refl refl same_logs same.faults_are c.in-Err.ensures.none.why
+    c.in-Err.ensures.none.left stopped.1))
 
 pub returns-in-Ok-load_host : goal.returns-in-Ok-load_host
 returns-in-Ok-load_host g c = λ words given set_up sound same same_logs.
@@ -40,12 +38,9 @@ returns-in-Ok-load_host g c = λ words given set_up sound same same_logs.
     })
 
 pub returns-in-Err-load_host : goal.returns-in-Err-load_host
-returns-in-Err-load_host g c = λ words given set_up sound same same_logs.
-    ends_unloaded _ _ _ _ _ set_up _ _ _ _
-    (ap (λ input. is_some (option_map (input_seen g.D.Input.Source) input)) c.not_loaded-in-Err-load_host.ensures.config)
-    (ap (λ input. is_some (option_map (input_seen g.D.Input.Source) input))
-    c.not_loaded-in-Err-load_host.ensures.requests)
-    (ap (λ stores. map (store_seen g.D.Journal.Store) stores.items) c.not_loaded-in-Err-load_host.ensures.stores)
-    same_logs same.faults_are
-    c.in-Err-load_host.ensures.none.why c.in-Err-load_host.ensures.none.left
-    c.not_loaded-in-Err-load_host.ensures.ending
+returns-in-Err-load_host g c =
+    let stopped = c.not_loaded-in-Err-load_host.ensures in
+    rw stopped.2 (λ words given set_up sound same same_logs.
+    ends-as _ _ stopped.0 refl
+    (ends_unloaded _ _ _ _ _ set_up _ _ _ _ refl refl refl same_logs same.faults_are
+    c.in-Err-load_host.ensures.none.why c.in-Err-load_host.ensures.none.left stopped.1))

@@ -1,0 +1,35 @@
+-- How a run ends, stage by stage.
+use Rattle.std.proofs.Common.{refl, ap}
+use Rattle.std.specs.Prelude.{map}
+use Rattle.desk_host.specs.SeenStores.{store_seen}
+use Rattle.issuer_top.proofs.EndingSteps.{gives_input, ends_no_config, ends_no_issuer, IsSetUp-from_said}
+use Rattle.issuer_top.proofs.Statuses.{ends-as}
+use Rattle.issuer_top.proofs.top_call.Run.run_host.Goals as goal
+
+pub returns-in-Err : goal.returns-in-Err
+returns-in-Err g c =
+    let stopped = c.stop.ensures in
+    rw stopped.2 (λ words command.
+    ends-as _ _ stopped.0 refl
+    (ends_no_config _ _ _ _ _ command (Unit {0}) _ c.in-Err.fault refl refl
+    (ap (map (store_seen g.D.Journal.Store)) c.new.ensures.items) c.in-Err.ensures.count c.in-Err.ensures.last
+    (rw c.stop_of.ensures at stopped.1)))
+
+pub returns-in-Ok-read_issuer : goal.returns-in-Ok-read_issuer
+returns-in-Ok-read_issuer g c = λ words command.
+    c.do_command.ensures words _
+    (IsSetUp-from_said _ _ _ _ _ _ command (gives_input _ _ c.in-Ok.ensures.input c.in-Ok.ensures.absent)
+    c.in-Ok-read_issuer.ensures.says)
+    c.in-Ok-read_issuer.ensures.sound
+    (record { holds_are = c.in-Ok.ensures.kept; faults_are = c.in-Ok.ensures.count.counted }) c.in-Ok.ensures.kept_logs
+
+pub returns-in-Err-read_issuer : goal.returns-in-Err-read_issuer
+returns-in-Err-read_issuer g c =
+    let stopped = c.stop-in-Err-read_issuer.ensures in
+    rw stopped.2 (λ words command.
+    ends-as _ _ stopped.0 refl
+    (ends_no_issuer _ _ _ _ _ command (Unit {0}) _ _ _ c.in-Err-read_issuer.cause
+    (record { config_is = refl; requests_is = refl; desk_stood = c.in-Ok.ensures.count.counted }) refl
+    (ap (map (store_seen g.D.Journal.Store)) c.new-in-Err-read_issuer.ensures.items)
+    (gives_input _ _ c.in-Ok.ensures.input c.in-Ok.ensures.absent) c.in-Err-read_issuer.ensures.none c.in-Ok.ensures.new
+    c.in-Err-read_issuer.ensures.count stopped.1))
