@@ -1,14 +1,17 @@
 //! Configurations, request lines of two cards, and the answers to them. The cryptograms and replies are another program's.
 
-/// A configuration: shards, key index, the second card's account number, the greatest amount of the last row.
+/// A configuration: shards, key index, further members of the key set, the second card's account number, the greatest
+/// amount of the last row.
 macro_rules! configuration {
-    ($shards:literal, $index:literal, $pan:literal, $most:literal) => {
+    ($shards:literal, $index:literal, $members:literal, $pan:literal, $most:literal) => {
         concat!(
             r#"{"shards":"#,
             $shards,
             r#","keys":[{"dki":"#,
             $index,
-            r#","option":"A","ac":"000102030405060708090A0B0C0D0E0F","smi":"101112131415161718191A1B1C1D1E1F"}],"cards":[{"pan":"4000000000000002","psn":"00","method":1},{"pan":""#,
+            r#","option":"A","ac":"000102030405060708090A0B0C0D0E0F","smi":"101112131415161718191A1B1C1D1E1F""#,
+            $members,
+            r#"}],"cards":[{"pan":"4000000000000002","psn":"00","method":1},{"pan":""#,
             $pan,
             r#"","psn":"00","method":2}],"table":[{"tvr_mask":"0000000000","tvr_value":"0000000000","cvr_mask":"0000000000","cvr_value":"0000000000","least":0,"most":999999999999,"status":1,"arc":"3036","approve":false,"csu":"00000000"},{"tvr_mask":"0000000000","tvr_value":"0000000000","cvr_mask":"0000000000","cvr_value":"0000000000","least":0,"most":500000,"status":null,"arc":"3030","approve":true,"csu":"00800000"},{"tvr_mask":"0000000000","tvr_value":"0000000000","cvr_mask":"0000000000","cvr_value":"0000000000","least":0,"most":"#,
             $most,
@@ -18,24 +21,46 @@ macro_rules! configuration {
 }
 
 /// One shard, one key set, two cards, and a table that approves up to an amount of 500000.
-pub(crate) const CONFIG: &str = configuration!("1", "1", "4000000000000010", "999999999999");
+pub(crate) const CONFIG: &str = configuration!("1", "1", "", "4000000000000010", "999999999999");
 
 /// The same with a shard for each card.
-pub(crate) const TWO_SHARDS: &str = configuration!("2", "1", "4000000000000010", "999999999999");
+pub(crate) const TWO_SHARDS: &str = configuration!(
+    "2",
+    "1",
+    "",
+    "4000000000000010",
+    "999999999999"
+);
+
+/// The first one with AES keys too, the same as those for triple DES.
+pub(crate) const AES_CONFIG: &str = configuration!(
+    "1",
+    "1",
+    r#","aes_ac":"000102030405060708090A0B0C0D0E0F","aes_smi":"101112131415161718191A1B1C1D1E1F""#,
+    "4000000000000010",
+    "999999999999"
+);
 
 /// A key index of more than a byte.
 pub(crate) const LARGE_KEY_INDEX: &str = configuration!(
     "1",
     "256",
+    "",
     "4000000000000010",
     "999999999999"
 );
 
 /// A card that occurs twice.
-pub(crate) const CARD_TWICE: &str = configuration!("1", "1", "4000000000000002", "999999999999");
+pub(crate) const CARD_TWICE: &str = configuration!(
+    "1",
+    "1",
+    "",
+    "4000000000000002",
+    "999999999999"
+);
 
 /// A table whose last row doesn't match every amount.
-pub(crate) const PARTIAL_TABLE: &str = configuration!("1", "1", "4000000000000010", "1");
+pub(crate) const PARTIAL_TABLE: &str = configuration!("1", "1", "", "4000000000000010", "1");
 
 /// Request lines: account number, ATC, cryptogram, script count, register, unpredictable number, amount, and the lines that follow.
 macro_rules! requests {
@@ -140,6 +165,13 @@ pub(crate) const REQUEST_9: &str = request!("0009" "07332ABBD4FE880C");
 pub(crate) const REQUEST_65: &str = request!("0041" "93EED1B2ED608C61");
 
 pub(crate) const REQUEST_65535: &str = request!("FFFF" "1E18E39C18AB6CAF");
+
+/// Those of an AES card, the first one with another order of fields.
+pub(crate) const AES_REQUEST_1: &str =
+    "A 5A0840000000000000025F34010082023900950500000080009A032601159C01009F02060000000123459F03060000000000009F10200FA601A00000000000000000000000000F0000000000000000000000000000009F1A0202765F2A0209789F26081A8B61EC7ADC484B9F2701809F360200019F37041A2B3C4D\n";
+
+pub(crate) const AES_REQUEST_7: &str =
+    "A 5A0840000000000000029F260847ECBC0F2DCA2ECE9F2701809F10200FA601A00000000000000000000000000F0000000000000000000000000000009F37041A2B3C4D9F36020007950500000080009A032601159C01009F02060000000123455F2A020978820239009F1A0202769F3303E0F8C89F34031E03009F3501229F1E0831323334353637388407A00000000410109F090200029F41040000012300\n";
 
 /// The last bit of the cryptogram is changed.
 pub(crate) const REQUEST_7_FORGED: &str = request!("0007" "6317DE17856BF19B");
@@ -266,6 +298,12 @@ pub(crate) const REPLY_7_GREATEST: &str = "8a023030910a8022f687d456485e3030\n";
 pub(crate) const REPLY_7_THREE: &str =
     "8a023030910a02369be26b4161bc303072709f180400000000862184da00001c0000000000000000000000000000000000000000385ae2d8a0aac9f0862184da00001c0101010101010101010101010101010101010101a888dbfacdb153e9862184da00001c0202020202020202020202020202020202020202e27e3941b91c3eef\n";
 
+/// The replies to approvals of an AES card, the second one with the first three of five commands.
+pub(crate) const AES_REPLY_1: &str = "8a023030910a6a33e8bbe8732fa73030\n";
+
+pub(crate) const AES_REPLY_7_THREE: &str =
+    "8a023030910a08209bbb4731f66e303072709f180400000000862184da00001c00000000000000000000000000000000000000003734216180082ab0862184da00001c0101010101010101010101010101010101010101b610bc1e43f3bd1c862184da00001c02020202020202020202020202020202020202020088979cf9940366\n";
+
 /// The records of these decisions, up to the reply.
 pub(crate) const DECISION_0: &str = approval!("0000" "3e3303b6a6ef1e00");
 
@@ -282,6 +320,12 @@ pub(crate) const DECISION_9: &str = approval!("0009" "07332abbd4fe880c");
 pub(crate) const DECISION_65: &str = approval!("0041" "93eed1b2ed608c61");
 
 pub(crate) const DECISION_65535: &str = approval!("ffff" "1e18e39c18ab6caf");
+
+pub(crate) const AES_DECISION_1: &str =
+    "d 4000000000000002ffff0039000001000000800026011500000000012345000000000000027609781a2b3c4d800fa601a00000000000000000000000000f0000000000000000000000000000001a8b61ec7adc484b 3030 1 ";
+
+pub(crate) const AES_DECISION_7: &str =
+    "d 4000000000000002ffff0039000007000000800026011500000000012345000000000000027609781a2b3c4d800fa601a00000000000000000000000000f00000000000000000000000000000047ecbc0f2dca2ece 3030 1 ";
 
 /// A digit of the cryptogram is changed.
 pub(crate) const DECISION_2_CHANGED: &str = approval!("0002" "cbfa5f912723fc40");

@@ -176,6 +176,50 @@ fn decisions() -> &'static [Run] {
     &DECISIONS
 }
 
+/// AES cards.
+static AES_CARDS: [Run; 4] = [
+    Run {
+        name: "a key set with triple DES keys alone",
+        requests: &[AES_REQUEST_7],
+        answers: &["refused 8 01\n"],
+        after: Some(&[]),
+        ..SERVED
+    },
+    Run {
+        name: "an AES card and a repeat",
+        config: AES_CONFIG,
+        requests: &[AES_REQUEST_1, AES_REQUEST_1],
+        answers: &[
+            "fresh 0 0 yes 3030 ",
+            AES_REPLY_1,
+            "kept 0 0 yes 3030 ",
+            AES_REPLY_1,
+        ],
+        after: Some(&[AES_DECISION_1, AES_REPLY_1]),
+        ..SERVED
+    },
+    Run {
+        name: "five commands for an AES card",
+        config: AES_CONFIG,
+        requests: &[FIVE_COMMANDS, AES_REQUEST_7],
+        answers: &[FIVE_QUEUED, "fresh 0 5 yes 3030 ", AES_REPLY_7_THREE],
+        after: Some(&[FIVE_RECORDED, AES_DECISION_7, AES_REPLY_7_THREE]),
+        ..SERVED
+    },
+    Run {
+        name: "a repeat with commands in the next run",
+        config: AES_CONFIG,
+        requests: &[AES_REQUEST_7],
+        before: None,
+        answers: &["kept 0 5 yes 3030 ", AES_REPLY_7_THREE],
+        ..SERVED
+    },
+];
+
+fn aes_cards() -> &'static [Run] {
+    &AES_CARDS
+}
+
 /// The replies to what cards report of five commands, of which the first three were sent.
 const LAST_THREE_SENT: &str =
     "8a023030910a0e00cd522aa6de7d303072709f180400000002862184da00001c0202020202020202020202020202020202020202d39224f7ef0200d3862184da00001c030303030303030303030303030303030303030338992183d3173ae9862184da00001c0404040404040404040404040404040404040404468f684393492633\n";
@@ -728,6 +772,7 @@ fn comes_to_the_worked_rows(rt: HostRuntime) -> Result<(), Fail> {
     for runs in [
         lines(),
         decisions(),
+        aes_cards(),
         reports(),
         halts(),
         full_queue(),

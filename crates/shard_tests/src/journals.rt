@@ -2,10 +2,12 @@
 ghost use Rattle.std.specs.Prelude.{◌≡◌, ◌<◌, ◌%◌, length, IfOk, IsTrue};
 ghost use Rattle.shard_book.specs.Shards.{number_in, IsUnder};
 
-use issuer_base::{Answer, Refusal, Store};
+use issuer_base::{Answer, Refusal, Request, Store, Suite};
 use issuer_setup::Issuer;
-use line_checks::{Checked, check_line};
-use sample_issuer::{CARDS, declining_table, issuer};
+use line_checks::{Checked, check_line, check_request};
+use sample_issuer::{
+    AES_CRYPTOGRAM, CARDS, CRYPTOGRAM, aes_purchase, declining_table, issuer, purchase,
+};
 use shard_book::{LoadBack, LoadFault, Shard};
 use std::alloc::Global;
 use std::test::Fail;
@@ -86,6 +88,46 @@ pub(crate) fn set_status<S: Store>(shard: &mut Shard<S>, issuer: &Issuer) -> Opt
         return None;
     }
     Some(shard.order(issuer, &found))
+}
+
+/// The purchase of a card of this suite on ATC 7.
+fn purchase_in(suite: Suite) -> Option<Request> {
+    match suite {
+        Suite::TripleDes => purchase(7, 0x1A2B_3C4D, CRYPTOGRAM),
+        Suite::Aes => aes_purchase(7, 0x1A2B_3C4D, AES_CRYPTOGRAM),
+    }
+}
+
+/// A shard's answer to a request of its card.
+fn decide<S: Store>(shard: &mut Shard<S>, issuer: &Issuer, request: Request) -> Option<Answer>
+    requires under { IsUnder issuer.now shard.old }
+    requires number { number_in shard.old ≡ 0 }
+{
+    let Ok(found) = check_request(issuer, request) else {
+        return None;
+    };
+    if !is_home(issuer, found.card) {
+        return None;
+    }
+    Some(shard.answer(issuer, &found, true))
+}
+
+/// The answer of the first shard, loaded from this store, to a request of its card, and the store after it.
+fn reloaded_answer(
+    alloc: Global,
+    issuer: &Issuer,
+    store: MemoryStore,
+    request: Request,
+) -> Result<(Option<Answer>, MemoryStore), Fail>
+    requires { issuer.now.shards ≡ 1 }
+{
+    match load(alloc, issuer, store) {
+        Ok(mut shard) => {
+            let answer = decide(&mut shard, issuer, request);
+            Ok((answer, shard.into_store()))
+        }
+        Err(LoadBack { fault: _, store: _ }) => Err("a shard".into()),
+    }
 }
 
 /// Statuses set over a store that was empty, of which one call fails.
@@ -177,6 +219,38 @@ fn a_crash_leaves_what_was_acknowledged(rt: HostRuntime) -> Result<(), Fail> {
                 assert_eq!(rt; run.acknowledged, u64::from(lines));
             }
         }
+    }
+    Ok(())
+}
+
+/// Whether the first answer is a new decision, recorded first, and the second one the stored reply of its repeat.
+fn are_decision_and_repeat(first: &Option<Answer>, second: &Option<Answer>) -> bool {
+    match first {
+        Some(
+            Answer::Fresh {
+                place: 0,
+                reply,
+                ..
+            },
+        ) => {
+            matches!(second, Some(Answer::Kept { place: 0, reply: stored, .. }) if stored.is_same(reply))
+        }
+        _ => false,
+    }
+}
+
+/// A decision of a card of either suite is replayed, and its repeat gets the stored reply.
+#[test]
+fn keeps_a_decision_of_either_suite(rt: HostRuntime) -> Result<(), Fail> {
+    let alloc = rt.alloc();
+    let issuer = one_card(alloc)?;
+    for suite in [Suite::TripleDes, Suite::Aes] {
+        let empty = store(alloc, Vec::new(alloc), &[])?;
+        let request = purchase_in(suite).ok_or("a request")?;
+        let repeat = request.copy();
+        let (first, left) = reloaded_answer(alloc, &issuer, empty, request)?;
+        let (second, _left) = reloaded_answer(alloc, &issuer, left, repeat)?;
+        assert!(rt; are_decision_and_repeat(&first, &second), "{suite:?}");
     }
     Ok(())
 }

@@ -4,7 +4,7 @@ ghost use Rattle.std.specs.Prelude.{◌≡◌, IfOk};
 use host_calls::{HostBack, LoadFault, Solo};
 use issuer_base::{Answer, Refusal, Store};
 use issuer_setup::Issuer;
-use sample_issuer::{CARDS, REQUEST, declining_table, issuer};
+use sample_issuer::{AES_REQUEST, CARDS, REQUEST, declining_table, issuer};
 use std::alloc::Global;
 use std::test::Fail;
 use store_edge::MemoryStore;
@@ -64,19 +64,24 @@ pub(crate) fn is_kept(answer: &Answer, at: u64) -> bool {
 
 #[test]
 fn keeps_a_reply_across_a_restart(rt: HostRuntime) -> Result<(), Fail> {
-    let mut host = open(rt.alloc(), &[])?;
-    let fresh = host.authorise(REQUEST.as_bytes());
-    let kept = host.authorise(REQUEST.as_bytes());
-    let mut host = load(rt.alloc(), host.close())?;
-    let again = host.authorise(REQUEST.as_bytes());
-    assert!(rt; is_fresh(&fresh, 1));
-    assert!(rt; is_kept(&kept, 1));
-    assert!(rt; again == kept);
-    if host.issuer().cards() > 0 {
-        let view = host.show(0);
-        assert!(rt; view.hi == Some(7) && view.status == 3 && view.queued == 0);
+    for line in [REQUEST, AES_REQUEST] {
+        let mut host = open(rt.alloc(), &[])?;
+        let fresh = host.authorise(line.as_bytes());
+        let kept = host.authorise(line.as_bytes());
+        let mut host = load(rt.alloc(), host.close())?;
+        let again = host.authorise(line.as_bytes());
+        assert!(rt; is_fresh(&fresh, 1), "{line}");
+        assert!(rt; is_kept(&kept, 1), "{line}");
+        assert!(rt; again == kept, "{line}");
+        if host.issuer().cards() > 0 {
+            let view = host.show(0);
+            assert!(rt;
+                view.hi == Some(7) && view.status == 3 && view.queued == 0,
+                "{line}"
+            );
+        }
+        host.close();
     }
-    host.close();
     Ok(())
 }
 

@@ -8,7 +8,7 @@ use crate::hosts::{is_fresh, is_kept, sample, store};
 use cvr_settle::Flight;
 use host_calls::{CardView, Checked, Host, HostBack, Pass};
 use issuer_base::{Answer, Refusal};
-use sample_issuer::REQUEST;
+use sample_issuer::{AES_REQUEST, REQUEST};
 use std::alloc::Global;
 use std::sync::Wait;
 use std::test::Fail;
@@ -93,22 +93,27 @@ fn close(host: Host<MemoryStore>, mut first: Pass, other: Pass)
 
 #[test]
 fn a_lost_claim_is_pending_until_it_is_kept(rt: HostRuntime) -> Result<(), Fail> {
-    let Two {
-        host,
-        mut first,
-        mut other,
-    } = open(rt.alloc(), &[])?;
-    let won = host.pre_check(&mut first, REQUEST.as_bytes());
-    let lost = host.pre_check(&mut other, REQUEST.as_bytes());
-    let pending = end(&rt, &host, &mut other, lost);
-    let fresh = end(&rt, &host, &mut first, won);
-    let kept = host.authorise(&rt, &mut other, REQUEST.as_bytes());
-    let shown = show(&rt, &host, &mut first);
-    close(host, first, other);
-    assert!(rt; pending == Answer::Refused(Refusal::Pending));
-    assert!(rt; is_fresh(&fresh, 0));
-    assert!(rt; is_kept(&kept, 0));
-    assert!(rt; matches!(&shown, Some(view) if view.hi == Some(7)));
+    for line in [REQUEST, AES_REQUEST] {
+        let Two {
+            host,
+            mut first,
+            mut other,
+        } = open(rt.alloc(), &[])?;
+        let won = host.pre_check(&mut first, line.as_bytes());
+        let lost = host.pre_check(&mut other, line.as_bytes());
+        let pending = end(&rt, &host, &mut other, lost);
+        let fresh = end(&rt, &host, &mut first, won);
+        let kept = host.authorise(&rt, &mut other, line.as_bytes());
+        let shown = show(&rt, &host, &mut first);
+        close(host, first, other);
+        assert!(rt; pending == Answer::Refused(Refusal::Pending), "{line}");
+        assert!(rt; is_fresh(&fresh, 0), "{line}");
+        assert!(rt; is_kept(&kept, 0), "{line}");
+        assert!(rt;
+            matches!(&shown, Some(view) if view.hi == Some(7)),
+            "{line}"
+        );
+    }
     Ok(())
 }
 
