@@ -46,16 +46,16 @@ def name_of(card):
 
 def folded(key_set):
     """A key set with its digits in one case."""
-    return {name: value.lower() if name in ("ac", "smi") else value for name, value in key_set.items()}
+    return {name: value.lower() if name in ("ac", "smi", "aes_ac", "aes_smi") else value for name, value in key_set.items()}
 
 
 def check_keys(old, new):
-    """Refuses a key set that is gone or changed: the records made with it would be none."""
+    """Refuses a key set that is gone or changed: the records made with it would be none. It may get keys for AES."""
     now = {it["dki"]: folded(it) for it in new}
     for it in old:
         if it["dki"] not in now:
             raise Wrong(f"the key set with DKI {it['dki']} is in use, and is gone: keep it")
-        if folded(it) != now[it["dki"]]:
+        if not folded(it).items() <= now[it["dki"]].items():
             raise Wrong(f"the key set with DKI {it['dki']} is in use, and has other keys or another option: give new keys another DKI")
 
 

@@ -1,6 +1,6 @@
 """A card: its transactions, its check of the issuer's answer and the script commands that it runs (EMV 4.3 Book 2, 8 and 9; Book 3, 6.5).
 
-What it tells its issuer in the issuer application data is this project's profile (docs/FORMATS.md).
+What it reports to its issuer in the issuer application data is this project's profile, and so is all of AES (docs/FORMATS.md).
 """
 from cards import issuer_data, seal
 from chip_data import objects
@@ -13,11 +13,11 @@ MOST_COUNTED = 15
 
 
 class Card:
-    """A card of this name and method, with its own master keys for cryptograms and for secure messaging."""
+    """A card of this name and method, with its own master keys, all of one suite."""
 
-    def __init__(self, info, masters, dki=1):
+    def __init__(self, info, keys, dki=1):
         self.info = info
-        self.masters = masters
+        self.keys = keys
         self.dki = dki
         self.atc = self.register = self.count = 0
         self.failed = False
@@ -28,10 +28,10 @@ class Card:
     def tap(self, **fields):
         """GENERATE AC: the request of a new transaction, with these of the terminal's fields in place of those of `purchase`."""
         self.atc += 1
-        request = purchase(self.info.pan, self.atc, self.register, self.count, self.dki)
+        request = purchase(self.info.pan, self.atc, self.register, self.count, self.dki, self.keys.suite)
         results = bytes([0xA0, 0, 0, self.count << 4 | self.failed << 3, 0])
         data = request.data[:3] + results + request.data[8:]
-        self.open = signed(request._replace(psn=self.info.psn, data=data, **fields), self.masters[0])
+        self.open = signed(request._replace(psn=self.info.psn, data=data, **fields), self.keys.cryptograms)
         self.chain = None
         return self.open
 
@@ -43,8 +43,8 @@ class Card:
         """EXTERNAL AUTHENTICATE, or the second GENERATE AC: whether the issuer's cryptogram is right for the open transaction."""
         if self.open is None or self.is_answered():
             return False
-        session = session_key_for_cryptograms(self.masters[0], self.open.atc)
-        if value != issuer_data(self.info.method, session, self.open.cryptogram, code, value[4:]):
+        session = session_key_for_cryptograms(self.keys.suite, self.keys.cryptograms, self.open.atc)
+        if value != issuer_data(self.keys.suite, self.info.method, session, self.open.cryptogram, code, value[4:]):
             return False
         self.register, self.count, self.failed = self.atc, 0, False
         self.chain = self.open.cryptogram
@@ -55,8 +55,8 @@ class Card:
         if not self.is_answered():
             return False
         command = command_in(sealed)
-        key = session_key_for_messages(self.masters[1], self.open.cryptogram)
-        right, chain = seal(key, self.chain, command)
+        key = session_key_for_messages(self.keys.suite, self.keys.messages, self.open.cryptogram)
+        right, chain = seal(self.keys.suite, key, self.chain, command)
         if self.count == MOST_COUNTED or right != sealed:
             self.failed = True
             return False

@@ -1,45 +1,49 @@
-"""What issuer and card compute for a transaction: cryptograms, issuer authentication and sealed script commands."""
+"""What issuer and card compute for a transaction: cryptograms, issuer authentication and sealed script commands. For triple DES it is that
+of EMV 4.3 Book 2, 8 and 9; for AES this project's profile (docs/FORMATS.md)."""
 from functools import lru_cache
 
-from ciphers import mac, tdes_encipher, xor
+from aes import aes_encipher
+from ciphers import tdes_encipher, xor
 from keys import session_key_for_cryptograms, session_key_for_messages
+from suites import Suite, mac_of
 
 
 @lru_cache(maxsize=1 << 16)
-def cryptogram_of(master, atc, text):
-    return mac(session_key_for_cryptograms(master, atc), text)
+def cryptogram_of(suite, master, atc, text):
+    return mac_of(suite, session_key_for_cryptograms(suite, master, atc), text)
 
 
 def application_cryptogram(master, request):
-    """EMV 4.3 Book 2, 8.1.2, under the card's master key for cryptograms."""
-    return cryptogram_of(master, request.atc, request.cryptogram_input())
+    """EMV 4.3 Book 2, 8.1.2, under the card's master key for cryptograms, in the request's suite."""
+    return cryptogram_of(request.suite, master, request.atc, request.cryptogram_input())
 
 
 @lru_cache(maxsize=1 << 16)
-def arpc_method_1(session, cryptogram, code):
-    """EMV 4.3 Book 2, 8.2.1."""
-    return tdes_encipher(session, xor(cryptogram, code + bytes(6)))
+def arpc_method_1(suite, session, cryptogram, code):
+    """EMV 4.3 Book 2, 8.2.1: the cryptogram xor the code, enciphered; for AES with eight 00 behind, and the first eight bytes."""
+    block = xor(cryptogram, code + bytes(6))
+    return aes_encipher(session, block + bytes(8))[:8] if suite is Suite.AES else tdes_encipher(session, block)
 
 
 @lru_cache(maxsize=1 << 16)
-def arpc_method_2(session, cryptogram, csu):
+def arpc_method_2(suite, session, cryptogram, csu):
     """EMV 4.3 Book 2, 8.2.2, without proprietary data."""
-    return mac(session, cryptogram + csu)[:4]
+    return mac_of(suite, session, cryptogram + csu)[:4]
 
 
-def issuer_data(method, session, cryptogram, code, csu):
+def issuer_data(suite, method, session, cryptogram, code, csu):
     """The value of tag 91, issuer authentication data."""
     if method == 1:
-        return arpc_method_1(session, cryptogram, code) + code
-    return arpc_method_2(session, cryptogram, csu) + csu
+        return arpc_method_1(suite, session, cryptogram, code) + code
+    return arpc_method_2(suite, session, cryptogram, csu) + csu
 
 
 @lru_cache(maxsize=1 << 16)
-def seal(key, chain, command):
+def seal(suite, key, chain, command):
     """A command with its MAC (EMV 4.3 Book 2, 9.2, format 2): Lc counts data and MAC, and the MAC begins with the chain. The second
     result is the next chain, the MAC."""
     text = command[:4] + bytes([len(command) - 4 + 8]) + command[4:]
-    code = mac(key, chain + text)
+    code = mac_of(suite, key, chain + text)
     return text + code, code
 
 
@@ -50,11 +54,11 @@ def tlv(tag, value):
     return bytes.fromhex(tag) + bytes(length) + value
 
 
-def template(key, cryptogram, first, commands):
+def template(suite, key, cryptogram, first, commands):
     """Tag 72 (EMV 4.3 Book 3, Annex A): the script identifier, the number of the first command, then the sealed commands."""
     value, chain = tlv("9f18", first.to_bytes(4, "big")), cryptogram
     for command in commands:
-        sealed, chain = seal(key, chain, command)
+        sealed, chain = seal(suite, key, chain, command)
         value += tlv("86", sealed)
     return tlv("72", value)
 
@@ -70,11 +74,11 @@ def fitting(commands):
     return commands[:count]
 
 
-def reply_bytes(method, masters, request, code, csu, first, batch):
+def reply_bytes(method, keys, request, code, csu, first, batch):
     """The bytes for the card: response code, issuer authentication data, and the template where there is a command."""
-    session = session_key_for_cryptograms(masters[0], request.atc)
-    text = tlv("8a", code) + tlv("91", issuer_data(method, session, request.cryptogram, code, csu))
+    session = session_key_for_cryptograms(keys.suite, keys.cryptograms, request.atc)
+    text = tlv("8a", code) + tlv("91", issuer_data(keys.suite, method, session, request.cryptogram, code, csu))
     if batch:
-        key = session_key_for_messages(masters[1], request.cryptogram)
-        text += template(key, request.cryptogram, first, batch)
+        key = session_key_for_messages(keys.suite, keys.messages, request.cryptogram)
+        text += template(keys.suite, key, request.cryptogram, first, batch)
     return text

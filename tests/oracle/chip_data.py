@@ -2,6 +2,8 @@
 import re
 from typing import NamedTuple
 
+from suites import IDENTIFIERS, Suite
+
 
 class Refused(Exception):
     """A refusal: the words after `refused`."""
@@ -25,6 +27,10 @@ class Request(NamedTuple):
     cid: int
     data: bytes
     cryptogram: bytes
+
+    @property
+    def suite(self):
+        return Suite(self.data[1])
 
     @property
     def dki(self):
@@ -86,7 +92,7 @@ def is_pan(value):
 
 
 def is_issuer_data(value):
-    return value[0] == 0x0F and value[1] == 0xA5 and value[16] == 0x0F
+    return value[0] == 0x0F and value[1] in IDENTIFIERS and value[16] == 0x0F
 
 
 RULES = {"5a": is_pan, "5f34": is_decimal, "9f02": is_decimal, "9f10": is_issuer_data}

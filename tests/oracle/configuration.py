@@ -3,7 +3,8 @@ import json
 import re
 from typing import NamedTuple
 
-from keys import card_key
+from keys import CardKeys, aes_master, card_key
+from suites import Suite
 
 LIMIT = 4_194_304
 LEVELS = 127
@@ -18,10 +19,12 @@ class NotJson(ValueError):
 
 
 class KeySet(NamedTuple):
+    """An issuer's master keys for cryptograms and for secure messaging: for triple DES, and for AES if it has some."""
+
     dki: int
     option: str
-    cryptograms: bytes
-    messages: bytes
+    triple_des: tuple
+    aes: tuple | None = None
 
 
 class CardInfo(NamedTuple):
@@ -58,10 +61,14 @@ class Issuer:
         self.cards = cards
         self.table = table
 
-    def masters_of(self, card, dki):
-        """A card's master keys for cryptograms and for secure messaging, under the key set of this DKI."""
-        key_set = self.key_sets[dki]
-        return tuple(card_key(key_set.option, master, card.pan, card.psn) for master in key_set[2:])
+    def keys_of(self, card, dki, suite):
+        """A card's master keys under the key set of this DKI, or None if no key set has it with keys of the suite."""
+        key_set = self.key_sets.get(dki)
+        if key_set is None or suite is Suite.AES and key_set.aes is None:
+            return None
+        if suite is Suite.AES:
+            return CardKeys(suite, *(aes_master(master, card.pan, card.psn) for master in key_set.aes))
+        return CardKeys(suite, *(card_key(key_set.option, master, card.pan, card.psn) for master in key_set.triple_des))
 
     def decide(self, status, request):
         return next(row for row in self.table if row.takes(status, request))
@@ -159,9 +166,11 @@ def hexadecimal(item, name, digits):
 
 
 def read_key_set(item):
-    return KeySet(
-        number(item, "dki", 0, 255), matching(item, "option", "[AB]"), hexadecimal(item, "ac", 32), hexadecimal(item, "smi", 32)
-    )
+    dki, option = number(item, "dki", 0, 255), matching(item, "option", "[AB]")
+    triple_des = tuple(hexadecimal(item, name, 32) for name in ("ac", "smi"))
+    names = ("aes_ac", "aes_smi")
+    aes = tuple(hexadecimal(item, name, 32) for name in names) if any(name in item for name in names) else None
+    return KeySet(dki, option, triple_des, aes)
 
 
 def read_card(item):

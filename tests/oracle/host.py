@@ -86,9 +86,9 @@ class Row:
         batch = fitting(self.queue[scripts.done : scripts.done + WAITING])
         return scripts._replace(flight=(request.atc, len(batch))), batch
 
-    def bytes_for(self, masters, request, code, csu):
+    def bytes_for(self, keys, request, code, csu):
         scripts, batch = self.batch_for(request)
-        return reply_bytes(self.info.method, masters, request, code, csu, scripts.done, batch)
+        return reply_bytes(self.info.method, keys, request, code, csu, scripts.done, batch)
 
     def add(self, record, place):
         match record:
@@ -126,16 +126,16 @@ class Host:
         return row
 
     def check(self, request):
-        """The card and its master keys, or refusal 6 to 9."""
+        """The card and its master keys of the request's suite, or refusal 6 to 9."""
         row = self.row_of(request.pan, request.psn)
         if not request.is_for_an_arqc():
             raise Refused("7")
-        if request.dki not in self.issuer.key_sets:
+        keys = self.issuer.keys_of(row.info, request.dki, request.suite)
+        if keys is None:
             raise Refused(f"8 {request.dki:02x}")
-        masters = self.issuer.masters_of(row.info, request.dki)
-        if application_cryptogram(masters[0], request) != request.cryptogram:
+        if application_cryptogram(keys.cryptograms, request) != request.cryptogram:
             raise Refused("9")
-        return row, masters
+        return row, keys
 
     def take(self, row, record):
         """Counts a record that stands; its place."""
@@ -149,7 +149,7 @@ class Host:
         return self.take(row, record)
 
     def ask(self, request):
-        row, masters = self.check(request)
+        row, keys = self.check(request)
         if row.is_below(request.atc):
             raise Refused(f"10 {row.highest}")
         if request.atc in row.decided:
@@ -158,7 +158,7 @@ class Host:
                 raise Refused(f"11 {row.shard} {place}")
             return f"kept {row.shard} {place} {reply.text()}"
         decision = self.issuer.decide(row.status, request)
-        data = row.bytes_for(masters, request, decision.code, decision.csu)
+        data = row.bytes_for(keys, request, decision.code, decision.csu)
         reply = Reply(decision.code, decision.approve, data)
         return f"fresh {row.shard} {self.record(row, Decided(request, reply))} {reply.text()}"
 
@@ -189,8 +189,8 @@ class Host:
         try:
             match record:
                 case Decided(request, reply):
-                    row, masters = self.check(request)
-                    may_come = self.may_be_decided(row, masters, request, reply)
+                    row, keys = self.check(request)
+                    may_come = self.may_be_decided(row, keys, request, reply)
                 case Queued():
                     row = self.row_of(record.pan, record.psn)
                     may_come = row.takes_command()
@@ -204,14 +204,14 @@ class Host:
         self.take(row, record)
         return True
 
-    def may_be_decided(self, row, masters, request, reply):
+    def may_be_decided(self, row, keys, request, reply):
         """A new counter in the window, and a reply that the issuer makes for its response code, whatever its table was."""
         if row.is_below(request.atc) or request.atc in row.decided:
             return False
         csu = reply.data[10:14] if row.info.method == 2 else bytes(4)
         if len(csu) < 4 or row.info.method == 2 and approves(csu) != reply.approve:
             return False
-        return row.bytes_for(masters, request, reply.code, csu) == reply.data
+        return row.bytes_for(keys, request, reply.code, csu) == reply.data
 
     def show(self):
         return "".join(row.text() for row in self.rows)

@@ -1,8 +1,19 @@
-"""Keys of cards and of transactions (EMV 4.3 Book 2, A1.3 and A1.4)."""
+"""Keys of cards and of transactions: EMV 4.3 Book 2, A1.3 and A1.4, for triple DES, and this project's profile for AES."""
 import hashlib
 from functools import lru_cache
+from typing import NamedTuple
 
+from aes import aes_encipher
 from ciphers import tdes_encipher, xor
+from suites import Suite
+
+
+class CardKeys(NamedTuple):
+    """A card's master keys for cryptograms and for secure messaging, and the suite that they are of."""
+
+    suite: Suite
+    cryptograms: bytes
+    messages: bytes
 
 
 def with_odd_parity(key):
@@ -38,24 +49,32 @@ def option_b(master, pan, psn):
     return key_of_digits(master, decimal16(hashlib.sha1(text).digest()))
 
 
+def aes_master(master, pan, psn):
+    """The digits of PAN and PSN with zeros on the left, 32 in all, enciphered. A key set's option doesn't matter."""
+    return aes_encipher(master, bytes.fromhex((pan + psn).rjust(32, "0")))
+
+
 @lru_cache(maxsize=1 << 16)
 def card_key(option, master, pan, psn):
-    """A card's master key, by the option of its issuer's key set."""
+    """A card's master key for triple DES, by the option of its issuer's key set."""
     return (option_a if option == "A" else option_b)(master, pan, psn)
 
 
 @lru_cache(maxsize=1 << 16)
-def session_key(master, diversifier):
-    """A1.3.1: eight bytes with F0 and with 0F in place of the third, enciphered."""
+def session_key(suite, master, diversifier):
+    """For triple DES A1.3.1: eight bytes with F0 and with 0F in place of the third, enciphered. For AES the eight bytes and eight 00,
+    enciphered."""
+    if suite is Suite.AES:
+        return aes_encipher(master, diversifier + bytes(8))
     head, tail = diversifier[:2], diversifier[3:]
     return tdes_encipher(master, head + b"\xf0" + tail) + tdes_encipher(master, head + b"\x0f" + tail)
 
 
-def session_key_for_cryptograms(master, atc):
+def session_key_for_cryptograms(suite, master, atc):
     """The diversifier is the ATC and six 00 bytes."""
-    return session_key(master, atc.to_bytes(2, "big") + bytes(6))
+    return session_key(suite, master, atc.to_bytes(2, "big") + bytes(6))
 
 
-def session_key_for_messages(master, cryptogram):
+def session_key_for_messages(suite, master, cryptogram):
     """The diversifier is the application cryptogram of the transaction's first GENERATE AC."""
-    return session_key(master, cryptogram)
+    return session_key(suite, master, cryptogram)

@@ -1,6 +1,7 @@
 """Request lines as a terminal's chip data make them."""
 from cards import application_cryptogram, tlv
 from chip_data import Request
+from suites import Suite
 
 
 def field_objects(request):
@@ -30,9 +31,9 @@ def line_of(request):
     return b"A " + b"".join(tlv(tag, value) for tag, value in field_objects(request)).hex().encode()
 
 
-def purchase(pan, atc, register=0, count=0, dki=1):
-    """A purchase over 123.45 by a card that tells of its last online transaction and of the commands that it ran since."""
-    data = b"\x0f\xa5" + bytes([dki, 0xA0, 0, 0, count << 4, 0]) + bytes(8) + b"\x0f" + register.to_bytes(2, "big") + bytes(13)
+def purchase(pan, atc, register=0, count=0, dki=1, suite=Suite.TRIPLE_DES):
+    """A purchase over 123.45 by a card that reports its last online transaction and the commands that it ran since."""
+    data = bytes([0x0F, suite.value, dki, 0xA0, 0, 0, count << 4, 0]) + bytes(8) + b"\x0f" + register.to_bytes(2, "big") + bytes(13)
     return Request(
         pan=pan,
         psn="00",

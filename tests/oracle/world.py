@@ -3,6 +3,7 @@ from card import Card, commands_in
 from chip_data import objects
 from configuration import MOST, CardInfo, Issuer, KeySet, TableRow
 from host import Host
+from suites import Suite
 from terminal import line_of
 
 SHARDS = 4
@@ -14,7 +15,7 @@ def table_row(least, code, approve, csu):
 
 
 def issuer_of(cards):
-    keys = KeySet(1, "A", bytes(range(16)), bytes(range(16, 32)))
+    keys = KeySet(1, "A", (bytes(range(16)), bytes(range(16, 32))))
     infos = [CardInfo(f"4000000000{number:06d}", "00", 1 + number % 2) for number in range(cards)]
     return Issuer(SHARDS, [keys], infos, [table_row(500_000, "3035", False, "00000000"), table_row(0, "3030", True, "00800000")])
 
@@ -23,7 +24,7 @@ class World:
     def __init__(self, cards):
         issuer = issuer_of(cards)
         self.host = Host(issuer, lambda shard, record: None)
-        self.cards = [Card(info, issuer.masters_of(info, 1)) for info in issuer.cards]
+        self.cards = [Card(info, issuer.keys_of(info, 1, Suite.TRIPLE_DES)) for info in issuer.cards]
         self.held = {}
         self.counts = dict.fromkeys(COUNTS, 0)
 
