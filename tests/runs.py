@@ -47,8 +47,8 @@ def status_line(number):
     return f"S {pan} 00 {status}\n", f"s {pan}ffff 00 {status}"
 
 
-def serve(journal, callers=1, requests="requests"):
-    return ["serve", "--config", "config", "--requests", requests, "--journal", journal, "--callers", str(callers)]
+def serve(journal, callers=1, requests="requests", config="config"):
+    return ["serve", "--config", config, "--requests", requests, "--journal", journal, "--callers", str(callers)]
 
 
 def show(journal):
