@@ -1,5 +1,5 @@
--- The ARPC and the issuer authentication data: EMV 4.3 Book 2, section 8.2, for triple DES. Those with AES are this project's
--- profile.
+-- The ARPC and the issuer authentication data: EMV 4.3 Book 2, section 8.2, for triple DES. Those with AES are this
+-- project's profile.
 use Rattle.std.specs.Prelude.{ℕ, List, ◌++◌, take, replicate}
 use Rattle.des_block.specs.Cipher.{tdes_encipher}
 use Rattle.aes_cipher.specs.Cipher.{aes_encipher}

@@ -2,7 +2,7 @@
 //! project's profile.
 #![tactic(auto)]
 
-ghost use Rattle.std.specs.Prelude.{◌≡◌, ℕ, ◌+◌, ◌≤◌, List, ◌++◌, length, take, replicate};
+ghost use Rattle.std.specs.Prelude.{◌≡◌, ℕ, ◌+◌, ◌≤◌, List, ◌++◌, length, replicate};
 ghost use Rattle.issuer_base.specs.declared.request.Suite.{Suite};
 ghost use Rattle.retail_mac.specs.Mac.{xor_bytes};
 ghost use Rattle.suite_mac.specs.SuiteMac.{HasMacKey};
@@ -10,7 +10,7 @@ ghost use Rattle.arpc_methods.specs.Arpc.{eight_of, method1, method2, value91};
 
 use arrayvec::ArrayVec;
 use issuer_base::Method;
-use suite_mac::MacKey;
+use suite_mac::{MacKey, first_half, with_zeros};
 
 /// The ARPC by method 1: the application cryptogram, with the response code xored into its first two bytes, enciphered
 /// under the session key for cryptograms. EMV 4.3 Book 2, section 8.2.1. With AES zeros fill the block, and the ARPC is
@@ -41,26 +41,9 @@ fn enciphered(key: &MacKey, block: [u8; 8]) -> [u8; 8]
     }
 }
 
-/// Eight bytes, and eight zeros.
-fn with_zeros(bytes: [u8; 8]) -> [u8; 16]
-    ensures { result ≡ bytes ++ replicate 8 0 }
-{
-    let mut block = [0; 16];
-    block[..8].copy_from_slice(&bytes);
-    block
-}
-
-/// The first eight of sixteen bytes.
-fn first_half(bytes: [u8; 16]) -> [u8; 8]
-    ensures { result ≡ take 8 bytes }
-{
-    let [a, b, c, d, e, f, g, h, ..] = bytes;
-    [a, b, c, d, e, f, g, h]
-}
-
-/// The ARPC by method 2: the first four bytes of the MAC of the key's suite, under the session key for cryptograms, of the
-/// application cryptogram and the card status update. EMV 4.3 Book 2, section 8.2.2, without proprietary authentication
-/// data.
+/// The ARPC by method 2: the first four bytes of the MAC of the key's suite, under the session key for cryptograms, of
+/// the application cryptogram and the card status update. EMV 4.3 Book 2, section 8.2.2, without proprietary
+/// authentication data.
 pub fn method2(key: &MacKey, ac: &[u8; 8], csu: [u8; 4]) -> [u8; 4]
     ensures { (suite : Suite) (sk : List ℕ) → HasMacKey key.now suite sk → result ≡ method2 suite sk ac.now csu }
 {
@@ -86,7 +69,8 @@ pub fn value91(
     arc: [u8; 2],
     csu: [u8; 4],
 ) -> ArrayVec<u8, 16>
-    ensures { (suite : Suite) (sk : List ℕ) → HasMacKey key.now suite sk → result.items ≡ value91 suite method sk ac.now arc csu }
+    ensures { (suite : Suite) (sk : List ℕ) → HasMacKey key.now suite sk
+        → result.items ≡ value91 suite method sk ac.now arc csu }
 {
     match method {
         Method::One => joined(&method1(key, ac, arc), &arc),

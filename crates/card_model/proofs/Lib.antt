@@ -1,3 +1,4 @@
 -- The laws of this crate.
 pub mod Steps
 pub mod Requests
+pub mod Ran

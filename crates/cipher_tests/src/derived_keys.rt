@@ -316,6 +316,7 @@ fn card_keys_are_those_of_another_program(rt: HostRuntime) -> Result<(), Fail> {
             ac: Key16(imk_ac.to_be_bytes()),
             smi: Key16(imk_smi.to_be_bytes()),
             aes: None,
+            smc: None,
         };
         let want = CardKeys {
             suite: Suite::TripleDes,
@@ -339,6 +340,7 @@ fn aes_keys_are_those_of_another_program(rt: HostRuntime) -> Result<(), Fail> {
         assert_eq!(rt; ac.0, want.to_be_bytes());
         let set = KeySet {
             aes: Some(AesPair { ac: imk, smi }),
+            smc: None,
             ..KeySet::default()
         };
         let want = CardKeys {

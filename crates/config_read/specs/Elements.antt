@@ -3,6 +3,7 @@ use Rattle.std.specs.Prelude.{ℕ, List, codes, ◌&&◌, Option, Some, None, is
 use Rattle.std.specs.Option.{option_and_then, option_map}
 use Rattle.serde_json.specs.Data.{Data, null, boolean, number, string, array, object}
 use Rattle.serde_json.specs.Find.{get, as_bool, as_u64}
+use Rattle.des_block.specs.declared.Key16.{Key16}
 use Rattle.key_derive.specs.declared.card.AesPair.{AesPair}
 use Rattle.key_derive.specs.declared.card.KeySet.{KeySet}
 use Rattle.decision_table.specs.declared.row.TableRow.{TableRow}
@@ -35,7 +36,16 @@ aes_pair_in element =
       smi ← bytes_member (codes "aes_smi") 16 element
       Some (Some (record { ac = record { 0 = ac }; smi = record { 0 = smi } })))
 
--- a key set: its index, its option, its two triple DES keys, and possibly its two AES keys
+-- the key of a key set for confidentiality: one with triple DES, or none without the member
+unfoldable pub smc_in : Data → Option (Option Key16)
+smc_in element =
+    if is_none (get (codes "smc") element) then Some None
+    else (do
+      smc ← bytes_member (codes "smc") 16 element
+      Some (Some (record { 0 = smc })))
+
+-- a key set: its index, its option, its two triple DES keys, possibly its two AES keys, and possibly its key for
+-- confidentiality
 unfoldable pub key_set_in : Data → Option KeySet
 key_set_in element = do
   dki ← number_up_to (codes "dki") 255 element
@@ -43,7 +53,8 @@ key_set_in element = do
   ac ← bytes_member (codes "ac") 16 element
   smi ← bytes_member (codes "smi") 16 element
   aes ← aes_pair_in element
-  Some (record { dki = dki; option = option; ac = record { 0 = ac }; smi = record { 0 = smi }; aes = aes })
+  smc ← smc_in element
+  Some (record { dki = dki; option = option; ac = record { 0 = ac }; smi = record { 0 = smi }; aes = aes; smc = smc })
 
 -- a card: its account number, its sequence number and its method
 unfoldable pub card_in : Data → Option CardInfo

@@ -3,7 +3,7 @@ ghost use Rattle.std.specs.Prelude.{◌≡◌, codes};
 ghost use Rattle.std.specs.Option.{option_and_then, option_zip};
 ghost use Rattle.serde_json.specs.Find.{get};
 ghost use Rattle.serde_json.specs.View.{view};
-ghost use Rattle.config_read.specs.Elements.{aes_pair_in, bytes_member, card_in, key_set_in, number_up_to, row_in, status_from, where_told};
+ghost use Rattle.config_read.specs.Elements.{aes_pair_in, bytes_member, card_in, key_set_in, smc_in, number_up_to, row_in, status_from, where_told};
 ghost use Rattle.config_read.specs.RowParts.{decision_in};
 
 use crate::json_value::{number_member, text_member};
@@ -25,6 +25,7 @@ pub(crate) fn read_key_set(element: &Value) -> Option<KeySet>
         ac: Key16(bytes_member(element, "ac")?),
         smi: Key16(bytes_member(element, "smi")?),
         aes: read_aes_pair(element)?,
+        smc: read_smc(element)?,
     })
 }
 
@@ -40,6 +41,17 @@ fn read_aes_pair(element: &Value) -> Option<Option<AesPair>>
         ac: Key16(bytes_member(element, "aes_ac")?),
         smi: Key16(bytes_member(element, "aes_smi")?),
     }))
+}
+
+/// Parses the key for confidentiality of a key set, if the member is there; if it isn't, the inner `None`.
+#[tactic(auto, unfolding(crate::specs::Elements::smc_in))]
+fn read_smc(element: &Value) -> Option<Option<Key16>>
+    ensures { result ≡ smc_in (view element.now) }
+{
+    if element.get("smc").is_none() {
+        return Some(None);
+    }
+    Some(Some(Key16(bytes_member(element, "smc")?)))
 }
 
 /// Parses an element as a card.

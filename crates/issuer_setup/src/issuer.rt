@@ -203,6 +203,7 @@ impl Issuer {
 
     /// The session key for the cryptograms of the transaction with this ATC, from the keys in this slot. If the master
     /// key is cached, this costs one key schedule and the encipherment of the session key's blocks.
+    #[inline(always)]
     pub fn session(&self, slot: KeySlot, atc: u16) -> SessionKey
         requires { IsSome (keys_at self.now slot) }
         ensures { (keys : CardKeys) → keys_at self.now slot ≡ Some keys → result ≡ session_of keys atc }

@@ -77,6 +77,7 @@ impl KeptKeys {
     }
 
     /// The master keys of the pair with this index, of both suites.
+    #[inline(always)]
     pub(crate) fn secrets(&self, index: usize) -> &CardSecrets
         requires { index < length self.now.pairs }
         ensures { slice_get self.now.pairs index ≡ Some result.now }

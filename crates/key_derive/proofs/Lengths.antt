@@ -1,12 +1,12 @@
 -- How long the session keys are.
-use Rattle.std.proofs.Common.{◌≡◌, ℕ, List, ◌++◌, length, slice_set, replicate, arith}
+use Rattle.std.proofs.Common.{◌≡◌, ℕ, List, length, slice_set, arith}
 use Rattle.std.proofs.lemmas.List.{length-append}
 use Rattle.issuer_base.specs.declared.request.Suite.{Suite}
 use Rattle.issuer_base.specs.declared.request.Suite.TheVariants.{TripleDes, Aes}
 use Rattle.des_block.specs.Cipher.{tdes_encipher}
 use Rattle.des_block.proofs.Laws.{length-des_encipher}
 use Rattle.aes_cipher.proofs.Laws.{length-aes_encipher}
-use Rattle.key_derive.specs.SessionKey.{session_key, counter_bytes, session_ac, session_sm}
+use Rattle.key_derive.specs.SessionKey.{session_key, session_ac, session_sm}
 
 length-tdes : (key block : List ℕ) → length (tdes_encipher key block) ≡ 8
 unfolding tdes_encipher

@@ -1,6 +1,8 @@
--- The keys of a card from the keys of its issuer: EMV 4.3 Book 2, Annex A1.4. Those with AES are this project's profile.
+-- The keys of a card from the keys of its issuer: EMV 4.3 Book 2, Annex A1.4. Those with AES are this project's
+-- profile.
 use Rattle.std.specs.Prelude.{ℕ, List, Option, Some}
 use Rattle.std.specs.Option.{option_map}
+use Rattle.des_block.specs.declared.Key16.{Key16}
 use Rattle.issuer_base.specs.declared.request.Suite.{Suite}
 use Rattle.issuer_base.specs.declared.request.Suite.TheVariants.{TripleDes, Aes}
 use Rattle.key_derive.specs.declared.card.AesPair.{AesPair}
@@ -28,3 +30,8 @@ aes_keys pair pan psn = record {
 abbrev pub card_keys : KeySet → Suite → List ℕ → ℕ → Option CardKeys
 card_keys set TripleDes pan psn = Some (des_keys set pan psn)
 card_keys set Aes pan psn = option_map (λ pair. aes_keys pair pan psn) set.aes
+
+-- the card's master key for secure messaging for confidentiality, if the key set has the issuer's: with triple DES,
+-- whatever the card's suite
+abbrev pub card_smc : KeySet → List ℕ → ℕ → Option Key16
+card_smc set pan psn = option_map (λ smc. record { 0 = master_key set.option smc.0 pan psn }) set.smc

@@ -1,11 +1,12 @@
 //! The keys of a card from those of its issuer.
 
 ghost use Rattle.std.specs.Prelude.{◌≡◌};
-ghost use Rattle.key_derive.specs.CardKey.{card_keys};
+ghost use Rattle.key_derive.specs.CardKey.{card_keys, card_smc};
 
 use crate::lazy::LazyKeys;
 use des_block::Key16;
 use issuer_base::{MasterOption, Pan, Suite};
+use master_keys::master_key;
 
 /// The issuer's master keys for cards with AES.
 #[derive(Clone, Copy)]
@@ -34,9 +35,13 @@ pub struct KeySet {
 
     /// The issuer's AES master keys, if it has cards with AES under this index.
     pub aes: Option<AesPair>,
+
+    /// The issuer's triple DES master key for secure messaging for confidentiality, if it changes PINs under this index.
+    pub smc: Option<Key16>,
 }
 
-/// The index 0, option A and keys of zeros, without AES: what fills the unused elements of an array of key sets.
+/// The index 0, option A and keys of zeros, without AES and without a key for confidentiality: what fills the unused
+/// elements of an array of key sets.
 impl Default for KeySet {
     ghost use Rattle.std.specs.Prelude.{◌≡◌, replicate, None};
     ghost use Rattle.issuer_base.specs.declared.answer.MasterOption.TheVariants.{A};
@@ -47,6 +52,7 @@ impl Default for KeySet {
       ac = record { 0 = replicate 16 0 };
       smi = record { 0 = replicate 16 0 };
       aes = None;
+      smc = None;
     } };
 
     fn default() -> KeySet {
@@ -56,6 +62,7 @@ impl Default for KeySet {
             ac: Key16([0; 16]),
             smi: Key16([0; 16]),
             aes: None,
+            smc: None,
         }
     }
 }
@@ -80,4 +87,15 @@ pub fn card_keys(set: &KeySet, suite: Suite, pan: &Pan, psn: u8) -> Option<CardK
 {
     let keys = LazyKeys::of(set, suite, pan, psn)?;
     Some(keys.pair())
+}
+
+/// A card's master key for secure messaging for confidentiality, by the key set's option, with triple DES whatever the
+/// card's suite; `None` if the key set has none. Computes one key schedule.
+pub fn card_smc(set: &KeySet, pan: &Pan, psn: u8) -> Option<Key16>
+    ensures { result ≡ card_smc set.now pan.now psn }
+{
+    match &set.smc {
+        Some(smc) => Some(master_key(set.option, smc, pan, psn)),
+        None => None,
+    }
 }

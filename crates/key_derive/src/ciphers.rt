@@ -56,8 +56,8 @@ impl MasterCiphers {
         }
     }
 
-    /// The master keys of a card of this suite from those of this key set; `None` if the suite is AES and the key set has
-    /// no AES keys. Computes no key schedule, and enciphers four blocks of triple DES or two of AES.
+    /// The master keys of a card of this suite from those of this key set; `None` if the suite is AES and the key set
+    /// has no AES keys. Computes no key schedule, and enciphers four blocks of triple DES or two of AES.
     pub fn card_keys(&self, suite: Suite, pan: &Pan, psn: u8) -> Option<CardKeys>
         ensures { result ≡ card_keys self.now suite pan.now psn }
     {
@@ -89,8 +89,8 @@ impl MasterCiphers {
         }
     }
 
-    /// The key that this master key for application cryptograms derives from a block. If it is the key set's, this computes
-    /// no key schedule.
+    /// The key that this master key for application cryptograms derives from a block. If it is the key set's, this
+    /// computes no key schedule.
     pub(crate) fn derived_ac(&self, imk: &Key16, block: [u8; 8]) -> Key16
         ensures { result.0 ≡ diversified imk.now.0 block }
     {
@@ -170,8 +170,8 @@ impl AesCiphers {
         }
     }
 
-    /// The key that this master key for application cryptograms derives from a block. If it is the pair's, this computes
-    /// no key schedule.
+    /// The key that this master key for application cryptograms derives from a block. If it is the pair's, this
+    /// computes no key schedule.
     fn derived_ac(&self, imk: &Key16, block: [u8; 16]) -> Key16
         ensures { result.0 ≡ aes_encipher imk.now.0 block }
     {

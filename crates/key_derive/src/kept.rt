@@ -2,7 +2,7 @@
 ghost use Rattle.std.specs.Prelude.{◌≡◌, IsSome, Some};
 ghost use Rattle.key_derive.specs.declared.card.CardKeys.{CardKeys};
 ghost use Rattle.key_derive.specs.CardSecret.{secrets_of, keys_in};
-ghost use Rattle.key_derive.specs.SessionKey.{session_of};
+ghost use Rattle.key_derive.specs.SessionKey.{session_ac, session_of};
 
 use crate::card::KeySet;
 use crate::ciphers::MasterCiphers;
@@ -33,13 +33,16 @@ impl Model for CardSecrets {
 impl CardSecrets {
     /// The master keys of a card from those of its issuer, of which none is derived yet. Computes no key schedule and
     /// enciphers nothing.
+    #[inline(always)]
     pub fn of(set: &KeySet, pan: &Pan, psn: u8) -> CardSecrets
         ensures { result ≡ secrets_of set.now pan.now psn }
     {
-        CardSecrets {
-            des: CachedKeys::new(LazyKeys::of_des(set, pan, psn)),
-            aes: LazyKeys::of_aes(set, pan, psn).map(CachedKeys::new),
-        }
+        let des = CachedKeys::new(LazyKeys::of_des(set, pan, psn));
+        let Some(keys) = LazyKeys::of_aes(set, pan, psn) else {
+            return CardSecrets { des, aes: None };
+        };
+        let aes = Some(CachedKeys::new(keys));
+        CardSecrets { des, aes }
     }
 
     /// The master keys of a suite, if there are any. This derives none.
@@ -52,17 +55,19 @@ impl CardSecrets {
         }
     }
 
-    /// The session key for the cryptograms of the transaction with this ATC in a suite that the card has keys of. If the
-    /// master key is cached, this computes the key schedules of the session key alone; otherwise also those of the issuer's
-    /// and the card's master key.
+    /// The session key for the cryptograms of the transaction with this ATC in a suite that the card has keys of. If
+    /// the master key is cached, this computes the key schedules of the session key alone; otherwise also those of the
+    /// issuer's and the card's master key.
+    #[inline(always)]
     pub fn session(&self, suite: Suite, atc: u16) -> SessionKey
         requires { IsSome (keys_in suite self.now) }
         ensures { (keys : CardKeys) → keys_in suite self.now ≡ Some keys → result ≡ session_of keys atc }
     {
-        match suite {
-            Suite::TripleDes => self.des.session(atc),
-            Suite::Aes => self.aes.as_ref().unwrap().session(atc),
-        }
+        let cached = match suite {
+            Suite::TripleDes => &self.des,
+            Suite::Aes => self.aes.as_ref().unwrap(),
+        };
+        SessionKey::new(cached.keys.suite(), cached.session_ac(atc))
     }
 
     /// Caches the key for application cryptograms of a suite, if the card has keys of it. If it isn't cached yet, this
@@ -80,8 +85,8 @@ impl CardSecrets {
         }
     }
 
-    /// Caches the keys for application cryptograms of both suites, as [`CardSecrets::keep`] does. For a card of this key
-    /// set, the issuer's key schedules aren't computed again.
+    /// Caches the keys for application cryptograms of both suites, as [`CardSecrets::keep`] does. For a card of this
+    /// key set, the issuer's key schedules aren't computed again.
     pub fn keep_by(&mut self, ciphers: &MasterCiphers)
         ensures { self.new ≡ self.old }
     {
@@ -110,25 +115,26 @@ impl Model for CachedKeys {
 
     ghost view = { λ cached. cached.keys };
 
-    ghost invariant = { λ cached. IfSome cached.cipher (λ cipher. HasCipherKey cipher cached.keys.suite cached.keys.ac.0) };
+    ghost invariant = { λ cached.
+        IfSome cached.cipher (λ cipher. HasCipherKey cipher cached.keys.suite cached.keys.ac.0) };
 }
 
 impl CachedKeys {
+    #[inline(always)]
     fn new(keys: LazyKeys) -> CachedKeys
         ensures { result ≡ keys }
     {
         CachedKeys { keys, cipher: None }
     }
 
-    fn session(&self, atc: u16) -> SessionKey
-        ensures { result ≡ session_of self.now atc }
+    /// The session key for the cryptograms of the transaction with this ATC.
+    fn session_ac(&self, atc: u16) -> Key16
+        ensures { result.0 ≡ session_ac self.now.suite self.now.ac.0 atc }
     {
-        let suite = self.keys.suite();
-        let key = match &self.cipher {
+        match &self.cipher {
             Some(cipher) => cipher.session_ac(atc),
-            None => session_ac(suite, &self.keys.ac(), atc),
-        };
-        SessionKey::new(suite, key)
+            None => session_ac(self.keys.suite(), &self.keys.ac(), atc),
+        }
     }
 
     fn keep(&mut self)

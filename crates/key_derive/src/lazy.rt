@@ -50,9 +50,9 @@ impl Model for LazyKeys {
 }
 
 impl LazyKeys {
-    /// The master keys of a card of this suite from those of its issuer, of which none is derived yet; `None` if the suite
-    /// is AES and the key set has no AES keys. Computes no key schedule and enciphers nothing; option B hashes an account
-    /// number of more than sixteen digits.
+    /// The master keys of a card of this suite from those of its issuer, of which none is derived yet; `None` if the
+    /// suite is AES and the key set has no AES keys. Computes no key schedule and enciphers nothing; option B hashes an
+    /// account number of more than sixteen digits.
     pub fn of(set: &KeySet, suite: Suite, pan: &Pan, psn: u8) -> Option<LazyKeys>
         ensures { result ≡ card_keys set.now suite pan.now psn }
     {
@@ -63,6 +63,7 @@ impl LazyKeys {
     }
 
     /// The triple DES keys of a card.
+    #[inline(always)]
     pub(crate) fn of_des(set: &KeySet, pan: &Pan, psn: u8) -> LazyKeys
         ensures { result ≡ des_keys set.now pan.now psn }
     {
@@ -76,6 +77,7 @@ impl LazyKeys {
     }
 
     /// The AES keys of a card, if the key set has AES keys.
+    #[inline(always)]
     pub(crate) fn of_aes(set: &KeySet, pan: &Pan, psn: u8) -> Option<LazyKeys>
         ensures { result ≡ option_map (λ pair. aes_keys pair pan.now psn) set.now.aes }
     {

@@ -1,4 +1,5 @@
-//! The card's master keys and the session keys: EMV 4.3 Book 2, Annex A1.3 and A1.4, and this project's profile with AES.
+//! The card's master keys and the session keys: EMV 4.3 Book 2, Annex A1.3 and A1.4. Those with AES are this project's
+//! profile.
 #![tactic(auto)]
 
 mod card;
@@ -7,7 +8,7 @@ mod kept;
 mod lazy;
 mod session;
 
-pub use card::{AesPair, CardKeys, KeySet, card_keys};
+pub use card::{AesPair, CardKeys, KeySet, card_keys, card_smc};
 pub use ciphers::MasterCiphers;
 pub use kept::CardSecrets;
 pub use lazy::LazyKeys;

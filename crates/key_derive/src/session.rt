@@ -1,9 +1,8 @@
 //! The session keys of a transaction: EMV 4.3 Book 2, Annex A1.3.1. Those with AES are this project's profile.
 
-ghost use Rattle.std.specs.Prelude.{◌≡◌, ℕ, List, ◌++◌, replicate, slice_set};
+ghost use Rattle.std.specs.Prelude.{◌≡◌, ℕ, List, slice_set};
 ghost use Rattle.issuer_base.specs.declared.request.Suite.{Suite};
 ghost use Rattle.des_block.specs.Keyed.{HasKeyPair};
-ghost use Rattle.aes_cipher.specs.Columns.{HasKey};
 ghost use Rattle.suite_mac.specs.SuiteMac.{HasMacKey};
 ghost use Rattle.key_derive.specs.SessionKey.{session_key, session_ac, session_sm, session_of};
 ghost use Rattle.key_derive.specs.SuiteCipher.{HasCipherKey};
@@ -14,7 +13,7 @@ use des_block::{Key16, Tdes};
 use issuer_base::Suite;
 use master_keys::joined;
 use std::marker::Model;
-use suite_mac::MacKey;
+use suite_mac::{MacKey, with_zeros};
 
 /// The session key for the cryptograms of one transaction, with its key schedules for both the check and the reply.
 ///
@@ -38,19 +37,25 @@ impl Model for SessionKey {
 }
 
 impl SessionKey {
-    /// The key of the transaction with this ATC, from the card's master keys, as `session_ac` computes it. Computes the key
-    /// schedules of the master key and of the session key.
+    /// The key of the transaction with this ATC, from the card's master keys, as `session_ac` computes it. Computes the
+    /// key schedules of the master key and of the session key.
     pub fn for_cryptograms(keys: &CardKeys, atc: u16) -> SessionKey
         ensures { result ≡ session_of keys.now atc }
     {
         SessionKey::new(keys.suite, session_ac(keys.suite, &keys.ac, atc))
     }
 
-    /// A session key of this suite with its key schedules.
+    /// A session key of this suite with its key schedules. Each suite has a path of its own, on which the compiler copies
+    /// the key schedules once.
+    #[inline(never)]
     pub(crate) fn new(suite: Suite, key: Key16) -> SessionKey
         ensures { result ≡ record { suite = suite; key = key.0 } }
     {
-        let mac = MacKey::new(suite, &key);
+        if let Suite::Aes = suite {
+            let mac = MacKey::new(Suite::Aes, &key);
+            return SessionKey { suite, key, mac };
+        }
+        let mac = MacKey::new(Suite::TripleDes, &key);
         SessionKey { suite, key, mac }
     }
 
@@ -102,17 +107,19 @@ impl SuiteCipher {
 
     /// The session key for secure messaging under this master key.
     fn session_sm(&self, ac: &[u8; 8]) -> Key16
-        ensures { (suite : Suite) (mk : List ℕ) → HasCipherKey self.now suite mk → result.0 ≡ session_sm suite mk ac.now }
+        ensures { (suite : Suite) (mk : List ℕ) → HasCipherKey self.now suite mk
+            → result.0 ≡ session_sm suite mk ac.now }
     {
         match self {
             SuiteCipher::TripleDes(cipher) => session_key(cipher, *ac),
-            SuiteCipher::Aes(cipher) => Key16(cipher.encipher(with_zeros(ac))),
+            SuiteCipher::Aes(cipher) => Key16(cipher.encipher(with_zeros(*ac))),
         }
     }
 }
 
-/// The session key for a transaction's cryptograms, from the card's master key of this suite and the ATC: for triple DES
-/// EMV 4.3 Book 2, Annex A1.3.1; for AES this project's profile. Computes one key schedule.
+/// The session key for a transaction's cryptograms, from the card's master key of this suite and the ATC: for triple
+/// DES EMV 4.3 Book 2, Annex A1.3.1; for AES this project's profile. Computes one key schedule.
+#[inline(never)]
 pub fn session_ac(suite: Suite, mk: &Key16, atc: u16) -> Key16
     ensures { result.0 ≡ session_ac suite mk.now.0 atc }
 {
@@ -140,11 +147,4 @@ fn with_third(mut block: [u8; 8], byte: u8) -> [u8; 8]
 {
     block[2] = byte;
     block
-}
-
-/// A block of AES: eight bytes, and zeros.
-fn with_zeros(bytes: &[u8; 8]) -> [u8; 16]
-    ensures { result ≡ bytes.now ++ replicate 8 0 }
-{
-    joined(*bytes, [0; 8]).0
 }

@@ -113,7 +113,7 @@ fn row_of(pan: &Pan, psn: u8) -> [u8; 22]
 }
 
 /// The digits packed two in a byte, the first in the high nibble.
-fn packed<const N: usize>(digits: &[u8]) -> [u8; N]
+pub fn packed<const N: usize>(digits: &[u8]) -> [u8; N]
     requires pairs { length digits.now ≡ 2 * N }
     requires nibbles { (k : ℕ) → slice_index digits.now k < 16 }
     ensures { result ≡ packed digits.now }

@@ -4,7 +4,7 @@
 mod digits;
 mod master;
 
-pub use digits::decimal16;
+pub use digits::{decimal16, packed};
 pub use master::{
     aes_block, aes_key, aes_master, block_of, diversified, joined, master_key, option_a, option_b,
 };

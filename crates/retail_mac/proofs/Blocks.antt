@@ -10,6 +10,7 @@ use Rattle.des_block.proofs.Laws.{length-des_encipher, word_bytes-from_be_bytes}
 use borrow.Rule.Slice.PartMut.{put_mid}
 use Rattle.des_block.specs.Cipher.{word_bytes, tdes_encipher}
 use Rattle.retail_mac.specs.Mac.{padded, blocks, padded_blocks, xor_bytes, zero_block, retail_mac, cbc_from, cbc}
+use Rattle.retail_mac.specs.Opening.{AreBytes}
 
 -- eight bytes of a text, one by one
 eight_at : (text : List ℕ) (at : ℕ) → at + 8 ≤ length text
@@ -57,9 +58,6 @@ last_block ys n j len e h =
     let rest : drop j (replicate 8 0) ≡ 0 ∷ replicate (7 - n) 0 = drop-replicate j 8 0 ∙ ap (λ k. replicate k 0) count in
     ap (λ r. set (ys ++ r) n 128) rest ∙ set_at ys 0 (replicate (7 - n) 0) 128 n len
 
-abbrev AreBytes : List ℕ → Type 0
-AreBytes bytes = (i : ℕ) → get_or bytes i 0 < 256
-
 part_small : (text : List ℕ) (at : ℕ) → AreBytes text → AreBytes (take 8 (drop at text))
 part_small text at small i =
     ⊎_elim (λ l. Rattle.std.proofs.Common.subst (λ x. x < 256) (sym (get_or-take 8 (drop at text) i 0 l ∙ get_or-drop at text i 0)) (small (at + i)))
@@ -67,12 +65,12 @@ part_small text at small i =
     (omega arith))
     (cases_lt i 8)
 
-zeros_small : (m : ℕ) → AreBytes (replicate m 0)
+pub zeros_small : (m : ℕ) → AreBytes (replicate m 0)
 zeros_small zero i = omega arith
 zeros_small (suc m) zero = omega arith
 zeros_small (suc m) (suc i) = zeros_small m i
 
-end_small : (ys : List ℕ) (m : ℕ) → AreBytes ys → AreBytes (ys ++ 128 ∷ replicate m 0)
+pub end_small : (ys : List ℕ) (m : ℕ) → AreBytes ys → AreBytes (ys ++ 128 ∷ replicate m 0)
 end_small [] m small zero = omega arith
 end_small [] m small (suc i) = zeros_small m i
 end_small (y ∷ ys) m small zero = small 0

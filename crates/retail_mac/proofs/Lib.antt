@@ -1,3 +1,5 @@
 -- The laws of this crate.
 pub mod Blocks
 pub mod Pieces
+pub mod CbcBack
+pub mod Padding

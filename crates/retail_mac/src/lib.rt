@@ -6,6 +6,7 @@
 #![tactic(auto)]
 
 mod chain;
+mod opening;
 mod run;
 
 ghost use Rattle.std.specs.Prelude.{◌≡◌, ℕ, ◌+◌, ◌<◌, ◌≤◌, ◌↔◌, List, ◌++◌, length, IsErr, OnOk, OnErr};
@@ -17,6 +18,7 @@ ghost use Rattle.retail_mac.specs.Mac.{padded, retail_mac, cbc};
 use arrayvec::ArrayVec;
 use chain::{chained, ended, last_word, word_at};
 use des_block::{Key16, PermutedBlock, Tdes};
+pub use opening::cbc_open;
 pub use run::MacRun;
 
 /// The enciphered text does not fit into the remaining output.

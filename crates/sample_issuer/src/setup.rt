@@ -44,6 +44,7 @@ pub fn key_set() -> KeySet {
         ac,
         smi,
         aes: Some(AesPair { ac, smi }),
+        smc: None,
     }
 }
 

@@ -63,7 +63,8 @@ Writes-more suite key start before commands i chain value command sealed next ne
     }
 
 pub Writes-all : (suite : Suite) (key start before : List ℕ) (commands : List Command) (i : ℕ) (chain value : List ℕ)
-    → Writes suite key start before commands i chain value → length commands ≤ i → (value ≡ before ++ batch_objects suite key start commands) × (chain ≡ fold (command_mac suite key) start commands)
+    → Writes suite key start before commands i chain value → length commands ≤ i
+    → (value ≡ before ++ batch_objects suite key start commands) × (chain ≡ fold (command_mac suite key) start commands)
 unfolding batch_objects sealed_commands
 Writes-all suite key start before commands i chain value all end =
     let none : drop i commands ≡ [] = drop_all i commands end in (

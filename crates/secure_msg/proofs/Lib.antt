@@ -2,3 +2,5 @@
 pub mod Forms
 pub mod Opening
 pub mod Batches
+pub mod PinBlocks
+pub mod PinChanges

@@ -24,8 +24,9 @@ pub record IsBatch (commands : List Command) : Type 0 where
   pub form : All (λ command. IsTrue (is_command command)) commands
   pub fit : template_size commands ≤ MAX_TEMPLATE_BYTES
 
--- the template: tag 72 holds 9F18 with the number of the batch's first command in the card's queue, in four bytes, and an
--- object 86 for each sealed command
+-- the template: tag 72 holds 9F18 with the number of the batch's first command in the card's queue, in four bytes, and
+-- an object 86 for each sealed command
 unfoldable pub template_bytes : Suite → List ℕ → List ℕ → ℕ → List Command → List ℕ
 template_bytes suite key ac first commands =
-    object_text 0x72 (object_text 0x9F18 (to_be_bytes w32 first) ++ flat_map (object_text 0x86) (sealed_commands suite key ac commands))
+    object_text 0x72 (object_text 0x9F18 (to_be_bytes w32 first)
+    ++ flat_map (object_text 0x86) (sealed_commands suite key ac commands))

@@ -7,11 +7,13 @@ use Rattle.issuer_base.specs.ScriptCommand.{is_command, command_bytes}
 
 -- the command itself, if it is one of the host's and its data are not too long
 abbrev pub if_allowed : Command → Option Command
-if_allowed command = if is_command command && nat_le (length command.body.items) MAX_BODY_BYTES then Some command else None
+if_allowed command =
+    if is_command command && nat_le (length command.body.items) MAX_BODY_BYTES then Some command else None
 
 -- the command that bytes encode: class, instruction, two parameters and the data, without their length
 unfoldable pub command_of : List ℕ → Option Command
-command_of (cla ∷ ins ∷ p1 ∷ p2 ∷ body) = if_allowed (record { cla = cla; ins = ins; p1 = p1; p2 = p2; body = record { items = body } })
+command_of (cla ∷ ins ∷ p1 ∷ p2 ∷ body) =
+    if_allowed (record { cla = cla; ins = ins; p1 = p1; p2 = p2; body = record { items = body } })
 command_of _ = None
 
 -- the bytes encode this command of the host, whose data are not too long

@@ -2,3 +2,5 @@
 pub mod Commands
 pub mod Sealing
 pub mod Batch
+pub mod Pins
+pub mod PinChange

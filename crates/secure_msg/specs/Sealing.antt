@@ -9,9 +9,11 @@ use Rattle.issuer_base.specs.ScriptCommand.{is_command}
 use Rattle.suite_mac.specs.SuiteMac.{mac_of}
 use Rattle.secure_msg.specs.Commands.{command_of}
 
--- a command as it is sent, up to its MAC: class, instruction, two parameters, Lc, which counts the data and the MAC, and the data
+-- a command as it is sent, up to its MAC: class, instruction, two parameters, Lc, which counts the data and the MAC, and
+-- the data
 abbrev pub sent_bytes : Command → List ℕ
-sent_bytes command = command.cla ∷ command.ins ∷ command.p1 ∷ command.p2 ∷ (length command.body.items + 8) ∷ command.body.items
+sent_bytes command =
+    command.cla ∷ command.ins ∷ command.p1 ∷ command.p2 ∷ (length command.body.items + 8) ∷ command.body.items
 
 -- the MAC of a command at a chain, section 9.2.3: the suite's, of the chain and the command as it is sent
 unfoldable pub command_mac : Suite → List ℕ → List ℕ → Command → List ℕ
@@ -30,7 +32,8 @@ unsealed_bytes _ = []
 abbrev pub if_sealed : Suite → List ℕ → List ℕ → List ℕ → Option Command → Option (Command × List ℕ)
 if_sealed suite key chain bytes None = None
 if_sealed suite key chain bytes (Some command) =
-    if bytes_eq (sealed_command suite key chain command) bytes then Some (command, command_mac suite key chain command) else None
+    if bytes_eq (sealed_command suite key chain command) bytes then Some (command, command_mac suite key chain command)
+    else None
 
 -- the command that sealed bytes open to at a chain, and the next chain: without Lc and MAC they encode a command of the
 -- host, and they are that command, sealed at the chain

@@ -43,8 +43,8 @@ pub fn is_batch(commands: &[Command]) -> bool
     !commands.is_empty()
 }
 
-/// The template of a batch for the card that made this application cryptogram. `first` is the number of the batch's first
-/// command in the card's queue. Computes the key schedules of the suite once, however many commands there are.
+/// The template of a batch for the card that made this application cryptogram. `first` is the number of the batch's
+/// first command in the card's queue. Computes the key schedules of the suite once, however many commands there are.
 pub fn template(
     suite: Suite,
     key: &Key16,
@@ -92,7 +92,8 @@ fn write_sealed(
     requires { length value.old.items + sum_by sealed_size commands.now ≤ ROOM }
     ensures written { (suite : Suite) (key : List ℕ) → IsRun run.old suite key [] → value.new.items
         ≡ value.old.items ++ flat_map (object_text 0x86) (sealed_commands suite key chain commands.now) }
-    ensures chain { (suite : Suite) (key : List ℕ) → IsRun run.old suite key [] → result ≡ fold (command_mac suite key) chain commands.now }
+    ensures chain { (suite : Suite) (key : List ℕ) → IsRun run.old suite key []
+        → result ≡ fold (command_mac suite key) chain commands.now }
     ensures again { (suite : Suite) (key : List ℕ) → IsRun run.old suite key [] → IsRun run.new suite key [] }
     ensures len { length value.new.items ≡ length value.old.items + sum_by sealed_size commands.now }
 {

@@ -24,7 +24,8 @@ pub fn read_command(bytes: &[u8]) -> Result<Command, BadCommand>
 
 /// The command of these parts, if the host sends such a command.
 pub(crate) fn command_with(cla: u8, ins: u8, p1: u8, p2: u8, data: &[u8]) -> Option<Command>
-    ensures { result ≡ if_allowed (record { cla = cla; ins = ins; p1 = p1; p2 = p2; body = record { items = «data».now } }) }
+    ensures { result
+        ≡ if_allowed (record { cla = cla; ins = ins; p1 = p1; p2 = p2; body = record { items = «data».now } }) }
 {
     let mut body = ArrayVec::new();
     body.try_extend_from_slice(data).ok()?;

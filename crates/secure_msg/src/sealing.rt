@@ -26,7 +26,8 @@ pub const MAX_SEALED_BYTES: usize = HEADER_BYTES + MAX_BODY_BYTES + MAC_BYTES;
 /// The bytes of a sealed command.
 pub type SealedCommand = ArrayVec<u8, MAX_SEALED_BYTES>;
 
-/// Seals a command at a chain, with the MAC of the suite. Returns it and the next chain: the MAC that the sealed command ends with.
+/// Seals a command at a chain, with the MAC of the suite. Returns it and the next chain: the MAC that the sealed command
+/// ends with.
 pub fn seal(
     suite: Suite,
     key: &Key16,
@@ -85,7 +86,8 @@ pub fn unseal(
 ) -> Option<(Command, [u8; 8])>
     ensures exact { result ≡ opened_command suite key.now.0 chain.now bytes.now }
     ensures sealed { IfSome result (λ found. AreSealed suite key.now.0 chain.now bytes.now found.0 found.1) }
-    ensures refused { IfNone result ((command : Command) (next : List ℕ) → ¬ AreSealed suite key.now.0 chain.now bytes.now command next) }
+    ensures refused { IfNone result ((command : Command) (next : List ℕ)
+        → ¬ AreSealed suite key.now.0 chain.now bytes.now command next) }
 {
     let command = unsealed(bytes)?;
     let (sealed, next) = seal(suite, key, chain, &command);

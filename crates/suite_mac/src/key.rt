@@ -1,9 +1,11 @@
 //! A key for the MAC of a suite.
 
-ghost use Rattle.std.specs.Prelude.{◌≡◌, ℕ, List, take};
+ghost use Rattle.std.specs.Prelude.{◌≡◌, ℕ, List};
 ghost use Rattle.issuer_base.specs.declared.request.Suite.{Suite};
+ghost use Rattle.aes_cipher.specs.Mac.{HasCmacKey};
 ghost use Rattle.suite_mac.specs.SuiteMac.{mac_of, HasMacKey};
 
+use crate::half_block::first_half;
 use aes_cipher::CmacKey;
 use des_block::{Key16, Tdes};
 use issuer_base::Suite;
@@ -21,12 +23,13 @@ pub enum MacKey {
 
 impl MacKey {
     /// Computes the key schedules of a key in this suite.
+    #[inline(always)]
     pub fn new(suite: Suite, key: &Key16) -> MacKey
         ensures { HasMacKey result suite key.now.0 }
     {
         match suite {
             Suite::TripleDes => MacKey::TripleDes(Tdes::new(key)),
-            Suite::Aes => MacKey::Aes(CmacKey::new(&key.0)),
+            Suite::Aes => MacKey::Aes(cmac_key(key)),
         }
     }
 
@@ -41,10 +44,10 @@ impl MacKey {
     }
 }
 
-/// The first eight of sixteen bytes.
-pub(crate) fn first_half(bytes: [u8; 16]) -> [u8; 8]
-    ensures { result ≡ take 8 bytes }
+/// The key for CMAC. In a function of its own, its memory isn't cleared where the suite is triple DES.
+#[inline(never)]
+fn cmac_key(key: &Key16) -> CmacKey
+    ensures { HasCmacKey result key.now.0 }
 {
-    let [a, b, c, d, e, f, g, h, ..] = bytes;
-    [a, b, c, d, e, f, g, h]
+    CmacKey::new(&key.0)
 }

@@ -5,7 +5,7 @@ ghost use Rattle.issuer_base.specs.declared.request.Suite.{Suite};
 ghost use Rattle.suite_mac.specs.SuiteMac.{mac_of};
 ghost use Rattle.suite_mac.specs.SuiteRun.{IsRun};
 
-use crate::key::first_half;
+use crate::half_block::first_half;
 use aes_cipher::{CmacKey, CmacRun};
 use des_block::Key16;
 use issuer_base::Suite;
@@ -45,8 +45,10 @@ impl SuiteRun {
 
     /// The MAC of the text. Afterwards the run is over no bytes, under the same key.
     pub fn take(&mut self) -> [u8; 8]
-        ensures mac { (suite : Suite) (key text : List ℕ) → IsRun self.old suite key text → result ≡ mac_of suite key text }
-        ensures again { (suite : Suite) (key text : List ℕ) → IsRun self.old suite key text → IsRun self.new suite key [] }
+        ensures mac { (suite : Suite) (key text : List ℕ) → IsRun self.old suite key text
+            → result ≡ mac_of suite key text }
+        ensures again { (suite : Suite) (key text : List ℕ) → IsRun self.old suite key text
+            → IsRun self.new suite key [] }
     {
         match self {
             SuiteRun::TripleDes(run) => run.take(),

@@ -3,4 +3,8 @@ use Rattle.secure_msg.proofs.Opening.{opened_command-AreSealed, AreSealed-opened
 use Rattle.secure_msg.proofs.sealing.only_sealed_commands_open.Goals as goal
 
 pub returns : goal.returns
-returns c = record { opens = opened_command-AreSealed; only = λ suite key chain bytes next command eight e. AreSealed-opened_command suite key chain bytes next command e eight }
+returns c =
+    record {
+      opens = opened_command-AreSealed;
+      only = λ suite key chain bytes next command eight e. AreSealed-opened_command suite key chain bytes next command e eight;
+    }

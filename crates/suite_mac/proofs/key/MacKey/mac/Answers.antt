@@ -1,5 +1,4 @@
-use Rattle.std.proofs.Common.{rules, ◌≡◌, take, ap, ◌∙◌}
-use Rattle.aes_cipher.specs.Mac.{cmac}
+use Rattle.std.proofs.Common.{take, ap, ◌∙◌}
 use Rattle.suite_mac.proofs.Suites.{triple-mac, aes-mac}
 use Rattle.suite_mac.proofs.key.MacKey.mac.Goals as goal
 

@@ -1,4 +1,4 @@
-use Rattle.std.proofs.Common.{rules, ◌≡◌, take, ap, ◌∙◌}
+use Rattle.std.proofs.Common.{take, ap, ◌∙◌}
 use Rattle.suite_mac.proofs.Suites.{triple-taken, aes-taken, triple-again, aes-again}
 use Rattle.suite_mac.proofs.run.SuiteRun.take.Goals as goal
 

@@ -1,4 +1,3 @@
-use Rattle.std.proofs.Common.{rules}
 use Rattle.suite_mac.proofs.Suites.{triple-more, aes-more}
 use Rattle.suite_mac.proofs.run.SuiteRun.update.Goals as goal
 
