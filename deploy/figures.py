@@ -67,8 +67,7 @@ class Figures:
     def look_at_disk(self):
         """Measures the journals and their disk."""
         try:
-            paths = [program.journal_path(self.journal, it) for it in program.journals_of(self.journal)]
-            self.bytes.set(sum(os.path.getsize(it) for it in paths))
+            self.bytes.set(sum(os.path.getsize(it) for it in program.journals_of(self.journal)))
             found = os.statvfs(os.path.dirname(self.journal) or ".")
             self.free.set(found.f_bavail * found.f_frsize)
         except OSError as fault:

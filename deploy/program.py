@@ -14,8 +14,10 @@ RECORD = os.path.join(HOME, ".build/issuer.proved")
 
 # The commands that open journals. Others go to the program as they are.
 OVER_JOURNALS = ("serve", "show")
-# A journal's name ends so: a dot, and the shard's number in two digits.
-SHARD = re.compile(r"\.(\d{2})")
+# A journal's name ends so: a dot, the shard's number in two digits, and the version. That of an old journal, of version 1, has no version.
+SHARD = re.compile(r"\.(\d{2})(\.v2)?")
+# The first line of a journal.
+VERSION_LINE = "v2\n"
 
 MAX_SHARDS = 16
 MAX_CARDS = 4096
@@ -77,18 +79,38 @@ def is_proved(path=PROGRAM, record=RECORD):
 
 
 def journal_path(name, shard):
+    return f"{old_journal_path(name, shard)}.v2"
+
+
+def old_journal_path(name, shard):
+    """The path of a shard's old journal, of version 1: the program reads it, and copies its records into the journal."""
     return f"{name}.{shard:02d}"
 
 
-def journals_of(name):
-    """The shards' numbers for which a file of a journal's name exists."""
+def shards_of_files(name):
+    """The shards' numbers for which a file of an old journal's name exists, and for which one of a journal's name does."""
     folder, base = os.path.split(name)
-    found = []
+    olds, journals = [], []
     for entry in os.listdir(folder or "."):
         ending = SHARD.fullmatch(entry[len(base) :]) if entry.startswith(base) else None
         if ending:
-            found.append(int(ending[1]))
-    return sorted(found)
+            (journals if ending[2] else olds).append(int(ending[1]))
+    return sorted(olds), sorted(journals)
+
+
+def journals_of(name):
+    """The paths of all journals of a name that exist, the old ones first."""
+    olds, journals = shards_of_files(name)
+    return [old_journal_path(name, it) for it in olds] + [journal_path(name, it) for it in journals]
+
+
+def records_of(path):
+    """The lines of a journal's records. A file of another version is a ValueError."""
+    with open(path, encoding="ascii") as lines:
+        if lines.readline() != VERSION_LINE:
+            raise ValueError(f"{path} is no journal of version 2")
+        for line in lines:
+            yield line.rstrip("\n")
 
 
 def partition_journal(state, partition):
@@ -107,7 +129,7 @@ def card_of_record(line):
         return words[0][:20].rstrip("f"), words[0][20:22]
     if kind in ("q", "s") and len(words) == 3:
         return words[0].rstrip("f"), words[1]
-    raise ValueError(f"no record of a journal of version 1: {line[:40]!r}")
+    raise ValueError(f"no record of a journal: {line[:40]!r}")
 
 
 def request_of_record(line):

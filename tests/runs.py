@@ -11,6 +11,8 @@ PROGRAMS = ("crates/issuer_main/out/issuer_main", ".build/issuer")
 MEMORY = "/dev/shm" if os.path.isdir("/dev/shm") else None
 SHARDS = 2
 PANS = [f"4{card:015d}" for card in range(4)]
+# The first line of a journal.
+VERSION = "v2\n"
 
 
 def built_program():
@@ -55,17 +57,27 @@ def show(journal):
     return ["show", "--config", "config", "--journal", journal]
 
 
-def path_of(folder, journal, shard):
+def old_path_of(folder, journal, shard):
+    """The path of a shard's old journal, of version 1."""
     return os.path.join(folder, f"{journal}.{shard:02d}")
 
 
+def path_of(folder, journal, shard):
+    return f"{old_path_of(folder, journal, shard)}.v2"
+
+
+def content_of(path):
+    """The text of a file, or none where there is no file."""
+    if not os.path.exists(path):
+        return ""
+    with open(path) as text:
+        return text.read()
+
+
 def whole_lines(folder, journal, shard):
-    """The whole lines of a shard's journal, and what stands behind them; none where there is no journal."""
-    if not os.path.exists(path_of(folder, journal, shard)):
-        return [], ""
-    with open(path_of(folder, journal, shard)) as text:
-        *whole, rest = text.read().split("\n")
-    return whole, rest
+    """The records' whole lines of a shard's journal, and what stands behind them; none where there is no journal."""
+    *whole, rest = content_of(path_of(folder, journal, shard)).split("\n")
+    return whole[1:], rest
 
 
 class Tally:

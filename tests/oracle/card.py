@@ -5,6 +5,7 @@ What it reports to its issuer in the issuer application data is this project's p
 from cards import issuer_data, seal
 from chip_data import objects
 from keys import session_key_for_cryptograms, session_key_for_messages
+from pin import last_pin
 from terminal import purchase, signed
 
 LAST_ATC = 65_535
@@ -13,12 +14,13 @@ MOST_COUNTED = 15
 
 
 class Card:
-    """A card of this name and method, with its own master keys, all of one suite."""
+    """A card of this name and method, with its own master keys, all of one suite, and perhaps one for confidentiality."""
 
-    def __init__(self, info, keys, dki=1):
+    def __init__(self, info, keys, dki=1, confidentiality=None):
         self.info = info
         self.keys = keys
         self.dki = dki
+        self.confidentiality = confidentiality
         self.atc = self.register = self.count = 0
         self.failed = False
         self.open = None
@@ -63,6 +65,11 @@ class Card:
         self.ran.append(command)
         self.count, self.chain = self.count + 1, chain
         return True
+
+
+    def pin(self):
+        """The digits of the PIN that the last PIN change set, or None."""
+        return last_pin(self.confidentiality, self.ran) if self.confidentiality else None
 
 
 def command_in(sealed):

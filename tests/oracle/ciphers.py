@@ -192,5 +192,15 @@ def cbc_encipher(key, text):
     return result[8:]
 
 
+def cbc_decipher(key, text):
+    """The text that was padded and enciphered to this one, or None where there is none."""
+    blocks = [text[at : at + 8] for at in range(0, len(text), 8)]
+    if not blocks or len(blocks[-1]) != 8:
+        return None
+    plain = b"".join(xor(tdes_decipher(key, block), chain) for chain, block in zip([bytes(8), *blocks], blocks))
+    message = plain.rstrip(b"\0").removesuffix(b"\x80")
+    return message if padded(message) == plain else None
+
+
 def xor(one, other):
     return bytes(a ^ b for a, b in zip(one, other, strict=True))

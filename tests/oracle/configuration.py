@@ -19,12 +19,14 @@ class NotJson(ValueError):
 
 
 class KeySet(NamedTuple):
-    """An issuer's master keys for cryptograms and for secure messaging: for triple DES, and for AES if it has some."""
+    """An issuer's master keys for cryptograms and for secure messaging: for triple DES, and for AES if it has some; and the one for
+    confidentiality, if it has one."""
 
     dki: int
     option: str
     triple_des: tuple
     aes: tuple | None = None
+    confidentiality: bytes | None = None
 
 
 class CardInfo(NamedTuple):
@@ -69,6 +71,14 @@ class Issuer:
         if suite is Suite.AES:
             return CardKeys(suite, *(aes_master(master, card.pan, card.psn) for master in key_set.aes))
         return CardKeys(suite, *(card_key(key_set.option, master, card.pan, card.psn) for master in key_set.triple_des))
+
+    def confidentiality_of(self, pan, psn, dki):
+        """The master key for confidentiality of the card of this PAN and PSN under the key set of this DKI; None if one of the three is
+        missing."""
+        key_set = self.key_sets.get(dki)
+        if key_set is None or key_set.confidentiality is None or not any(card[:2] == (pan, psn) for card in self.cards):
+            return None
+        return card_key(key_set.option, key_set.confidentiality, pan, psn)
 
     def decide(self, status, request):
         return next(row for row in self.table if row.takes(status, request))
@@ -170,7 +180,8 @@ def read_key_set(item):
     triple_des = tuple(hexadecimal(item, name, 32) for name in ("ac", "smi"))
     names = ("aes_ac", "aes_smi")
     aes = tuple(hexadecimal(item, name, 32) for name in names) if any(name in item for name in names) else None
-    return KeySet(dki, option, triple_des, aes)
+    confidentiality = hexadecimal(item, "smc", 32) if "smc" in item else None
+    return KeySet(dki, option, triple_des, aes, confidentiality)
 
 
 def read_card(item):

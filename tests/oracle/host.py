@@ -5,7 +5,9 @@ from cards import application_cryptogram, fitting, reply_bytes
 from chip_data import Refused, Request, is_command, read_line, read_request
 from configuration import approves
 
-WINDOW = 64
+WINDOW = 256
+# That of the records of a journal of version 1.
+OLD_WINDOW = 64
 WAITING = 64
 EVER_QUEUED = 4_294_967_295
 
@@ -70,8 +72,8 @@ class Row:
     def is_newest(self, counter):
         return self.highest is None or counter > self.highest
 
-    def is_below(self, counter):
-        return self.highest is not None and counter + WINDOW <= self.highest
+    def is_below(self, counter, window=WINDOW):
+        return self.highest is not None and counter + window <= self.highest
 
     def takes_command(self):
         return len(self.queue) - self.scripts.done < WAITING and len(self.queue) < EVER_QUEUED
@@ -184,13 +186,13 @@ class Host:
         except Refused as refusal:
             return f"refused {refusal}"
 
-    def accepts(self, shard, record):
-        """Takes a record of a journal where it may come next in this shard; whether it may."""
+    def accepts(self, shard, record, window):
+        """Takes a record of a journal with this window where it may come next in this shard; whether it may."""
         try:
             match record:
                 case Decided(request, reply):
                     row, keys = self.check(request)
-                    may_come = self.may_be_decided(row, keys, request, reply)
+                    may_come = self.may_be_decided(row, keys, request, reply, window)
                 case Queued():
                     row = self.row_of(record.pan, record.psn)
                     may_come = row.takes_command()
@@ -204,9 +206,9 @@ class Host:
         self.take(row, record)
         return True
 
-    def may_be_decided(self, row, keys, request, reply):
+    def may_be_decided(self, row, keys, request, reply, window):
         """A new counter in the window, and a reply that the issuer makes for its response code, whatever its table was."""
-        if row.is_below(request.atc) or request.atc in row.decided:
+        if row.is_below(request.atc, window) or request.atc in row.decided:
             return False
         csu = reply.data[10:14] if row.info.method == 2 else bytes(4)
         if len(csu) < 4 or row.info.method == 2 and approves(csu) != reply.approve:

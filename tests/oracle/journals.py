@@ -1,10 +1,11 @@
-"""Journal lines, version 1, and the files that keep them (docs/FORMATS.md, journal lines)."""
+"""Journal lines, and the files that keep them: version 2, and the old version 1 (docs/FORMATS.md, journal lines)."""
 import os
 import re
 
 from chip_data import Request, is_command, is_decimal, is_issuer_data
-from host import Decided, Queued, Reply, Status
+from host import OLD_WINDOW, WINDOW, Decided, Queued, Reply, Status
 
+VERSION_LINE = b"v2\n"
 
 
 def padded_pan(pan):
@@ -93,28 +94,59 @@ def read_record(line):
 
 
 class BadLine(Exception):
-    """The shard and the line, from 1, that is no record or may not come there."""
+    """The shard and the line, from 1, that is no record, may not come there, or isn't that of the migrated journal."""
+
+
+class BadOldLine(Exception):
+    """The same of a shard's old journal."""
+
+
+def whole_lines(text):
+    """The lines that end with a newline, without it."""
+    return text.split(b"\n")[:-1]
+
+
+def first_other_line(text, expected):
+    """The number, from 1, of the line with the first byte in which two texts differ, neither of which begins the other."""
+    at = next(at for at, (one, other) in enumerate(zip(text, expected)) if one != other)
+    return text[:at].count(b"\n") + 1
 
 
 class Journals:
-    """The journals of all shards, as files. It neither locks nor syncs them: it says what they hold, not when that is safe."""
+    """The journals of all shards, as files, the old ones beside them. It neither locks nor syncs them: it says what they hold, not when
+    that is safe."""
 
     def __init__(self):
+        self.olds = []
         self.files = []
+
+    def open_old(self, name):
+        """Opens one more shard's old journal; one that isn't there is made."""
+        self.olds.append(opened(name))
 
     def open(self, name):
         """Opens one more shard's journal; one that isn't there is made."""
-        self.files.append(os.fdopen(os.open(name, os.O_RDWR | os.O_CREAT, 0o666), "r+b"))
+        self.files.append(opened(name))
 
     def load(self, host, shard):
-        """Gives a shard's records to the host, and cuts away bytes behind the last newline."""
-        file = self.files[shard]
+        """Gives a shard's records to the host: those of the old journal, of which the journal holds a copy or the beginning of one, which is
+        completed; then those behind the copy. Bytes behind the last newline are cut away."""
+        old = self.olds[shard].read()
+        old = old[: old.rfind(b"\n") + 1]
+        for number, line in enumerate(whole_lines(old), 1):
+            if not is_taken(host, shard, line, OLD_WINDOW):
+                raise BadOldLine(shard, number)
+        file, copy = self.files[shard], VERSION_LINE + old
         text = file.read()
-        whole = text.rfind(b"\n") + 1
-        for number, line in enumerate(text[:whole].split(b"\n")[:-1], 1):
-            record = read_record(line)
-            if record is None or not host.accepts(shard, record):
+        if copy.startswith(text):
+            file.write(copy[len(text) :])
+            return
+        if not text.startswith(copy):
+            raise BadLine(shard, first_other_line(text, copy))
+        for number, line in enumerate(whole_lines(text[len(copy) :]), copy.count(b"\n") + 1):
+            if not is_taken(host, shard, line, WINDOW):
                 raise BadLine(shard, number)
+        whole = text.rfind(b"\n") + 1
         file.truncate(whole)
         file.seek(whole)
 
@@ -122,5 +154,15 @@ class Journals:
         self.files[shard].write(record_line(record))
 
     def close(self):
-        for file in self.files:
+        for file in self.olds + self.files:
             file.close()
+
+
+def opened(name):
+    return os.fdopen(os.open(name, os.O_RDWR | os.O_CREAT, 0o666), "r+b")
+
+
+def is_taken(host, shard, line, window):
+    """Whether the line is that of a record that may come next, which the host then has."""
+    record = read_record(line)
+    return record is not None and host.accepts(shard, record, window)

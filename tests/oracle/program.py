@@ -4,7 +4,8 @@ import re
 from configuration import LIMIT, Fault, read_configuration
 from dol import BadData, BadDol, fill_dol
 from host import Host
-from journals import BadLine, Journals
+from journals import BadLine, BadOldLine, Journals
+from pin import pin_command
 from world import play
 
 LINES = 1_048_576
@@ -15,6 +16,7 @@ COMMANDS = {
     "show": ({"--config", "--journal"}, set()),
     "world": ({"--cards", "--steps", "--seed"}, set()),
     "fill": ({"--dol", "--data"}, set()),
+    "pin": ({"--config", "--pan", "--psn", "--dki", "--salt", "--pin"}, set()),
 }
 
 
@@ -40,6 +42,12 @@ def spelled(options, name):
     return bytes.fromhex(options[name])
 
 
+def matching(options, name, pattern):
+    if not re.fullmatch(pattern, options[name], re.ASCII):
+        raise Stop(1)
+    return options[name]
+
+
 def filled_line(dol, data):
     try:
         return f"{fill_dol(dol, data).hex()}\n"
@@ -63,26 +71,44 @@ def read_words(words):
     return command, dict(zip(names, values))
 
 
-def load(options, journals):
-    """The host as it stands after its configuration and its journals."""
+def load_issuer(options):
     try:
         with open(options["--config"], "rb") as file:
             data = file.read(LIMIT + 1)
     except OSError as fault:
         raise Stop(3) from fault
     try:
-        issuer = read_configuration(data)
+        return read_configuration(data)
     except Fault as fault:
         raise Stop(2, *fault.args) from fault
+
+
+def pin_line(options):
+    """The line that queues a PIN change."""
+    pan, psn = matching(options, "--pan", "[0-9]{8,19}"), matching(options, "--psn", "[0-9]{2}")
+    dki, salt = (bytes.fromhex(matching(options, f"--{name}", f"[0-9A-Fa-f]{{{digits}}}")) for name, digits in (("dki", 2), ("salt", 16)))
+    digits = matching(options, "--pin", "[0-9]{4,12}")
+    master = load_issuer(options).confidentiality_of(pan, psn, dki[0])
+    if master is None:
+        raise Stop(12)
+    return f"Q {pan} {psn} {pin_command(master, salt, digits).hex()}\n"
+
+
+def load(options, journals):
+    """The host as it stands after its configuration and its journals."""
+    issuer = load_issuer(options)
     host = Host(issuer, journals.append)
-    for shard in range(issuer.shards):
-        try:
-            journals.open(f"{options['--journal']}.{shard:02d}")
-        except OSError as fault:
-            raise Stop(5, shard) from fault
+    for opens, ending in ((journals.open_old, ""), (journals.open, ".v2")):
+        for shard in range(issuer.shards):
+            try:
+                opens(f"{options['--journal']}.{shard:02d}{ending}")
+            except OSError as fault:
+                raise Stop(5, shard) from fault
     for shard in range(issuer.shards):
         try:
             journals.load(host, shard)
+        except BadOldLine as fault:
+            raise Stop(6, shard, "old", fault.args[1]) from fault
         except BadLine as fault:
             raise Stop(6, *fault.args) from fault
     return host
@@ -111,6 +137,9 @@ def run_command(words, out):
         return
     if command == "fill":
         out.write(filled_line(spelled(options, "--dol"), spelled(options, "--data")).encode())
+        return
+    if command == "pin":
+        out.write(pin_line(options).encode())
         return
     number(options, "--callers", 1, 16, "1")
     journals = Journals()

@@ -14,7 +14,8 @@ use Rattle.issuer_base.specs.declared.answer.Refusal.TheVariants.{BadCryptogram,
 use Rattle.answer_text.specs.AnswerText.{newline, line_of, IsLine, yes_or_no, refusal_words, answer_words, printed, bytes_text}
 use Rattle.answer_text.specs.StopText.{stop_words, stop_text}
 use Rattle.answer_text.specs.declared.stop_line.Stop.{Stop}
-use Rattle.answer_text.specs.declared.stop_line.Stop.TheVariants.{Usage, Config, ReadFault, BadJournal, NoMemory, TooLong, BadDol, BadData}
+use Rattle.answer_text.specs.declared.stop_line.Stop.TheVariants.{Usage, Config, ReadFault, BadJournal, BadOldJournal, NoMemory}
+use Rattle.answer_text.specs.declared.stop_line.Stop.TheVariants.{TooLong, BadDol, BadData}
 use Rattle.answer_text.specs.declared.stop_line.Stop.TheVariants.{StoreFault as JournalFault}
 
 -- a byte is no newline
@@ -110,6 +111,7 @@ stop_words-inner (Config part index) = simp decimal-inner
 stop_words-inner ReadFault = simp decimal-inner
 stop_words-inner (JournalFault shard) = simp decimal-inner
 stop_words-inner (BadJournal shard line) = simp decimal-inner
+stop_words-inner (BadOldJournal shard line) = simp decimal-inner
 stop_words-inner NoMemory = simp decimal-inner
 stop_words-inner (TooLong line) = simp decimal-inner
 stop_words-inner (BadDol at) = simp decimal-inner

@@ -3,7 +3,8 @@ use Rattle.std.specs.Prelude.{ℕ, List, [], ◌∷◌, codes}
 use Rattle.std.specs.Fmt.{decimal}
 use Rattle.answer_text.specs.AnswerText.{line_of}
 use Rattle.answer_text.specs.declared.stop_line.Stop.{Stop}
-use Rattle.answer_text.specs.declared.stop_line.Stop.TheVariants.{Usage, Config, ReadFault, StoreFault, BadJournal, NoMemory, TooLong, BadDol, BadData}
+use Rattle.answer_text.specs.declared.stop_line.Stop.TheVariants.{Usage, Config, ReadFault, StoreFault, BadJournal}
+use Rattle.answer_text.specs.declared.stop_line.Stop.TheVariants.{BadOldJournal, NoMemory, TooLong, BadDol, BadData}
 
 -- the exit status of a run that stops with this error
 abbrev pub status_of_stop : Stop → ℕ
@@ -12,19 +13,21 @@ status_of_stop (Config part index) = 2
 status_of_stop ReadFault = 3
 status_of_stop (StoreFault shard) = 5
 status_of_stop (BadJournal shard line) = 6
+status_of_stop (BadOldJournal shard line) = 6
 status_of_stop NoMemory = 7
 status_of_stop (TooLong line) = 8
 status_of_stop (BadDol at) = 9
 status_of_stop (BadData at) = 10
 
--- the details of a stop: the part and index in the configuration, the shard, the line in its journal, the line of the
--- input, or the offset in the DOL or in the data
+-- the details of a stop: the part and index in the configuration, the shard, the line in its journal or in its old one,
+-- the line of the input, or the offset in the DOL or in the data
 abbrev pub place_words : Stop → List (List ℕ)
 place_words Usage = []
 place_words (Config part index) = decimal part ∷ decimal index ∷ []
 place_words ReadFault = []
 place_words (StoreFault shard) = decimal shard ∷ []
 place_words (BadJournal shard line) = decimal shard ∷ decimal line ∷ []
+place_words (BadOldJournal shard line) = decimal shard ∷ codes "old" ∷ decimal line ∷ []
 place_words NoMemory = []
 place_words (TooLong line) = decimal line ∷ []
 place_words (BadDol at) = decimal at ∷ []

@@ -21,8 +21,13 @@ pub enum Stop {
     /// The journal of this shard couldn't be opened, or its store failed while it was loaded: status 5.
     StoreFault { shard: u8 },
 
-    /// This line of this shard's journal, counted from 1, is no record, or not a valid successor: status 6.
+    /// This line of this shard's journal, counted from 1, isn't the one that stands there in every journal of this shard,
+    /// is no record, or not a valid successor: status 6.
     BadJournal { shard: u8, line: u64 },
+
+    /// This line of this shard's old journal, of version 1, counted from 1, is no record, or not a valid successor:
+    /// status 6.
+    BadOldJournal { shard: u8, line: u64 },
 
     /// Out of memory: status 7.
     NoMemory,
@@ -48,7 +53,7 @@ impl Stop {
             Stop::Config { .. } => 2,
             Stop::ReadFault => 3,
             Stop::StoreFault { .. } => 5,
-            Stop::BadJournal { .. } => 6,
+            Stop::BadJournal { .. } | Stop::BadOldJournal { .. } => 6,
             Stop::NoMemory => 7,
             Stop::TooLong { .. } => 8,
             Stop::BadDol { .. } => 9,
@@ -75,6 +80,11 @@ pub fn write_stop(stop: &Stop, out: &mut ArrayVec<u8, LINE_ROOM>)
         Stop::StoreFault { shard } => put_number(out, u64::from(shard)),
         Stop::BadJournal { shard, line } => {
             put_number(out, u64::from(shard));
+            put_number(out, line);
+        }
+        Stop::BadOldJournal { shard, line } => {
+            put_number(out, u64::from(shard));
+            put(out, b" old");
             put_number(out, line);
         }
         Stop::TooLong { line } => put_number(out, line),

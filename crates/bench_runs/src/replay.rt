@@ -11,8 +11,8 @@ use shard_book::{LoadBack, Shard};
 use std::alloc::Global;
 use store_edge::RoomStore;
 
-/// The capacity of the store in bytes.
-const ROOM: usize = 64 * 1_024 * 1_024;
+/// The capacity of the store in bytes: more than 256 decisions of each of 4,096 cards have.
+const ROOM: usize = 512 * 1_024 * 1_024;
 
 /// How far each request is processed.
 #[derive(Clone, Copy, PartialEq, Eq, Debug)]
@@ -98,12 +98,14 @@ fn is_home(issuer: &Issuer, card: u32) -> bool
     card < issuer.cards() && issuer.shard_of(card) == 0
 }
 
+/// Loads the shard from this store, with an empty old store.
 fn load(alloc: Global, store: RoomStore, issuer: &Issuer) -> Option<Shard<RoomStore>>
     requires { issuer.now.shards ≡ 1 }
     ensures under { MatchOption result ⊤ (IsUnder issuer.now) }
     ensures number { MatchOption result ⊤ (λ loaded. number_in loaded ≡ 0) }
 {
-    match Shard::load(alloc, store, 0, issuer) {
+    let mut old = RoomStore::new(alloc, 0).ok()?;
+    match Shard::load(alloc, &mut old, store, 0, issuer) {
         Ok(shard) => Some(shard),
         Err(LoadBack { fault: _, store: _ }) => None,
     }

@@ -29,6 +29,7 @@ const KEYS: KeySet = KeySet {
     ac: Key16([0x11; 16]),
     smi: Key16([0x22; 16]),
     aes: None,
+    smc: None,
 };
 
 /// The card with this number.

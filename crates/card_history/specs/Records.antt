@@ -57,10 +57,14 @@ greatest [] = None
 greatest (decision ∷ decisions) =
     Some (option_map_or (λ counter. max decision.request.atc counter) (greatest decisions) decision.request.atc)
 
--- an ATC is below the window if the greatest ATC is 64 or more above it
+-- an ATC is below a window of so many ATCs if the greatest ATC is so many or more above it
+abbrev pub IsBelowBy : ℕ → Option ℕ → ℕ → Type 0
+IsBelowBy window None counter = ⊥
+IsBelowBy window (Some top) counter = counter + window ≤ top
+
+-- an ATC is below the window if the greatest ATC is 256 or more above it
 abbrev pub IsBelow : Option ℕ → ℕ → Type 0
-IsBelow None counter = ⊥
-IsBelow (Some top) counter = counter + WINDOW ≤ top
+IsBelow greatest counter = IsBelowBy WINDOW greatest counter
 
 -- the commands that were queued for a card, oldest first
 abbrev pub queue : CardName → List Entry → List Command

@@ -4,6 +4,7 @@ pub mod ConfigurationReads
 pub mod HostRuns
 pub mod WorldLaws
 pub mod JournalSteps
+pub mod SeenSteps
 pub mod CrashSteps
 pub mod KeptSteps
 pub mod LeftSteps

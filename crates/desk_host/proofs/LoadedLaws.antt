@@ -17,14 +17,14 @@ use Rattle.desk_host.proofs.WorldLaws.{is-lawful}
 
 module _ {S : Type 0} {G : Ghosts S} where
   -- the run is lawful where no line was answered
-  pub lawful-loaded : (issuer : Setup) (prefix : List ℕ) (logs : Logged) (loaded : List (Shard S G))
-      (ready : IsReady issuer prefix logs loaded)
+  pub lawful-loaded : (issuer : Setup) (prefix : List ℕ) (logs : Logged) (olds : List S) (loaded : List (Shard S G))
+      (ready : IsReady issuer prefix logs olds loaded)
       (shards : AreShards issuer loaded) → HasSoundParts issuer
-      → IsLawful issuer (begins issuer prefix logs loaded ready shards).books
-      (begins issuer prefix logs loaded ready shards).books
-  lawful-loaded issuer prefix logs loaded ready shards sound =
-      let begun = begins issuer prefix logs loaded ready shards in
-      let legal = begins-legal issuer ready.stores loaded ready.loaded begun in
+      → IsLawful issuer (begins issuer prefix logs olds loaded ready).books
+      (begins issuer prefix logs olds loaded ready).books
+  lawful-loaded issuer prefix logs olds loaded ready shards sound =
+      let begun = begins issuer prefix logs olds loaded ready in
+      let legal = begins-legal issuer ready.old_stores olds ready.stores loaded ready.loaded begun in
       let records = recorded begun.has_run.stand in
       let one = run-one_history issuer (legal-then issuer) begun.books begun.books [] [] legal records
       refl in

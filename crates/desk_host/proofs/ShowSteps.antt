@@ -22,7 +22,7 @@ use Rattle.one_caller.specs.Books.{Book, histories_of}
 use Rattle.one_caller.specs.Hosts.{AreShards, Stand}
 use Rattle.card_history.specs.CardViews.{card_shown}
 use Rattle.desk_host.specs.Shown.{shown_card, shown_text}
-use Rattle.desk_host.proofs.KeptSteps.{at-place}
+use Rattle.desk_host.proofs.SeenSteps.{at-place}
 
 -- a piece of which a front was written was not written
 pub writes-err : (a b : Option (List ℕ)) (result : Result (Unit {0}) WriteFault) (piece : List ℕ) → IsErr result

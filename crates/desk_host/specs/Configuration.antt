@@ -3,7 +3,7 @@ use Rattle.std.specs.Prelude.{◌≡◌, ℕ, ◌+◌, ◌≤◌, Bool, true, fa
 use Rattle.std.specs.Io.KnownBytes.{Consumes, IsAtEnd}
 use Rattle.answer_text.specs.declared.stop_line.Stop.{Stop}
 use Rattle.answer_text.specs.declared.stop_line.Stop.TheVariants.{Usage, Config, ReadFault, StoreFault, BadJournal}
-use Rattle.answer_text.specs.declared.stop_line.Stop.TheVariants.{NoMemory as Memory, TooLong, BadDol, BadData}
+use Rattle.answer_text.specs.declared.stop_line.Stop.TheVariants.{BadOldJournal, NoMemory as Memory, TooLong, BadDol, BadData}
 use Rattle.issuer_setup.specs.IssuerSetup.{Setup}
 use Rattle.issuer_setup.specs.KeyList.{AreKeys}
 use Rattle.world_net.specs.WorldRuns.{IsIssuer}
@@ -60,6 +60,7 @@ GivesNoIssuer left Memory = Unit {0}
 GivesNoIssuer left Usage = ⊥
 GivesNoIssuer left (StoreFault shard) = ⊥
 GivesNoIssuer left (BadJournal shard line) = ⊥
+GivesNoIssuer left (BadOldJournal shard line) = ⊥
 GivesNoIssuer left (TooLong line) = ⊥
 GivesNoIssuer left (BadDol at) = ⊥
 GivesNoIssuer left (BadData at) = ⊥
@@ -72,6 +73,7 @@ is_read_cause Memory = false
 is_read_cause Usage = false
 is_read_cause (StoreFault shard) = false
 is_read_cause (BadJournal shard line) = false
+is_read_cause (BadOldJournal shard line) = false
 is_read_cause (TooLong line) = false
 is_read_cause (BadDol at) = false
 is_read_cause (BadData at) = false

@@ -1,62 +1,56 @@
 -- What a run makes of the journals: what they were, what they are, and what a crash since they were opened may leave.
-use Rattle.std.specs.Prelude.{◌≡◌, ◌⊎◌, ℕ, List, ◌∷◌, ◌++◌, length, slice_get, Option, Some, IfSome, All}
-use Rattle.issuer_base.specs.Stores.{Disk, MayLeave, Moment, LeavesSince, timeline}
-use Rattle.issuer_base.specs.Tells.{Tells}
+use Rattle.std.specs.Prelude.{◌≡◌, ◌⊎◌, ℕ, List, length, slice_get, Option, Some, IfSome}
+use Rattle.issuer_base.specs.Stores.{Disk, MayLeave, Moment}
 use Rattle.issuer_base.specs.declared.entry.Entry.{Entry}
-use Rattle.card_history.specs.LegalRecords.{IsLegalHistory}
 use Rattle.issuer_setup.specs.IssuerSetup.{Setup}
-use Rattle.journal_rec.specs.Record.{IsRecord}
-use Rattle.journal_rec.specs.RecordText.{texts_of, IsUnbroken}
-use Rattle.record_store.specs.Images.{IsCutImage}
-use Rattle.shard_book.specs.Grounds.{grounds_of, grounds_now, IsImageOf}
+use Rattle.shard_book.specs.Grounds.{grounds_now, IsImageOf}
 use Rattle.shard_book.specs.Histories.{IsImageBetween}
+use Rattle.shard_book.specs.Shards.{IsJournalOf, IsLoadImage}
 use Rattle.one_caller.specs.Books.{Book}
 use Rattle.one_caller.specs.Runs.{HoldsJournal}
-use Rattle.desk_host.specs.SeenStores.{Logged, SeenStore}
-use Rattle.desk_host.specs.Journals.{journal_name}
+use Rattle.desk_host.specs.SeenStores.{Logged, SeenStore, SeenJournals}
+use Rattle.desk_host.specs.Journals.{old_name, journal_name}
+use Rattle.desk_host.specs.Left.{CrashSince, StaysAsOpened}
 
--- the journal was the text of the book's history, which is legal, and a rest without a newline; no fault of its store
--- was counted or told
-pub record WasJournal (issuer : Setup) (shard : ℕ) (held : Option (List ℕ)) (book : Book) : Type 0 where
-  pub rest : List ℕ
-  pub held_is : Tells held (texts_of book.history ++ rest)
-  pub unbroken : IsUnbroken rest
-  pub records : All IsRecord book.history
-  pub legal : IsLegalHistory (grounds_of issuer) shard book.history
+-- the old journal was the text of this old history, and the journal that of the book's history, or a prefix of the text
+-- that the old one is migrated to; a torn last line may have followed in each. No fault of its store was counted or told
+pub record WasJournal (issuer : Setup) (shard : ℕ) (old_held held : Option (List ℕ)) (old : List Entry) (book : Book)
+    : Type 0 where
+  pub journal_is : IsJournalOf issuer shard old_held held old book.history
   pub no_fault : book.faults ≡ 0
   pub none_told : book.told ≡ 0
-
--- the disk has been as it was opened, and then at more moments: what a crash at any of them may leave is what it might
--- leave at the first, or the text of the first history alone, or an image of a history between the first and the last
-pub record CrashLeaves (issuer : Setup) (shard : ℕ) (held : Option (List ℕ)) (first last : List Entry)
-    (disk : Disk) : Type 0 where
-  pub opened : Moment
-  pub later : List Moment
-  pub moments : timeline disk ≡ opened ∷ later
-  pub opened_is : Tells held opened.bytes
-  pub leaves : LeavesSince
-      (λ image. IsCutImage (length (texts_of first)) opened image ⊎ IsImageBetween issuer shard first last image) 0 disk
 
 -- a crash that comes now leaves an image of the history
 pub record LeavesNow (issuer : Setup) (shard : ℕ) (history : List Entry) (disk : Disk) : Type 0 where
   pub leaves : (image : List ℕ) → MayLeave disk.now image → IsImageOf (grounds_now issuer) shard history image
 
--- the journal of a shard was that of the first book and is that of the last
-pub record KeepsJournal (issuer : Setup) (shard : ℕ) (held : Option (List ℕ)) (first last : Book)
-    (store : SeenStore) : Type 0 where
-  pub was : WasJournal issuer shard held first
+-- what a crash may leave since the journal was opened at this moment: an image of its load, after the old history for
+-- the first one, or an image of a history between the first and the last
+abbrev pub IsRunImage : Setup → ℕ → List Entry → List Entry → List Entry → Moment → List ℕ → Type 0
+IsRunImage issuer shard old first last opened image =
+    IsLoadImage old first opened image ⊎ IsImageBetween issuer shard first last image
+
+-- the journal of a shard was that of the first book and is that of the last; the old journal stays as it was
+pub record KeepsJournal (issuer : Setup) (shard : ℕ) (old_held held : Option (List ℕ)) (first last : Book)
+    (old_store store : SeenStore) : Type 0 where
+  pub old : List Entry
+  pub was : WasJournal issuer shard old_held held old first
+  pub old_stays : StaysAsOpened old_held old_store
+  pub old_no_fault : old_store.faults ≡ 0
   pub holds : HoldsJournal issuer shard last store.bytes store.disk
   pub faults_are : store.faults ≡ last.faults
   pub crash_now : IfSome store.disk (LeavesNow issuer shard last.history)
-  pub crash_since : IfSome store.disk (CrashLeaves issuer shard held first.history last.history)
+  pub crash_since : IfSome store.disk (CrashSince (IsRunImage issuer shard old first.history last.history) held)
 
 -- the journal of each shard, of which the desk told by the name that the words give, was that of its first book and is
--- that of its last
-pub record KeepJournals (issuer : Setup) (prefix : List ℕ) (logs : Logged) (stores : List SeenStore)
+-- that of its last; each old journal stays as it was
+pub record KeepJournals (issuer : Setup) (prefix : List ℕ) (logs : Logged) (journals : SeenJournals)
     (first last : List Book) : Type 0 where
-  pub stores_are : length stores ≡ issuer.shards
+  pub olds_are : length journals.olds ≡ issuer.shards
+  pub stores_are : length journals.stores ≡ issuer.shards
   pub first_are : length first ≡ issuer.shards
   pub last_are : length last ≡ issuer.shards
-  pub each : (shard : ℕ) (was is : Book) (store : SeenStore)
-      → slice_get first shard ≡ Some was → slice_get last shard ≡ Some is → slice_get stores shard ≡ Some store
-      → KeepsJournal issuer shard (logs (journal_name prefix shard)) was is store
+  pub each : (shard : ℕ) (was is : Book) (old store : SeenStore)
+      → slice_get first shard ≡ Some was → slice_get last shard ≡ Some is
+      → slice_get journals.olds shard ≡ Some old → slice_get journals.stores shard ≡ Some store
+      → KeepsJournal issuer shard (logs (old_name prefix shard)) (logs (journal_name prefix shard)) was is old store

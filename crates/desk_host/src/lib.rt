@@ -7,5 +7,5 @@ mod journals;
 mod showing;
 
 pub use config::read_issuer;
-pub use journals::{load_alone, open_journals, stop_of_load};
+pub use journals::{Journals, Loaded, NoHost, load_alone, no_host, open_journals, stop_of_load};
 pub use showing::show;

@@ -25,6 +25,7 @@ use Rattle.shared_shards.specs.Opening.{head_with}
 use Rattle.shared_shards.specs.ShardLogs.{records_of, StandsForLog}
 use Rattle.shared_shards.specs.ShardSeats.{StandForLogs}
 use Rattle.shard_book.specs.Histories.{GoesOn, IsImageBetween}
+use Rattle.one_caller.specs.OneHistory.{LegallyGoesOn}
 use Rattle.host_calls.specs.Closing.{book_of, IsClosed, AreClosed, AreClaimsSettled}
 use Rattle.host_calls.specs.OpeningLogs.{AreCounted, AreRecordedIn}
 use Rattle.one_caller.proofs.Places.{read-within, read-map}
@@ -59,12 +60,14 @@ module _ {S : Type 0} {G : Ghosts S} where
       let history : List Entry = records_of last.items in
       let tail_is = subst (λ number. IsTail (grounds_now issuer) number history journal.tail) stands.number_is journal.tail_is in
       let on = records-go_on first.items last.items front in
+      let legally : LegallyGoesOn issuer number (records_of first.items) history = record {
+        goes_on = on;
+        legal = stands.legal;
+        by_table = λ place entry past is. stands.by_table place entry (omega (arith, counted, past)) is;
+      } in
       record {
-        goes_on = record {
-          goes_on = on;
-          legal = stands.legal;
-          by_table = λ place entry past is. stands.by_table place entry (omega (arith, counted, past)) is;
-        };
+        goes_on = legally;
+        from = λ old since. record { since = since; goes_on = legally };
         records = journal.records;
         holds = holds-with issuer number (book_of last (G.faults (store_in shard))) shard.journal journal.tail tail_is
             (λ untold. journal.holds.tail_is (stands.undoubted (stands.told_is ∙ untold))) journal.holds;

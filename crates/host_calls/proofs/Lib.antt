@@ -5,6 +5,6 @@ mod Settling
 mod TiedTurns
 mod RecordedLists
 mod OpeningCounters
-mod Sharing
+pub mod Sharing
 mod Closed
 mod Answered

@@ -14,9 +14,10 @@ use Rattle.turn_book.specs.TurnViews.{times as times_placed}
 use Rattle.shared_shards.specs.declared.logs.LogItem.{LogItem}
 use Rattle.shared_shards.specs.declared.logs.LogHead.{LogHead}
 use Rattle.shared_shards.specs.ShardLogs.{records_of, faults_of, RiseTo}
-use Rattle.shard_book.specs.Histories.{IsImageBetween}
+use Rattle.issuer_base.specs.declared.entry.Entry.{Entry}
+use Rattle.shard_book.specs.Histories.{IsImageBetween, IsLegalSince}
 use Rattle.one_caller.specs.Books.{Book}
-use Rattle.one_caller.specs.OneHistory.{LegallyGoesOn}
+use Rattle.one_caller.specs.OneHistory.{LegalFrom, LegallyGoesOn}
 use Rattle.host_calls.specs.OpeningLogs.{opened_on}
 use Rattle.one_caller.specs.Runs.{HoldsJournal}
 
@@ -30,6 +31,9 @@ module _ {S : Type 0} (bytes : S → Option (List ℕ)) (disk : S → Option Dis
   pub record IsClosed (issuer : Setup) (number : ℕ) (first last : Log LogItem LogHead) (store : S) : Type 0 where
     -- the history was extended by valid records, each new decision the table's
     pub goes_on : LegallyGoesOn issuer number (records_of first.items) (records_of last.items)
+    -- so of each old history since which the first one is legal
+    pub from : (old : List Entry) → IsLegalSince issuer number old (records_of first.items)
+        → LegalFrom issuer number old (records_of first.items) (records_of last.items)
     pub records : All IsRecord (records_of last.items)
     -- the store holds its journal, and nothing is in doubt if no answer reported a fault
     pub holds : HoldsJournal issuer number (book_of last (faults store)) (bytes store) (disk store)

@@ -20,9 +20,10 @@ module _ {S : Type 0} {G : Ghosts S} where
     pub claims_are : claims_of pass ≡ newcomer first_names
     pub logs_are : logs_of pass ≡ first_view (opening_in host.turns)
 
-  -- the claims and the turns are those of the shards that were loaded from these stores, and the pass is the first one
-  pub record IsShared (issuer : Setup) (stores : List S) (shared : Shared S G) : Type 0 where
-    pub opening : AreOpenedFrom G.bytes G.disk G.faults issuer stores (opening_in shared.turns)
+  -- the claims and the turns are those of the shards that were loaded from these old stores, which were read then, and
+  -- these stores, and the pass is the first one
+  pub record IsShared (issuer : Setup) (olds read stores : List S) (shared : Shared S G) : Type 0 where
+    pub opening : AreOpenedFrom G.bytes G.disk G.faults issuer olds read stores (opening_in shared.turns)
     pub turns_are : AreTurnsOf issuer shared.turns
     pub turning : IsSeatOf shared.turns shared.pass.turns
     pub cards_are : cards_of shared.claims ≡ length issuer.cards

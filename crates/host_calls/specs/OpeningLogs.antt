@@ -1,18 +1,13 @@
 -- The initial logs of a host of several callers, and the recorded ATCs.
-use Rattle.std.specs.Prelude.{◌≡◌, ◌⊎◌, ℕ, ◌%◌, ◌<◌, List, ◌++◌, length, slice_get, Bool, false, Option, Some, All}
+use Rattle.std.specs.Prelude.{◌≡◌, ◌⊎◌, ℕ, ◌%◌, ◌<◌, List, length, slice_get, Bool, false, Option, Some}
 use Rattle.std.specs.List.{list_any}
 use Rattle.issuer_base.specs.OutsideFaults.{CountsFaults}
 use Rattle.issuer_base.specs.Stores.{BothTold, Disk, LeavesOnly}
-use Rattle.issuer_base.specs.Tells.{Tells}
 use Rattle.issuer_base.specs.declared.entry.Entry.{Entry}
-use Rattle.card_history.specs.LegalRecords.{IsLegalHistory}
 use Rattle.issuer_setup.specs.IssuerSetup.{Setup}
-use Rattle.journal_rec.specs.Record.{IsRecord}
-use Rattle.journal_rec.specs.RecordText.{texts_of, IsUnbroken}
-use Rattle.record_store.specs.Images.{IsCutImage}
 use Rattle.shard_book.specs.declared.replay.LoadFault.{LoadFault}
 use Rattle.shard_book.specs.declared.replay.LoadFault.TheVariants.{NoMemory}
-use Rattle.shard_book.specs.Grounds.{grounds_of}
+use Rattle.shard_book.specs.Shards.{IsJournalOf, IsLoadImage}
 use Rattle.shared_shards.specs.ShardLogs.{records_of}
 use Rattle.shared_shards.specs.Opening.{head_with, log_with}
 use Rattle.one_caller.specs.Loading.{IsGivenBack, ComeBack}
@@ -47,43 +42,54 @@ AreCounted logs =
     (shard : ℕ) (log : Log LogItem LogHead) → slice_get logs shard ≡ Some log
     → log.head.records ≡ length (records_of log.items)
 
--- by the stores' observable bytes and disks, and their fault counts
+-- by the stores' observable bytes and disks, and their fault counts; `olds` are the old stores before the call, and `read`
+-- the same stores after it
 module _ {S : Type 0} (bytes : S → Option (List ℕ)) (disk : S → Option Disk) (faults : S → ℕ) where
-  -- the log has just the records of a legal history. If the store exposes its bytes, they were the text of this
-  -- history, possibly with a torn last line, which was truncated. Its head has the issuer, the shard's number, and, as
-  -- of the end of loading, the store's fault count, the number of records and the store's disk. Meanwhile a crash
-  -- leaves what it might leave before, or the history's text
-  pub record IsOpenedFrom (issuer : Setup) (number : ℕ) (store : S) (log : Log LogItem LogHead) : Type 0 where
+  -- the log has just the records of a history, which is legal since that of the old store. If the stores expose their
+  -- bytes, these were taken for the history, and the store was migrated or truncated to its text. The log's head has the
+  -- issuer, the shard's number, and, as of the end of loading, the store's fault count, the number of records and the
+  -- store's disk. Meanwhile a crash leaves what it might leave before, a prefix of the old history's text, or the
+  -- history's text
+  pub record IsOpenedFrom (issuer : Setup) (number : ℕ) (old old_then store : S) (log : Log LogItem LogHead)
+      : Type 0 where
+    pub old_history : List Entry
     pub history : List Entry
-    pub rest : List ℕ
-    pub text_is : Tells (bytes store) (texts_of history ++ rest)
-    pub unbroken : IsUnbroken rest
-    pub records : All IsRecord history
-    pub legal : IsLegalHistory (grounds_of issuer) number history
+    pub journal_is : IsJournalOf issuer number (bytes old) (bytes store) old_history history
     pub log_is : log ≡ log_with (head_with issuer number log.head.faults (length history) log.head.opened) history
-    pub leaves : BothTold (λ old new. LeavesOnly (IsCutImage (length (texts_of history)) old.now) old new)
+    pub leaves :
+        BothTold (λ before after. LeavesOnly (IsLoadImage old_history history before.now) before after)
         (disk store) log.head.opened
+    pub old_counts : CountsFaults (faults old) (faults old_then) false
     pub counts : CountsFaults (faults store) log.head.faults false
 
-  -- so it is with the log of each shard, and the store at its index
-  pub record AreOpenedFrom (issuer : Setup) (stores : List S) (logs : List (Log LogItem LogHead)) : Type 0 where
+  -- so it is with the log of each shard, and the old store and the store at its index
+  pub record AreOpenedFrom (issuer : Setup) (olds read stores : List S) (logs : List (Log LogItem LogHead))
+      : Type 0 where
+    pub olds_are : length olds ≡ length stores
+    pub read_are : length read ≡ length stores
     pub count_is : length logs ≡ length stores
-    pub each : (number : ℕ) (store : S) (log : Log LogItem LogHead) → slice_get stores number ≡ Some store
-        → slice_get logs number ≡ Some log
-        → IsOpenedFrom issuer number store log
+    pub each : (number : ℕ) (old old_then store : S) (log : Log LogItem LogHead)
+        → slice_get olds number ≡ Some old → slice_get read number ≡ Some old_then
+        → slice_get stores number ≡ Some store → slice_get logs number ≡ Some log
+        → IsOpenedFrom issuer number old old_then store log
 
--- the stores of a host that wasn't loaded come back: at the first shard that can't be loaded, or all of them once they
--- were loaded, if the host's own allocation failed
-module _ {S : Type 0} (bytes : S → Option (List ℕ)) (disk : S → Option Disk) (faults : S → ℕ) where
-  pub record AllComeBack (issuer : Setup) (stores : List S) (failed : ℕ) (fault : LoadFault)
+  -- the stores of a host that wasn't loaded come back, all of them as they were loaded: the host's own allocation failed
+  pub record AllComeBack (issuer : Setup) (olds read stores : List S) (failed : ℕ) (fault : LoadFault)
       (back : List S) : Type 0 where
+    pub olds_are : length olds ≡ length stores
+    pub read_are : length read ≡ length stores
     pub count_is : length back ≡ length stores
     pub first : failed ≡ 0
     pub fault_is : fault ≡ NoMemory
-    pub each : (number : ℕ) (store after : S) → slice_get stores number ≡ Some store
-        → slice_get back number ≡ Some after
-        → IsGivenBack bytes disk faults issuer number store after
+    pub each : (number : ℕ) (old old_then store after : S)
+        → slice_get olds number ≡ Some old → slice_get read number ≡ Some old_then
+        → slice_get stores number ≡ Some store → slice_get back number ≡ Some after
+        → IsGivenBack bytes disk faults issuer number old old_then store after
 
-  abbrev pub HostComesBack : Setup → List S → ℕ → LoadFault → List S → Type 0
-  HostComesBack issuer stores failed fault back =
-      ComeBack bytes disk faults issuer stores failed fault back ⊎ AllComeBack issuer stores failed fault back
+-- the stores of a host that wasn't loaded come back: at the first shard that can't be loaded, or all of them once they
+-- were loaded
+module _ {S : Type 0} (size : S → ℕ) (bytes : S → Option (List ℕ)) (disk : S → Option Disk) (faults : S → ℕ) where
+  abbrev pub HostComesBack : Setup → List S → List S → List S → ℕ → LoadFault → List S → Type 0
+  HostComesBack issuer olds read stores failed fault back =
+      ComeBack size bytes disk faults issuer olds read stores failed fault back
+      ⊎ AllComeBack bytes disk faults issuer olds read stores failed fault back

@@ -2,7 +2,7 @@
 ghost use Rattle.std.specs.Prelude.{◌≡◌, ◌<◌, ◌≤◌, length, IfOk, IfErr};
 ghost use Rattle.issuer_setup.specs.IssuerSetup.{Setup};
 ghost use Rattle.shared_shards.specs.ShardSeats.{opening_in};
-ghost use Rattle.one_caller.specs.Loading.{AreLoaded};
+ghost use Rattle.one_caller.specs.Loading.{AreLoaded, AreOnlyRead};
 ghost use Rattle.host_calls.specs.Loading.{IsFirstPass, IsShared};
 ghost use Rattle.host_calls.specs.OpeningLogs.{AreOpenedFrom, HostComesBack};
 
@@ -27,24 +27,26 @@ pub(crate) struct Shared<S: Store> {
 }
 
 impl<S: Store> Host<S> {
-    /// Loads the shards of an issuer from their stores, in order, as `Solo::load` does. Callers share the host, each
-    /// with a pass that is split off the first one. Callers only read the issuer, so the application-cryptogram keys of
-    /// all cards are derived here, and cached with their key schedules.
+    /// Loads the shards of an issuer from their old stores and their stores, in order, as `Solo::load` does. Callers
+    /// share the host, each with a pass that is split off the first one. Callers only read the issuer, so the
+    /// application-cryptogram keys of all cards are derived here, and cached with their key schedules.
     ///
     /// The first shard that can't be loaded stops it. If the host's own allocation fails, the error names shard 0. Then
     /// the stores come back in order. No other call allocates.
     pub fn load(
         alloc: Global,
+        olds: &mut Vec<S>,
         stores: Vec<S>,
         mut issuer: Issuer,
     ) -> Result<(Host<S>, Pass), HostBack<S>>
-        requires { length stores.items ≡ issuer.shards }
+        requires { (length olds.old.items ≡ issuer.shards) × (length stores.items ≡ issuer.shards) }
         ensures issuer { IfOk result (λ made. made.0.issuer ≡ issuer) }
-        ensures opening { IfOk result
-            (λ made. AreOpenedFrom S.bytes S.disk S.faults issuer stores.items (opening_in made.0.turns)) }
+        ensures opening { IfOk result (λ made. AreOpenedFrom S.bytes S.disk S.faults issuer
+            olds.old.items olds.new.items stores.items (opening_in made.0.turns)) }
+        ensures olds { AreOnlyRead S.size S.bytes S.disk S.room olds.old.items olds.new.items }
         ensures pass { IfOk result (λ made. IsFirstPass made.0 made.1) }
-        ensures stopped { IfErr result (λ back.
-            HostComesBack S.bytes S.disk S.faults issuer stores.items back.shard back.fault back.stores.items) }
+        ensures stopped { IfErr result (λ back. HostComesBack S.size S.bytes S.disk S.faults issuer
+            olds.old.items olds.new.items stores.items back.shard back.fault back.stores.items) }
     {
         let Ok(lists) = take_lists(alloc, usize::from(MAX_SHARDS)) else {
             return Err(HostBack {
@@ -54,9 +56,10 @@ impl<S: Store> Host<S> {
             });
         };
         issuer.keep_all();
+        let old = Snapshot::of(&*olds);
         let before = Snapshot::of(&stores);
-        let Lists { shards, back } = load_all(alloc, &issuer, stores, lists)?;
-        match share(alloc, &issuer, &before, shards) {
+        let Lists { shards, back } = load_all(alloc, &issuer, olds, stores, lists)?;
+        match share(alloc, &issuer, &old, olds, &before, shards) {
             Ok(
                 Shared {
                     claims,
@@ -82,26 +85,31 @@ impl<S: Store> Host<S> {
     }
 }
 
-/// Lets callers share shards that were loaded from these stores. Only if an allocation fails, the shards come back in
-/// order.
+/// Lets callers share shards that were loaded from these old stores, as they are now in `read`, and these stores. Only if
+/// an allocation fails, the shards come back in order.
 fn share<S: Store>(
     alloc: Global,
     issuer: &Issuer,
+    olds: &Snapshot<Vec<S>>,
+    read: &Vec<S>,
     stores: &Snapshot<Vec<S>>,
     shards: Vec<Shard<S>>,
 ) -> Result<Shared<S>, Vec<Shard<S>>>
     requires count { (length stores.now.value.items ≡ issuer.now.shards) × (0 < issuer.now.shards) }
-    requires loaded { AreLoaded issuer.now stores.now.value.items shards.items }
-    ensures shared { IfOk result (IsShared issuer.now stores.now.value.items) }
+    requires loaded { AreLoaded issuer.now
+        olds.now.value.items read.now.items stores.now.value.items shards.items }
+    ensures shared { IfOk result (IsShared issuer.now
+        olds.now.value.items read.now.items stores.now.value.items) }
     ensures refused { IfErr result (λ back. back.items ≡ shards.items) }
 {
+    let _ = read;
     let Ok(recorded) = list_recorded(alloc, shards.as_slice()) else {
         return Err(shards);
     };
     let Ok((claims, claiming)) = ClaimWords::load(alloc, issuer.cards(), recorded.as_slice()) else {
         return Err(shards);
     };
-    match ShardTurns::load(alloc, issuer, stores, shards) {
+    match ShardTurns::load(alloc, issuer, olds, stores, shards) {
         Ok((turns, turning)) => {
             let pass = Pass {
                 claims: claiming,

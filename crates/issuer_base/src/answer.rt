@@ -106,8 +106,8 @@ pub enum Refusal {
     /// The cryptogram isn't an ARQC: the terminal sent online what the card didn't ask for.
     NotArqc,
 
-    /// No key set has this derivation key index: the card is of another issuer, or the configuration
-    /// lacks a key.
+    /// No key set with this derivation key index has keys of the request's suite: the card is of another issuer, or the
+    /// configuration lacks a key set or its AES keys.
     UnknownKey(u8),
 
     /// The cryptogram isn't that of these fields under the card's key: a field was altered, or the card is forged.

@@ -25,7 +25,10 @@ pub const KEPT_BYTES: usize = 2 * MAX_CHIP_BYTES + 3;
 pub const MAX_STATUS: u8 = 9;
 
 /// How far below a card's greatest ATC its window ends: an ATC that far below is too old.
-pub const WINDOW: u16 = 64;
+pub const WINDOW: u16 = 256;
+
+/// The window to which the records of a journal of version 1 are held.
+pub const OLD_WINDOW: u16 = 64;
 
 /// How many undone commands a card's queue holds at most.
 pub const MAX_UNDONE: u8 = 64;
@@ -64,6 +67,10 @@ pub const MAX_STEPS: u32 = 200_000;
 
 /// How many bytes a store holds at most.
 pub const MAX_STORE_BYTES: u64 = 1 << 62;
+
+/// How many bytes the migration of a journal appends at most before it syncs them, and how many bytes at the end of a
+/// journal are rewritten as it is opened: so whatever a failed sync may have lost is written again.
+pub const MAX_UNSYNCED_BYTES: usize = 65_536;
 
 /// How many faults of its store a shard reports at most; it counts no further.
 pub const MAX_FAULTS_TOLD: u64 = 1 << 62;

@@ -25,8 +25,9 @@ fn main(rt: HostRuntime) -> ExitCode {
         desk,
         config,
         requests,
+        olds,
         stores,
     } = issue(&rt, process.words(), FileDesk::new(rt), &mut out, &OpenGate);
-    process.end(desk, config, requests, stores);
+    process.end(desk, config, requests, olds, stores);
     ExitCode::from(status)
 }

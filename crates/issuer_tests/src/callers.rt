@@ -1,6 +1,6 @@
 //! Lines that several callers answer concurrently.
 
-use crate::running::{NONE_FAILS, Run, SHOW, run_at};
+use crate::running::{NONE_FAILS, Run, SHOW, Texts, run_at};
 use crate::samples::{CONFIG, FRESH_EACH, REQUEST_7, SEVENTH_EACH, TWENTY_EACH, TWO_SHARDS};
 use issuer_base::{Gate, OpenGate};
 use std::sync::Wait;
@@ -54,6 +54,7 @@ macro_rules! run {
             ),
             config: $config,
             requests: $requests,
+            old: &[],
             before: None,
             fails: NONE_FAILS,
             answers: &[],
@@ -74,6 +75,7 @@ static SHOWN: Run = Run {
     words: SHOW,
     config: TWO_SHARDS,
     requests: &[],
+    old: &[],
     before: None,
     fails: NONE_FAILS,
     answers: &[],
@@ -91,7 +93,7 @@ fn answers_one_line_while_another_is_kept(rt: HostRuntime) -> Result<(), Fail> {
             answered: AtomicBool::new(false),
             seen: AtomicBool::new(false),
         };
-        let mut journals = Vec::new(rt.alloc());
+        let mut journals = Texts::none(rt.alloc());
         let (status, text) = run_at(&rt, &TWO_CALLERS, &NONE_FAILS, &mut journals, &gate)?;
         assert_eq!(rt; text.as_str(), FRESH_EACH);
         assert_eq!(rt; status, 0);
@@ -119,7 +121,7 @@ const TWENTY_SHOWN: &str =
 /// There are 40 answers, and one for each position.
 #[test]
 fn four_callers_record_each_line_once(rt: HostRuntime) -> Result<(), Fail> {
-    let mut journals = Vec::new(rt.alloc());
+    let mut journals = Texts::none(rt.alloc());
     let (status, text) = run_at(&rt, &FOUR_CALLERS, &NONE_FAILS, &mut journals, &OpenGate)?;
     assert_eq!(rt; status, 0);
     assert_eq!(rt; text.as_str().lines().count(), 40);
@@ -134,7 +136,7 @@ fn four_callers_record_each_line_once(rt: HostRuntime) -> Result<(), Fail> {
 
 #[test]
 fn sixteen_callers_decide_a_counter_once(rt: HostRuntime) -> Result<(), Fail> {
-    let mut journals = Vec::new(rt.alloc());
+    let mut journals = Texts::none(rt.alloc());
     let (status, text) = run_at(&rt, &SIXTEEN_CALLERS, &NONE_FAILS, &mut journals, &OpenGate)?;
     assert_eq!(rt; status, 0);
     let mut fresh = 0u8;

@@ -1,7 +1,7 @@
 //! Runs in which one call of one device fails, for every call of every device.
 
-use crate::running::{NONE_FAILS, Run, SERVE, SHOW, one_journal, run_at};
-use crate::samples::{CONFIG, REQUEST_7};
+use crate::running::{NONE_FAILS, Run, SERVE, SHOW, one_shard, run_at};
+use crate::samples::{CONFIG, DECISION_1, REPLY_1, REQUEST_7};
 use issuer_base::OpenGate;
 use std::test::Fail;
 
@@ -11,6 +11,7 @@ static SERVES: [Run; 2] = [
         words: SERVE,
         config: CONFIG,
         requests: LINES,
+        old: &[],
         before: None,
         fails: NONE_FAILS,
         answers: &[],
@@ -22,6 +23,7 @@ static SERVES: [Run; 2] = [
         words: "serve --config config --requests requests --journal journal --callers 4",
         config: CONFIG,
         requests: LINES,
+        old: &[],
         before: None,
         fails: NONE_FAILS,
         answers: &[],
@@ -29,6 +31,9 @@ static SERVES: [Run; 2] = [
         after: None,
     },
 ];
+
+/// The old journal, whose records each run copies first.
+const OLD: &[&str] = &[DECISION_1, REPLY_1];
 
 const LINES: &[&str] = &[
     REQUEST_7,
@@ -40,6 +45,7 @@ static SHOWN: Run = Run {
     words: SHOW,
     config: CONFIG,
     requests: &[],
+    old: &[],
     before: None,
     fails: NONE_FAILS,
     answers: &[],
@@ -55,12 +61,12 @@ const MOST_CALLS: u64 = 40;
 #[test]
 fn ends_in_order_whichever_call_fails(rt: HostRuntime) -> Result<(), Fail> {
     for run in &SERVES {
-        for device in 0..5 {
+        for device in 0..6 {
             let mut met = 0;
             for call in 0..MOST_CALLS {
                 let mut fails = NONE_FAILS;
                 fails[device] = Some(call);
-                let mut journals = one_journal(rt.alloc(), &[])?;
+                let mut journals = one_shard(rt.alloc(), OLD, &[])?;
                 let (status, text) = run_at(&rt, run, &fails, &mut journals, &OpenGate)?;
                 assert!(rt; matches!(status, 0 | 3 | 4 | 5), "{}", run.name);
                 let (loaded, _text) = run_at(&rt, &SHOWN, &NONE_FAILS, &mut journals, &OpenGate)?;

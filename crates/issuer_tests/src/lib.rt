@@ -8,6 +8,8 @@ mod failing_devices;
 #[cfg(test)]
 mod loading_order;
 #[cfg(test)]
+mod migrations;
+#[cfg(test)]
 mod own_devices;
 #[cfg(test)]
 mod pieces;

@@ -1,6 +1,6 @@
 //! Runs in which two journals can't be loaded: the first of them is reported.
 
-use crate::running::{Fails, NONE_FAILS, Run, SERVE, run_at};
+use crate::running::{Fails, NONE_FAILS, Run, SERVE, Texts, run_at};
 use crate::samples::TWO_SHARDS;
 use issuer_base::OpenGate;
 use std::test::Fail;
@@ -14,7 +14,9 @@ struct Row {
     text: &'static str,
 }
 
-const BAD: &str = "no record\n";
+const BAD: &str = "v2\nno record\n";
+
+const GOOD: &str = "v2\n";
 
 static ROWS: [Row; 4] = [
     Row {
@@ -22,25 +24,25 @@ static ROWS: [Row; 4] = [
         journals: [BAD, BAD],
         store_fails: None,
         status: 6,
-        text: "stop 6 0 1\n",
+        text: "stop 6 0 2\n",
     },
     Row {
         name: "a bad journal behind a good one",
-        journals: ["", BAD],
+        journals: [GOOD, BAD],
         store_fails: None,
         status: 6,
-        text: "stop 6 1 1\n",
+        text: "stop 6 1 2\n",
     },
     Row {
         name: "a store that fails behind a bad journal",
-        journals: [BAD, ""],
-        store_fails: Some(1),
+        journals: [BAD, GOOD],
+        store_fails: Some(2),
         status: 6,
-        text: "stop 6 0 1\n",
+        text: "stop 6 0 2\n",
     },
     Row {
         name: "a bad journal behind a store that fails",
-        journals: ["", BAD],
+        journals: [GOOD, BAD],
         store_fails: Some(0),
         status: 5,
         text: "stop 5 0\n",
@@ -53,6 +55,7 @@ static RUNS: [Run; 2] = [
         words: SERVE,
         config: TWO_SHARDS,
         requests: &[],
+        old: &[],
         before: None,
         fails: NONE_FAILS,
         answers: &[],
@@ -64,6 +67,7 @@ static RUNS: [Run; 2] = [
         words: "serve --config config --requests requests --journal journal --callers 4",
         config: TWO_SHARDS,
         requests: &[],
+        old: &[],
         before: None,
         fails: NONE_FAILS,
         answers: &[],
@@ -77,15 +81,17 @@ static RUNS: [Run; 2] = [
 fn tells_of_the_first_shard_that_is_not_loaded(rt: HostRuntime) -> Result<(), Fail> {
     for run in &RUNS {
         for row in &ROWS {
-            let mut journals = Vec::new(rt.alloc());
+            let mut journals = Texts::none(rt.alloc());
             for journal in &row.journals {
-                journals.push(journal.as_bytes().to_vec(rt.alloc())?)?;
+                journals
+                    .stores
+                    .push(journal.as_bytes().to_vec(rt.alloc())?)?;
             }
-            let fails: Fails = [None, None, None, None, row.store_fails];
+            let fails: Fails = [None, None, None, None, row.store_fails, None];
             let (status, text) = run_at(&rt, run, &fails, &mut journals, &OpenGate)?;
             assert_eq!(rt; status, row.status, "{}: {}", run.name, row.name);
             assert_eq!(rt; text.as_str(), row.text, "{}", row.name);
-            for (left, journal) in journals.iter().zip(row.journals.iter()) {
+            for (left, journal) in journals.stores.iter().zip(row.journals.iter()) {
                 assert!(rt; left.as_slice() == journal.as_bytes(), "{}", row.name);
             }
         }

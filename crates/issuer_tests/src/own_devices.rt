@@ -79,6 +79,8 @@ impl Store for MeetingStore {
 
     ghost told_size = { λ _. tt };
 
+    ghost told_alike = { λ _ _. tt };
+
     ghost told_bytes = { λ _. tt };
 
     fn len(&self) -> u64 {
@@ -159,7 +161,7 @@ impl Desk for OwnDesk {
         };
         match RoomStore::new(self.alloc, 65_536) {
             Ok(store) => Ok(MeetingStore {
-                second: name.ends_with("1"),
+                second: name.ends_with(".01.v2"),
                 meeting,
                 store,
             }),
@@ -186,7 +188,9 @@ fn answers_the_lines_read_whole_before_a_fault(rt: HostRuntime) -> Result<(), Fa
     ] {
         let desk = OwnDesk::new(alloc, CONFIG, Pieces::new("X\nXY\n\nZ", 1, 1, reads))?;
         let mut out = MemorySink::new(alloc, 1_024, Vec::new(alloc))?;
-        let (found, _requests, _stores) = left_by(run_over(&rt, &words, desk, &mut out, &OpenGate));
+        let (found, _requests, _olds, _stores) = left_by(run_over(
+            &rt, &words, desk, &mut out, &OpenGate,
+        ));
         assert_eq!(rt; out.bytes(), expected.as_bytes(), "after {reads}");
         assert_eq!(rt; found, status, "after {reads}");
     }
@@ -206,7 +210,9 @@ fn stops_where_the_sink_fails(rt: HostRuntime) -> Result<(), Fail> {
     ] {
         let desk = OwnDesk::new(alloc, CONFIG, Pieces::new("X", 1, 1, 10))?;
         let mut out = Bytes::new(room);
-        let (ended, _requests, _stores) = left_by(run_over(&rt, &words, desk, &mut out, &OpenGate));
+        let (ended, _requests, _olds, _stores) = left_by(run_over(
+            &rt, &words, desk, &mut out, &OpenGate,
+        ));
         assert!(rt; out.has_taken(text), "{room}");
         assert_eq!(rt; ended, status, "{room}");
     }
@@ -219,7 +225,9 @@ fn stops_at_a_line_too_many(rt: HostRuntime) -> Result<(), Fail> {
     let desk = OwnDesk::new(alloc, CONFIG, Pieces::new("x\n", 1_048_577, 2, 2_000_000))?;
     let mut out = MemorySink::new(alloc, 16_777_216, Vec::new(alloc))?;
     let words = words_of(alloc, SERVE)?;
-    let (status, _requests, _stores) = left_by(run_over(&rt, &words, desk, &mut out, &OpenGate));
+    let (status, _requests, _olds, _stores) = left_by(run_over(
+        &rt, &words, desk, &mut out, &OpenGate,
+    ));
     assert_eq!(rt; status, 8);
     // 1,048,576 times `refused 1 1`, and then the last line.
     assert_eq!(rt; out.bytes().len(), 12 * 1_048_576 + 15);
@@ -234,7 +242,9 @@ fn answers_before_it_waits_for_more(rt: HostRuntime) -> Result<(), Fail> {
     let desk = OwnDesk::new(alloc, CONFIG, Pieces::new("x\n", 3, 2, 10))?;
     let mut out = Bytes::new(0);
     let words = words_of(alloc, SERVE)?;
-    let (status, requests, _stores) = left_by(run_over(&rt, &words, desk, &mut out, &OpenGate));
+    let (status, requests, _olds, _stores) = left_by(run_over(
+        &rt, &words, desk, &mut out, &OpenGate,
+    ));
     assert_eq!(rt; status, 4);
     assert_eq!(rt; requests.map(|source| source.times), Some(2));
     Ok(())
@@ -251,7 +261,9 @@ fn appends_to_two_journals_at_once(rt: HostRuntime) -> Result<(), Fail> {
         alloc,
         "serve --config config --requests requests --journal journal --callers 2",
     )?;
-    let (status, _requests, _stores) = left_by(run_over(&rt, &words, desk, &mut out, &OpenGate));
+    let (status, _requests, _olds, _stores) = left_by(run_over(
+        &rt, &words, desk, &mut out, &OpenGate,
+    ));
     assert_eq!(rt; status, 0);
     assert_eq!(rt; out.bytes(), FRESH_EACH.as_bytes());
     assert!(rt; meeting.seen[0].load(Ordering::SeqCst));

@@ -12,10 +12,10 @@ pub(crate) const SERVE: &str = "serve --config config --requests requests --jour
 
 pub(crate) const SHOW: &str = "show --config config --journal journal";
 
-/// For each device the call that fails, counted from 0: configuration, requests, desk, sink, store.
-pub(crate) type Fails = [Option<u64>; 5];
+/// For each device the call that fails, counted from 0: configuration, requests, desk, sink, store, old store.
+pub(crate) type Fails = [Option<u64>; 6];
 
-pub(crate) const NONE_FAILS: Fails = [None; 5];
+pub(crate) const NONE_FAILS: Fails = [None; 6];
 
 /// The inputs of a run, and its expected outcome. Texts are in parts.
 pub(crate) struct Run {
@@ -26,7 +26,10 @@ pub(crate) struct Run {
     pub(crate) config: &'static str,
     pub(crate) requests: &'static [&'static str],
 
-    /// The journal of shard 0; `None`: the journals that the last run left.
+    /// The old journal of shard 0, if the run begins with journals of its own.
+    pub(crate) old: &'static [&'static str],
+
+    /// The journal of shard 0; `None`: the journals that the last run left, old ones too.
     pub(crate) before: Option<&'static [&'static str]>,
     pub(crate) fails: Fails,
     pub(crate) answers: &'static [&'static str],
@@ -34,6 +37,22 @@ pub(crate) struct Run {
 
     /// The expected journal of shard 0; `None`: it isn't compared.
     pub(crate) after: Option<&'static [&'static str]>,
+}
+
+/// The bytes of the journals of some shards, in order: the old ones, and those of version 2.
+#[derive(Drop)]
+pub(crate) struct Texts {
+    pub(crate) olds: Vec<Vec<u8>>,
+    pub(crate) stores: Vec<Vec<u8>>,
+}
+
+impl Texts {
+    pub(crate) fn none(alloc: Global) -> Self {
+        Texts {
+            olds: Vec::new(alloc),
+            stores: Vec::new(alloc),
+        }
+    }
 }
 
 /// Runs the top call. All runs go through here, since each function that calls it carries its whole contract.
@@ -54,8 +73,10 @@ where
     issue(rt, words, desk, out, gate)
 }
 
-/// The status of a run, the unread remainder of its request file, and its stores.
-pub(crate) fn left_by<D>(ended: Ended<D>) -> (u8, Option<D::Input>, Vec<D::Journal>)
+/// The status of a run, the unread remainder of its request file, its old stores and its stores.
+pub(crate) fn left_by<D>(
+    ended: Ended<D>,
+) -> (u8, Option<D::Input>, Vec<D::Journal>, Vec<D::Journal>)
 where
     D: Desk + Drop,
     D::Input: Drop,
@@ -65,9 +86,10 @@ where
         desk: _desk,
         config: _config,
         requests,
+        olds,
         stores,
     } = ended;
-    (status, requests, stores)
+    (status, requests, olds, stores)
 }
 
 /// The status of a run over a desk in memory, and what it writes. `journals` has the journals before the run, and then
@@ -76,7 +98,7 @@ pub(crate) fn run_at<R, G>(
     rt: &R,
     run: &Run,
     fails: &Fails,
-    journals: &mut Vec<Vec<u8>>,
+    journals: &mut Texts,
     gate: &G,
 ) -> Result<(u8, String), Fail>
 where
@@ -84,12 +106,15 @@ where
     G: Gate + Sync,
 {
     let alloc = rt.alloc();
-    let desk = memory_desk(alloc, run, fails, journals.as_slice())?;
+    let desk = memory_desk(alloc, run, fails, journals)?;
     let words = words_of(alloc, run.words)?;
-    let [_config, _requests, _desk, sink, _store] = *fails;
+    let [_config, _requests, _desk, sink, _store, _old] = *fails;
     let mut out = MemorySink::new(alloc, 65_536, listed(alloc, sink)?)?;
-    let (status, _requests, stores) = left_by(run_over(rt, &words, desk, &mut out, gate));
-    *journals = left_in(alloc, &stores)?;
+    let (status, _requests, olds, stores) = left_by(run_over(rt, &words, desk, &mut out, gate));
+    *journals = Texts {
+        olds: left_in(alloc, &olds)?,
+        stores: left_in(alloc, &stores)?,
+    };
     Ok((status, String::from_utf8(out.bytes().to_vec(alloc)?)?))
 }
 
@@ -98,9 +123,9 @@ fn memory_desk(
     alloc: Global,
     run: &Run,
     fails: &Fails,
-    journals: &[Vec<u8>],
+    journals: &Texts,
 ) -> Result<MemoryDesk, Fail> {
-    let [config, requests, desk, _sink, store] = *fails;
+    let [config, requests, desk, _sink, store, old] = *fails;
     let mut memory = MemoryDesk::new(alloc, listed(alloc, desk)?);
     let text = run.config.as_bytes().to_vec(alloc)?;
     memory.input(
@@ -114,7 +139,17 @@ fn memory_desk(
         text,
         listed(alloc, requests)?,
     )?;
-    for (name, journal) in ["journal.00", "journal.01"].iter().zip(journals.iter()) {
+    for (name, journal) in ["journal.00", "journal.01"]
+        .iter()
+        .zip(journals.olds.iter())
+    {
+        let name = String::from_str(alloc, name)?;
+        memory.journal(name, journal.clone()?, 65_536, listed(alloc, old)?)?;
+    }
+    for (name, journal) in ["journal.00.v2", "journal.01.v2"]
+        .iter()
+        .zip(journals.stores.iter())
+    {
         let name = String::from_str(alloc, name)?;
         memory.journal(name, journal.clone()?, 65_536, listed(alloc, store)?)?;
     }
@@ -139,7 +174,15 @@ pub(crate) fn joined(alloc: Global, parts: &[&str]) -> Result<String, Fail> {
     Ok(text)
 }
 
-/// The journal of shard 0 alone.
+/// The journals of shard 0 alone, the old one and its own.
+pub(crate) fn one_shard(alloc: Global, old: &[&str], parts: &[&str]) -> Result<Texts, Fail> {
+    Ok(Texts {
+        olds: one_journal(alloc, old)?,
+        stores: one_journal(alloc, parts)?,
+    })
+}
+
+/// One journal alone.
 pub(crate) fn one_journal(alloc: Global, parts: &[&str]) -> Result<Vec<Vec<u8>>, Fail> {
     let mut journals = Vec::new(alloc);
     journals.push(joined(alloc, parts)?.into_bytes())?;

@@ -162,7 +162,7 @@ pub(crate) const REQUEST_8: &str = request!("0008" "09B47BE3DCCA54C3");
 
 pub(crate) const REQUEST_9: &str = request!("0009" "07332ABBD4FE880C");
 
-pub(crate) const REQUEST_65: &str = request!("0041" "93EED1B2ED608C61");
+pub(crate) const REQUEST_257: &str = request!("0101" "9BBC3F15300AECCC");
 
 pub(crate) const REQUEST_65535: &str = request!("FFFF" "1E18E39C18AB6CAF");
 
@@ -289,6 +289,8 @@ pub(crate) const REPLY_7: &str = "8a023030910a02369be26b4161bc3030\n";
 
 pub(crate) const REPLY_65: &str = "8a023030910a2460f3fa6de401fa3030\n";
 
+pub(crate) const REPLY_257: &str = "8a023030910a631e42fdc28acca83030\n";
+
 pub(crate) const REPLY_65535: &str = "8a023030910ad85c87f2f624e6e23030\n";
 
 /// The reply on ATC 7 to the greatest amount that the table approves.
@@ -304,6 +306,9 @@ pub(crate) const AES_REPLY_1: &str = "8a023030910a6a33e8bbe8732fa73030\n";
 pub(crate) const AES_REPLY_7_THREE: &str =
     "8a023030910a08209bbb4731f66e303072709f180400000000862184da00001c00000000000000000000000000000000000000003734216180082ab0862184da00001c0101010101010101010101010101010101010101b610bc1e43f3bd1c862184da00001c02020202020202020202020202020202020202020088979cf9940366\n";
 
+/// The first line of a journal.
+pub(crate) const VERSION: &str = "v2\n";
+
 /// The records of these decisions, up to the reply.
 pub(crate) const DECISION_0: &str = approval!("0000" "3e3303b6a6ef1e00");
 
@@ -318,6 +323,8 @@ pub(crate) const DECISION_7: &str = approval!("0007" "6317de17856bf19a");
 pub(crate) const DECISION_9: &str = approval!("0009" "07332abbd4fe880c");
 
 pub(crate) const DECISION_65: &str = approval!("0041" "93eed1b2ed608c61");
+
+pub(crate) const DECISION_257: &str = approval!("0101" "9bbc3f15300aeccc");
 
 pub(crate) const DECISION_65535: &str = approval!("ffff" "1e18e39c18ab6caf");
 

@@ -3,7 +3,7 @@
 //!
 //! The rows are in groups, since the checker writes out a whole table wherever it is named.
 
-use crate::running::{NONE_FAILS, Run, SERVE, SHOW, joined, one_journal, run_at};
+use crate::running::{NONE_FAILS, Run, SERVE, SHOW, Texts, joined, one_journal, one_shard, run_at};
 use crate::samples::*;
 use issuer_base::OpenGate;
 use std::sync::Wait;
@@ -16,6 +16,7 @@ const SERVED: Run = Run {
     words: SERVE,
     config: CONFIG,
     requests: &[],
+    old: &[],
     before: Some(&[]),
     fails: NONE_FAILS,
     answers: &[],
@@ -30,11 +31,17 @@ const SHOWN: Run = Run {
     ..SERVED
 };
 
+/// A row that shows the cards of journals of its own.
+const SHOWN_ANEW: Run = Run {
+    words: SHOW,
+    ..SERVED
+};
+
 /// Lines that are refused for their text.
 static LINES: [Run; 4] = [
     Run {
         name: "no lines",
-        after: Some(&[]),
+        after: Some(&[VERSION]),
         ..SERVED
     },
     Run {
@@ -43,21 +50,21 @@ static LINES: [Run; 4] = [
         answers: &[
             "refused 1 1\nrefused 1 1\nrefused 1 2\nrefused 1 6\nrefused 1 4\nrefused 1 21\n",
         ],
-        after: Some(&[]),
+        after: Some(&[VERSION]),
         ..SERVED
     },
     Run {
         name: "chip data that breaks off",
         requests: &["A 9F3602\nA 9F36810207\nA 9F3681020007\n"],
         answers: &["refused 2 0\nrefused 2 0\nrefused 3 5a\n"],
-        after: Some(&[]),
+        after: Some(&[VERSION]),
         ..SERVED
     },
     Run {
         name: "broken fields",
         requests: &[BROKEN_FIELDS],
         answers: &["refused 4 9f02\nrefused 5 9f36\nrefused 7\nrefused 8 09\nrefused 6\n"],
-        after: Some(&[]),
+        after: Some(&[VERSION]),
         ..SERVED
     },
 ];
@@ -72,28 +79,28 @@ static DECISIONS: [Run; 9] = [
         name: "another spelling of a request",
         requests: &[REQUEST_7, REQUEST_7_LONG_LENGTH],
         answers: &[FRESH_7, KEPT_7],
-        after: Some(&[DECISION_7, REPLY_7]),
+        after: Some(&[VERSION, DECISION_7, REPLY_7]),
         ..SERVED
     },
     Run {
         name: "a forged cryptogram",
         requests: &[REQUEST_7_FORGED, REQUEST_7],
         answers: &["refused 9\n", FRESH_7],
-        after: Some(&[DECISION_7, REPLY_7]),
+        after: Some(&[VERSION, DECISION_7, REPLY_7]),
         ..SERVED
     },
     Run {
         name: "another request on a used counter",
         requests: &[REQUEST_7, REQUEST_7_OTHER],
         answers: &[FRESH_7, "refused 11 0 0\n"],
-        after: Some(&[DECISION_7, REPLY_7]),
+        after: Some(&[VERSION, DECISION_7, REPLY_7]),
         ..SERVED
     },
     Run {
         name: "a repeat",
         requests: &[REQUEST_7, REQUEST_7],
         answers: &[FRESH_7, KEPT_7],
-        after: Some(&[DECISION_7, REPLY_7]),
+        after: Some(&[VERSION, DECISION_7, REPLY_7]),
         ..SERVED
     },
     Run {
@@ -101,25 +108,26 @@ static DECISIONS: [Run; 9] = [
         requests: &[REQUEST_7],
         before: None,
         answers: &[KEPT_7],
-        after: Some(&[DECISION_7, REPLY_7]),
+        after: Some(&[VERSION, DECISION_7, REPLY_7]),
         ..SERVED
     },
     Run {
         name: "counters out of order",
-        requests: &[REQUEST_1, REQUEST_65, REQUEST_1, REQUEST_2],
+        requests: &[REQUEST_1, REQUEST_257, REQUEST_1, REQUEST_2],
         answers: &[
             "fresh 0 0 yes 3030 ",
             REPLY_1,
             "fresh 0 1 yes 3030 ",
-            REPLY_65,
-            "refused 10 65\nfresh 0 2 yes 3030 ",
+            REPLY_257,
+            "refused 10 257\nfresh 0 2 yes 3030 ",
             REPLY_2,
         ],
         after: Some(&[
+            VERSION,
             DECISION_1,
             REPLY_1,
-            DECISION_65,
-            REPLY_65,
+            DECISION_257,
+            REPLY_257,
             DECISION_2,
             REPLY_2,
         ]),
@@ -134,7 +142,7 @@ static DECISIONS: [Run; 9] = [
             "fresh 0 1 yes 3030 ",
             REPLY_65535,
         ],
-        after: Some(&[DECISION_0, REPLY_0, DECISION_65535, REPLY_65535]),
+        after: Some(&[VERSION, DECISION_0, REPLY_0, DECISION_65535, REPLY_65535]),
         ..SERVED
     },
     Run {
@@ -146,6 +154,7 @@ static DECISIONS: [Run; 9] = [
             "set 0 1\nfresh 0 2 no 3036 8a023036910a902d3107893ef92b3036\n",
         ],
         after: Some(&[
+            VERSION,
             DECISION_7_GREATEST,
             REPLY_7_GREATEST,
             "s 4000000000000002ffff 00 1\n",
@@ -163,6 +172,7 @@ static DECISIONS: [Run; 9] = [
             "fresh 0 1 no 3035 8a023035910a3ab012c7d40cd2803035\n",
         ],
         after: Some(&[
+            VERSION,
             DECISION_7_GREATEST,
             REPLY_7_GREATEST,
             DECISION_8_MORE,
@@ -182,7 +192,7 @@ static AES_CARDS: [Run; 4] = [
         name: "a key set with triple DES keys alone",
         requests: &[AES_REQUEST_7],
         answers: &["refused 8 01\n"],
-        after: Some(&[]),
+        after: Some(&[VERSION]),
         ..SERVED
     },
     Run {
@@ -195,7 +205,7 @@ static AES_CARDS: [Run; 4] = [
             "kept 0 0 yes 3030 ",
             AES_REPLY_1,
         ],
-        after: Some(&[AES_DECISION_1, AES_REPLY_1]),
+        after: Some(&[VERSION, AES_DECISION_1, AES_REPLY_1]),
         ..SERVED
     },
     Run {
@@ -203,7 +213,7 @@ static AES_CARDS: [Run; 4] = [
         config: AES_CONFIG,
         requests: &[FIVE_COMMANDS, AES_REQUEST_7],
         answers: &[FIVE_QUEUED, "fresh 0 5 yes 3030 ", AES_REPLY_7_THREE],
-        after: Some(&[FIVE_RECORDED, AES_DECISION_7, AES_REPLY_7_THREE]),
+        after: Some(&[VERSION, FIVE_RECORDED, AES_DECISION_7, AES_REPLY_7_THREE]),
         ..SERVED
     },
     Run {
@@ -243,6 +253,7 @@ static REPORTS: [Run; 4] = [
             LAST_THREE_SENT,
         ],
         after: Some(&[
+            VERSION,
             FIVE_RECORDED,
             DECISION_7,
             REPLY_7_THREE,
@@ -270,6 +281,7 @@ static REPORTS: [Run; 4] = [
             FIRST_THREE_SENT,
         ],
         after: Some(&[
+            VERSION,
             FIVE_RECORDED,
             DECISION_7,
             REPLY_7_THREE,
@@ -304,6 +316,7 @@ static HALTS: [Run; 4] = [
             "fresh 0 6 yes 3030 8a023030910a1ea2038d63149b603030\n",
         ],
         after: Some(&[
+            VERSION,
             FIVE_RECORDED,
             DECISION_7,
             REPLY_7_THREE,
@@ -332,6 +345,7 @@ static HALTS: [Run; 4] = [
             "fresh 0 7 yes 3030 8a023030910adf8630a0b3cfc0f53030\n",
         ],
         after: Some(&[
+            VERSION,
             FIVE_RECORDED,
             DECISION_7,
             REPLY_7_THREE,
@@ -362,7 +376,7 @@ static FULL_QUEUE: [Run; 3] = [
         name: "65 commands",
         requests: &[LONG_COMMAND; 65],
         answers: &[SIXTY_FOUR_QUEUED, "refused 13\n"],
-        after: Some(&[LONG_RECORDED; 64]),
+        after: None,
         ..SERVED
     },
     Run {
@@ -389,13 +403,13 @@ fn full_queue() -> &'static [Run] {
 }
 
 /// Calls of the store that fail while a decision is recorded or the journal is loaded.
-static STORE_FAULTS: [Run; 8] = [
+static STORE_FAULTS: [Run; 10] = [
     Run {
         name: "a sync that fails",
         requests: &[REQUEST_7, REQUEST_7],
-        fails: [None, None, None, None, Some(2)],
+        fails: [None, None, None, None, Some(4), None],
         answers: &["refused 15\n", FRESH_7],
-        after: Some(&[DECISION_7, REPLY_7]),
+        after: Some(&[VERSION, DECISION_7, REPLY_7]),
         ..SERVED
     },
     Run {
@@ -403,15 +417,15 @@ static STORE_FAULTS: [Run; 8] = [
         requests: &[REQUEST_7],
         before: None,
         answers: &[KEPT_7],
-        after: Some(&[DECISION_7, REPLY_7]),
+        after: Some(&[VERSION, DECISION_7, REPLY_7]),
         ..SERVED
     },
     Run {
         name: "a sync that fails at the last line",
         requests: &[REQUEST_7],
-        fails: [None, None, None, None, Some(2)],
+        fails: [None, None, None, None, Some(4), None],
         answers: &["refused 15\n"],
-        after: Some(&[DECISION_7, REPLY_7]),
+        after: Some(&[VERSION, DECISION_7, REPLY_7]),
         ..SERVED
     },
     Run {
@@ -419,29 +433,46 @@ static STORE_FAULTS: [Run; 8] = [
         requests: &[REQUEST_7],
         before: None,
         answers: &[KEPT_7],
-        after: Some(&[DECISION_7, REPLY_7]),
+        after: Some(&[VERSION, DECISION_7, REPLY_7]),
         ..SERVED
     },
     Run {
         name: "an append that fails",
         requests: &[REQUEST_7, REQUEST_7],
-        fails: [None, None, None, None, Some(1)],
+        fails: [None, None, None, None, Some(3), None],
         answers: &["refused 15\n", FRESH_7],
-        after: Some(&[DECISION_7, REPLY_7]),
+        after: Some(&[VERSION, DECISION_7, REPLY_7]),
         ..SERVED
     },
     Run {
-        name: "a journal that can't be opened",
+        name: "an old journal that can't be opened",
         requests: &["X\n"],
-        fails: [None, None, Some(1), None, None],
+        fails: [None, None, Some(1), None, None, None],
         answers: &["stop 5 0\n"],
         status: 5,
         ..SERVED
     },
     Run {
-        name: "an empty journal that can't be read",
+        name: "a journal that can't be opened",
         requests: &["X\n"],
-        fails: [None, None, None, None, Some(0)],
+        fails: [None, None, Some(2), None, None, None],
+        answers: &["stop 5 0\n"],
+        status: 5,
+        ..SERVED
+    },
+    Run {
+        name: "an empty journal that can't be written",
+        requests: &["X\n"],
+        fails: [None, None, None, None, Some(0), None],
+        answers: &["stop 5 0\n"],
+        status: 5,
+        ..SERVED
+    },
+    Run {
+        name: "an old journal that can't be read",
+        requests: &["X\n"],
+        old: &[DECISION_7, REPLY_7],
+        fails: [None, None, None, None, None, Some(0)],
         answers: &["stop 5 0\n"],
         status: 5,
         after: Some(&[]),
@@ -450,11 +481,11 @@ static STORE_FAULTS: [Run; 8] = [
     Run {
         name: "a journal that can't be read",
         requests: &["X\n"],
-        before: Some(&[DECISION_7, REPLY_7]),
-        fails: [None, None, None, None, Some(0)],
+        before: Some(&[VERSION, DECISION_7, REPLY_7]),
+        fails: [None, None, None, None, Some(0), None],
         answers: &["stop 5 0\n"],
         status: 5,
-        after: Some(&[DECISION_7, REPLY_7]),
+        after: Some(&[VERSION, DECISION_7, REPLY_7]),
         ..SERVED
     },
 ];
@@ -467,14 +498,14 @@ fn store_faults() -> &'static [Run] {
 static OTHER_FAULTS: [Run; 6] = [
     Run {
         name: "a configuration that can't be opened",
-        fails: [None, None, Some(0), None, None],
+        fails: [None, None, Some(0), None, None, None],
         answers: &["stop 3\n"],
         status: 3,
         ..SERVED
     },
     Run {
         name: "a configuration that can't be read",
-        fails: [Some(0), None, None, None, None],
+        fails: [Some(0), None, None, None, None, None],
         answers: &["stop 3\n"],
         status: 3,
         ..SERVED
@@ -482,26 +513,26 @@ static OTHER_FAULTS: [Run; 6] = [
     Run {
         name: "requests that can't be read",
         requests: &["X\n"],
-        fails: [None, Some(0), None, None, None],
+        fails: [None, Some(0), None, None, None, None],
         answers: &["stop 3\n"],
         status: 3,
-        after: Some(&[]),
+        after: Some(&[VERSION]),
         ..SERVED
     },
     Run {
         name: "a sink that fails",
         requests: &["X\n"],
-        fails: [None, None, None, Some(0), None],
+        fails: [None, None, None, Some(0), None, None],
         status: 4,
-        after: Some(&[]),
+        after: Some(&[VERSION]),
         ..SERVED
     },
     Run {
         name: "a sink that fails at a decision",
         requests: &[REQUEST_7],
-        fails: [None, None, None, Some(0), None],
+        fails: [None, None, None, Some(0), None, None],
         status: 4,
-        after: Some(&[DECISION_7, REPLY_7]),
+        after: Some(&[VERSION, DECISION_7, REPLY_7]),
         ..SERVED
     },
     Run {
@@ -509,7 +540,7 @@ static OTHER_FAULTS: [Run; 6] = [
         requests: &[REQUEST_7],
         before: None,
         answers: &[KEPT_7],
-        after: Some(&[DECISION_7, REPLY_7]),
+        after: Some(&[VERSION, DECISION_7, REPLY_7]),
         ..SERVED
     },
 ];
@@ -520,6 +551,7 @@ fn other_faults() -> &'static [Run] {
 
 /// Decisions on ATCs 1, 2 and 3, with a digit of the second cryptogram changed, and with the first record again for the second.
 const CHANGED: &[&str] = &[
+    VERSION,
     DECISION_1,
     REPLY_1,
     DECISION_2_CHANGED,
@@ -529,7 +561,17 @@ const CHANGED: &[&str] = &[
 ];
 
 const REPEATED: &[&str] = &[
-    DECISION_1, REPLY_1, DECISION_1, REPLY_1, DECISION_3, REPLY_3,
+    VERSION, DECISION_1, REPLY_1, DECISION_1, REPLY_1, DECISION_3, REPLY_3,
+];
+
+/// The first of them as a journal of version 1.
+const OLD_CHANGED: &[&str] = &[
+    DECISION_1,
+    REPLY_1,
+    DECISION_2_CHANGED,
+    REPLY_2,
+    DECISION_3,
+    REPLY_3,
 ];
 
 /// Journals that are torn or bad.
@@ -538,7 +580,7 @@ static JOURNALS: [Run; 6] = [
         name: "a record with a digit changed",
         requests: &["X\n"],
         before: Some(CHANGED),
-        answers: &["stop 6 0 2\n"],
+        answers: &["stop 6 0 3\n"],
         status: 6,
         after: Some(CHANGED),
         ..SERVED
@@ -547,7 +589,7 @@ static JOURNALS: [Run; 6] = [
         name: "a record twice",
         requests: &["X\n"],
         before: Some(REPEATED),
-        answers: &["stop 6 0 2\n"],
+        answers: &["stop 6 0 3\n"],
         status: 6,
         after: Some(REPEATED),
         ..SERVED
@@ -555,7 +597,7 @@ static JOURNALS: [Run; 6] = [
     Run {
         name: "a record twice, to be shown",
         before: Some(REPEATED),
-        answers: &["stop 6 0 2\n"],
+        answers: &["stop 6 0 3\n"],
         status: 6,
         after: Some(REPEATED),
         ..SHOWN
@@ -565,6 +607,7 @@ static JOURNALS: [Run; 6] = [
         requests: &["S 4000000000000002 00 3\nQ 4000000000000002 00 84160000\n"],
         answers: &["set 0 0\nqueued 0 1\n"],
         after: Some(&[
+            VERSION,
             "s 4000000000000002ffff 00 3\n",
             "q 4000000000000002ffff 00 84160000\n",
         ]),
@@ -572,25 +615,110 @@ static JOURNALS: [Run; 6] = [
     },
     Run {
         name: "a torn last line",
-        before: Some(&["s 4000000000000002ffff 00 3\nq 4000000000000002ffff 00 84160000"]),
+        before: Some(&["v2\ns 4000000000000002ffff 00 3\nq 4000000000000002ffff 00 84160000"]),
         answers: &[
             "4000000000000002 00 hi - status 3 queued 0 done 0 flight - ok\n",
             SECOND_UNTOUCHED,
         ],
-        after: Some(&["s 4000000000000002ffff 00 3\n"]),
+        after: Some(&[VERSION, "s 4000000000000002ffff 00 3\n"]),
         ..SHOWN
     },
     Run {
         name: "cards that nothing is known of",
         before: Some(&[]),
         answers: &[FIRST_UNTOUCHED, SECOND_UNTOUCHED],
-        after: Some(&[]),
+        after: Some(&[VERSION]),
         ..SHOWN
     },
 ];
 
 fn journals_found() -> &'static [Run] {
     &JOURNALS
+}
+
+const STATUS_3: &str = "s 4000000000000002ffff 00 3\n";
+
+const COMMAND: &str = "q 4000000000000002ffff 00 84160000\n";
+
+/// Journals of version 1, and what stands beside them.
+static OLD_JOURNALS: [Run; 8] = [
+    Run {
+        name: "two old records",
+        old: &[STATUS_3, COMMAND],
+        answers: &[
+            "4000000000000002 00 hi - status 3 queued 1 done 0 flight - ok\n",
+            SECOND_UNTOUCHED,
+        ],
+        after: Some(&[VERSION, STATUS_3, COMMAND]),
+        ..SHOWN_ANEW
+    },
+    Run {
+        name: "a copy that was stopped in the second record",
+        old: &[STATUS_3, COMMAND, "s 4000"],
+        before: Some(&[VERSION, STATUS_3, "q 40000"]),
+        answers: &[
+            "4000000000000002 00 hi - status 3 queued 1 done 0 flight - ok\n",
+            SECOND_UNTOUCHED,
+        ],
+        after: Some(&[VERSION, STATUS_3, COMMAND]),
+        ..SHOWN_ANEW
+    },
+    Run {
+        name: "a record after the copy, and a torn one",
+        old: &[STATUS_3],
+        before: Some(&[VERSION, STATUS_3, COMMAND, "q 40000"]),
+        answers: &[
+            "4000000000000002 00 hi - status 3 queued 1 done 0 flight - ok\n",
+            SECOND_UNTOUCHED,
+        ],
+        after: Some(&[VERSION, STATUS_3, COMMAND]),
+        ..SHOWN_ANEW
+    },
+    Run {
+        name: "another record than the old journal's",
+        old: &[STATUS_3],
+        before: Some(&[VERSION, COMMAND]),
+        answers: &["stop 6 0 2\n"],
+        status: 6,
+        after: Some(&[VERSION, COMMAND]),
+        ..SHOWN_ANEW
+    },
+    Run {
+        name: "a journal of version 1 in place of one of version 2",
+        before: Some(&[STATUS_3]),
+        answers: &["stop 6 0 1\n"],
+        status: 6,
+        after: Some(&[STATUS_3]),
+        ..SHOWN_ANEW
+    },
+    Run {
+        name: "an old record with a digit changed",
+        old: OLD_CHANGED,
+        answers: &["stop 6 0 old 2\n"],
+        status: 6,
+        after: Some(&[]),
+        ..SHOWN_ANEW
+    },
+    Run {
+        name: "an old record below its window",
+        old: &[DECISION_65, REPLY_65, DECISION_1, REPLY_1],
+        answers: &["stop 6 0 old 2\n"],
+        status: 6,
+        after: Some(&[]),
+        ..SHOWN_ANEW
+    },
+    Run {
+        name: "a repeat that the old window refused",
+        requests: &[REQUEST_1],
+        old: &[DECISION_1, REPLY_1, DECISION_65, REPLY_65],
+        answers: &["kept 0 0 yes 3030 ", REPLY_1],
+        after: Some(&[VERSION, DECISION_1, REPLY_1, DECISION_65, REPLY_65]),
+        ..SERVED
+    },
+];
+
+fn old_journals() -> &'static [Run] {
+    &OLD_JOURNALS
 }
 
 /// Arguments that are no command, and configurations with a fault.
@@ -628,7 +756,7 @@ static SETTINGS: [Run; 10] = [
         words: "serve --journal journal --requests requests --config config",
         requests: &["X\n"],
         answers: &["refused 1 1\n"],
-        after: Some(&[]),
+        after: Some(&[VERSION]),
         ..SERVED
     },
     Run {
@@ -745,30 +873,34 @@ fn dols() -> &'static [Run] {
 }
 
 /// Whether a run has the expected outcome. The journals are those that the run before left, unless it begins with its
-/// own.
+/// own; then the old one has to stay as it was.
 fn comes_to_the_expected<R: AllocGlobal + Threads + Wait + Sync>(
     rt: &R,
     run: &Run,
-    journals: &mut Vec<Vec<u8>>,
+    journals: &mut Texts,
 ) -> Result<bool, Fail> {
     let alloc = rt.alloc();
     if let Some(before) = run.before {
-        *journals = one_journal(alloc, before)?;
+        *journals = one_shard(alloc, run.old, before)?;
     }
     let (status, text) = run_at(rt, run, &run.fails, journals, &OpenGate)?;
     let expected = joined(alloc, run.answers)?;
     if status != run.status || text != expected {
         return Ok(false);
     }
-    match run.after {
-        Some(after) => Ok(*journals == one_journal(alloc, after)?),
-        None => Ok(true),
+    match (run.after, run.before) {
+        (Some(after), Some(_)) => Ok(
+            journals.stores == one_journal(alloc, after)?
+                && journals.olds == one_journal(alloc, run.old)?,
+        ),
+        (Some(after), None) => Ok(journals.stores == one_journal(alloc, after)?),
+        (None, _) => Ok(true),
     }
 }
 
 #[test]
 fn comes_to_the_worked_rows(rt: HostRuntime) -> Result<(), Fail> {
-    let mut journals = Vec::new(rt.alloc());
+    let mut journals = Texts::none(rt.alloc());
     for runs in [
         lines(),
         decisions(),
@@ -779,6 +911,7 @@ fn comes_to_the_worked_rows(rt: HostRuntime) -> Result<(), Fail> {
         store_faults(),
         other_faults(),
         journals_found(),
+        old_journals(),
         settings(),
         worlds(),
         dols(),

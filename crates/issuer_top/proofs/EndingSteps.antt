@@ -18,14 +18,14 @@ use Rattle.line_reader.specs.declared.limits.TheConstants.{MAX_LINES}
 use Rattle.answer_text.specs.StopText.{stop_text}
 use Rattle.answer_text.specs.declared.stop_line.Stop.{Stop}
 use Rattle.answer_text.specs.declared.stop_line.Stop.TheVariants.{Usage, Config, ReadFault, StoreFault, BadJournal}
-use Rattle.answer_text.specs.declared.stop_line.Stop.TheVariants.{NoMemory, TooLong, BadDol, BadData}
+use Rattle.answer_text.specs.declared.stop_line.Stop.TheVariants.{BadOldJournal, NoMemory, TooLong, BadDol, BadData}
 use Rattle.issuer_setup.specs.IssuerSetup.{Setup}
 use Rattle.one_caller.specs.Books.{Book}
 use Rattle.issuer_top.specs.declared.ending.Ending.{Ending}
 use Rattle.line_serving.specs.declared.serve.Served.{Served}
 use Rattle.line_serving.specs.declared.serve.Served.TheVariants.{All, ReadFault as ReadStopped, WriteFault as SinkFault}
 use Rattle.line_serving.specs.declared.serve.Served.TheVariants.{TooLong as LongStopped}
-use Rattle.desk_host.specs.SeenStores.{SeenStore, Logged}
+use Rattle.desk_host.specs.SeenStores.{SeenJournals, SeenStore, Logged, no_journals}
 use Rattle.issuer_top.specs.Seen.{Seen, SeenInput}
 use Rattle.line_serving.specs.Answered.{AreAllLines, AreWholeLines, AreLinesBefore, AreFirstLines}
 use Rattle.line_serving.specs.Hosts.{LeavesAnswered, LeavesLoaded}
@@ -33,15 +33,13 @@ use Rattle.desk_host.specs.Configuration.{Says, GivesNoIssuer, is_read_stop}
 use Rattle.issuer_top.specs.Opening.{GivesInput, stop_of}
 use Rattle.command_line.specs.Command.{RequestFile, IsWorld, IsCommand, IsNoCommand}
 use Rattle.desk_host.specs.Loading.{GivesNoHost}
-use Rattle.desk_host.specs.Kept.{KeepJournals}
-use Rattle.desk_host.specs.Lawful.{IsLawful}
 use Rattle.desk_host.specs.Left.{LeaveJournals}
 use Rattle.desk_host.specs.Shown.{shown_text}
 use Rattle.line_serving.specs.Serving.{ServesLines, Serves, read_failed, write_failed}
 use Rattle.issuer_top.specs.Stopping.{is_broken, GivesStop, EndsServing, written_ending}
 use Rattle.issuer_top.specs.Played.{IsWorldText, GivesText, PlaysBy}
 use Rattle.issuer_top.specs.Endings.{OpenedNoInput, OpenedConfigOnly, OpenedBothInputs, IsSetUp, AnswersLines}
-use Rattle.issuer_top.specs.Endings.{AnswersNoLine, IsPlayed, HasNoHost}
+use Rattle.issuer_top.specs.Endings.{AnswersNoLine, IsPlayed, OnlyLoads, HasNoHost}
 use Rattle.issuer_top.specs.Endings.{Stops, IsDone, IsDue, EndsBy}
 
 -- an input that a desk gave is one that stands there
@@ -102,21 +100,26 @@ StopsAtOnce seen stop ending =
 -- ---- the ways that a run stops before it has a host
 
 -- where no journal was opened, none is changed
-none-left : (prefix : List ℕ) (logs : Logged) (stores : List SeenStore) → stores ≡ [] → LeaveJournals prefix logs stores
-none-left prefix logs stores none shard store is =
-    absurd (let e : None ≡ Some store = sym (ap (λ (l : List SeenStore). slice_get l shard) none) ∙ is in cc)
+none-left : (prefix : List ℕ) (logs : Logged) (journals : SeenJournals) → journals ≡ no_journals
+    → LeaveJournals prefix logs journals
+none-left prefix logs journals none =
+    subst (LeaveJournals prefix logs) (sym none)
+    (record {
+      olds = λ shard store is. absurd (let e : None ≡ Some store = is in cc);
+      stores = λ shard store is. absurd (let e : None ≡ Some store = is in cc);
+    })
 
 -- the words are no command
-pub ends_usage : (seen : Seen) (ending : Ending) → IsNoCommand seen.words → OpenedNoInput seen → seen.stores ≡ []
+pub ends_usage : (seen : Seen) (ending : Ending) → IsNoCommand seen.words → OpenedNoInput seen → seen.journals ≡ no_journals
     → StopsAtOnce seen Usage ending → EndsBy seen ending
-ends_usage seen ending none opened no_stores stopping =
-    ends_at_once seen Usage ending (record { no_command = none; opened = opened; no_stores = no_stores; last = refl })
+ends_usage seen ending none opened none_opened stopping =
+    ends_at_once seen Usage ending (record { no_command = none; opened = opened; none_opened = none_opened; last = refl })
     stopping
 
 module _ (seen : Seen) (config : List ℕ) (requests : Option RequestFile) (journal : List ℕ) (ending : Ending)
     (command : IsCommand seen.words config requests journal) where
   -- no memory was left
-  ends_no_memory : OpenedNoInput seen ⊎ OpenedConfigOnly seen → LeaveJournals journal seen.desk.logs seen.stores
+  ends_no_memory : OpenedNoInput seen ⊎ OpenedConfigOnly seen → LeaveJournals journal seen.desk.logs seen.journals
       → StopsAtOnce seen NoMemory ending → EndsBy seen ending
   ends_no_memory opened left stopping =
       ends_at_once seen NoMemory ending
@@ -133,11 +136,11 @@ module _ (seen : Seen) (config : List ℕ) (requests : Option RequestFile) (jour
 
   -- the desk gave no configuration
   pub ends_no_config : (T : Type 0) (other : Option FailedCall) (fault : DeskFault)
-      → is_some seen.config ≡ false → is_some seen.requests ≡ false → seen.stores ≡ []
+      → is_some seen.config ≡ false → is_some seen.requests ≡ false → seen.journals ≡ no_journals
       → CountsFaults seen.desk.faults_before seen.desk.faults_after (is_fault {T = T} (Err fault))
       → seen.desk.last_fault ≡ last_after Read config (is_fault {T = T} (Err fault)) other
       → StopsAtOnce seen (stop_of fault) ending → EndsBy seen ending
-  ends_no_config T other Fault no_config no_requests no_stores desk_count last stopping =
+  ends_no_config T other Fault no_config no_requests none_opened desk_count last stopping =
       ends_at_once seen ReadFault ending
       (inl (record {
         config = config;
@@ -145,26 +148,26 @@ module _ (seen : Seen) (config : List ℕ) (requests : Option RequestFile) (jour
         journal = journal;
         command = command;
         fails = record { config_is = no_config; requests_is = no_requests; rose = desk_count.counted; call_is = last };
-        no_stores = no_stores;
+        none_opened = none_opened;
         last = refl;
       }))
       stopping
-  ends_no_config T other NoRoom no_config no_requests no_stores desk_count last stopping =
+  ends_no_config T other NoRoom no_config no_requests none_opened desk_count last stopping =
       ends_no_memory (inl (record {
         config_is = no_config;
         requests_is = no_requests;
         desk_stood = desk_count.counted;
       }))
-      (none-left journal seen.desk.logs seen.stores no_stores) stopping
+      (none-left journal seen.desk.logs seen.journals none_opened) stopping
 
   -- the configuration gave no issuer
   pub ends_no_issuer : (T : Type 0) (first : ℕ) (input : SeenInput) (left : Option (List ℕ)) (cause : Stop)
       → OpenedConfigOnly seen
-      → seen.config ≡ Some input → seen.stores ≡ [] → GivesInput (seen.desk.tells config) left
+      → seen.config ≡ Some input → seen.journals ≡ no_journals → GivesInput (seen.desk.tells config) left
       → GivesNoIssuer left cause → first ≡ 0
       → CountsFaults first input.faults (is_read_stop {T = T} (Err cause))
       → StopsAtOnce seen cause ending → EndsBy seen ending
-  ends_no_issuer T first input left (Config part index) opened input_is no_stores given none fresh count stopping =
+  ends_no_issuer T first input left (Config part index) opened input_is none_opened given none fresh count stopping =
       ends_at_once seen (Config part index) ending
       (record {
         config = config;
@@ -174,14 +177,14 @@ module _ (seen : Seen) (config : List ℕ) (requests : Option RequestFile) (jour
         fault = none.fault;
         command = command;
         opened = opened;
-        no_stores = no_stores;
+        none_opened = none_opened;
         held = told-given (seen.desk.tells config) left none.content given none.held;
         broken = none.broken;
         stop_is = none.stop_is;
         last = refl;
       })
       stopping
-  ends_no_issuer T first input left ReadFault opened input_is no_stores given none fresh count stopping =
+  ends_no_issuer T first input left ReadFault opened input_is none_opened given none fresh count stopping =
       let rose : Rose 0 input.faults = subst (λ (n : ℕ). Rose n input.faults) fresh count.counted in
       ends_at_once seen ReadFault ending
       (inr (inl (record {
@@ -193,21 +196,24 @@ module _ (seen : Seen) (config : List ℕ) (requests : Option RequestFile) (jour
         failed =
             subst (λ c. IsSomeAnd c (λ (i : SeenInput). 0 < i.faults)) (sym input_is)
             (Rose-from_none input.faults rose);
-        no_stores = no_stores;
+        none_opened = none_opened;
         last = refl;
       })))
       stopping
-  ends_no_issuer T first input left NoMemory opened input_is no_stores given none fresh count stopping =
-      ends_no_memory (inr opened) (none-left journal seen.desk.logs seen.stores no_stores) stopping
-  ends_no_issuer T first input left Usage opened input_is no_stores given none fresh count stopping = absurd none
-  ends_no_issuer T first input left (StoreFault shard) opened input_is no_stores given none fresh count stopping =
+  ends_no_issuer T first input left NoMemory opened input_is none_opened given none fresh count stopping =
+      ends_no_memory (inr opened) (none-left journal seen.desk.logs seen.journals none_opened) stopping
+  ends_no_issuer T first input left Usage opened input_is none_opened given none fresh count stopping = absurd none
+  ends_no_issuer T first input left (StoreFault shard) opened input_is none_opened given none fresh count stopping =
       absurd none
-  ends_no_issuer T first input left (BadJournal shard line) opened input_is no_stores given none fresh count stopping =
+  ends_no_issuer T first input left (BadJournal shard line) opened input_is none_opened given none fresh count stopping =
       absurd none
-  ends_no_issuer T first input left (TooLong line) opened input_is no_stores given none fresh count stopping =
+  ends_no_issuer T first input left (BadOldJournal shard line) opened input_is none_opened given none fresh count
+      stopping =
       absurd none
-  ends_no_issuer T first input left (BadDol at) opened input_is no_stores given none fresh count stopping = absurd none
-  ends_no_issuer T first input left (BadData at) opened input_is no_stores given none fresh count stopping =
+  ends_no_issuer T first input left (TooLong line) opened input_is none_opened given none fresh count stopping =
+      absurd none
+  ends_no_issuer T first input left (BadDol at) opened input_is none_opened given none fresh count stopping = absurd none
+  ends_no_issuer T first input left (BadData at) opened input_is none_opened given none fresh count stopping =
       absurd none
 
 -- the words and the configuration are as they should be
@@ -234,20 +240,21 @@ set_up-named seen requests file callers journal issuer named same set_up =
 
 -- why there is no host, by what the desk told and counted before
 pub no_host-since : (issuer : Setup) (journal : List ℕ) (logs other : Logged) (before mid after : ℕ)
-    (last : Option FailedCall) (stores : List SeenStore)
+    (last : Option FailedCall) (journals : SeenJournals)
     (cause : Stop) → other ≡ logs → mid ≡ before
-    → GivesNoHost issuer journal other (record { before = mid; after = after; last = last }) stores cause
-    → GivesNoHost issuer journal logs (record { before = before; after = after; last = last }) stores cause
-no_host-since issuer journal logs other before mid after last stores cause told stood none =
-    subst (λ (n : ℕ). GivesNoHost issuer journal logs (record { before = n; after = after; last = last }) stores cause)
+    → GivesNoHost issuer journal other (record { before = mid; after = after; last = last }) journals cause
+    → GivesNoHost issuer journal logs (record { before = before; after = after; last = last }) journals cause
+no_host-since issuer journal logs other before mid after last journals cause told stood none =
+    subst (λ (n : ℕ). GivesNoHost issuer journal logs (record { before = n; after = after; last = last }) journals
+    cause)
     stood
-    (subst (λ (l : Logged). GivesNoHost issuer journal l (record { before = mid; after = after; last = last }) stores
+    (subst (λ (l : Logged). GivesNoHost issuer journal l (record { before = mid; after = after; last = last }) journals
     cause) told none)
 
 module _ (seen : Seen) (requests : Option RequestFile) (journal : List ℕ) (issuer : Setup) (ending : Ending)
     (set_up : IsSetUp seen requests journal issuer) where
   -- no memory was left once the issuer was known
-  pub ends_without_memory : OpenedConfigOnly seen → LeaveJournals journal seen.desk.logs seen.stores
+  pub ends_without_memory : OpenedConfigOnly seen → LeaveJournals journal seen.desk.logs seen.journals
       → StopsAtOnce seen NoMemory ending
       → EndsBy seen ending
   ends_without_memory opened left stopping =
@@ -257,8 +264,8 @@ module _ (seen : Seen) (requests : Option RequestFile) (journal : List ℕ) (iss
   no-host : (stop : Stop) → is_some seen.config ≡ true → is_some seen.requests ≡ false
       → GivesNoHost issuer journal seen.desk.logs
       (record { before = seen.desk.faults_before; after = seen.desk.faults_after; last = seen.desk.last_fault })
-      seen.stores stop
-      → LeaveJournals journal seen.desk.logs seen.stores → HasNoHost stop seen (stop_text stop)
+      seen.journals stop
+      → LeaveJournals journal seen.desk.logs seen.journals → HasNoHost stop seen (stop_text stop)
   no-host stop with_config no_requests cause left = record {
     requests = requests;
     journal = journal;
@@ -274,14 +281,17 @@ module _ (seen : Seen) (requests : Option RequestFile) (journal : List ℕ) (iss
   pub ends_no_host : (stop : Stop) → is_some seen.config ≡ true → is_some seen.requests ≡ false
       → GivesNoHost issuer journal seen.desk.logs
       (record { before = seen.desk.faults_before; after = seen.desk.faults_after; last = seen.desk.last_fault })
-      seen.stores stop
-      → LeaveJournals journal seen.desk.logs seen.stores → StopsAtOnce seen stop ending → EndsBy seen ending
+      seen.journals stop
+      → LeaveJournals journal seen.desk.logs seen.journals → StopsAtOnce seen stop ending → EndsBy seen ending
   ends_no_host (StoreFault shard) with_config no_requests cause left stopping =
       ends_at_once seen (StoreFault shard) ending (no-host (StoreFault shard) with_config no_requests cause left)
       stopping
   ends_no_host (BadJournal shard line) with_config no_requests cause left stopping =
       ends_at_once seen (BadJournal shard line) ending
       (no-host (BadJournal shard line) with_config no_requests cause left) stopping
+  ends_no_host (BadOldJournal shard line) with_config no_requests cause left stopping =
+      ends_at_once seen (BadOldJournal shard line) ending
+      (no-host (BadOldJournal shard line) with_config no_requests cause left) stopping
   ends_no_host NoMemory with_config no_requests cause left stopping =
       ends_without_memory (record { config_is = with_config; requests_is = no_requests; desk_stood = cause }) left
       stopping
@@ -294,22 +304,22 @@ module _ (seen : Seen) (requests : Option RequestFile) (journal : List ℕ) (iss
 
 -- the journals gave no host, by what the desk told and counted before
 pub ends_unloaded : (seen : Seen) (requests : Option RequestFile) (journal : List ℕ) (issuer : Setup) (ending : Ending)
-    (set_up : IsSetUp seen requests journal issuer) (other : Logged) (mid : ℕ) (stores : List SeenStore) (cause : Stop)
-    → is_some seen.config ≡ true → is_some seen.requests ≡ false → seen.stores ≡ stores → other ≡ seen.desk.logs
+    (set_up : IsSetUp seen requests journal issuer) (other : Logged) (mid : ℕ) (journals : SeenJournals) (cause : Stop)
+    → is_some seen.config ≡ true → is_some seen.requests ≡ false → seen.journals ≡ journals → other ≡ seen.desk.logs
     → mid ≡ seen.desk.faults_before
     → GivesNoHost issuer journal other (record
-    { before = mid; after = seen.desk.faults_after; last = seen.desk.last_fault }) stores cause
-    → LeaveJournals journal other stores → StopsAtOnce seen cause ending → EndsBy seen ending
-ends_unloaded seen requests journal issuer ending set_up other mid stores cause with_config no_requests same told stood
-    none left stopping =
+    { before = mid; after = seen.desk.faults_after; last = seen.desk.last_fault }) journals cause
+    → LeaveJournals journal other journals → StopsAtOnce seen cause ending → EndsBy seen ending
+ends_unloaded seen requests journal issuer ending set_up other mid journals cause with_config no_requests same told
+    stood none left stopping =
     let logs = seen.desk.logs in
     ends_no_host seen requests journal issuer ending set_up cause with_config no_requests
-    (subst (λ (ss : List SeenStore). GivesNoHost issuer journal logs
-    (record { before = seen.desk.faults_before; after = seen.desk.faults_after; last = seen.desk.last_fault }) ss
+    (subst (λ (js : SeenJournals). GivesNoHost issuer journal logs
+    (record { before = seen.desk.faults_before; after = seen.desk.faults_after; last = seen.desk.last_fault }) js
     cause) (sym same)
     (no_host-since issuer journal logs other seen.desk.faults_before mid seen.desk.faults_after seen.desk.last_fault
-    stores cause told stood none))
-    (subst (LeaveJournals journal logs) (sym same) (subst (λ (l : Logged). LeaveJournals journal l stores) told left))
+    journals cause told stood none))
+    (subst (LeaveJournals journal logs) (sym same) (subst (λ (l : Logged). LeaveJournals journal l journals) told left))
     stopping
 
 -- ---- the ways that serving ends
@@ -317,7 +327,7 @@ ends_unloaded seen requests journal issuer ending set_up other mid stores cause 
 module _ (seen : Seen) (requests : RequestFile) (journal : List ℕ) (issuer : Setup)
     (set_up : IsSetUp seen (Some requests) journal issuer) where
   -- the journals were loaded, and no line was answered
-  answers-none : LeavesLoaded requests.callers issuer journal seen.desk.logs seen.stores → AnswersNoLine seen
+  answers-none : LeavesLoaded requests.callers issuer journal seen.desk.logs seen.journals → AnswersNoLine seen
   answers-none leaves = record {
     requests = requests;
     journal = journal;
@@ -332,7 +342,7 @@ module _ (seen : Seen) (requests : RequestFile) (journal : List ℕ) (issuer : S
 
   -- no memory was left to serve with
   pub ends_unserved : (ending : Ending) → OpenedConfigOnly seen
-      → LeavesLoaded requests.callers issuer journal seen.desk.logs seen.stores → StopsAtOnce seen NoMemory ending
+      → LeavesLoaded requests.callers issuer journal seen.desk.logs seen.journals → StopsAtOnce seen NoMemory ending
       → EndsBy seen ending
   unfolding answers-none
   ends_unserved ending opened leaves stopping =
@@ -343,7 +353,7 @@ module _ (seen : Seen) (requests : RequestFile) (journal : List ℕ) (issuer : S
   -- the desk gave no request file
   pub ends_no_requests : (T : Type 0) (other : Option FailedCall) (between : ℕ) (fault : DeskFault) (ending : Ending)
       → is_some seen.config ≡ true → is_some seen.requests ≡ false
-      → LeavesLoaded requests.callers issuer journal seen.desk.logs seen.stores
+      → LeavesLoaded requests.callers issuer journal seen.desk.logs seen.journals
       → between ≡ seen.desk.faults_before → CountsFaults between seen.desk.faults_after (is_fault {T = T} (Err fault))
       → seen.desk.last_fault ≡ last_after Read requests.name (is_fault {T = T} (Err fault)) other
       → StopsAtOnce seen (stop_of fault) ending → EndsBy seen ending
@@ -372,7 +382,7 @@ module _ (seen : Seen) (requests : RequestFile) (journal : List ℕ) (issuer : S
       (input_is : seen.requests ≡ Some input)
       (given : GivesInput (seen.desk.tells requests.name) left) (Answered : List (List ℕ) → List ℕ → Type 0)
       (leaves : (asked : List (List ℕ)) (text : List ℕ) → length asked ≤ MAX_LINES → Answered asked text
-      → LeavesAnswered requests.callers issuer journal seen.desk.logs seen.stores asked text) where
+      → LeavesAnswered requests.callers issuer journal seen.desk.logs seen.journals asked text) where
     -- what was served are lines of the file that the desk holds
     lines-served : (Which : List ℕ → List ℕ → List (List ℕ) → Type 0) (Written : List ℕ → Type 0)
         → (served : ServesLines Which Answered Written left input.left) → length served.asked ≤ MAX_LINES
@@ -474,12 +484,10 @@ module _ (seen : Seen) (requests : RequestFile) (journal : List ℕ) (issuer : S
 
 pub ends_showing : (seen : Seen) (journal : List ℕ) (issuer : Setup) (books : List Book)
     (result : Result (Unit {0}) SinkFails)
-    → OpenedConfigOnly seen → IsSetUp seen None journal issuer
-    → KeepJournals issuer journal seen.desk.logs seen.stores books books
-    → IsLawful issuer books books
+    → OpenedConfigOnly seen → IsSetUp seen None journal issuer → OnlyLoads seen journal issuer books
     → WritesAll seen.sink.held_before seen.sink.held_after result (shown_text issuer books issuer.cards)
     → CountsFaults seen.sink.faults_before seen.sink.faults_after (is_err result) → EndsBy seen (written_ending result)
-ends_showing seen journal issuer books (Ok done) opened set_up kept lawful written counts = (
+ends_showing seen journal issuer books (Ok done) opened set_up loads written counts = (
   shown_text issuer books issuer.cards,
   inr (inl (record {
     journal = journal;
@@ -487,13 +495,12 @@ ends_showing seen journal issuer books (Ok done) opened set_up kept lawful writt
     books = books;
     opened = opened;
     set_up = set_up;
-    kept = kept;
-    lawful = lawful;
+    loads = loads;
     shown = refl;
   })),
   written,
 )
-ends_showing seen journal issuer books (Err fault) opened set_up kept lawful written counts = record {
+ends_showing seen journal issuer books (Err fault) opened set_up loads written counts = record {
   rose = counts.counted;
   text = shown_text issuer books issuer.cards;
   due =
@@ -503,8 +510,7 @@ ends_showing seen journal issuer books (Err fault) opened set_up kept lawful wri
         books = books;
         opened = opened;
         set_up = set_up;
-        kept = kept;
-        lawful = lawful;
+        loads = loads;
         shown = refl;
       })));
   front = written;
@@ -530,7 +536,7 @@ ends_by_text seen ending text done due gives =
 
 module _ (seen : Seen) (cards steps seed : ℕ) (world : IsWorld seen.words cards steps seed)
     (opened : OpenedNoInput seen)
-    (no_stores : seen.stores ≡ []) where
+    (none_opened : seen.journals ≡ no_journals) where
   -- the text of what the world came to was written, or a front of it
   ends_played : (ending : Ending) (text : List ℕ) → IsWorldText cards steps seed text
       → GivesText seen.sink.held_before seen.sink.held_after seen.sink.faults_before seen.sink.faults_after text ending
@@ -542,7 +548,7 @@ module _ (seen : Seen) (cards steps seed : ℕ) (world : IsWorld seen.words card
         seed = seed;
         world = world;
         opened = opened;
-        no_stores = no_stores;
+        none_opened = none_opened;
         played = is;
       } in
       ends_by_text seen ending text (inr (inr (inl played))) (inr (inr (inr (inl played)))) gives
@@ -561,7 +567,7 @@ module _ (seen : Seen) (cards steps seed : ℕ) (world : IsWorld seen.words card
         seed = seed;
         world = world;
         opened = opened;
-        no_stores = no_stores;
+        none_opened = none_opened;
         last = refl;
       })))
       stopping)

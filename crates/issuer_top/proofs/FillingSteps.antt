@@ -7,7 +7,7 @@ use Rattle.answer_text.specs.AnswerText.{bytes_text}
 use Rattle.answer_text.specs.StopText.{status_of_stop, stop_text}
 use Rattle.answer_text.specs.declared.stop_line.Stop.{Stop}
 use Rattle.answer_text.specs.declared.stop_line.Stop.TheVariants.{Usage, Config, ReadFault, StoreFault, BadJournal}
-use Rattle.answer_text.specs.declared.stop_line.Stop.TheVariants.{NoMemory, TooLong}
+use Rattle.answer_text.specs.declared.stop_line.Stop.TheVariants.{BadOldJournal, NoMemory, TooLong}
 use Rattle.answer_text.specs.declared.stop_line.Stop.TheVariants.{BadDol as StopsAtDol, BadData as StopsAtData}
 use Rattle.terminal_kernel.specs.declared.dol.DolEntry.{DolEntry}
 use Rattle.terminal_kernel.specs.declared.dol.BadDol.{BadDol}
@@ -19,6 +19,7 @@ use Rattle.command_line.specs.Command.{RequestFile, IsFill, IsCommand}
 use Rattle.command_line.proofs.CommandWords.{fill-no_command, fill-no_world, one-fill}
 use Rattle.issuer_top.specs.declared.ending.Ending.{Ending}
 use Rattle.issuer_top.specs.declared.ending.Ending.TheVariants.{Done, Stopped, WriteFault}
+use Rattle.desk_host.specs.SeenStores.{no_journals}
 use Rattle.issuer_top.specs.Seen.{Seen}
 use Rattle.issuer_top.specs.Status.{status_of}
 use Rattle.issuer_top.specs.Filling.{filled_or_stop, filling, FillsBy, fill_status, Fills}
@@ -29,14 +30,14 @@ use Rattle.issuer_top.proofs.EndingSteps.{ends_at_once, ends_by_text}
 -- ---- the ways that filling ends
 
 module _ (seen : Seen) (dol given : List ℕ) (fill : IsFill seen.words dol given) (opened : OpenedNoInput seen)
-    (no_stores : seen.stores ≡ []) (ending : Ending) where
+    (none_opened : seen.journals ≡ no_journals) (ending : Ending) where
   broken : (stop : Stop) → filling dol given ≡ Err stop → CannotFill stop seen (stop_text stop)
   broken stop cause = record {
     dol = dol;
     given = given;
     fill = fill;
     opened = opened;
-    no_stores = no_stores;
+    none_opened = none_opened;
     cause = cause;
     last = refl;
   }
@@ -48,7 +49,7 @@ module _ (seen : Seen) (dol given : List ℕ) (fill : IsFill seen.words dol give
     bytes = bytes;
     fill = fill;
     opened = opened;
-    no_stores = no_stores;
+    none_opened = none_opened;
     filled_is = is;
     text_is = refl;
   }
@@ -128,6 +129,8 @@ module _ (seen : Seen) (dol given : List ℕ) (fill : IsFill seen.words dol give
   status-of status (Stopped (StoreFault shard)) is ends = absurd (not-unloaded (StoreFault shard) ends.0 ends.1)
   status-of status (Stopped (BadJournal shard line)) is ends =
       absurd (not-unloaded (BadJournal shard line) ends.0 ends.1)
+  status-of status (Stopped (BadOldJournal shard line)) is ends =
+      absurd (not-unloaded (BadOldJournal shard line) ends.0 ends.1)
   status-of status (Stopped NoMemory) is ends = absurd (not-short ends.0 ends.1)
   status-of status (Stopped (TooLong line)) is ends =
       let l = ends.1.lines in absurd (no_host l.set_up.config (Some l.requests) l.journal l.set_up.command)

@@ -17,10 +17,10 @@ use Rattle.config_read.specs.declared.fault.ConfigFault.{ConfigFault}
 use Rattle.config_read.specs.Configuration.{configured}
 use Rattle.answer_text.specs.declared.stop_line.Stop.{Stop}
 use Rattle.answer_text.specs.declared.stop_line.Stop.TheVariants.{Usage, Config, ReadFault, StoreFault, BadJournal}
-use Rattle.answer_text.specs.declared.stop_line.Stop.TheVariants.{NoMemory, TooLong, BadDol, BadData}
+use Rattle.answer_text.specs.declared.stop_line.Stop.TheVariants.{BadOldJournal, NoMemory, TooLong, BadDol, BadData}
 use Rattle.shard_book.specs.declared.replay.LoadFault.{LoadFault}
-use Rattle.shard_book.specs.declared.replay.LoadFault.TheVariants.{BadLine, BadRecord}
-use Rattle.shard_book.specs.Loading.{StopsAt, StopsText, IsOutside}
+use Rattle.shard_book.specs.declared.replay.LoadFault.TheVariants.{OldLine, OldRecord, BadLine, BadRecord}
+use Rattle.shard_book.specs.Loading.{IsOutside}
 use Rattle.shard_book.proofs.Exactly.{stops-outside}
 use Rattle.issuer_top.specs.declared.ending.Ending.{Ending}
 use Rattle.issuer_top.specs.declared.ending.Ending.TheVariants.{Done, Stopped, WriteFault}
@@ -28,8 +28,8 @@ use Rattle.command_line.specs.Command.{RequestFile, IsCommand}
 use Rattle.command_line.specs.Pairs.{value_in}
 use Rattle.issuer_top.specs.Seen.{Told, Seen, SeenInput}
 use Rattle.line_serving.specs.Answered.{AreLinesBefore, WasRead}
-use Rattle.desk_host.specs.Journals.{journal_name}
-use Rattle.desk_host.specs.Loading.{DeskFaults, IsBadAt}
+use Rattle.desk_host.specs.Journals.{old_name, journal_name}
+use Rattle.desk_host.specs.Loading.{DeskFaults, IsBadAt, IsBadLine, IsBadOldLine}
 use Rattle.issuer_top.specs.Status.{status_of}
 use Rattle.issuer_top.specs.Endings.{EndsBy, IsReadFault, HasNoHost, IsInOrder, ServesInOrder, ShowsInOrder}
 use Rattle.issuer_top.specs.Endings.{PlaysInOrder, Completes}
@@ -159,24 +159,21 @@ module _ (seen : Seen) (config journal : List ℕ) (requests : Option RequestFil
       (λ d. order.requests_stood (counted seen.requests d.lines.input d.lines.input_is d.failed)) more) more)
       cannot
 
-  -- no journal is bad
-  not-bad : (fault : LoadFault) (line : ℕ) → (fault ≡ BadLine line) ⊎ (fault ≡ BadRecord line) → IsOutside fault → ⊥
-  not-bad fault line is outside =
+  -- no journal is bad, and no old one
+  not-bad_line : (fault : LoadFault) (line : ℕ) → IsBadLine line fault → IsOutside fault → ⊥
+  not-bad_line fault line is outside =
       ⊎_elim (λ bad. subst IsOutside bad outside) (λ bad. subst IsOutside bad outside) is
 
-  stops-text : (issuer : Setup) (shard : ℕ) (bytes : Option (List ℕ)) (fault : LoadFault) (line : ℕ)
-      → (fault ≡ BadLine line) ⊎ (fault ≡ BadRecord line)
-      → IfSome bytes (λ text. StopsAt issuer shard [] text fault) → StopsText issuer shard bytes fault
-  stops-text issuer shard bytes fault line is stops =
-      ⊎_elim
-      (λ bad. subst (StopsText issuer shard bytes) (sym bad)
-      (subst (λ (f : LoadFault). IfSome bytes (λ text. StopsAt issuer shard [] text f)) bad stops))
-      (λ bad. subst (StopsText issuer shard bytes) (sym bad)
-      (subst (λ (f : LoadFault). IfSome bytes (λ text. StopsAt issuer shard [] text f)) bad stops))
-      is
+  not-bad_old_line : (fault : LoadFault) (line : ℕ) → IsBadOldLine line fault → IsOutside fault → ⊥
+  not-bad_old_line fault line is outside =
+      ⊎_elim (λ bad. subst IsOutside bad outside) (λ bad. subst IsOutside bad outside) is
 
-  not-bad_journal : (shard line : ℕ) (text : List ℕ) → HasNoHost (BadJournal shard line) seen text → ⊥
-  not-bad_journal shard line text none =
+  -- the issuer of a run that came to its journals is that of the configuration, and so are their names
+  not-bad_journal : (stop : Stop) (shard : ℕ) (IsSuch : LoadFault → Type 0) (text : List ℕ)
+      → (none : HasNoHost stop seen text)
+      → IsBadAt none.issuer none.journal seen.desk.logs (desk_faults seen) seen.journals shard IsSuch
+      → ((fault : LoadFault) → IsSuch fault → IsOutside fault → ⊥) → ⊥
+  not-bad_journal stop shard IsSuch text none cause apart =
       let same = same-names seen.words config none.set_up.config requests none.requests journal none.journal command
       none.set_up.command in
       let content =
@@ -185,18 +182,21 @@ module _ (seen : Seen) (config journal : List ℕ) (requests : Option RequestFil
       let issuer = one-issuer none.set_up.content order.content order.issuer none.issuer content order.says
       none.set_up.says in
       let logs = seen.desk.logs in
-      let bad = subst (λ (i : Setup). IsBadAt i none.journal logs (desk_faults seen) seen.stores shard line) issuer
-      none.cause in
-      let named = subst (λ (j : List ℕ). IsBadAt order.issuer j logs (desk_faults seen) seen.stores shard line)
+      let bad = subst (λ (i : Setup). IsBadAt i none.journal logs (desk_faults seen) seen.journals shard IsSuch) issuer
+      cause in
+      let named = subst (λ (j : List ℕ). IsBadAt order.issuer j logs (desk_faults seen) seen.journals shard IsSuch)
       (sym same.journal_is) bad in
       let held = order.journals_held shard named.within in
-      let told = logs (journal_name journal shard) in
-      let stops = stops-text order.issuer shard told named.fault line named.line_is named.stops in
-      not-bad named.fault line named.line_is (stops-outside order.issuer shard told held.0 held.1 named.fault stops)
+      apart named.fault named.fault_is
+      (stops-outside order.issuer shard held.old held.history (logs (old_name journal shard))
+      (logs (journal_name journal shard)) named.fault held.old_is held.journal_is named.stops)
 
   not-unstored : (shard : ℕ) (text : List ℕ) → HasNoHost (StoreFault shard) seen text → ⊥
   not-unstored shard text none =
-      ⊎_elim (λ log. order.desk_stood log.rose) (λ load. order.stores_stood shard load.store load.store_is load.failed)
+      ⊎_elim (λ log. order.desk_stood log.fails.rose)
+      (λ more. ⊎_elim (λ log. order.desk_stood log.fails.rose)
+      (λ load. ⊎_elim (order.olds_stood shard load.old load.old_is) (order.stores_stood shard load.store load.store_is)
+      load.failed) more)
       none.cause
 
   -- where the request file isn't too long, the status is 0 or 7
@@ -212,7 +212,12 @@ module _ (seen : Seen) (config journal : List ℕ) (requests : Option RequestFil
       absurd (not-both ends.1.content order.content order.issuer ends.1.fault content order.says ends.1.broken)
   in-order status (Stopped ReadFault) is ends short = absurd (not-unread ends.0 ends.1)
   in-order status (Stopped (StoreFault shard)) is ends short = absurd (not-unstored shard ends.0 ends.1)
-  in-order status (Stopped (BadJournal shard line)) is ends short = absurd (not-bad_journal shard line ends.0 ends.1)
+  in-order status (Stopped (BadJournal shard line)) is ends short =
+      absurd (not-bad_journal (BadJournal shard line) shard (IsBadLine line) ends.0 ends.1 ends.1.cause
+      (λ fault. not-bad_line fault line))
+  in-order status (Stopped (BadOldJournal shard line)) is ends short =
+      absurd (not-bad_journal (BadOldJournal shard line) shard (IsBadOldLine line) ends.0 ends.1 ends.1.cause
+      (λ fault. not-bad_old_line fault line))
   in-order status (Stopped NoMemory) is ends short = inr is
   in-order status (Stopped (TooLong line)) is ends short = absurd (short line refl)
   in-order status (Stopped (BadDol at)) is ends short =
@@ -281,6 +286,8 @@ module _ (seen : Seen) (order : PlaysInOrder seen) where
   plays-in_order status (Stopped (StoreFault shard)) is ends = absurd (none-unloaded (StoreFault shard) ends.0 ends.1)
   plays-in_order status (Stopped (BadJournal shard line)) is ends =
       absurd (none-unloaded (BadJournal shard line) ends.0 ends.1)
+  plays-in_order status (Stopped (BadOldJournal shard line)) is ends =
+      absurd (none-unloaded (BadOldJournal shard line) ends.0 ends.1)
   plays-in_order status (Stopped NoMemory) is ends = inr is
   plays-in_order status (Stopped (TooLong line)) is ends =
       let l = ends.1.lines in absurd (no_host l.set_up.config (Some l.requests) l.journal l.set_up.command)

@@ -18,16 +18,16 @@ use Rattle.answer_text.specs.AnswerText.{printed, bytes_text}
 use Rattle.answer_text.specs.StopText.{stop_text}
 use Rattle.answer_text.specs.declared.stop_line.Stop.{Stop}
 use Rattle.answer_text.specs.declared.stop_line.Stop.TheVariants.{Usage, Config, ReadFault, StoreFault, BadJournal}
-use Rattle.answer_text.specs.declared.stop_line.Stop.TheVariants.{NoMemory, TooLong, BadDol, BadData}
-use Rattle.shard_book.specs.Grounds.{grounds_of}
+use Rattle.answer_text.specs.declared.stop_line.Stop.TheVariants.{BadOldJournal, NoMemory, TooLong, BadDol, BadData}
+use Rattle.shard_book.specs.Loading.{IsOldText}
 use Rattle.shard_book.specs.Shards.{IsTextOf}
 use Rattle.one_caller.specs.Books.{Book}
 use Rattle.command_line.specs.Command.{RequestFile, IsServe, IsShow, IsWorld, IsFill, IsCommand, IsNoCommand}
 use Rattle.line_serving.specs.Answers.{AreAnsweredBy, AnswersNone}
-use Rattle.desk_host.specs.SeenStores.{SeenStore}
+use Rattle.desk_host.specs.SeenStores.{SeenStore, no_journals}
 use Rattle.issuer_top.specs.Seen.{Seen, SeenInput}
 use Rattle.desk_host.specs.Configuration.{config_stop}
-use Rattle.desk_host.specs.Journals.{journal_name}
+use Rattle.desk_host.specs.Journals.{old_name, journal_name}
 use Rattle.desk_host.specs.Loading.{GivesNoHost}
 use Rattle.line_serving.specs.Answered.{WasRead, AreAllLines, AreWholeLines, AreLinesBefore, AreFirstLines}
 use Rattle.desk_host.specs.Kept.{KeepJournals}
@@ -90,7 +90,7 @@ pub record AnswersLines (seen : Seen) (text : List ℕ) : Type 0 where
   pub opened : OpenedBothInputs seen
   pub input_is : seen.requests ≡ Some input
   pub set_up : IsSetUp seen (Some requests) journal issuer
-  pub kept : KeepJournals issuer journal seen.desk.logs seen.stores first last
+  pub kept : KeepJournals issuer journal seen.desk.logs seen.journals first last
   pub lawful : IsLawful issuer first last
   pub held : Tells (seen.desk.tells requests.name) (Some file)
   pub was_read : WasRead file read input.left
@@ -105,7 +105,7 @@ pub record AnswersNoLine (seen : Seen) : Type 0 where
   pub first : List Book
   pub last : List Book
   pub set_up : IsSetUp seen (Some requests) journal issuer
-  pub kept : KeepJournals issuer journal seen.desk.logs seen.stores first last
+  pub kept : KeepJournals issuer journal seen.desk.logs seen.journals first last
   pub lawful : IsLawful issuer first last
   pub none : AnswersNone requests.callers first last
 
@@ -116,15 +116,19 @@ pub record IsServed (seen : Seen) (text : List ℕ) : Type 0 where
   pub lines : AnswersLines seen text
   pub which : AreAllLines lines.file lines.read lines.asked
 
--- all cards are shown: this is their text; the journals are kept as they were loaded, and the run is lawful
+-- the journals were loaded, and no line was asked of them: they are kept as they were loaded, and the run is lawful
+pub record OnlyLoads (seen : Seen) (journal : List ℕ) (issuer : Setup) (books : List Book) : Type 0 where
+  pub kept : KeepJournals issuer journal seen.desk.logs seen.journals books books
+  pub lawful : IsLawful issuer books books
+
+-- all cards are shown: this is their text; the journals were only loaded
 pub record IsShown (seen : Seen) (text : List ℕ) : Type 0 where
   pub journal : List ℕ
   pub issuer : Setup
   pub books : List Book
   pub opened : OpenedConfigOnly seen
   pub set_up : IsSetUp seen None journal issuer
-  pub kept : KeepJournals issuer journal seen.desk.logs seen.stores books books
-  pub lawful : IsLawful issuer books books
+  pub loads : OnlyLoads seen journal issuer books
   pub shown : text ≡ shown_text issuer books issuer.cards
 
 -- a world was played, and this is the text of what it came to; nothing was opened
@@ -134,7 +138,7 @@ pub record IsPlayed (seen : Seen) (text : List ℕ) : Type 0 where
   pub seed : ℕ
   pub world : IsWorld seen.words cards steps seed
   pub opened : OpenedNoInput seen
-  pub no_stores : seen.stores ≡ []
+  pub none_opened : seen.journals ≡ no_journals
   pub played : IsWorldText cards steps seed text
 
 -- a DOL was filled, and this is the line of its bytes; nothing was opened
@@ -144,7 +148,7 @@ pub record IsFilled (seen : Seen) (text : List ℕ) : Type 0 where
   pub bytes : List ℕ
   pub fill : IsFill seen.words dol given
   pub opened : OpenedNoInput seen
-  pub no_stores : seen.stores ≡ []
+  pub none_opened : seen.journals ≡ no_journals
   pub filled_is : filling dol given ≡ Ok bytes
   pub text_is : text ≡ bytes_text bytes
 
@@ -158,7 +162,7 @@ IsDone seen text = IsServed seen text ⊎ (IsShown seen text ⊎ (IsPlayed seen 
 pub record IsUsage (seen : Seen) (text : List ℕ) : Type 0 where
   pub no_command : IsNoCommand seen.words
   pub opened : OpenedNoInput seen
-  pub no_stores : seen.stores ≡ []
+  pub none_opened : seen.journals ≡ no_journals
   pub last : text ≡ stop_text Usage
 
 -- status 2: the configuration is broken, and its place is told; no journal was opened, nor the request file
@@ -170,7 +174,7 @@ pub record IsConfig (stop : Stop) (seen : Seen) (text : List ℕ) : Type 0 where
   pub fault : ConfigFault
   pub command : IsCommand seen.words config requests journal
   pub opened : OpenedConfigOnly seen
-  pub no_stores : seen.stores ≡ []
+  pub none_opened : seen.journals ≡ no_journals
   pub held : Tells (seen.desk.tells config) (Some content)
   pub broken : configured content ≡ Err fault
   pub stop_is : stop ≡ config_stop fault
@@ -183,7 +187,7 @@ pub record CannotOpenConfig (seen : Seen) (text : List ℕ) : Type 0 where
   pub journal : List ℕ
   pub command : IsCommand seen.words config requests journal
   pub fails : FailsToOpen seen config false
-  pub no_stores : seen.stores ≡ []
+  pub none_opened : seen.journals ≡ no_journals
   pub last : text ≡ stop_text ReadFault
 
 -- status 3: the configuration failed while it was read
@@ -194,7 +198,7 @@ pub record CannotReadConfig (seen : Seen) (text : List ℕ) : Type 0 where
   pub command : IsCommand seen.words config requests journal
   pub opened : OpenedConfigOnly seen
   pub failed : IsSomeAnd seen.config (λ input. 0 < input.faults)
-  pub no_stores : seen.stores ≡ []
+  pub none_opened : seen.journals ≡ no_journals
   pub last : text ≡ stop_text ReadFault
 
 -- status 3: the desk failed at the request file's name, once the journals were loaded
@@ -217,8 +221,8 @@ IsReadFault seen text =
     CannotOpenConfig seen text ⊎ (CannotReadConfig seen text
     ⊎ (CannotOpenRequests seen text ⊎ CannotReadRequests seen text))
 
--- statuses 5 and 6: the journals gave no host, for this cause, and their whole lines stay; the request file was not
--- opened
+-- statuses 5 and 6: the journals gave no host, for this cause. The old ones stay, and the whole lines of the others; the
+-- request file was not opened
 pub record HasNoHost (stop : Stop) (seen : Seen) (text : List ℕ) : Type 0 where
   pub requests : Option RequestFile
   pub journal : List ℕ
@@ -228,8 +232,8 @@ pub record HasNoHost (stop : Stop) (seen : Seen) (text : List ℕ) : Type 0 wher
   pub requests_is : is_some seen.requests ≡ false
   pub cause : GivesNoHost issuer journal seen.desk.logs
       (record { before = seen.desk.faults_before; after = seen.desk.faults_after; last = seen.desk.last_fault })
-      seen.stores stop
-  pub left : LeaveJournals journal seen.desk.logs seen.stores
+      seen.journals stop
+  pub left : LeaveJournals journal seen.desk.logs seen.journals
   pub last : text ≡ stop_text stop
 
 -- status 7: no memory was left for the configuration, for the journals or for a host; the whole lines of journals that
@@ -240,7 +244,7 @@ pub record LacksMemory (seen : Seen) (text : List ℕ) : Type 0 where
   pub journal : List ℕ
   pub command : IsCommand seen.words config requests journal
   pub opened : OpenedNoInput seen ⊎ OpenedConfigOnly seen
-  pub left : LeaveJournals journal seen.desk.logs seen.stores
+  pub left : LeaveJournals journal seen.desk.logs seen.journals
   pub last : text ≡ stop_text NoMemory
 
 -- status 7: no memory was left to serve with, once the journals were loaded and before the request file was opened;
@@ -248,7 +252,7 @@ pub record LacksMemory (seen : Seen) (text : List ℕ) : Type 0 where
 pub record CannotServe (seen : Seen) (text : List ℕ) : Type 0 where
   pub loaded : AnswersNoLine seen
   pub opened : OpenedConfigOnly seen
-  pub left : loaded.requests.callers ≡ 1 → LeaveJournals loaded.journal seen.desk.logs seen.stores
+  pub left : loaded.requests.callers ≡ 1 → LeaveJournals loaded.journal seen.desk.logs seen.journals
   pub told : text ≡ stop_text NoMemory
 
 -- status 7: no memory was left for a world; nothing was opened
@@ -258,7 +262,7 @@ pub record CannotPlay (seen : Seen) (text : List ℕ) : Type 0 where
   pub seed : ℕ
   pub world : IsWorld seen.words cards steps seed
   pub opened : OpenedNoInput seen
-  pub no_stores : seen.stores ≡ []
+  pub none_opened : seen.journals ≡ no_journals
   pub last : text ≡ stop_text NoMemory
 
 -- status 7: no memory was left
@@ -279,7 +283,7 @@ pub record CannotFill (stop : Stop) (seen : Seen) (text : List ℕ) : Type 0 whe
   pub given : List ℕ
   pub fill : IsFill seen.words dol given
   pub opened : OpenedNoInput seen
-  pub no_stores : seen.stores ≡ []
+  pub none_opened : seen.journals ≡ no_journals
   pub cause : filling dol given ≡ Err stop
   pub last : text ≡ stop_text stop
 
@@ -290,6 +294,7 @@ Stops (Config part index) seen text = IsConfig (Config part index) seen text
 Stops ReadFault seen text = IsReadFault seen text
 Stops (StoreFault shard) seen text = HasNoHost (StoreFault shard) seen text
 Stops (BadJournal shard line) seen text = HasNoHost (BadJournal shard line) seen text
+Stops (BadOldJournal shard line) seen text = HasNoHost (BadOldJournal shard line) seen text
 Stops NoMemory seen text = IsNoMemory seen text
 Stops (TooLong number) seen text = IsTooLong number seen text
 Stops (BadDol at) seen text = CannotFill (BadDol at) seen text
@@ -332,20 +337,33 @@ pub record Ends (status : ℕ) (seen : Seen) : Type 0 where
 
 -- ---- all in order
 
--- the desk tells of an issuer by this name and of its journals by that one, each the text of a legal history, and no
--- count rose
+-- the bytes of a shard's old journal and of its journal are known, and can be loaded: the old one is the text of a legal
+-- history and a torn last line; the journal is a prefix of the text that the old one is migrated to, or the text of a
+-- history that is legal since the old one and a torn last line
+pub record CanBeLoaded (issuer : Setup) (shard : ℕ) (old_held held : Option (List ℕ)) : Type 0 where
+  pub old : List Entry
+  pub history : List Entry
+  pub old_is : IsOldText issuer shard old_held old
+  pub journal_is : IsTextOf issuer shard old held history
+
+-- the stores counted no fault
+abbrev pub HaveStood : List SeenStore → Type 0
+HaveStood stores = (shard : ℕ) (store : SeenStore) → slice_get stores shard ≡ Some store → 0 < store.faults → ⊥
+
+-- the desk tells of an issuer by this name and of its journals, old and new, by that one; each shard's can be loaded,
+-- and no count rose
 pub record IsInOrder (seen : Seen) (config journal : List ℕ) : Type 0 where
   pub content : List ℕ
   pub issuer : Setup
   pub config_held : seen.desk.tells config ≡ Some (Some content)
   pub says : configured content ≡ Ok issuer
   pub journals_held : (shard : ℕ) → shard < issuer.shards
-      → (history : List Entry) × IsTextOf (grounds_of issuer) shard (seen.desk.logs (journal_name journal shard))
-      history
+      → CanBeLoaded issuer shard (seen.desk.logs (old_name journal shard)) (seen.desk.logs (journal_name journal shard))
   pub desk_stood : Rose seen.desk.faults_before seen.desk.faults_after → ⊥
   pub config_stood : IsSomeAnd seen.config (λ input. 0 < input.faults) → ⊥
   pub requests_stood : IsSomeAnd seen.requests (λ input. 0 < input.faults) → ⊥
-  pub stores_stood : (shard : ℕ) (store : SeenStore) → slice_get seen.stores shard ≡ Some store → 0 < store.faults → ⊥
+  pub olds_stood : HaveStood seen.journals.olds
+  pub stores_stood : HaveStood seen.journals.stores
   pub sink_stood : Rose seen.sink.faults_before seen.sink.faults_after → ⊥
 
 -- the words are the command to serve, all is in order, and the desk tells of a request file within the limits

@@ -1,12 +1,12 @@
 -- What a run sees of the outside: its words, the desk, the inputs and the journals that it opened, and the sink.
-use Rattle.std.specs.Prelude.{◌≡◌, ℕ, List, map, Option}
+use Rattle.std.specs.Prelude.{◌≡◌, ℕ, List, Option}
 use Rattle.std.specs.Option.{option_map}
 use Rattle.issuer_base.specs.Desk.{FailedCall}
 use Rattle.issuer_base.specs.declared.outside.Desk.{Ghosts as Desk}
 use Rattle.issuer_base.specs.declared.outside.Source.{Ghosts as Source}
 use Rattle.issuer_base.specs.declared.outside.Sink.{Ghosts as Sink}
 use Rattle.issuer_base.specs.declared.outside.store.Store.{Ghosts as Store}
-use Rattle.desk_host.specs.SeenStores.{Logged, SeenStore, store_seen}
+use Rattle.desk_host.specs.SeenStores.{Logged, SeenJournals, journals_seen}
 use Rattle.issuer_top.specs.declared.top_call.Ended.{Ended}
 
 -- what a desk tells of its inputs: nothing, or the bytes that stand under each name, if there is an input
@@ -34,14 +34,13 @@ pub record SeenSink : Type 0 where
   pub faults_before : ℕ
   pub faults_after : ℕ
 
--- all that a run sees; an input is there where it was opened, and the stores are those that were opened, in the order
--- of their shards
+-- all that a run sees; an input is there where it was opened, and the journals are those that were opened
 pub record Seen : Type 0 where
   pub words : List (List ℕ)
   pub desk : SeenDesk
   pub config : Option SeenInput
   pub requests : Option SeenInput
-  pub stores : List SeenStore
+  pub journals : SeenJournals
   pub sink : SeenSink
 
 -- the desk before and after
@@ -73,9 +72,9 @@ sink_seen sink before after = record {
 }
 
 -- all that was seen, in the order of the fields
-abbrev pub seen_of : List (List ℕ) → SeenDesk → Option SeenInput → Option SeenInput → List SeenStore → SeenSink → Seen
-seen_of words desk config requests stores sink =
-    record { words = words; desk = desk; config = config; requests = requests; stores = stores; sink = sink }
+abbrev pub seen_of : List (List ℕ) → SeenDesk → Option SeenInput → Option SeenInput → SeenJournals → SeenSink → Seen
+seen_of words desk config requests journals sink =
+    record { words = words; desk = desk; config = config; requests = requests; journals = journals; sink = sink }
 
 -- all that was seen of the words, of the desk that was given and of what was given back, and of the sink before and
 -- after
@@ -83,5 +82,5 @@ abbrev pub seen_by : {D I J W : Type 0} → Desk D I J → Source I → Store J 
     → W → Seen
 seen_by desk source store sink words given ended before after =
     seen_of words (desk_seen desk given ended.desk) (option_map (input_seen source) ended.config)
-    (option_map (input_seen source) ended.requests) (map (store_seen store) ended.stores.items)
+    (option_map (input_seen source) ended.requests) (journals_seen store ended.olds.items ended.stores.items)
     (sink_seen sink before after)

@@ -21,20 +21,20 @@ use crate::play::play_world;
 use crate::stopping::stop_with;
 use answer_text::Stop;
 use command_line::{Names, Task, read_words};
-use desk_host::{load_alone, read_issuer, show, stop_of_load};
+use desk_host::{Journals, Loaded, NoHost, load_alone, read_issuer, show, stop_of_load};
 use issuer_base::{Desk, DeskFault, Gate, NoMemory, Sink, Store, Words};
 use issuer_setup::Issuer;
 use line_serving::{LineHost, Served, Server, load_host};
-use one_caller::{HostBack, Solo};
+use one_caller::Solo;
 use std::sync::Wait;
 use std::thread::Threads;
 
 /// What a run gives back: its status, the desk, and all that was opened.
 pub struct Ended<D: Desk> {
     /// 0: all lines were answered, all cards shown, a world played, or a DOL filled; 1: the words are no command; 2: the
-    /// configuration is none; 3: an input failed; 4: the sink failed; 5: a journal can't be opened, or its store failed
-    /// while it was loaded; 6: a line of a journal is bad; 7: no memory was left; 8: the request file goes past a
-    /// limit; 9: the DOL is broken; 10: the data are.
+    /// configuration is none; 3: an input failed; 4: the sink failed; 5: a journal, old or new, can't be opened, or its
+    /// store failed while it was loaded; 6: a line of a journal is bad, or of an old one; 7: no memory was left; 8: the
+    /// request file goes past a limit; 9: the DOL is broken; 10: the data are.
     pub status: u8,
     /// The desk that was given.
     pub desk: D,
@@ -42,6 +42,8 @@ pub struct Ended<D: Desk> {
     pub config: Option<D::Input>,
     /// The request file, if it was opened.
     pub requests: Option<D::Input>,
+    /// The stores of the old journals that were opened, in the order of their shards. They were only read.
+    pub olds: Vec<D::Journal>,
     /// The stores of the journals that were opened, in the order of their shards.
     pub stores: Vec<D::Journal>,
 }
@@ -90,14 +92,15 @@ impl<R, D: Desk, G> Run<'_, R, D, G> {
         ending: Ending,
         config: Option<D::Input>,
         requests: Option<D::Input>,
-        stores: Vec<D::Journal>,
+        journals: Journals<D::Journal>,
     ) -> Ended<D>
         ensures { result ≡ record {
           status = status_of ending;
           desk = self.entry.desk;
           config = config;
           requests = requests;
-          stores = stores;
+          olds = journals.olds;
+          stores = journals.stores;
         } }
     {
         let Run {
@@ -105,11 +108,13 @@ impl<R, D: Desk, G> Run<'_, R, D, G> {
             gate: _,
             desk,
         } = self;
+        let Journals { olds, stores } = journals;
         Ended {
             status: status_of(ending),
             desk,
             config,
             requests,
+            olds,
             stores,
         }
     }
@@ -119,54 +124,69 @@ impl<R, D: Desk, G> Run<'_, R, D, G> {
         self,
         stop: Stop,
         config: Option<D::Input>,
-        stores: Vec<D::Journal>,
+        journals: Journals<D::Journal>,
         out: &mut W,
     ) -> Ended<D>
         ensures { (ending : Ending)
             × GivesStop (W.held out.old) (W.held out.new) (W.faults out.old) (W.faults out.new) stop ending
-            × (result ≡ record
-            { status = status_of ending; desk = self.entry.desk; config = config; requests = None; stores = stores }) }
+            × (result ≡ record {
+              status = status_of ending;
+              desk = self.entry.desk;
+              config = config;
+              requests = None;
+              olds = journals.olds;
+              stores = journals.stores;
+            }) }
     {
         let ending = stop_with(stop, out);
-        self.ended(ending, config, None, stores)
+        self.ended(ending, config, None, journals)
     }
 
     /// Stops the run whose journals gave no host.
     fn not_loaded<W: Sink>(
         self,
-        back: HostBack<D::Journal>,
+        none: NoHost<D::Journal>,
         config: D::Input,
         out: &mut W,
     ) -> Ended<D>
         ensures { (ending : Ending)
             × GivesStop (W.held out.old) (W.held out.new) (W.faults out.old) (W.faults out.new)
-            (stop_of_load back.fault back.shard) ending
+            (stop_of_load none.fault none.shard) ending
             × (result ≡ record {
               status = status_of ending;
               desk = self.entry.desk;
               config = Some config;
               requests = None;
-              stores = back.stores;
+              olds = none.journals.olds;
+              stores = none.journals.stores;
             }) }
     {
-        let HostBack {
+        let NoHost {
             fault,
             shard,
-            stores,
-        } = back;
-        self.stop(stop_of_load(fault, shard), Some(config), stores, out)
+            journals,
+        } = none;
+        self.stop(stop_of_load(fault, shard), Some(config), journals, out)
     }
 
     /// Shows all cards of the host.
-    fn show_cards<W: Sink>(self, host: Solo<D::Journal>, config: D::Input, out: &mut W) -> Ended<D>
-        requires { 0 < host.issuer.shards }
+    fn show_cards<W: Sink>(
+        self,
+        loaded: Loaded<Solo<D::Journal>, D::Journal>,
+        config: D::Input,
+        out: &mut W,
+    ) -> Ended<D>
+        requires { 0 < loaded.host.issuer.shards }
         ensures { (words : List (List ℕ)) (given : D) (journal : List ℕ) (issuer : Setup)
             → let seen = seen_by D.Desk D.Input.Source D.Journal.Store W.Sink words given result out.old out.new in
-            IsSetUp seen None journal issuer → IsReadySolo issuer journal (D.logs given) host → HasSoundParts issuer
+            IsSetUp seen None journal issuer
+            → IsReadySolo issuer journal (D.logs given) loaded.olds.items loaded.host → HasSoundParts issuer
             → D.faults self.entry.desk ≡ D.faults given → Ends result.status seen }
     {
+        let Loaded { host, olds } = loaded;
         let ending = end_writing(show(&host, out));
-        self.ended(ending, Some(config), None, host.close())
+        let stores = host.close();
+        self.ended(ending, Some(config), None, Journals { olds, stores })
     }
 }
 
@@ -187,13 +207,13 @@ where
             Some(Task::Host(names)) => self.run_host(names, out),
             Some(Task::Play(size)) => {
                 let ending = play_world(alloc, size, out);
-                self.ended(ending, None, None, Vec::new(alloc))
+                self.ended(ending, None, None, Journals::none(alloc))
             }
             Some(Task::Fill(texts)) => {
                 let ending = fill_dol(&texts, out);
-                self.ended(ending, None, None, Vec::new(alloc))
+                self.ended(ending, None, None, Journals::none(alloc))
             }
-            None => self.stop(Stop::Usage, None, Vec::new(alloc), out),
+            None => self.stop(Stop::Usage, None, Journals::none(alloc), out),
         }
     }
 
@@ -208,11 +228,11 @@ where
         let alloc = self.rt.alloc();
         let mut config = match self.desk.read(names.config) {
             Ok(config) => config,
-            Err(fault) => return self.stop(stop_of(fault), None, Vec::new(alloc), out),
+            Err(fault) => return self.stop(stop_of(fault), None, Journals::none(alloc), out),
         };
         match read_issuer(alloc, &mut config) {
             Ok(issuer) => self.do_command(issuer, config, names, out),
-            Err(cause) => self.stop(cause, Some(config), Vec::new(alloc), out),
+            Err(cause) => self.stop(cause, Some(config), Journals::none(alloc), out),
         }
     }
 
@@ -234,8 +254,8 @@ where
         let alloc = self.rt.alloc();
         match names.requests {
             None => match load_alone(alloc, &mut self.desk, names.journal, issuer) {
-                Ok(host) => self.show_cards(host, config, out),
-                Err(back) => self.not_loaded(back, config, out),
+                Ok(loaded) => self.show_cards(loaded, config, out),
+                Err(none) => self.not_loaded(none, config, out),
             },
             Some(requests) => {
                 match load_host(
@@ -245,8 +265,8 @@ where
                     issuer,
                     requests.callers,
                 ) {
-                    Ok(host) => self.serve_requests(host, config, requests.file, out),
-                    Err(back) => self.not_loaded(back, config, out),
+                    Ok(loaded) => self.serve_requests(loaded, config, requests.file, out),
+                    Err(none) => self.not_loaded(none, config, out),
                 }
             }
         }
@@ -255,29 +275,43 @@ where
     /// Answers all lines of the request file under this name.
     fn serve_requests<W: Sink>(
         mut self,
-        mut host: LineHost<D::Journal>,
+        loaded: Loaded<LineHost<D::Journal>, D::Journal>,
         config: D::Input,
         name: &str,
         out: &mut W,
     ) -> Ended<D>
-        requires idle { IsIdle host 0 }
+        requires idle { IsIdle loaded.host 0 }
         ensures { (words : List (List ℕ)) (given : D) (journal : List ℕ) (issuer : Setup)
             → let seen = seen_by D.Desk D.Input.Source D.Journal.Store W.Sink words given result out.old out.new in
-            IsSetUp seen (Some (record { name = name.now; callers = callers_of host })) journal issuer
-            → IsReady issuer journal (D.logs given) host → HasServed host [] [] [] host
+            IsSetUp seen (Some (record { name = name.now; callers = callers_of loaded.host })) journal issuer
+            → IsReady issuer journal (D.logs given) loaded.olds.items loaded.host
+            → HasServed loaded.host [] [] [] loaded.host
             → HasSoundParts issuer → IsSameDesk D.Desk given self.entry.desk → Ends result.status seen }
     {
+        let Loaded { mut host, olds } = loaded;
         let mut server = match Server::new(self.rt.alloc()) {
             Ok(server) => server,
-            Err(NoMemory) => return self.stop(Stop::NoMemory, Some(config), host.close(), out),
+            Err(NoMemory) => {
+                let stores = host.close();
+                return self.stop(Stop::NoMemory, Some(config), Journals { olds, stores }, out);
+            }
         };
         let mut requests = match self.desk.read(name) {
             Ok(requests) => requests,
-            Err(fault) => return self.stop(stop_of(fault), Some(config), host.close(), out),
+            Err(fault) => {
+                let stores = host.close();
+                return self.stop(stop_of(fault), Some(config), Journals { olds, stores }, out);
+            }
         };
         let served = server.serve(self.rt, self.gate, &mut host, &mut requests, out);
         let ending = end_serving(served, out);
-        self.ended(ending, Some(config), Some(requests), host.close())
+        let stores = host.close();
+        self.ended(
+            ending,
+            Some(config),
+            Some(requests),
+            Journals { olds, stores },
+        )
     }
 }
 

@@ -70,6 +70,14 @@ text_of entry = join_with_byte space (words_of entry) ++ newline ∷ []
 abbrev pub texts_of : List Entry → List ℕ
 texts_of entries = flat_map text_of entries
 
+-- the first line of a journal of version 2
+abbrev pub version_line : List ℕ
+version_line = codes "v2" ++ newline ∷ []
+
+-- the text of a journal of version 2 with these records; that of a journal of version 1 has the records alone
+abbrev pub journal_text : List Entry → List ℕ
+journal_text entries = version_line ++ texts_of entries
+
 -- a text without a newline
 abbrev pub IsUnbroken : List ℕ → Type 0
 IsUnbroken text = All (λ byte. byte ≢ newline) text

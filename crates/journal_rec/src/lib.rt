@@ -11,6 +11,8 @@ mod read;
 mod write;
 
 pub use laws::{a_text_has_one_reading, a_text_is_one_line, no_text_begins_another};
-pub use limits::{LEAST_RECORD_BYTES, MOST_QUEUED_BYTES, MOST_RECORD_BYTES, RECORD_ROOM};
+pub use limits::{
+    LEAST_RECORD_BYTES, MOST_QUEUED_BYTES, MOST_RECORD_BYTES, RECORD_ROOM, VERSION_LINE,
+};
 pub use read::read_entry;
 pub use write::{write_decided, write_entry};

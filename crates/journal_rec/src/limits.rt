@@ -2,6 +2,9 @@
 
 use issuer_base::MAX_BODY_BYTES;
 
+/// The first line of a journal of version 2.
+pub const VERSION_LINE: [u8; 3] = *b"v2\n";
+
 /// The capacity of the buffer for the text of a record.
 pub const RECORD_ROOM: usize = 512;
 

@@ -24,9 +24,10 @@ use Rattle.desk_host.specs.Configuration.{HasSoundParts}
 use Rattle.desk_host.specs.Journals.{IsReadySolo}
 use Rattle.line_serving.specs.Hosts.{TakesLine, Settles, LeavesAnswered, LeavesLoaded, HasAnswered}
 use Rattle.desk_host.specs.Left.{LeaveJournals}
-use Rattle.desk_host.specs.SeenStores.{Logged, store_seen}
+use Rattle.desk_host.specs.SeenStores.{Logged, journals_seen}
 use Rattle.desk_host.proofs.HostRuns.{run-line, recorded}
-use Rattle.desk_host.proofs.KeptSteps.{at-place, begins, keep-journals}
+use Rattle.desk_host.proofs.KeptSteps.{begins, keep-journals}
+use Rattle.desk_host.proofs.SeenSteps.{at-place}
 use Rattle.desk_host.proofs.LeftSteps.{closed-left}
 use Rattle.desk_host.proofs.LoadedLaws.{lawful-loaded}
 use Rattle.desk_host.proofs.WorldLaws.{is-lawful}
@@ -119,7 +120,7 @@ module _ {S : Type 0} {G : Ghosts S} where
 
   module _ (told : (store : S) → IfSome (G.disk store) (λ disk. G.bytes store ≡ Some disk.now.bytes)) (issuer : Setup)
       (prefix : List ℕ)
-      (logs : Logged) (first : Solo S G) (ready : IsReadySolo issuer prefix logs first) where
+      (logs : Logged) (olds : List S) (first : Solo S G) (ready : IsReadySolo issuer prefix logs olds first) where
     -- its shards, under the issuer
     shards : AreShards issuer first.shards.items
     shards = subst (λ (i : Setup). AreShards i first.shards.items) ready.issuer_is first.are_shards
@@ -127,9 +128,9 @@ module _ {S : Type 0} {G : Ghosts S} where
     module _ (sound : HasSoundParts issuer) (now : Solo S G) (asked : List (List ℕ)) (text : List ℕ)
         (so_far : HasAnswered first (map kept asked) text [] now) (stores : List S)
         (stores_are : stores ≡ map store_in now.shards.items) where
-      pub leaves-alone : LeavesAnswered 1 issuer prefix logs (map (store_seen G) stores) asked text
+      pub leaves-alone : LeavesAnswered 1 issuer prefix logs (journals_seen G olds stores) asked text
       leaves-alone =
-          let begun = begins issuer prefix logs first.shards.items ready.shards shards in
+          let begun = begins issuer prefix logs olds first.shards.items ready.shards in
           let same : first.issuer ≡ issuer = ready.issuer_is in
           let ended =
           subst (λ (i : Setup). HasRun i first.shards.items begun.books [] [] first.shards.items begun.books
@@ -138,7 +139,8 @@ module _ {S : Type 0} {G : Ghosts S} where
           (so_far.run begun.books) begun.has_run in
           let last = ended.0 in
           let run = run-kept issuer begun.books asked so_far.answers last ended.1.run in
-          let legal = begins-legal issuer ready.shards.stores first.shards.items ready.shards.loaded begun in
+          let legal = begins-legal issuer ready.shards.old_stores olds ready.shards.stores first.shards.items
+          ready.shards.loaded begun in
           let count = begun.has_run.stand.count_is ∙ shards.count_is in
           let after = subst (λ (i : Setup). AreShards i now.shards.items) (so_far.issuer_is ∙ same) now.are_shards in
           let one = run-one_history issuer (legal-then issuer) begun.books last asked so_far.answers legal
@@ -147,9 +149,9 @@ module _ {S : Type 0} {G : Ghosts S} where
             first = begun.books;
             last = last;
             kept =
-                keep-journals issuer prefix logs (map (store_seen G) stores) first.shards.items now.shards.items
-                ready.shards shards after told
-                (ap (map (store_seen G)) stores_are) last ended.1.stand ended.1.leave;
+                keep-journals issuer prefix logs olds first.shards.items now.shards.items ready.shards shards after
+                told (journals_seen G olds stores) (ap (journals_seen G olds) stores_are) last ended.1.stand
+                ended.1.leave;
             lawful =
                 is-lawful issuer begun.books last sound count
                 (run-on issuer begun.books asked so_far.answers last run).count_is one.goes_on
@@ -160,27 +162,30 @@ module _ {S : Type 0} {G : Ghosts S} where
           }
 
     pub leaves-loaded_alone : HasSoundParts issuer → (stores : List S) → stores ≡ map store_in first.shards.items
-        → LeavesLoaded 1 issuer prefix logs (map (store_seen G) stores)
+        → LeavesLoaded 1 issuer prefix logs (journals_seen G olds stores)
     leaves-loaded_alone sound stores stores_are =
-        let begun = begins issuer prefix logs first.shards.items ready.shards shards in
+        let begun = begins issuer prefix logs olds first.shards.items ready.shards in
         record {
           first = begun.books;
           last = begun.books;
           kept =
-              keep-journals issuer prefix logs (map (store_seen G) stores) first.shards.items first.shards.items
-              ready.shards shards shards told
-              (ap (map (store_seen G)) stores_are) begun.books begun.has_run.stand begun.has_run.leave;
-          lawful = lawful-loaded issuer prefix logs first.shards.items ready.shards shards sound;
+              keep-journals issuer prefix logs olds first.shards.items first.shards.items ready.shards shards shards
+              told (journals_seen G olds stores) (ap (journals_seen G olds) stores_are) begun.books
+              begun.has_run.stand begun.has_run.leave;
+          lawful = lawful-loaded issuer prefix logs olds first.shards.items ready.shards shards sound;
           none = record {
             same_histories = refl;
             none_told = λ shard book is.
                 let within = slice_get_within begun.books shard book is in
                 let count = begun.has_run.stand.count_is in
                 let opened = ready.shards.loaded.count_is in
+                let olds_opened = ready.shards.loaded.olds_are in
                 let store = at-place ready.shards.stores shard (omega (arith, within, count, opened)) in
-                (begun.books_are shard store.0 book store.1 is).untold;
+                let old = at-place ready.shards.old_stores shard (omega (arith, within, count, opened, olds_opened)) in
+                let one = at-place first.shards.items shard (omega (arith, within, count)) in
+                (begun.books_are shard old.0 store.0 one.0 book old.1 store.1 one.1 is).untold;
             alone = λ one. refl;
           };
-          left = λ one. subst (λ (ss : List S). LeaveJournals prefix logs (map (store_seen G) ss)) (sym stores_are)
-              (closed-left told issuer prefix logs first.shards.items ready.shards);
+          left = λ one. subst (λ (ss : List S). LeaveJournals prefix logs (journals_seen G olds ss)) (sym stores_are)
+              (closed-left told issuer prefix logs olds first.shards.items ready.shards);
         }

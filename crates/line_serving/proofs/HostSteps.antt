@@ -13,7 +13,7 @@ use Rattle.desk_host.specs.Journals.{IsReadySolo}
 use Rattle.line_serving.specs.Hosts.{TakesLine, Settles, LeavesAnswered, IsReadyTogether, HasAnswered, HaveAnswered}
 use Rattle.line_serving.specs.Hosts.{callers_of}
 use Rattle.line_serving.specs.Hosts.{IsReady, HasServed}
-use Rattle.desk_host.specs.SeenStores.{Logged, SeenStore}
+use Rattle.desk_host.specs.SeenStores.{Logged, journals_seen}
 use Rattle.desk_host.specs.Configuration.{HasSoundParts}
 use Rattle.line_serving.proofs.AloneSteps.{settles-alone}
 
@@ -82,34 +82,36 @@ module _ {S : Type 0} {G : Ghosts S} (first : LineHost S G) where
 
   -- ---- what they leave
 
-  pub leaves_alone : (now : LineHost S G) (host : Solo S G) (stores : List SeenStore) → now ≡ Alone host
-      → ((issuer : Setup) (prefix : List ℕ) (logs : Logged) (first : Solo S G) (lines : List (List ℕ)) (text : List ℕ)
-      → IsReadySolo issuer prefix logs first → HasSoundParts issuer → HasAnswered first (map kept lines) text [] host
-      → LeavesAnswered 1 issuer prefix logs stores lines text)
-      → (issuer : Setup) (prefix : List ℕ) (logs : Logged) (lines : List (List ℕ)) (text : List ℕ)
-      → IsReady issuer prefix logs first
+  pub leaves_alone : (now : LineHost S G) (host : Solo S G) (stores : List S) → now ≡ Alone host
+      → ((issuer : Setup) (prefix : List ℕ) (logs : Logged) (olds : List S) (first : Solo S G)
+      (lines : List (List ℕ)) (text : List ℕ)
+      → IsReadySolo issuer prefix logs olds first → HasSoundParts issuer → HasAnswered first (map kept lines) text [] host
+      → LeavesAnswered 1 issuer prefix logs (journals_seen G olds stores) lines text)
+      → (issuer : Setup) (prefix : List ℕ) (logs : Logged) (olds : List S) (lines : List (List ℕ)) (text : List ℕ)
+      → IsReady issuer prefix logs olds first
       → HasSoundParts issuer → length lines ≤ MAX_LINES → HasServed first (map kept lines) text [] now
-      → LeavesAnswered (callers_of first) issuer prefix logs stores lines text
-  leaves_alone now host stores same leaves issuer prefix logs lines text ready sound within served =
-      elim first as (λ first. IsReady issuer prefix logs first → HasServed first (map kept lines) text [] (Alone host)
-      → LeavesAnswered (callers_of first) issuer prefix logs stores lines text) [
-        | Alone begun ↦ λ ready so_far. leaves issuer prefix logs begun lines text ready sound so_far
+      → LeavesAnswered (callers_of first) issuer prefix logs (journals_seen G olds stores) lines text
+  leaves_alone now host stores same leaves issuer prefix logs olds lines text ready sound within served =
+      elim first as (λ first. IsReady issuer prefix logs olds first → HasServed first (map kept lines) text [] (Alone host)
+      → LeavesAnswered (callers_of first) issuer prefix logs (journals_seen G olds stores) lines text) [
+        | Alone begun ↦ λ ready so_far. leaves issuer prefix logs olds begun lines text ready sound so_far
         | Together begun ↦ λ ready so_far. absurd so_far
       ] ready (subst (HasServed first (map kept lines) text []) same served)
 
-  pub leaves_together : (now : LineHost S G) (host : Lanes S G) (stores : List SeenStore) → now ≡ Together host
-      → ((issuer : Setup) (prefix : List ℕ) (logs : Logged) (first : Lanes S G) (lines : List (List ℕ)) (text : List ℕ)
-      → IsReadyTogether issuer prefix logs first → HasSoundParts issuer → length lines ≤ MAX_LINES
+  pub leaves_together : (now : LineHost S G) (host : Lanes S G) (stores : List S) → now ≡ Together host
+      → ((issuer : Setup) (prefix : List ℕ) (logs : Logged) (olds : List S) (first : Lanes S G)
+      (lines : List (List ℕ)) (text : List ℕ)
+      → IsReadyTogether issuer prefix logs olds first → HasSoundParts issuer → length lines ≤ MAX_LINES
       → HaveAnswered first (map kept lines) text [] host
-      → LeavesAnswered (callers_in first) issuer prefix logs stores lines text)
-      → (issuer : Setup) (prefix : List ℕ) (logs : Logged) (lines : List (List ℕ)) (text : List ℕ)
-      → IsReady issuer prefix logs first
+      → LeavesAnswered (callers_in first) issuer prefix logs (journals_seen G olds stores) lines text)
+      → (issuer : Setup) (prefix : List ℕ) (logs : Logged) (olds : List S) (lines : List (List ℕ)) (text : List ℕ)
+      → IsReady issuer prefix logs olds first
       → HasSoundParts issuer → length lines ≤ MAX_LINES → HasServed first (map kept lines) text [] now
-      → LeavesAnswered (callers_of first) issuer prefix logs stores lines text
-  leaves_together now host stores same leaves issuer prefix logs lines text ready sound within served =
-      elim first as (λ first. IsReady issuer prefix logs first
+      → LeavesAnswered (callers_of first) issuer prefix logs (journals_seen G olds stores) lines text
+  leaves_together now host stores same leaves issuer prefix logs olds lines text ready sound within served =
+      elim first as (λ first. IsReady issuer prefix logs olds first
       → HasServed first (map kept lines) text [] (Together host)
-      → LeavesAnswered (callers_of first) issuer prefix logs stores lines text) [
+      → LeavesAnswered (callers_of first) issuer prefix logs (journals_seen G olds stores) lines text) [
         | Alone begun ↦ λ ready so_far. absurd so_far
-        | Together begun ↦ λ ready so_far. leaves issuer prefix logs begun lines text ready sound within so_far
+        | Together begun ↦ λ ready so_far. leaves issuer prefix logs olds begun lines text ready sound within so_far
       ] ready (subst (HasServed first (map kept lines) text []) same served)

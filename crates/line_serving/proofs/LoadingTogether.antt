@@ -5,47 +5,57 @@ use Rattle.std.proofs.lemmas.Option.{slice_get_within}
 use Rattle.issuer_base.specs.declared.outside.store.Store.{Ghosts}
 use Rattle.issuer_setup.specs.IssuerSetup.{Setup}
 use Rattle.shard_book.specs.declared.replay.LoadFault.{LoadFault}
+use Rattle.one_caller.specs.Loading.{AreOnlyRead}
 use Rattle.host_calls.specs.OpeningLogs.{AllComeBack, HostComesBack}
-use Rattle.desk_host.specs.SeenStores.{Logged, store_seen}
-use Rattle.desk_host.specs.Journals.{journal_name, AreOpened}
+use Rattle.desk_host.specs.SeenStores.{Logged, store_seen, journals_seen}
+use Rattle.desk_host.specs.Journals.{old_name, journal_name, HasAllOpened}
 use Rattle.desk_host.specs.Left.{LeavesJournal, LeaveJournals}
 use Rattle.desk_host.specs.Loading.{DeskFaults, GivesNoHost, stop_of_load}
-use Rattle.desk_host.proofs.KeptSteps.{at-place}
-use Rattle.desk_host.proofs.LeftSteps.{seen-store, given-left, back-left}
+use Rattle.desk_host.proofs.SeenSteps.{at-place, seen-store}
+use Rattle.desk_host.proofs.LeftSteps.{given-left, back-left, olds-left}
 use Rattle.desk_host.proofs.LoadingSteps.{gives-no_host}
 
 module _ {S : Type 0} (G : Ghosts S) (told : (store : S)
     → IfSome (G.disk store) (λ disk. G.bytes store ≡ Some disk.now.bytes)) (prefix : List ℕ)
-    (logs : Logged) (stores : List S) (opened : AreOpened G prefix logs stores) where
+    (logs : Logged) (issuer : Setup) (olds read stores : List S) (opened : HasAllOpened G issuer prefix logs olds stores)
+    (only : AreOnlyRead G.size G.bytes G.disk G.room olds read) where
   -- all were loaded, and come back
-  pub all-left : (issuer : Setup) (failed : ℕ) (fault : LoadFault) (back : List S)
-      → AllComeBack G.bytes G.disk G.faults issuer stores failed fault back
-      → LeaveJournals prefix logs (map (store_seen G) back)
-  all-left issuer failed fault back come number seen is =
-      let here = seen-store G back number seen is in
-      let below = slice_get_within back number here.0 here.1 in
-      let count = come.count_is in
-      let before = at-place stores number (omega (arith, below, count)) in
-      subst (LeavesJournal (logs (journal_name prefix number))) here.2
-      (given-left told (logs (journal_name prefix number)) before.0 (opened number before.0 before.1) issuer number
-      here.0
-      (come.each number before.0 here.0 before.1 here.1))
+  pub all-left : (failed : ℕ) (fault : LoadFault) (back : List S)
+      → AllComeBack G.bytes G.disk G.faults issuer olds read stores failed fault back
+      → LeaveJournals prefix logs (journals_seen G read back)
+  all-left failed fault back come = record {
+    olds = olds-left G told prefix logs olds read opened.olds_are only;
+    stores = λ number seen is.
+        let here = seen-store G back number seen is in
+        let below = slice_get_within back number here.0 here.1 in
+        let count = come.count_is in
+        let olds_count = come.olds_are in
+        let read_count = come.read_are in
+        let before = at-place stores number (omega (arith, below, count)) in
+        let old = at-place olds number (omega (arith, below, count, olds_count)) in
+        let read_at = at-place read number (omega (arith, below, count, read_count)) in
+        subst (LeavesJournal (logs (old_name prefix number)) (logs (journal_name prefix number))) here.2
+        (given-left told (logs (old_name prefix number)) (logs (journal_name prefix number)) old.0 before.0
+        (opened.olds_are number old.0 old.1) (opened.stores_are number before.0 before.1) issuer number read_at.0 here.0
+        (come.each number old.0 read_at.0 before.0 here.0 old.1 read_at.1 before.1 here.1));
+  }
 
-  pub host-left : (issuer : Setup) (failed : ℕ) (fault : LoadFault) (back : List S)
-      → HostComesBack G.bytes G.disk G.faults issuer stores failed fault back
-      → LeaveJournals prefix logs (map (store_seen G) back)
-  host-left issuer failed fault back come =
-      ⊎_elim (back-left G told prefix logs stores opened issuer failed fault back) (all-left issuer failed fault back)
-      come
+  pub host-left : (failed : ℕ) (fault : LoadFault) (back : List S)
+      → HostComesBack G.size G.bytes G.disk G.faults issuer olds read stores failed fault back
+      → LeaveJournals prefix logs (journals_seen G read back)
+  host-left failed fault back come =
+      ⊎_elim
+      (back-left G told prefix logs olds stores opened.olds_are opened.stores_are issuer failed fault read back only)
+      (all-left failed fault back) come
 
 module _ {S : Type 0} (G : Ghosts S) (issuer : Setup) (prefix : List ℕ) (logs : Logged) (desk : DeskFaults)
-    (stores back : List S) (failed : ℕ)
-    (opened : AreOpened G prefix logs stores) (count : length stores ≡ issuer.shards)
-    (stood : desk.after ≡ desk.before) where
-  pub gives-no_shared : (fault : LoadFault) → HostComesBack G.bytes G.disk G.faults issuer stores failed fault back
-      → GivesNoHost issuer prefix logs desk (map (store_seen G) back) (stop_of_load fault failed)
+    (olds read stores back : List S) (failed : ℕ)
+    (opened : HasAllOpened G issuer prefix logs olds stores) (stood : desk.after ≡ desk.before) where
+  pub gives-no_shared : (fault : LoadFault)
+      → HostComesBack G.size G.bytes G.disk G.faults issuer olds read stores failed fault back
+      → GivesNoHost issuer prefix logs desk (journals_seen G read back) (stop_of_load fault failed)
   gives-no_shared fault come =
-      ⊎_elim (gives-no_host G issuer prefix logs desk stores back failed opened count stood fault)
-      (λ all. subst (λ (f : LoadFault). GivesNoHost issuer prefix logs desk (map (store_seen G) back)
+      ⊎_elim (gives-no_host G issuer prefix logs desk olds read stores back failed opened stood fault)
+      (λ all. subst (λ (f : LoadFault). GivesNoHost issuer prefix logs desk (journals_seen G read back)
       (stop_of_load f failed)) (sym all.fault_is) stood)
       come

@@ -9,15 +9,13 @@ use Rattle.std.proofs.lemmas.Grind.{flat_map-append}
 use Rattle.std.proofs.lemmas.Option.{slice_get_within}
 use Rattle.std.specs.List.{flat_map}
 use Rattle.issuer_base.specs.OutsideFaults.{Rose}
-use Rattle.issuer_base.specs.Tells.{Tells}
+use Rattle.issuer_base.specs.Stores.{BothTold, LeavesOnly}
 use Rattle.issuer_base.specs.declared.answer.Answer.{Answer}
 use Rattle.issuer_base.specs.declared.limits.TheConstants.{MAX_FAULTS_TOLD}
 use Rattle.issuer_base.specs.declared.entry.Entry.{Entry}
 use Rattle.issuer_base.specs.declared.outside.store.Store.{Ghosts}
-use Rattle.card_history.specs.LegalRecords.{IsLegalHistory}
 use Rattle.issuer_setup.specs.IssuerSetup.{Setup}
 use Rattle.journal_rec.specs.Record.{IsRecord}
-use Rattle.journal_rec.specs.RecordText.{texts_of}
 use Rattle.line_reader.specs.declared.limits.TheConstants.{MAX_LINES}
 use Rattle.line_reader.specs.Reading.{kept}
 use Rattle.answer_text.specs.AnswerText.{printed}
@@ -25,8 +23,10 @@ use Rattle.shared_seats.specs.Totals.{total, how_many}
 use Rattle.turn_book.specs.declared.logs.Log.{Log}
 use Rattle.turn_book.specs.Logs.{items_at}
 use Rattle.turn_book.specs.TurnRule.{between}
-use Rattle.shard_book.specs.Grounds.{grounds_of}
 use Rattle.shard_book.specs.Histories.{GoesOn}
+use Rattle.shard_book.specs.Loads.{IsOnlyRead}
+use Rattle.shard_book.specs.Shards.{IsJournalOf, IsLoadImage}
+use Rattle.one_caller.specs.Loading.{AreOnlyRead}
 use Rattle.shared_shards.specs.declared.logs.LogItem.{LogItem}
 use Rattle.shared_shards.specs.declared.logs.LogItem.TheVariants.{Record}
 use Rattle.shared_shards.specs.declared.logs.LogHead.{LogHead}
@@ -48,14 +48,14 @@ use Rattle.shared_callers.specs.Lanes.{LanesServe}
 use Rattle.line_serving.specs.Answers.{AreAnsweredTogether, ByCallers}
 use Rattle.desk_host.specs.Configuration.{HasSoundParts}
 use Rattle.line_serving.specs.Hosts.{TakesLine, Settles, LeavesAnswered, LeavesLoaded, IsReadyTogether, HaveAnswered}
-use Rattle.desk_host.specs.Journals.{journal_name, IsOpened, AreOpened}
+use Rattle.desk_host.specs.Journals.{old_name, journal_name, IsOpened, HasAllOpened}
 use Rattle.desk_host.specs.Lawful.{IsLawful}
-use Rattle.desk_host.specs.Kept.{WasJournal, KeepsJournal, KeepJournals}
-use Rattle.desk_host.specs.SeenStores.{Logged, SeenStore, store_seen}
-use Rattle.desk_host.proofs.CrashSteps.{crash-leaves, leaves-now}
+use Rattle.desk_host.specs.Kept.{IsRunImage, WasJournal, KeepsJournal, KeepJournals}
+use Rattle.desk_host.specs.SeenStores.{Logged, SeenStore, store_seen, journals_seen}
+use Rattle.desk_host.proofs.CrashSteps.{crash-run, crash-since, leaves-now, stays-opened}
 use Rattle.shared_callers.proofs.DealtAnswers.{answers-dealt}
 use Rattle.shared_callers.proofs.Lists.{mapped-at}
-use Rattle.desk_host.proofs.KeptSteps.{at-place, mapped, held-told}
+use Rattle.desk_host.proofs.SeenSteps.{at-place, mapped, journal-held}
 use Rattle.desk_host.proofs.WorldLaws.{is-lawful}
 
 -- ---- logs and their books
@@ -210,10 +210,10 @@ same-lists (x ∷ xs) (y ∷ ys) long same =
 -- ---- what it leaves
 
 module _ {S : Type 0} {G : Ghosts S} (count : ℕ) (issuer : Setup) (prefix : List ℕ) (told : Logged)
-    (stores back : List S)
-    (opening logs : List (Log LogItem LogHead)) (stores_are : length stores ≡ issuer.shards)
-    (opened : AreOpened G prefix told stores)
-    (opens : AreOpenedFrom G.bytes G.disk G.faults issuer stores opening) (same_count : length logs ≡ length opening)
+    (olds read stores back : List S)
+    (opening logs : List (Log LogItem LogHead)) (opened : HasAllOpened G issuer prefix told olds stores)
+    (only_read : AreOnlyRead G.size G.bytes G.disk G.room olds read)
+    (opens : AreOpenedFrom G.bytes G.disk G.faults issuer olds read stores opening) (same_count : length logs ≡ length opening)
     (closed : AreClosed G.bytes G.disk G.faults issuer opening logs back)
     (told_bytes : (store : S) → IfSome (G.disk store) (λ disk. G.bytes store ≡ Some disk.now.bytes)) where
   abbrev first_books : List Book
@@ -223,25 +223,30 @@ module _ {S : Type 0} {G : Ghosts S} (count : ℕ) (issuer : Setup) (prefix : Li
   last_books = closing_books G.faults logs back
 
   count-first : length first_books ≡ issuer.shards
-  count-first = length-map opening opening_book ∙ opens.count_is ∙ stores_are
+  count-first = length-map opening opening_book ∙ opens.count_is ∙ opened.stores_count
 
   count-last : length last_books ≡ issuer.shards
-  count-last = length-closing G.faults logs back ∙ same_count ∙ opens.count_is ∙ stores_are
+  count-last = length-closing G.faults logs back ∙ same_count ∙ opens.count_is ∙ opened.stores_count
 
   -- a shard, from its store as it was opened to the one that is given back
   record IsKeptAt (shard : ℕ) (was is : Book) : Type 0 where
     within : shard < issuer.shards
+    old : S
+    old_after : S
     before : S
     after : S
     first : Log LogItem LogHead
     last : Log LogItem LogHead
+    old_after_at : slice_get read shard ≡ Some old_after
     after_at : slice_get back shard ≡ Some after
     first_at : slice_get opening shard ≡ Some first
     last_at : slice_get logs shard ≡ Some last
     was_is : was ≡ opening_book first
     is_is : is ≡ book_of last (G.faults after)
+    old_log : IsOpened G (told (old_name prefix shard)) old
     log : IsOpened G (told (journal_name prefix shard)) before
-    opens_from : IsOpenedFrom G.bytes G.disk G.faults issuer shard before first
+    old_read : IsOnlyRead G.size G.bytes G.disk G.room old old_after
+    opens_from : IsOpenedFrom G.bytes G.disk G.faults issuer shard old old_after before first
     closes : IsClosed G.bytes G.disk G.faults issuer shard first last after
 
   kept-at : (shard : ℕ) (was is : Book) → slice_get first_books shard ≡ Some was → slice_get last_books shard ≡ Some is
@@ -250,23 +255,33 @@ module _ {S : Type 0} {G : Ghosts S} (count : ℕ) (issuer : Setup) (prefix : Li
       let within : shard < issuer.shards =
       (let inside = slice_get_within first_books shard was was_at in let long = count-first in
       omega (arith, inside, long)) in
+      let stores_are = opened.stores_count in
+      let olds_are = opened.olds_count in
+      let read_are = opens.read_are in
+      let old = at-place olds shard (omega (arith, within, olds_are)) in
+      let old_after = at-place read shard (omega (arith, within, stores_are, read_are)) in
       let before = at-place stores shard (omega (arith, within, stores_are)) in
       let after = at-place back shard (let long = closed.count_is in omega (arith, within, long)) in
       let first = mapped-at opening_book opening shard was was_at in
       let last = closing-at G.faults logs back shard is after.0 is_at after.1 in
       record {
         within = within;
+        old = old.0;
+        old_after = old_after.0;
         before = before.0;
         after = after.0;
         first = first.0;
         last = last.0;
+        old_after_at = old_after.1;
         after_at = after.1;
         first_at = first.1;
         last_at = last.1;
         was_is = first.2;
         is_is = last.2;
-        log = opened shard before.0 before.1;
-        opens_from = opens.each shard before.0 first.0 before.1 first.1;
+        old_log = opened.olds_are shard old.0 old.1;
+        log = opened.stores_are shard before.0 before.1;
+        old_read = only_read.each shard old.0 old_after.0 old.1 old_after.1;
+        opens_from = opens.each shard old.0 old_after.0 before.0 first.0 old.1 old_after.1 before.1 first.1;
         closes = closed.each shard first.0 last.0 after.0 first.1 last.1 after.1;
       }
 
@@ -275,19 +290,17 @@ module _ {S : Type 0} {G : Ghosts S} (count : ℕ) (issuer : Setup) (prefix : Li
     history-opened =
         ap (λ (l : Log LogItem LogHead). records_of l.items) at.opens_from.log_is ∙ records-only at.opens_from.history
 
-    was-journal : WasJournal issuer shard (told (journal_name prefix shard)) (opening_book at.first)
+    was-journal : WasJournal issuer shard (told (old_name prefix shard)) (told (journal_name prefix shard))
+        at.opens_from.old_history (opening_book at.first)
     was-journal =
         let o = at.opens_from in
+        let old_held = told (old_name prefix shard) in
+        let held = told (journal_name prefix shard) in
         record {
-          rest = o.rest;
-          held_is =
-              held-told (told (journal_name prefix shard)) (G.bytes at.before)
-              (texts_of (records_of at.first.items) ++ o.rest) at.log.bytes_are
-              (subst (λ (h : List Entry). Tells (G.bytes at.before) (texts_of h ++ o.rest)) (sym history-opened)
-              o.text_is);
-          unbroken = o.unbroken;
-          records = subst (All IsRecord) (sym history-opened) o.records;
-          legal = subst (IsLegalHistory (grounds_of issuer) shard) (sym history-opened) o.legal;
+          journal_is =
+              subst (IsJournalOf issuer shard old_held held o.old_history) (sym history-opened)
+              (journal-held issuer shard old_held held (G.bytes at.old) (G.bytes at.before) o.old_history o.history
+              at.old_log.bytes_are at.log.bytes_are o.journal_is);
           no_fault = o.counts.counted ∙ at.log.new;
           none_told =
               ap (λ (l : Log LogItem LogHead). length (faults_of l.items)) o.log_is ∙ ap length (faults-none o.history);
@@ -304,41 +317,56 @@ module _ {S : Type 0} {G : Ghosts S} (count : ℕ) (issuer : Setup) (prefix : Li
               at.closes.rise,
         ))
 
-    keeps-journal : (seen : SeenStore) → store_seen G at.after ≡ seen
-        → KeepsJournal issuer shard (told (journal_name prefix shard)) was is seen
-    keeps-journal seen same =
-        subst (λ (w : Book). KeepsJournal issuer shard (told (journal_name prefix shard)) w is seen) (sym at.was_is)
-        (subst (λ (i : Book). KeepsJournal issuer shard (told (journal_name prefix shard)) (opening_book at.first) i
-        seen) (sym at.is_is)
-        (subst (KeepsJournal issuer shard (told (journal_name prefix shard)) (opening_book at.first)
-        (book_of at.last (G.faults at.after))) same
+    keeps-journal : (old_seen seen : SeenStore) → store_seen G at.old_after ≡ old_seen → store_seen G at.after ≡ seen
+        → KeepsJournal issuer shard (told (old_name prefix shard)) (told (journal_name prefix shard)) was is old_seen
+        seen
+    keeps-journal old_seen seen old_same same =
+        let old_held = told (old_name prefix shard) in
+        let held = told (journal_name prefix shard) in
+        let o = at.opens_from in
+        let first : Book = opening_book at.first in
+        let last : Book = book_of at.last (G.faults at.after) in
+        subst (λ (w : Book). KeepsJournal issuer shard old_held held w is old_seen seen) (sym at.was_is)
+        (subst (λ (i : Book). KeepsJournal issuer shard old_held held first i old_seen seen) (sym at.is_is)
+        (subst (λ (s : SeenStore). KeepsJournal issuer shard old_held held first last s seen) old_same
+        (subst (KeepsJournal issuer shard old_held held first last (store_seen G at.old_after)) same
         (record {
+          old = o.old_history;
           was = was-journal;
+          old_stays =
+              stays-opened told_bytes old_held at.old at.old_after at.old_log at.old_read.bytes_are
+              at.old_read.disk_is;
+          old_no_fault = o.old_counts.counted ∙ at.old_log.new;
           holds = at.closes.holds;
           faults_are = refl;
-          crash_now =
-              leaves-now issuer shard (book_of at.last (G.faults at.after)) (G.bytes at.after) (G.disk at.after)
-              at.closes.holds;
+          crash_now = leaves-now issuer shard last (G.bytes at.after) (G.disk at.after) at.closes.holds;
           crash_since =
-              crash-leaves issuer shard (told (journal_name prefix shard)) (records_of at.first.items)
-              (records_of at.last.items)
-              (length (texts_of at.opens_from.history))
-              (ap (λ (h : List Entry). length (texts_of h)) (sym history-opened))
-              (G.disk at.before) at.first.head.opened (G.disk at.after) (G.bytes at.before) at.opens_from.leaves
-              at.closes.since
+              crash-since (IsRunImage issuer shard o.old_history first.history last.history) held (G.bytes at.before)
+              (G.disk at.before) (G.disk at.after)
+              (crash-run issuer shard o.old_history first.history last.history (G.disk at.before)
+              at.first.head.opened (G.disk at.after)
+              (subst (λ (h : List Entry). BothTold (λ before after.
+              LeavesOnly (IsLoadImage o.old_history h before.now) before after) (G.disk at.before)
+              at.first.head.opened) (sym history-opened) o.leaves)
+              at.closes.since)
               at.log.untouched (told_bytes at.before) at.log.bytes_are;
-        })))
+        }))))
 
-  keep-together : KeepJournals issuer prefix told (map (store_seen G) back) first_books last_books
+  keep-together : KeepJournals issuer prefix told (journals_seen G read back) first_books last_books
   keep-together = record {
+    olds_are = mapped (store_seen G) read ∙ opens.read_are ∙ opened.stores_count;
     stores_are = mapped (store_seen G) back ∙ closed.count_is;
     first_are = count-first;
     last_are = count-last;
-    each = λ shard was is seen was_at is_at seen_at.
+    each = λ shard was is old_seen seen was_at is_at old_at seen_at.
         let at = kept-at shard was is was_at is_at in
+        let old_here = mapped-at (store_seen G) read shard old_seen old_at in
         let here = mapped-at (store_seen G) back shard seen seen_at in
+        let old_same : at.old_after ≡ old_here.0 =
+        (let both : Some at.old_after ≡ Some old_here.0 = sym at.old_after_at ∙ old_here.1 in cc) in
         let same : at.after ≡ here.0 = (let both : Some at.after ≡ Some here.0 = sym at.after_at ∙ here.1 in cc) in
-        keeps-journal shard was is at seen (ap (store_seen G) same ∙ sym here.2);
+        keeps-journal shard was is at old_seen seen (ap (store_seen G) old_same ∙ sym old_here.2)
+        (ap (store_seen G) same ∙ sym here.2);
   }
 
   goes-on : GoOnLegally issuer first_books last_books
@@ -452,7 +480,7 @@ module _ {S : Type 0} {G : Ghosts S} (count : ℕ) (issuer : Setup) (prefix : Li
     }
 
     pub leaves-together : (text : List ℕ) → text ≡ flat_map printed answers
-        → LeavesAnswered count issuer prefix told (map (store_seen G) back) asked text
+        → LeavesAnswered count issuer prefix told (journals_seen G read back) asked text
     leaves-together text text_is = record {
       first = first_books;
       last = last_books;
@@ -525,7 +553,7 @@ module _ {S : Type 0} {G : Ghosts S} (count : ℕ) (issuer : Setup) (prefix : Li
         let told_is : book.told ≡ length (faults_of at.last.items) = ap (λ (b : Book). b.told) at.is_is in
         omega (arith, most, none, items_are, told_is)
 
-    pub leaves-loaded_together : LeavesLoaded count issuer prefix told (map (store_seen G) back)
+    pub leaves-loaded_together : LeavesLoaded count issuer prefix told (journals_seen G read back)
     leaves-loaded_together = record {
       first = first_books;
       last = last_books;
@@ -546,7 +574,8 @@ module _ {S : Type 0} {G : Ghosts S} (told_bytes : (store : S)
     → IfSome (G.disk store) (λ disk. G.bytes store ≡ Some disk.now.bytes))
     (issuer : Setup) (prefix : List ℕ) (told : Logged) where
   -- a host under the issuer that it was loaded for was closed
-  module _ (first now : Lanes S G) (back : List S) (ready : IsReadyTogether issuer prefix told first)
+  module _ (olds : List S) (first now : Lanes S G) (back : List S)
+      (ready : IsReadyTogether issuer prefix told olds first)
       (same : HasSameHost first now)
       (asked : List (List ℕ)) (answers : List Answer) where
     closed-under : HasClosed G.bytes G.disk G.faults (issuer_in now) (opening_logs now) (callers_in now) asked answers
@@ -562,31 +591,31 @@ module _ {S : Type 0} {G : Ghosts S} (told_bytes : (store : S)
         (subst (λ (n : ℕ). HasClosed G.bytes G.disk G.faults (issuer_in now) (opening_logs now) n asked answers back)
         same.same_callers closed))
 
-  pub closes-together : (first now : Lanes S G) (back : List S) → IsReadyTogether issuer prefix told first
-      → HasSoundParts issuer
+  pub closes-together : (olds : List S) (first now : Lanes S G) (back : List S)
+      → IsReadyTogether issuer prefix told olds first → HasSoundParts issuer
       → (asked : List (List ℕ)) (text : List ℕ) → length asked ≤ MAX_LINES
       → HaveAnswered first (map kept asked) text [] now
       → ((lines : List (List ℕ)) (answers due : List Answer) → LanesServe now (map kept lines) answers due []
       → HasClosed G.bytes G.disk G.faults (issuer_in now) (opening_logs now) (callers_in now) lines answers back)
-      → LeavesAnswered (callers_in first) issuer prefix told (map (store_seen G) back) asked text
-  closes-together first now back ready sound asked text within so_far closes =
-      let c = closed-under first now back ready so_far.same asked so_far.answers
+      → LeavesAnswered (callers_in first) issuer prefix told (journals_seen G olds back) asked text
+  closes-together olds first now back ready sound asked text within so_far closes =
+      let c = closed-under olds first now back ready so_far.same asked so_far.answers
       (closes asked so_far.answers [] so_far.served) in
-      leaves-together (callers_in first) issuer prefix told ready.stores back (opening_logs first) c.logs
-      ready.stores_are ready.opened ready.opening c.same_count c.closed told_bytes
+      leaves-together (callers_in first) issuer prefix told ready.old_stores olds ready.stores back
+      (opening_logs first) c.logs ready.opened ready.only_read ready.opening c.same_count c.closed told_bytes
       ready.several sound asked so_far.answers c.shares c.dealt c.lawful within text so_far.text_is
 
-  pub closes-loaded_together : (host : Lanes S G) (back : List S) → IsReadyTogether issuer prefix told host
-      → HasSoundParts issuer
+  pub closes-loaded_together : (olds : List S) (host : Lanes S G) (back : List S)
+      → IsReadyTogether issuer prefix told olds host → HasSoundParts issuer
       → ((lines : List (List ℕ)) (answers due : List Answer) → LanesServe host (map kept lines) answers due []
       → HasClosed G.bytes G.disk G.faults (issuer_in host) (opening_logs host) (callers_in host) lines answers back)
-      → LeavesLoaded (callers_in host) issuer prefix told (map (store_seen G) back)
-  closes-loaded_together host back ready sound closes =
-      let c = closed-under host host back ready
+      → LeavesLoaded (callers_in host) issuer prefix told (journals_seen G olds back)
+  closes-loaded_together olds host back ready sound closes =
+      let c = closed-under olds host host back ready
       (record { same_issuer = refl; same_opening = refl; same_callers = refl }) [] []
       (closes [] [] [] ready.none) in
-      leaves-loaded_together (callers_in host) issuer prefix told ready.stores back (opening_logs host) c.logs
-      ready.stores_are ready.opened ready.opening
+      leaves-loaded_together (callers_in host) issuer prefix told ready.old_stores olds ready.stores back
+      (opening_logs host) c.logs ready.opened ready.only_read ready.opening
       c.same_count c.closed told_bytes ready.several sound c.shares c.dealt c.lawful
 
 -- ---- a line more

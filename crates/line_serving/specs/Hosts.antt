@@ -16,11 +16,12 @@ use Rattle.shared_callers.specs.Lanes.{issuer_in, opening_logs, callers_in, wait
 use Rattle.shared_callers.specs.Lanes.{LanesServe}
 use Rattle.line_serving.specs.Answers.{AreAnsweredBy, AnswersNone}
 use Rattle.host_calls.specs.OpeningLogs.{AreOpenedFrom}
-use Rattle.desk_host.specs.Journals.{AreOpened, IsReadySolo}
+use Rattle.one_caller.specs.Loading.{AreOnlyRead}
+use Rattle.desk_host.specs.Journals.{HasAllOpened, IsReadySolo}
 use Rattle.desk_host.specs.Kept.{KeepJournals}
 use Rattle.desk_host.specs.Lawful.{IsLawful}
 use Rattle.desk_host.specs.Left.{LeaveJournals}
-use Rattle.desk_host.specs.SeenStores.{Logged, SeenStore}
+use Rattle.desk_host.specs.SeenStores.{Logged, SeenJournals}
 
 -- ---- what a host does
 
@@ -47,12 +48,11 @@ pub record Settles (Served : List (List ℕ) → List ℕ → List (List ℕ) �
   pub served : Served (lines ++ waiting) (text ++ more) []
 
 -- what a host of so many callers leaves that answered these lines since its journals were loaded
-pub record LeavesAnswered (count : ℕ) (issuer : Setup) (prefix : List ℕ) (logs : Logged) (stores : List SeenStore)
-    (lines : List (List ℕ))
-    (text : List ℕ) : Type 0 where
+pub record LeavesAnswered (count : ℕ) (issuer : Setup) (prefix : List ℕ) (logs : Logged)
+    (journals : SeenJournals) (lines : List (List ℕ)) (text : List ℕ) : Type 0 where
   pub first : List Book
   pub last : List Book
-  pub kept : KeepJournals issuer prefix logs stores first last
+  pub kept : KeepJournals issuer prefix logs journals first last
   pub lawful : IsLawful issuer first last
   pub answers : List Answer
   pub answered : AreAnsweredBy count issuer first last lines answers
@@ -60,13 +60,13 @@ pub record LeavesAnswered (count : ℕ) (issuer : Setup) (prefix : List ℕ) (lo
 
 -- what it leaves where it answered none
 pub record LeavesLoaded (count : ℕ) (issuer : Setup) (prefix : List ℕ) (logs : Logged)
-    (stores : List SeenStore) : Type 0 where
+    (journals : SeenJournals) : Type 0 where
   pub first : List Book
   pub last : List Book
-  pub kept : KeepJournals issuer prefix logs stores first last
+  pub kept : KeepJournals issuer prefix logs journals first last
   pub lawful : IsLawful issuer first last
   pub none : AnswersNone count first last
-  pub left : count ≡ 1 → LeaveJournals prefix logs stores
+  pub left : count ≡ 1 → LeaveJournals prefix logs journals
 
 -- ---- the host of one caller, that of several, and either
 
@@ -81,15 +81,17 @@ module _ {S : Type 0} {G : Ghosts S} where
     pub run : (books : List Book) → HasRun first.issuer first.shards.items books [] [] first.shards.items books
         → (last : List Book) × HasRun first.issuer first.shards.items books lines answers now.shards.items last
 
-  -- it was loaded for this issuer and more than one caller, from the journals that the desk had under their names, and
-  -- has answered no line
-  pub record IsReadyTogether (issuer : Setup) (prefix : List ℕ) (logs : Logged) (host : Lanes S G) : Type 0 where
+  -- it was loaded for this issuer and more than one caller, from the journals that the desk had under their names; of
+  -- these, the old ones were only read. It has answered no line
+  pub record IsReadyTogether (issuer : Setup) (prefix : List ℕ) (logs : Logged) (olds : List S) (host : Lanes S G)
+      : Type 0 where
     pub issuer_is : issuer_in host ≡ issuer
     pub several : 1 < callers_in host
+    pub old_stores : List S
     pub stores : List S
-    pub stores_are : length stores ≡ issuer.shards
-    pub opened : AreOpened G prefix logs stores
-    pub opening : AreOpenedFrom G.bytes G.disk G.faults issuer stores (opening_logs host)
+    pub opened : HasAllOpened G issuer prefix logs old_stores stores
+    pub opening : AreOpenedFrom G.bytes G.disk G.faults issuer old_stores olds stores (opening_logs host)
+    pub only_read : AreOnlyRead G.size G.bytes G.disk G.room old_stores olds
     pub none : LanesServe host [] [] [] []
 
   -- since it was the first host, its callers answered these lines, with this text, and these wait
@@ -123,9 +125,9 @@ module _ {S : Type 0} {G : Ghosts S} where
   callers_of (Together host) = callers_in host
 
   -- it was just loaded for this issuer, from the journals that the desk had under their names
-  abbrev pub IsReady : Setup → List ℕ → Logged → LineHost S G → Type 0
-  IsReady issuer prefix logs (Alone host) = IsReadySolo issuer prefix logs host
-  IsReady issuer prefix logs (Together host) = IsReadyTogether issuer prefix logs host
+  abbrev pub IsReady : Setup → List ℕ → Logged → List S → LineHost S G → Type 0
+  IsReady issuer prefix logs olds (Alone host) = IsReadySolo issuer prefix logs olds host
+  IsReady issuer prefix logs olds (Together host) = IsReadyTogether issuer prefix logs olds host
 
   -- since it was the first host, these lines were answered, with this text, and these were taken and wait
   abbrev pub HasServed : LineHost S G → List (List ℕ) → List ℕ → List (List ℕ) → LineHost S G → Type 0

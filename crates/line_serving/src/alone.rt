@@ -6,7 +6,7 @@ ghost use Rattle.shared_callers.specs.declared.lanes.TheConstants.{BLOCK_LINES};
 ghost use Rattle.desk_host.specs.Configuration.{HasSoundParts};
 ghost use Rattle.desk_host.specs.Journals.{IsReadySolo};
 ghost use Rattle.line_serving.specs.Hosts.{TakesLine, LeavesAnswered, LeavesLoaded, HasAnswered};
-ghost use Rattle.desk_host.specs.SeenStores.{Logged, store_seen};
+ghost use Rattle.desk_host.specs.SeenStores.{Logged, journals_seen};
 
 use crate::block::Block;
 use issuer_base::{Gate, Store};
@@ -39,13 +39,14 @@ pub(crate) fn answer_at_once<S: Store, R: Wait, G: Gate>(
 
 /// The stores of the host's journals, in the order of their shards.
 pub(crate) fn close_alone<S: Store>(host: Solo<S>) -> Vec<S>
-    ensures answered { (issuer : Setup) (prefix : List ℕ) (logs : Logged) (first : Solo S S.Store)
+    ensures answered { (issuer : Setup) (prefix : List ℕ) (logs : Logged) (olds : List S) (first : Solo S S.Store)
         (lines : List (List ℕ)) (text : List ℕ)
-        → IsReadySolo issuer prefix logs first → HasSoundParts issuer → HasAnswered first (map kept lines) text [] host
-        → LeavesAnswered 1 issuer prefix logs (map (store_seen S.Store) result.items) lines text }
-    ensures loaded { (issuer : Setup) (prefix : List ℕ) (logs : Logged) → IsReadySolo issuer prefix logs host
-        → HasSoundParts issuer
-        → LeavesLoaded 1 issuer prefix logs (map (store_seen S.Store) result.items) }
+        → IsReadySolo issuer prefix logs olds first → HasSoundParts issuer
+        → HasAnswered first (map kept lines) text [] host
+        → LeavesAnswered 1 issuer prefix logs (journals_seen S.Store olds result.items) lines text }
+    ensures loaded { (issuer : Setup) (prefix : List ℕ) (logs : Logged) (olds : List S)
+        → IsReadySolo issuer prefix logs olds host → HasSoundParts issuer
+        → LeavesLoaded 1 issuer prefix logs (journals_seen S.Store olds result.items) }
 {
     host.close()
 }

@@ -5,7 +5,7 @@ ghost use Rattle.issuer_setup.specs.IssuerSetup.{Setup};
 ghost use Rattle.line_reader.specs.declared.limits.TheConstants.{MAX_LINES};
 ghost use Rattle.line_reader.specs.Reading.{kept};
 ghost use Rattle.desk_host.specs.Configuration.{HasSoundParts};
-ghost use Rattle.desk_host.specs.SeenStores.{Logged, store_seen};
+ghost use Rattle.desk_host.specs.SeenStores.{Logged, journals_seen};
 
 use crate::alone::{answer_at_once, close_alone};
 use crate::block::Block;
@@ -91,14 +91,15 @@ impl<S: Store> LineHost<S> {
     /// The stores of its journals, in the order of their shards.
     pub fn close(self) -> Vec<S>
         requires { IsSettled self }
-        ensures answered { (issuer : Setup) (prefix : List ℕ) (logs : Logged) (first : LineHost S S.Store)
-            (lines : List (List ℕ)) (text : List ℕ)
-            → IsReady issuer prefix logs first → HasSoundParts issuer → length lines ≤ MAX_LINES
+        ensures answered { (issuer : Setup) (prefix : List ℕ) (logs : Logged) (olds : List S)
+            (first : LineHost S S.Store) (lines : List (List ℕ)) (text : List ℕ)
+            → IsReady issuer prefix logs olds first → HasSoundParts issuer → length lines ≤ MAX_LINES
             → HasServed first (map kept lines) text [] self
-            → LeavesAnswered (callers_of first) issuer prefix logs (map (store_seen S.Store) result.items) lines text }
-        ensures loaded { (issuer : Setup) (prefix : List ℕ) (logs : Logged) → IsReady issuer prefix logs self
-            → HasSoundParts issuer
-            → LeavesLoaded (callers_of self) issuer prefix logs (map (store_seen S.Store) result.items) }
+            → LeavesAnswered (callers_of first) issuer prefix logs (journals_seen S.Store olds result.items)
+            lines text }
+        ensures loaded { (issuer : Setup) (prefix : List ℕ) (logs : Logged) (olds : List S)
+            → IsReady issuer prefix logs olds self → HasSoundParts issuer
+            → LeavesLoaded (callers_of self) issuer prefix logs (journals_seen S.Store olds result.items) }
     {
         match self {
             LineHost::Alone(host) => close_alone(host),

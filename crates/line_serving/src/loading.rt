@@ -5,34 +5,38 @@ ghost use Rattle.desk_host.specs.Loading.{ComesToNoHost};
 ghost use Rattle.line_serving.specs.Hosts.{IsReadyTogether, IsFreshTogether, IsReady, IsFresh};
 
 use crate::hosts::LineHost;
-use desk_host::{load_alone, open_journals};
+use desk_host::{Journals, Loaded, NoHost, load_alone, no_host, open_journals};
 use issuer_base::Desk;
 use issuer_setup::Issuer;
-use shared_callers::{HostBack, Lanes};
+use shared_callers::Lanes;
 use std::alloc::Global;
 
 /// The host of an issuer with so many callers, 1 to 16, over the journals under these names: they are opened at the
 /// desk, and loaded.
 ///
-/// The first journal that can't be opened or loaded stops it: its fault comes back with the stores that were opened.
+/// The first journal that can't be opened or loaded stops it: its fault comes back with the journals that were opened.
 pub fn load_host<D: Desk>(
     alloc: Global,
     desk: &mut D,
     prefix: &str,
     issuer: Issuer,
     callers: u8,
-) -> Result<LineHost<D::Journal>, HostBack<D::Journal>>
+) -> Result<Loaded<LineHost<D::Journal>, D::Journal>, NoHost<D::Journal>>
     requires { (1 ≤ callers) × (callers ≤ MAX_CALLERS) }
-    ensures ready { IfOk result (IsReady issuer prefix.now (D.logs desk.old)) }
-    ensures fresh { IfOk result (IsFresh callers) }
+    ensures ready { IfOk result (λ loaded. IsReady issuer prefix.now (D.logs desk.old) loaded.olds.items loaded.host) }
+    ensures fresh { IfOk result (λ loaded. IsFresh callers loaded.host) }
     ensures stood { is_ok result ≡ true → D.faults desk.new ≡ D.faults desk.old }
     ensures none { IfErr result (ComesToNoHost D.Desk D.Journal.Store issuer prefix.now desk.old desk.new) }
     ensures kept { D.holds desk.new ≡ D.holds desk.old }
 {
     if callers == 1 {
-        Ok(LineHost::Alone(load_alone(alloc, desk, prefix, issuer)?))
+        let Loaded { host, olds } = load_alone(alloc, desk, prefix, issuer)?;
+        let host = LineHost::Alone(host);
+        Ok(Loaded { host, olds })
     } else {
-        Ok(LineHost::Together(load_together(alloc, desk, prefix, issuer, callers)?))
+        let Loaded { host, olds } = load_together(alloc, desk, prefix, issuer, callers)?;
+        let host = LineHost::Together(host);
+        Ok(Loaded { host, olds })
     }
 }
 
@@ -43,14 +47,18 @@ fn load_together<D: Desk>(
     prefix: &str,
     issuer: Issuer,
     callers: u8,
-) -> Result<Lanes<D::Journal>, HostBack<D::Journal>>
+) -> Result<Loaded<Lanes<D::Journal>, D::Journal>, NoHost<D::Journal>>
     requires { (1 < callers) × (callers ≤ MAX_CALLERS) }
-    ensures ready { IfOk result (IsReadyTogether issuer prefix.now (D.logs desk.old)) }
-    ensures fresh { IfOk result (IsFreshTogether callers) }
+    ensures ready { IfOk result (λ loaded.
+        IsReadyTogether issuer prefix.now (D.logs desk.old) loaded.olds.items loaded.host) }
+    ensures fresh { IfOk result (λ loaded. IsFreshTogether callers loaded.host) }
     ensures stood { is_ok result ≡ true → D.faults desk.new ≡ D.faults desk.old }
     ensures none { IfErr result (ComesToNoHost D.Desk D.Journal.Store issuer prefix.now desk.old desk.new) }
     ensures kept { D.holds desk.new ≡ D.holds desk.old }
 {
-    let stores = open_journals(alloc, desk, prefix, &issuer)?;
-    Lanes::load(alloc, stores, issuer, callers)
+    let Journals { mut olds, stores } = open_journals(alloc, desk, prefix, &issuer)?;
+    match Lanes::load(alloc, &mut olds, stores, issuer, callers) {
+        Ok(host) => Ok(Loaded { host, olds }),
+        Err(back) => Err(no_host(back, olds)),
+    }
 }

@@ -7,7 +7,7 @@ ghost use Rattle.shared_callers.specs.Lanes.{callers_in, waiting_in};
 ghost use Rattle.desk_host.specs.Configuration.{HasSoundParts};
 ghost use Rattle.line_serving.specs.Hosts.{Settles, LeavesAnswered, LeavesLoaded, IsReadyTogether, HaveAnswered};
 ghost use Rattle.line_serving.specs.Hosts.{OwesNone, TakesMore};
-ghost use Rattle.desk_host.specs.SeenStores.{Logged, store_seen};
+ghost use Rattle.desk_host.specs.SeenStores.{Logged, journals_seen};
 
 use crate::block::Block;
 use issuer_base::{Gate, Store};
@@ -40,14 +40,14 @@ pub(crate) fn settle_together<S: Store + Send, R: Threads + Wait + Sync, G: Gate
 /// The stores of the host's journals, in the order of their shards.
 pub(crate) fn close_together<S: Store>(host: Lanes<S>) -> Vec<S>
     requires { waiting_in host ≡ 0 }
-    ensures answered { (issuer : Setup) (prefix : List ℕ) (logs : Logged) (first : Lanes S S.Store)
+    ensures answered { (issuer : Setup) (prefix : List ℕ) (logs : Logged) (olds : List S) (first : Lanes S S.Store)
         (lines : List (List ℕ)) (text : List ℕ)
-        → IsReadyTogether issuer prefix logs first → HasSoundParts issuer → length lines ≤ MAX_LINES
+        → IsReadyTogether issuer prefix logs olds first → HasSoundParts issuer → length lines ≤ MAX_LINES
         → HaveAnswered first (map kept lines) text [] host
-        → LeavesAnswered (callers_in first) issuer prefix logs (map (store_seen S.Store) result.items) lines text }
-    ensures loaded { (issuer : Setup) (prefix : List ℕ) (logs : Logged) → IsReadyTogether issuer prefix logs host
-        → HasSoundParts issuer
-        → LeavesLoaded (callers_in host) issuer prefix logs (map (store_seen S.Store) result.items) }
+        → LeavesAnswered (callers_in first) issuer prefix logs (journals_seen S.Store olds result.items) lines text }
+    ensures loaded { (issuer : Setup) (prefix : List ℕ) (logs : Logged) (olds : List S)
+        → IsReadyTogether issuer prefix logs olds host → HasSoundParts issuer
+        → LeavesLoaded (callers_in host) issuer prefix logs (journals_seen S.Store olds result.items) }
 {
     host.close()
 }

@@ -12,7 +12,7 @@ use Rattle.issuer_base.specs.declared.answer.Answer.{Answer}
 use Rattle.issuer_base.specs.declared.entry.Entry.{Entry}
 use Rattle.card_history.specs.Records.{CardName}
 use Rattle.issuer_setup.specs.IssuerSetup.{Setup, shard_of}
-use Rattle.journal_rec.specs.RecordText.{texts_of}
+use Rattle.journal_rec.specs.RecordText.{journal_text}
 use Rattle.record_store.specs.Holding.{Holds}
 use Rattle.shard_book.specs.declared.shard.Shard.{Shard}
 use Rattle.shard_book.specs.Answering.{is_store_fault, told_after}
@@ -66,7 +66,7 @@ module _ {S : Type 0} {G : Ghosts S} where
     faults_are = refl;
     told_are = refl;
     settled = λ untold.
-        subst (λ (tail : List ℕ). Holds shard.journal (length history) (texts_of history) tail)
+        subst (λ (tail : List ℕ). Holds shard.journal (length history) (journal_text history) tail)
         (stands.journal_holds.holds.tail_is (undoubted untold)) stands.journal_holds.holds;
   }
 

@@ -1,10 +1,9 @@
 -- The room of a host's stores: what a line of a card uses of it, and what loading leaves.
-use Rattle.std.proofs.Common.{◌≡◌, ℕ, ◌+◌, ◌≤◌, if◌then◌else◌, Bool, false, List, ◌∷◌, length, set, Some, Result, Err}
-use Rattle.std.proofs.Common.{refl, sym, ap, subst, ◌∙◌, inl, inr, arith}
+use Rattle.std.proofs.Common.{◌≡◌, ℕ, ◌+◌, ◌≤◌, if◌then◌else◌, Bool, false, List, ◌∷◌, ◌++◌, length, set, Some, Result, Err}
+use Rattle.std.proofs.Common.{refl, sym, ap, subst, ◌∙◌, inl, inr, arith, add-zero}
 use Rattle.std.proofs.lemmas.Bool.{cases_eq, eq-eqb}
 use Rattle.std.proofs.lemmas.Option.{same_Some, slice_get_within}
 use Rattle.std.specs.List.{slice_get}
-use Rattle.issuer_base.specs.Stores.{HasRoom}
 use Rattle.issuer_base.specs.declared.outside.store.Store.{Ghosts}
 use Rattle.issuer_base.specs.declared.answer.Answer.TheVariants.{Refused}
 use Rattle.issuer_base.specs.declared.request.Request.{Request}
@@ -16,13 +15,14 @@ use Rattle.issuer_setup.specs.IssuerSetup.{Setup}
 use Rattle.line_checks.specs.Reading.{checked, reading}
 use Rattle.shard_book.specs.declared.shard.Shard.{Shard}
 use Rattle.shard_book.specs.Answering.{is_store_fault}
+use Rattle.shard_book.specs.Loads.{HaveRoom as LoadHasRoom}
 use Rattle.shard_book.specs.Room.{Spares, UsesRoom}
 use Rattle.shard_book.specs.Shards.{store_in}
 use Rattle.shard_book.proofs.Rooms.{room-less}
 use Rattle.one_caller.specs.Loading.{AreLoaded}
 use Rattle.one_caller.specs.Room.{added_at, HaveRoom, StoresHaveRoom}
 use Rattle.one_caller.proofs.Asked.{asks-no_store, checked-no_store}
-use Rattle.one_caller.proofs.Loads.{IsLoading}
+use Rattle.one_caller.proofs.Loads.{IsLoading, old-unread, shard-of}
 use Rattle.one_caller.proofs.Places.{read-behind, read-other, read-within, read-written}
 
 -- what a record adds to its own shard
@@ -65,22 +65,23 @@ module _ {S : Type 0} {G : Ghosts S} where
       )
 
   -- the shards that were loaded have the room that their stores had
-  pub room-loaded : (issuer : Setup) (stores : List S) (shards : List (Shard S G)) → AreLoaded issuer stores shards → (spare : ℕ → ℕ)
-      → StoresHaveRoom G.size G.room spare stores → HaveRoom spare shards
-  room-loaded issuer stores shards loaded spare have = record {
+  pub room-loaded : (issuer : Setup) (olds read stores : List S) (shards : List (Shard S G)) → AreLoaded issuer olds read stores shards → (spare : ℕ → ℕ)
+      → StoresHaveRoom G.size G.room spare olds stores → HaveRoom spare shards
+  room-loaded issuer olds read stores shards loaded spare have = record {
     each = λ number shard is.
-        let within = slice_get_within shards number shard is in
-        let count = loaded.count_is in
-        let store = read-within stores number (omega (arith, within, count)) in
-        (loaded.each number store.0 shard store.1 is).room (spare number) (have.each number store.0 store.1);
+        let its = shard-of issuer olds read stores shards loaded number shard is in
+        its.from.room (spare number) (have.each number its.old its.store its.old_is its.store_is);
   }
 
-  -- the next store that is loaded works at its size
-  pub room-next : (issuer : Setup) (stores : List S) (shards : List (Shard S G)) (store : S) (ahead : List S) → IsLoading issuer stores shards (store ∷ ahead)
-      → StoresHaveRoom G.size G.room (λ _. 0) stores → HasRoom 0 (G.size store) (G.room store)
-  room-next issuer stores shards store ahead loading have =
+  -- the next stores that are loaded have room
+  pub room-next : (issuer : Setup) (olds read stores : List S) (shards : List (Shard S G)) (store : S) (ahead : List S)
+      → IsLoading issuer olds read stores shards (store ∷ ahead) → (old : S) → slice_get read (length shards) ≡ Some old
+      → StoresHaveRoom G.size G.room (λ _. 0) olds stores → LoadHasRoom 0 (G.size old) (G.room old) (G.size store) (G.room store)
+  room-next issuer olds read stores shards store ahead loading old old_is have =
       let first = loading.first in
-      have.each (length first + 0) store (ap (λ (all : List S). slice_get all (length first + 0)) loading.stores_are ∙ read-behind first (store ∷ ahead) 0)
+      have.each (length shards) old store (old-unread issuer olds read stores shards store ahead loading old old old_is)
+      (ap (λ (all : List S). slice_get all (length shards)) loading.stores_are
+      ∙ ap (slice_get (first ++ store ∷ ahead)) (loading.count_is ∙ sym (add-zero (length first))) ∙ read-behind first (store ∷ ahead) 0)
 
 -- a refusal that isn't for a store's fault reports none
 no-fault : (refusal : Refusal) → (refusal ≡ StoreFault → ⊥) → is_store_fault (Refused refusal) ≡ false

@@ -5,24 +5,22 @@ use Rattle.std.proofs.lemmas.List.{length-map}
 use Rattle.std.proofs.lemmas.Option.{same_Some, slice_get_within}
 use Rattle.std.specs.List.{slice_get}
 use Rattle.issuer_base.specs.OutsideFaults.{CountsFaults}
-use Rattle.issuer_base.specs.Stores.{Disk, LeavesOnly, MayLeave}
-use Rattle.issuer_base.specs.Tells.{Tells}
+use Rattle.issuer_base.specs.Stores.{BothTold, Disk, LeavesOnly, MayLeave}
 use Rattle.issuer_base.proofs.Moments.{LeavesOnly-then, LeavesOnly-weaker}
 use Rattle.issuer_base.proofs.ToldTwice.{BothTold-then}
 use Rattle.issuer_base.specs.declared.answer.Answer.{Answer}
 use Rattle.issuer_base.specs.declared.entry.Entry.{Entry}
 use Rattle.issuer_base.specs.declared.outside.store.Store.{Ghosts}
-use Rattle.card_history.specs.LegalRecords.{IsLegalHistory}
 use Rattle.issuer_setup.specs.IssuerSetup.{Setup}
-use Rattle.journal_rec.specs.RecordText.{texts_of, IsUnbroken}
+use Rattle.journal_rec.specs.RecordText.{journal_text}
 use Rattle.line_checks.specs.Reading.{reading}
 use Rattle.record_store.specs.declared.journal.Journal.{Journal}
 use Rattle.record_store.specs.Holding.{Holds}
 use Rattle.record_store.specs.Images.{HasSafeText, IsImage}
 use Rattle.record_store.proofs.Passing.{leaves-image}
 use Rattle.shard_book.specs.declared.shard.Shard.{Shard}
-use Rattle.shard_book.specs.Grounds.{IsTail, grounds_now, grounds_of}
-use Rattle.shard_book.specs.Shards.{store_in, disk_in, faults_in}
+use Rattle.shard_book.specs.Grounds.{IsTail, grounds_now}
+use Rattle.shard_book.specs.Shards.{store_in, disk_in, faults_in, IsJournalOf, IsLoadImage}
 use Rattle.shard_book.specs.Histories.{GoesOn, IsImageBetween}
 use Rattle.shard_book.proofs.Histories.{goes-none, goes-then}
 use Rattle.one_caller.specs.Books.{Book}
@@ -35,99 +33,97 @@ use Rattle.one_caller.specs.Turns.{Turn, Run}
 use Rattle.one_caller.proofs.Places.{read-within, read-map, choose}
 use Rattle.one_caller.proofs.TurnSteps.{turn-adds}
 use Rattle.one_caller.proofs.LegalBooks.{adds-goes_on}
-use Rattle.one_caller.proofs.Loads.{loaded-are}
+use Rattle.one_caller.proofs.Loads.{loaded-are, shard-of}
 use Rattle.one_caller.proofs.OneShard.{leave-uncalled}
 
 -- ---- the books of shards that were loaded
 
--- the book is that of a store before its shard was loaded: its bytes are the text of the book's history and a torn last line,
--- the history is legal, and no answer reported a fault
-pub record IsBookOf {S : Type 0} (bytes : S → Option (List ℕ)) (faults : S → ℕ) (issuer : Setup) (number : ℕ) (store : S) (book : Book) : Type 0 where
-  pub rest : List ℕ
-  pub text_is : Tells (bytes store) (texts_of book.history ++ rest)
-  pub unbroken : IsUnbroken rest
-  pub legal : IsLegalHistory (grounds_of issuer) number book.history
+-- the book is that of a store before its shard was loaded: the bytes of the old store and of the store were taken for the
+-- book's history, which is legal since that of the old store, and no answer reported a fault; until the store's disk was
+-- `opened`, a crash leaves what it might leave before, a prefix of the old history's text, or the history's text
+pub record IsBookOf {S : Type 0} (bytes : S → Option (List ℕ)) (disk : S → Option Disk) (faults : S → ℕ) (issuer : Setup) (number : ℕ) (old store : S)
+    (opened : Option Disk) (book : Book) : Type 0 where
+  pub old_history : List Entry
+  pub journal_is : IsJournalOf issuer number (bytes old) (bytes store) old_history book.history
+  pub leaves : BothTold (λ before after. LeavesOnly (IsLoadImage old_history book.history before.now) before after) (disk store) opened
   pub counts : CountsFaults (faults store) book.faults false
   pub untold : book.told ≡ 0
 
 module _ {S : Type 0} {G : Ghosts S} where
   -- a shard that was loaded stands for the book of its history
-  pub stands-loaded : (issuer : Setup) (number : ℕ) (store : S) (shard : Shard S G) → (from : IsLoadedFrom issuer number store shard)
+  pub stands-loaded : (issuer : Setup) (number : ℕ) (old old_then store : S) (shard : Shard S G) → (from : IsLoadedFrom issuer number old old_then store shard)
       → StandsForBook issuer shard (record { history = from.loaded.history; faults = faults_in shard; told = 0 })
-  stands-loaded issuer number store shard from = record {
+  stands-loaded issuer number old old_then store shard from = record {
     stands = from.loaded.stands;
     faults_are = refl;
     told_are = from.untold;
     settled = λ untold. from.loaded.settled;
   }
 
-  book-loaded : (issuer : Setup) (number : ℕ) (store : S) (shard : Shard S G) → (from : IsLoadedFrom issuer number store shard)
-      → IsBookOf G.bytes G.faults issuer number store (record { history = from.loaded.history; faults = faults_in shard; told = 0 })
-  book-loaded issuer number store shard from = record {
-    rest = from.loaded.rest;
-    text_is = from.loaded.text_is;
-    unbroken = from.loaded.unbroken;
-    legal = from.loaded.legal;
+  book-loaded : (issuer : Setup) (number : ℕ) (old old_then store : S) (shard : Shard S G) → (from : IsLoadedFrom issuer number old old_then store shard)
+      → IsBookOf G.bytes G.disk G.faults issuer number old store (disk_in shard)
+      (record { history = from.loaded.history; faults = faults_in shard; told = 0 })
+  book-loaded issuer number old old_then store shard from = record {
+    old_history = from.loaded.old;
+    journal_is = from.loaded.journal_is;
+    leaves = from.leaves;
     counts = from.counts;
     untold = refl;
   }
 
   -- what a run begins with: the books of the stores
-  pub record Begins (issuer : Setup) (stores : List S) (shards : List (Shard S G)) : Type 0 where
+  pub record Begins (issuer : Setup) (olds stores : List S) (shards : List (Shard S G)) : Type 0 where
     pub books : List Book
     pub has_run : HasRun issuer shards books [] [] shards books
-    pub books_are : (number : ℕ) (store : S) (book : Book) → slice_get stores number ≡ Some store → slice_get books number ≡ Some book
-        → IsBookOf G.bytes G.faults issuer number store book
+    pub books_are : (number : ℕ) (old store : S) (shard : Shard S G) (book : Book) → slice_get olds number ≡ Some old
+        → slice_get stores number ≡ Some store → slice_get shards number ≡ Some shard → slice_get books number ≡ Some book
+        → IsBookOf G.bytes G.disk G.faults issuer number old store (disk_in shard) book
 
   -- no lines were answered since the shards were loaded
-  pub run-none : (issuer : Setup) (stores : List S) (shards : List (Shard S G)) → length stores ≡ issuer.shards → AreLoaded issuer stores shards
-      → Begins issuer stores shards
-  run-none issuer stores shards long loaded =
+  pub run-none : (issuer : Setup) (olds read stores : List S) (shards : List (Shard S G)) → length stores ≡ issuer.shards
+      → AreLoaded issuer olds read stores shards → Begins issuer olds stores shards
+  run-none issuer olds read stores shards long loaded =
       let count = loaded.count_is in
       let P : ℕ → Shard S G → Book → Type 0 = λ number shard book.
-      (store : S) → slice_get stores number ≡ Some store
-      → StandsForBook issuer shard book × IsBookOf G.bytes G.faults issuer number store book in
+      (old store : S) → slice_get olds number ≡ Some old → slice_get stores number ≡ Some store
+      → StandsForBook issuer shard book × IsBookOf G.bytes G.disk G.faults issuer number old store (disk_in shard) book in
       let made = choose shards P (λ number shard shard_is.
-      let below = slice_get_within shards number shard shard_is in
-      let found = read-within stores number (omega arith) in
-      let from = loaded.each number found.0 shard found.1 shard_is in
-      let book : Book = record { history = from.loaded.history; faults = faults_in shard; told = 0 } in (
+      let its = shard-of issuer olds read stores shards loaded number shard shard_is in
+      let book : Book = record { history = its.from.loaded.history; faults = faults_in shard; told = 0 } in (
         book,
-        λ store store_is.
-            subst (λ (store : S). StandsForBook issuer shard book × IsBookOf G.bytes G.faults issuer number store book)
-            (same_Some found.0 store (sym found.1 ∙ store_is))
-            (stands-loaded issuer number found.0 shard from, book-loaded issuer number found.0 shard from),
+        λ old store old_is store_is.
+            subst (λ (old : S). StandsForBook issuer shard book × IsBookOf G.bytes G.disk G.faults issuer number old store (disk_in shard) book)
+            (same_Some its.old old (sym its.old_is ∙ old_is))
+            (subst (λ (store : S). StandsForBook issuer shard book × IsBookOf G.bytes G.disk G.faults issuer number its.old store (disk_in shard) book)
+            (same_Some its.store store (sym its.store_is ∙ store_is))
+            (stands-loaded issuer number its.old its.old_then its.store shard its.from, book-loaded issuer number its.old its.old_then its.store shard its.from)),
       )) in
       let stand : Stand issuer shards made.0 = record {
         count_is = made.1;
         each = λ number shard book shard_is book_is.
-            let below = slice_get_within shards number shard shard_is in
-            let found = read-within stores number (omega arith) in
-            (made.2 number shard book shard_is book_is found.0 found.1).0;
+            let its = shard-of issuer olds read stores shards loaded number shard shard_is in
+            (made.2 number shard book shard_is book_is its.old its.store its.old_is its.store_is).0;
       } in
       record {
         books = made.0;
         has_run = record {
           run = refl;
           stand = stand;
-          leave = leave-uncalled issuer shards (loaded-are issuer stores shards long loaded) made.0 stand;
+          leave = leave-uncalled issuer shards (loaded-are issuer olds read stores shards long loaded) made.0 stand;
         };
-        books_are = λ number store book store_is book_is.
-            let below = slice_get_within stores number store store_is in
-            let found = read-within shards number (omega arith) in
-            (made.2 number found.0 book found.1 book_is store store_is).1;
+        books_are = λ number old store shard book old_is store_is shard_is book_is. (made.2 number shard book shard_is book_is old store old_is store_is).1;
       }
 
 -- so legal books begin it
-pub begins-legal : {S : Type 0} {G : Ghosts S} (issuer : Setup) (stores : List S) (shards : List (Shard S G)) → AreLoaded issuer stores shards
-    → (begins : Begins issuer stores shards) → AreLegalBooks issuer begins.books
-begins-legal issuer stores shards loaded begins number book book_is =
+pub begins-legal : {S : Type 0} {G : Ghosts S} (issuer : Setup) (olds read stores : List S) (shards : List (Shard S G))
+    → AreLoaded issuer olds read stores shards → (begins : Begins issuer olds stores shards) → AreLegalBooks issuer begins.books
+begins-legal issuer olds read stores shards loaded begins number book book_is =
     let below = slice_get_within begins.books number book book_is in
     let stand = begins.has_run.stand in
     let long = stand.count_is in
-    let count = loaded.count_is in
-    let found = read-within stores number (omega arith) in
-    (begins.books_are number found.0 book found.1 book_is).legal
+    let shard = read-within shards number (omega arith) in
+    let its = shard-of issuer olds read stores shards loaded number shard.0 shard.1 in
+    (begins.books_are number its.old its.store shard.0 book its.old_is its.store_is shard.1 book_is).journal_is.since.legal
 
 -- ---- one more line
 
@@ -232,18 +228,18 @@ safe-left text tail (Some disk) safe = λ image left. leaves-image text tail dis
 module _ {S : Type 0} {G : Ghosts S} (issuer : Setup) (number : ℕ) (book : Book) (journal : Journal S G) where
   -- a store holds the journal of its shard's book
   pub holds-with : (tail : List ℕ) → IsTail (grounds_now issuer) number book.history tail → (book.told ≡ 0 → tail ≡ [])
-      → Holds journal (length book.history) (texts_of book.history) tail → HoldsJournal issuer number book (G.bytes journal.store) (G.disk journal.store)
+      → Holds journal (length book.history) (journal_text book.history) tail → HoldsJournal issuer number book (G.bytes journal.store) (G.disk journal.store)
   holds-with tail tail_is none holds = record {
     tail = tail;
     tail_is = tail_is;
     none = none;
     bytes_are = holds.bytes_are;
-    leaves = safe-left (texts_of book.history) tail (G.disk journal.store) holds.disk_is;
+    leaves = safe-left (journal_text book.history) tail (G.disk journal.store) holds.disk_is;
   }
 
   holds-told : (told : ℕ) (tail : List ℕ) → book.told ≡ told → IsTail (grounds_now issuer) number book.history tail
-      → Holds journal (length book.history) (texts_of book.history) tail
-      → (book.told ≡ 0 → Holds journal (length book.history) (texts_of book.history) [])
+      → Holds journal (length book.history) (journal_text book.history) tail
+      → (book.told ≡ 0 → Holds journal (length book.history) (journal_text book.history) [])
       → HoldsJournal issuer number book (G.bytes journal.store) (G.disk journal.store)
   holds-told zero tail told_is tail_is holds settled = holds-with [] (inl refl) (λ untold. refl) (settled told_is)
   holds-told (suc told) tail told_is tail_is holds settled =

@@ -2,7 +2,7 @@
 use Rattle.std.specs.Prelude.{◌≡◌, ℕ, List, [], length, slice_get, Some}
 use Rattle.issuer_base.specs.declared.outside.store.Store.{Ghosts}
 use Rattle.issuer_setup.specs.IssuerSetup.{Setup}
-use Rattle.journal_rec.specs.RecordText.{texts_of}
+use Rattle.journal_rec.specs.RecordText.{journal_text}
 use Rattle.record_store.specs.Holding.{Holds}
 use Rattle.shard_book.specs.declared.shard.Shard.{Shard}
 use Rattle.shard_book.specs.Shards.{number_in, IsUnder, faults_in, told_in, IsUndoubted, StandsFor}
@@ -23,7 +23,7 @@ module _ {S : Type 0} {G : Ghosts S} where
     pub stands : StandsFor issuer shard book.history
     pub faults_are : faults_in shard ≡ book.faults
     pub told_are : told_in shard ≡ book.told
-    pub settled : book.told ≡ 0 → Holds shard.journal (length book.history) (texts_of book.history) []
+    pub settled : book.told ≡ 0 → Holds shard.journal (length book.history) (journal_text book.history) []
 
   -- the shards stand for the books, each for the one with its number
   pub record Stand (issuer : Setup) (shards : List (Shard S G)) (books : List Book) : Type 0 where

@@ -16,7 +16,7 @@ use Rattle.issuer_setup.specs.IssuerSetup.{Setup}
 use Rattle.journal_rec.specs.Record.{IsRecord}
 use Rattle.line_checks.specs.Reading.{reading}
 use Rattle.shard_book.specs.Grounds.{grounds_of, grounds_now}
-use Rattle.shard_book.specs.Histories.{GoesOn}
+use Rattle.shard_book.specs.Histories.{GoesOn, IsLegalSince}
 use Rattle.one_caller.specs.Books.{Book, histories_of}
 
 -- the history is extended by legal records, and each of the new decisions is that of the issuer's table
@@ -25,6 +25,12 @@ pub record LegallyGoesOn (issuer : Setup) (shard : ℕ) (first last : List Entry
   pub legal : IsLegalHistory (grounds_of issuer) shard last
   pub by_table : (place : ℕ) (entry : Entry) → length first ≤ place → slice_get last place ≡ Some entry
       → IsLegal (grounds_now issuer) shard (take place last) entry
+
+-- the last history extends the first, and that the old journal's: each record of the old journal is legal by the window
+-- that was in force, each later one by today's, and each decision after the first history is that of the issuer's table
+pub record LegalFrom (issuer : Setup) (shard : ℕ) (old first last : List Entry) : Type 0 where
+  pub since : IsLegalSince issuer shard old first
+  pub goes_on : LegallyGoesOn issuer shard first last
 
 -- each shard's history is extended legally, and its store's fault count never fell
 abbrev pub GoOnLegally : Setup → List Book → List Book → Type 0

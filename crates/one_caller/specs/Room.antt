@@ -1,6 +1,5 @@
 -- The room of a host's stores, and how much of it a line uses.
 use Rattle.std.specs.Prelude.{◌≡◌, ℕ, ◌+◌, ◌==◌, if◌then◌else◌, false, List, Option, Some, Result, Ok, Err, slice_get}
-use Rattle.issuer_base.specs.Stores.{HasRoom}
 use Rattle.issuer_base.specs.declared.answer.Answer.{Answer}
 use Rattle.issuer_base.specs.declared.answer.Refusal.{Refusal}
 use Rattle.issuer_base.specs.declared.outside.store.Store.{Ghosts}
@@ -10,6 +9,7 @@ use Rattle.issuer_setup.specs.IssuerSetup.{Setup, shard_of}
 use Rattle.journal_rec.specs.declared.limits.TheConstants.{MOST_QUEUED_BYTES, MOST_RECORD_BYTES}
 use Rattle.shard_book.specs.declared.shard.Shard.{Shard}
 use Rattle.shard_book.specs.Answering.{is_store_fault}
+use Rattle.shard_book.specs.Loads.{HaveRoom as LoadHasRoom}
 use Rattle.shard_book.specs.Room.{Spares}
 use Rattle.one_caller.specs.Turns.{card_asked}
 
@@ -27,11 +27,12 @@ abbrev pub added_by : Setup → Result Asked Refusal → ℕ → ℕ
 added_by issuer (Err refusal) number = 0
 added_by issuer (Ok asked) number = added_at (shard_of issuer (card_asked asked)) (most_asked asked) number
 
--- the room of each store is known, and so many more bytes, by its index, are within it
-pub record StoresHaveRoom {S : Type 0} (size : S → ℕ) (room : S → Option ℕ) (spare : ℕ → ℕ) (stores : List S)
+-- the room of each old store and of each store is known, and so many more bytes, by its index, than a load may need are
+-- within the store's
+pub record StoresHaveRoom {S : Type 0} (size : S → ℕ) (room : S → Option ℕ) (spare : ℕ → ℕ) (olds stores : List S)
     : Type 0 where
-  pub each : (number : ℕ) (store : S) → slice_get stores number ≡ Some store
-      → HasRoom (spare number) (size store) (room store)
+  pub each : (number : ℕ) (old store : S) → slice_get olds number ≡ Some old → slice_get stores number ≡ Some store
+      → LoadHasRoom (spare number) (size old) (room old) (size store) (room store)
 
 module _ {S : Type 0} {G : Ghosts S} where
   -- the room of each shard's store is known, and so many more bytes, by the shard's number, are within it

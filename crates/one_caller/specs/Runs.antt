@@ -4,7 +4,7 @@ use Rattle.issuer_base.specs.Stores.{BothTold, Disk, LeavesOnly, MayLeave}
 use Rattle.issuer_base.specs.declared.outside.store.Store.{Ghosts}
 use Rattle.issuer_base.specs.declared.answer.Answer.{Answer}
 use Rattle.issuer_setup.specs.IssuerSetup.{Setup}
-use Rattle.journal_rec.specs.RecordText.{texts_of}
+use Rattle.journal_rec.specs.RecordText.{journal_text}
 use Rattle.record_store.specs.Images.{IsImage}
 use Rattle.shard_book.specs.declared.shard.Shard.{Shard}
 use Rattle.shard_book.specs.Grounds.{grounds_now, IsTail}
@@ -22,9 +22,9 @@ pub record HoldsJournal (issuer : Setup) (shard : ℕ) (book : Book) (bytes : Op
   pub tail : List ℕ
   pub tail_is : IsTail (grounds_now issuer) shard book.history tail
   pub none : book.told ≡ 0 → tail ≡ []
-  pub bytes_are : IfSome bytes (IsImage (texts_of book.history) tail)
+  pub bytes_are : IfSome bytes (IsImage (journal_text book.history) tail)
   pub leaves :
-      IfSome disk (λ disk. (image : List ℕ) → MayLeave disk.now image → IsImage (texts_of book.history) tail image)
+      IfSome disk (λ disk. (image : List ℕ) → MayLeave disk.now image → IsImage (journal_text book.history) tail image)
 
 -- each store holds the journal of its shard's book
 pub record HoldJournals {S : Type 0} (bytes : S → Option (List ℕ)) (disk : S → Option Disk) (issuer : Setup)

@@ -2,7 +2,7 @@
 ghost use Rattle.std.specs.Prelude.{◌≡◌, ◌+◌, ◌≤◌, [], ◌∷◌, ◌++◌, length, map, reverse, vec_capacity, IfOk, IfErr, false};
 ghost use Rattle.shard_book.specs.Loading.{is_store_failure};
 ghost use Rattle.shard_book.specs.Shards.{store_in};
-ghost use Rattle.one_caller.specs.Loading.{AreLoaded, ComeBack};
+ghost use Rattle.one_caller.specs.Loading.{AreLoaded, AreOnlyRead, ComeBack};
 ghost use Rattle.one_caller.specs.Room.{StoresHaveRoom};
 
 use issuer_base::{NoMemory, Store};
@@ -44,32 +44,37 @@ pub fn take_lists<S: Store>(alloc: Global, count: usize) -> Result<Lists<S>, NoM
     Ok(Lists { shards, back })
 }
 
-/// Loads a shard from each store, in order, into empty lists with room for all: replays the records of the store's
-/// whole lines, truncates a torn last line, and syncs the store. The first shard that can't be loaded stops it, and the
+/// Loads a shard from each old store and the store at its index, in order, into empty lists with room for all:
+/// continues the migration of the old store's records, replays the records of the store's whole lines, truncates a torn
+/// last line, and syncs the store. The old stores are only read. The first shard that can't be loaded stops it, and the
 /// stores are returned in order. The lists allocate nothing more; the shards do.
 pub fn load_all<S: Store>(
     alloc: Global,
     issuer: &Issuer,
+    olds: &mut Vec<S>,
     stores: Vec<S>,
     lists: Lists<S>,
 ) -> Result<Lists<S>, HostBack<S>>
-    requires count { length stores.items ≡ issuer.now.shards }
+    requires count { (length olds.old.items ≡ issuer.now.shards) × (length stores.items ≡ issuer.now.shards) }
     requires shards { (lists.shards.items ≡ []) × (length stores.items ≤ vec_capacity lists.shards) }
     requires back { (lists.back.items ≡ []) × (length stores.items ≤ vec_capacity lists.back) }
-    ensures loaded { IfOk result (λ loaded. AreLoaded issuer.now stores.items loaded.shards.items) }
-    ensures room { IfErr result
-        (λ back. StoresHaveRoom S.size S.room (λ _. 0) stores.items → is_store_failure back.fault ≡ false) }
+    ensures loaded { IfOk result (λ loaded.
+        AreLoaded issuer.now olds.old.items olds.new.items stores.items loaded.shards.items) }
+    ensures olds { AreOnlyRead S.size S.bytes S.disk S.room olds.old.items olds.new.items }
+    ensures room { IfErr result (λ back. StoresHaveRoom S.size S.room (λ _. 0) olds.old.items stores.items
+        → is_store_failure back.fault ≡ false) }
     ensures back { IfOk result
         (λ loaded. (loaded.back.items ≡ []) × (vec_capacity loaded.back ≡ vec_capacity lists.back)) }
-    ensures stopped { IfErr result (λ back.
-        ComeBack S.bytes S.disk S.faults issuer.now stores.items back.shard back.fault back.stores.items) }
+    ensures stopped { IfErr result (λ back. ComeBack S.size S.bytes S.disk S.faults issuer.now
+        olds.old.items olds.new.items stores.items back.shard back.fault back.stores.items) }
 {
     let Lists { mut shards, back } = lists;
     let mut ahead = stores;
     ahead.reverse();
     for number in 0..issuer.shards() {
         let store = ahead.pop().unwrap();
-        match Shard::load(alloc, store, number, issuer) {
+        let old = &mut olds[usize::from(number)];
+        match Shard::load(alloc, old, store, number, issuer) {
             Ok(shard) => shards.push_reserved(shard),
             Err(LoadBack { fault, store }) => {
                 return Err(HostBack {

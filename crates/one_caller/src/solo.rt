@@ -13,7 +13,7 @@ ghost use Rattle.shard_book.specs.Loading.{is_store_failure};
 ghost use Rattle.shard_book.specs.Shards.{store_in};
 ghost use Rattle.one_caller.specs.Books.{Book};
 ghost use Rattle.one_caller.specs.Hosts.{AreShards, Stand};
-ghost use Rattle.one_caller.specs.Loading.{AreLoaded, ComeBack};
+ghost use Rattle.one_caller.specs.Loading.{AreLoaded, AreOnlyRead, ComeBack};
 ghost use Rattle.one_caller.specs.Room.{AnswersWithin, HaveRoom, StoresHaveRoom};
 ghost use Rattle.one_caller.specs.Runs.{HoldJournals, LeaveBetween};
 ghost use Rattle.one_caller.specs.Turns.{Turn};
@@ -23,6 +23,7 @@ use crate::loading::{HostBack, Lists, load_all, take_lists, take_stores};
 use card_history::CardView;
 use issuer_base::{Answer, MAX_CHIP_BYTES, Store};
 use issuer_setup::Issuer;
+use journal_rec::VERSION_LINE;
 use line_checks::{CheckedOrder, CheckedRequest, Sought, SoughtRequest, look_up};
 use shard_book::{LoadFault, Shard};
 use std::alloc::Global;
@@ -45,23 +46,32 @@ pub struct Solo<S: Store> {
 }
 
 impl<S: Store> Solo<S> {
-    /// Loads the shards of an issuer from their stores, in order: replays the records of each store's whole lines,
-    /// truncates a torn last line, and syncs the store. The first shard that can't be loaded stops it, and the stores
-    /// are returned in order.
+    /// Loads the shards of an issuer from their old stores and their stores, in order: continues the migration of
+    /// each old store's records, replays the records of each store's whole lines, truncates a torn last line, and syncs
+    /// the store. The old stores are only read. The first shard that can't be loaded stops it, and the stores are
+    /// returned in order.
     ///
     /// If the host's own allocation fails, the error names shard 0. No other call allocates.
-    pub fn load(alloc: Global, stores: Vec<S>, issuer: Issuer) -> Result<Solo<S>, HostBack<S>>
-        requires { length stores.items ≡ issuer.shards }
+    pub fn load(
+        alloc: Global,
+        olds: &mut Vec<S>,
+        stores: Vec<S>,
+        issuer: Issuer,
+    ) -> Result<Solo<S>, HostBack<S>>
+        requires { (length olds.old.items ≡ issuer.shards) × (length stores.items ≡ issuer.shards) }
         ensures issuer { IfOk result (λ host. host.issuer ≡ issuer) }
-        ensures loaded { IfOk result (λ host. AreLoaded issuer stores.items host.shards.items) }
-        ensures stopped { IfErr result (λ back.
-            ComeBack S.bytes S.disk S.faults issuer stores.items back.shard back.fault back.stores.items) }
+        ensures loaded { IfOk result (λ host.
+            AreLoaded issuer olds.old.items olds.new.items stores.items host.shards.items) }
+        ensures olds { AreOnlyRead S.size S.bytes S.disk S.room olds.old.items olds.new.items }
+        ensures stopped { IfErr result (λ back. ComeBack S.size S.bytes S.disk S.faults issuer
+            olds.old.items olds.new.items stores.items back.shard back.fault back.stores.items) }
 
-        // Stores that work at their sizes don't fail, and have the same room once they are loaded.
+        // Stores with room for the migration don't fail, and the room for more remains once they are loaded.
         ensures room { MatchResult result
-            (λ host. (spare : ℕ → ℕ) → StoresHaveRoom S.size S.room spare stores.items
+            (λ host. (spare : ℕ → ℕ) → StoresHaveRoom S.size S.room spare olds.old.items stores.items
             → HaveRoom spare host.shards.items)
-            (λ back. StoresHaveRoom S.size S.room (λ _. 0) stores.items → is_store_failure back.fault ≡ false) }
+            (λ back. StoresHaveRoom S.size S.room (λ _. 0) olds.old.items stores.items
+            → is_store_failure back.fault ≡ false) }
     {
         let Ok(lists) = take_lists(alloc, stores.len()) else {
             return Err(HostBack {
@@ -71,8 +81,8 @@ impl<S: Store> Solo<S> {
             });
         };
         let mut issuer = issuer;
-        keep_for_records(&mut issuer, stores.as_slice());
-        match load_all(alloc, &issuer, stores, lists) {
+        keep_for_records(&mut issuer, olds.as_slice(), stores.as_slice());
+        match load_all(alloc, &issuer, olds, stores, lists) {
             Ok(Lists { shards, back }) => Ok(Solo {
                 issuer,
                 shards,
@@ -214,11 +224,16 @@ impl<S: Store> Solo<S> {
     }
 }
 
-/// Caches the keys of all cards if any of these stores isn't empty, since its records are checked again.
-fn keep_for_records<S: Store>(issuer: &mut Issuer, stores: &[S])
+/// Caches the keys of all cards if any of these stores has a record, since its records are checked again.
+fn keep_for_records<S: Store>(issuer: &mut Issuer, olds: &[S], stores: &[S])
     ensures { issuer.new ≡ issuer.old }
 {
-    if stores.iter().any(|store| store.len() > 0) {
+    if has_records(olds, 0) || has_records(stores, VERSION_LINE.len()) {
         issuer.keep_all();
     }
+}
+
+/// Whether any of these stores has more bytes than those before its records.
+fn has_records<S: Store>(stores: &[S], before: usize) -> bool {
+    stores.iter().any(|store| store.len() > before as u64)
 }

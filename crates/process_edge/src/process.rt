@@ -51,6 +51,7 @@ impl Process {
         _desk: FileDesk,
         _config: Option<FileSource>,
         _requests: Option<FileSource>,
+        _olds: Vec<FileStore>,
         _stores: Vec<FileStore>,
     ) {}
 }

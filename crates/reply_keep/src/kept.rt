@@ -58,6 +58,13 @@ impl Kept {
         open_before(&mut self.opened, slot);
         self.opened.push_reserved(Some(item));
     }
+
+    /// Removes all decisions. The room for one in each slot stays.
+    pub fn clear(&mut self)
+        ensures { self.new ≡ none_kept }
+    {
+        self.opened.clear();
+    }
 }
 
 /// The decision in a slot, which is empty if it isn't open.

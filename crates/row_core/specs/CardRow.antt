@@ -25,7 +25,7 @@ abbrev pub kept_of : Scripts → KeptScripts
 kept_of scripts = record { commands = waiting scripts; done = scripts.done; flight = scripts.flight; halted = scripts.halted }
 
 -- what a row holds: the card's ARPC method, the greatest decided ATC, the card's status, its decisions with their
--- replies in one slot for each residue of the ATC modulo 64, and its issuer script commands
+-- replies in one slot for each residue of the ATC modulo 256, and its issuer script commands
 pub record CardRow : Type 0 where
   pub method : Method
   pub hi : Option ℕ

@@ -11,11 +11,12 @@ ghost use Rattle.issuer_setup.specs.CardList.{name_of};
 ghost use Rattle.row_core.specs.CardRow.{KeepsWindow, KeepsScripts, StandsFor};
 ghost use Rattle.row_core.specs.Accepting.{told_update, says_approval, IsMade, IsValidSuccessor};
 ghost use Rattle.row_core.specs.Launching.{IsLaunchFor};
+ghost use Rattle.issuer_base.specs.declared.limits.TheConstants.{OLD_WINDOW, WINDOW};
 
 use crate::row::Row;
 use crate::scripts::Launch;
 use arrayvec::ArrayVec;
-use issuer_base::{Method, Reply, Request};
+use issuer_base::{Method, OLD_WINDOW, Reply, Request};
 use key_derive::{LazyKeys, SessionKey};
 use reply_keep::KeptEntry;
 
@@ -37,22 +38,63 @@ impl Row {
         requires { session.now ≡ session_of keys.now request.atc }
         ensures exact { (card : CardInfo) (history : List Entry) → StandsFor card self.old history
             → card_of request ≡ name_of card
-            → (IsTrue result ↔ IsValidSuccessor card.method keys.now history request reply) }
+            → (IsTrue result ↔ IsValidSuccessor WINDOW card.method keys.now history request reply) }
         ensures adopted { IsTrue result → (card : CardInfo) (history : List Entry) → StandsFor card self.old history
             → card_of request ≡ name_of card → place ≡ length history
             → StandsFor card self.new (history ++ Entry.Decided request reply ∷ []) }
         ensures unchanged { result ≡ false → self.new ≡ self.old }
     {
         let launch = self.launch(&request);
-        if !self.accepts(session, keys, &request, launch, &reply) {
+        if !self.accepts_by(session, keys, &request, launch, &reply) {
             return false;
         }
         self.apply(&request, &reply, launch, place);
         true
     }
 
+    /// Adopts a recorded decision of a journal of version 1, as [`Row::adopt`] does, if it is a valid successor by the
+    /// window of such journals. Returns whether it did.
+    pub fn adopt_old(
+        &mut self,
+        session: &SessionKey,
+        keys: &LazyKeys,
+        request: Request,
+        reply: Reply,
+        place: u64,
+    ) -> bool
+        requires { session.now ≡ session_of keys.now request.atc }
+        ensures exact { (card : CardInfo) (history : List Entry) → StandsFor card self.old history
+            → card_of request ≡ name_of card
+            → (IsTrue result ↔ IsValidSuccessor OLD_WINDOW card.method keys.now history request reply) }
+        ensures adopted { IsTrue result → (card : CardInfo) (history : List Entry) → StandsFor card self.old history
+            → card_of request ≡ name_of card → place ≡ length history
+            → StandsFor card self.new (history ++ Entry.Decided request reply ∷ []) }
+        ensures unchanged { result ≡ false → self.new ≡ self.old }
+    {
+        if self.is_below(request.parts().atc, OLD_WINDOW) {
+            return false;
+        }
+        self.adopt(session, keys, request, reply, place)
+    }
+
+    /// Whether [`Row::adopt`] would adopt this decision. Nothing changes.
+    pub fn accepts(
+        &self,
+        session: &SessionKey,
+        keys: &LazyKeys,
+        request: &Request,
+        reply: &Reply,
+    ) -> bool
+        requires { session.now ≡ session_of keys.now request.now.atc }
+        ensures { (card : CardInfo) (history : List Entry) → StandsFor card self.now history
+            → card_of request.now ≡ name_of card
+            → (IsTrue result ↔ IsValidSuccessor WINDOW card.method keys.now history request.now reply.now) }
+    {
+        self.accepts_by(session, keys, request, self.launch(request), reply)
+    }
+
     /// Whether a decision with this reply is a valid successor. `launch` is that of the reply's batch.
-    fn accepts(
+    fn accepts_by(
         &self,
         session: &SessionKey,
         keys: &LazyKeys,
@@ -64,7 +106,7 @@ impl Row {
         requires launch { IsLaunchFor self.now request.now launch }
         ensures exact { (card : CardInfo) (history : List Entry) → StandsFor card self.now history
             → card_of request.now ≡ name_of card
-            → (IsTrue result ↔ IsValidSuccessor card.method keys.now history request.now reply.now) }
+            → (IsTrue result ↔ IsValidSuccessor WINDOW card.method keys.now history request.now reply.now) }
     {
         self.is_unused(request) && self.is_made(session, keys, request, launch, reply)
     }

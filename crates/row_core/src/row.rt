@@ -4,7 +4,7 @@ ghost use Rattle.issuer_base.specs.declared.entry.Entry.{Entry};
 ghost use Rattle.issuer_base.specs.ScriptCommand.{is_command};
 ghost use Rattle.card_history.specs.declared.decision.Decision.{Decision};
 ghost use Rattle.card_history.specs.CardViews.{card_shown};
-ghost use Rattle.card_history.specs.Records.{greatest, IsBelow};
+ghost use Rattle.card_history.specs.Records.{greatest, IsBelow, IsBelowBy};
 ghost use Rattle.card_history.specs.Scripts.{Scripts, with_newest, in_flight, first_of, is_newest};
 ghost use Rattle.card_history.specs.Turns.{IsUnused};
 ghost use Rattle.script_queue.specs.CommandQueue.{TakesOneMore};
@@ -223,6 +223,16 @@ impl Row {
         self.status = status;
     }
 
+    /// Removes what the row holds of all records. It doesn't allocate.
+    pub fn clear(&mut self)
+        ensures { (card : CardInfo) → self.old.method ≡ card.method → StandsFor card self.new [] }
+    {
+        self.hi = None;
+        self.status = 0;
+        self.kept.clear();
+        self.scripts.clear();
+    }
+
     /// The launch of the reply to a request that is decided, if its ATC is the newest.
     #[inline(always)]
     pub(crate) fn launch(&self, request: &Request) -> Option<Launch>
@@ -327,6 +337,13 @@ impl Row {
         write_scripts(bytes, keys, &request.parts().ac, first, front, back);
     }
 
+    /// Whether an ATC is below the window of so many ATCs.
+    pub(crate) fn is_below(&self, counter: u16, window: u16) -> bool
+        ensures { IsTrue result ↔ IsBelowBy window self.now.hi counter }
+    {
+        greatest_above(self.hi, counter, window).is_some()
+    }
+
     /// The plan for a request whose ATC is used or below the window, by the window's decisions; else `None`.
     #[inline(always)]
     pub(crate) fn known(&self, request: &Request) -> Option<Outcome<'_>>
@@ -335,7 +352,7 @@ impl Row {
         ensures not_fresh { IfSome result (IsStepped self.now request.now) }
     {
         let counter = request.parts().atc;
-        if let Some(greatest) = greatest_above(self.hi, counter) {
+        if let Some(greatest) = greatest_above(self.hi, counter, WINDOW) {
             return Some(Outcome::Below(greatest));
         }
         let entry = self.kept.find(counter)?;
@@ -346,11 +363,12 @@ impl Row {
     }
 }
 
-/// The greatest ATC, if this ATC is below its window.
-fn greatest_above(greatest: Option<u16>, counter: u16) -> Option<u16>
-    ensures { MatchOption result (IsBelow greatest counter → ⊥) (λ atc. (greatest ≡ Some atc) × IsBelow greatest counter) }
+/// The greatest ATC, if this ATC is below its window of so many ATCs.
+fn greatest_above(greatest: Option<u16>, counter: u16, window: u16) -> Option<u16>
+    ensures { MatchOption result (IsBelowBy window greatest counter → ⊥)
+        (λ atc. (greatest ≡ Some atc) × IsBelowBy window greatest counter) }
 {
-    greatest.filter(|greatest| u32::from(counter) + u32::from(WINDOW) <= u32::from(*greatest))
+    greatest.filter(|greatest| u32::from(counter) + u32::from(window) <= u32::from(*greatest))
 }
 
 /// Whether an ATC is above the greatest one, or the first.

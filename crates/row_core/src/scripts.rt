@@ -147,6 +147,15 @@ impl CardScripts {
         });
     }
 
+    /// Removes all commands, as if none was ever queued.
+    pub(crate) fn clear(&mut self)
+        ensures { self.new ≡ kept_of no_scripts }
+    {
+        self.queue.clear();
+        self.flight = None;
+        self.halted = false;
+    }
+
     /// Appends a command to the queue, and returns its number.
     pub(crate) fn push(&mut self, command: Command) -> Result<u32, QueueFull>
         requires { IsTrue (is_command command) }

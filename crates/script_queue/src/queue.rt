@@ -110,6 +110,14 @@ impl Queue {
         self.commands.truncate_front(left);
     }
 
+    /// Removes all commands, as if none was ever queued. The room for them stays.
+    pub fn clear(&mut self)
+        ensures { self.new ≡ no_commands }
+    {
+        self.commands.clear();
+        self.queued = 0;
+    }
+
     /// How many of the first undone commands fit into one template of at most [`MAX_TEMPLATE_BYTES`] bytes.
     pub fn fitting(&self) -> u8
         ensures within { result ≤ length self.now.undone }

@@ -14,7 +14,6 @@ use Rattle.card_history.specs.declared.decision.Asked.TheVariants.{Decide}
 use Rattle.card_history.specs.LegalRecords.{IsLegalDecision}
 use Rattle.card_history.specs.Records.{CardName, card_of}
 use Rattle.card_history.specs.Scripts.{scripts_of}
-use Rattle.card_history.proofs.LegalDecisions.{legal-unused}
 use Rattle.key_derive.specs.declared.card.CardKeys.{CardKeys}
 use Rattle.issuer_setup.specs.declared.card.CardInfo.{CardInfo}
 use Rattle.issuer_setup.specs.CardList.{number_of}
@@ -23,7 +22,9 @@ use Rattle.row_core.specs.Accepting.{IsMade, IsValidSuccessor}
 use Rattle.line_checks.specs.Reading.{checked, of_card, under_keys, is_right}
 use Rattle.line_checks.proofs.Numbers.{number-within}
 use Rattle.shard_book.specs.ShardRows.{ShardRows, AreRowsOf, IsHome}
-use Rattle.shard_book.specs.Grounds.{IsCardOfShard, IsMadeBy, grounds_of}
+use Rattle.shard_book.specs.Grounds.{IsCardOfShard, IsMadeBy}
+use Rattle.shard_book.specs.Versions.{grounds_in, window_in}
+use Rattle.shard_book.specs.declared.replay.Version.{Version}
 use Rattle.shard_book.proofs.LegalDecisions.{legal-by}
 
 -- ---- a request that passes its check is the one that was checked
@@ -74,26 +75,27 @@ nobody issuer shard name none at_home = let both : None ≡ Some at_home.number 
 
 -- ---- the reply
 
-module _ (issuer : Setup) (shard : ℕ) (history : List Entry) (request : Request) (reply : Reply) (number : ℕ) (card : CardInfo) (keys : CardKeys)
+module _ (version : Version) (issuer : Setup) (shard : ℕ) (history : List Entry) (request : Request) (reply : Reply) (number : ℕ) (card : CardInfo) (keys : CardKeys)
     (number_is : number_of (card_of request) issuer.cards ≡ Some number) (card_is : slice_get issuer.cards number ≡ Some card)
     (keys_are : keys_of issuer number request ≡ Some keys) where
-  pub decision-follows : IsLegalDecision (grounds_of issuer) shard history request reply → IsValidSuccessor card.method keys history request reply
+  pub decision-follows : IsLegalDecision (grounds_in version issuer) shard history request reply → IsValidSuccessor (window_in version) card.method keys history request reply
   decision-follows legal =
       let made = legal.is_the_issuers_reply in
       let same : made.number ≡ number = same_Some made.number number (sym made.number_is ∙ number_is) in
       let same_card : made.card ≡ card = same_Some made.card card (sym made.card_is ∙ ap (slice_get issuer.cards) same ∙ card_is) in
       let same_keys : made.keys ≡ keys = same_Some made.keys keys (sym made.keys_are ∙ ap (λ number. keys_of issuer number request) same ∙ keys_are) in
       record {
-        unused = legal-unused legal;
+        in_window = legal.in_window;
+        unrecorded = legal.unrecorded;
         made =
             subst (λ (card : CardInfo). IsMade card.method keys (scripts_of (card_of request) history) request reply) same_card
             (subst (λ (keys : CardKeys). IsMade made.card.method keys (scripts_of (card_of request) history) request reply) same_keys made.made);
       }
 
   pub decision-legal : IsCardOfShard issuer shard (card_of request) → checked issuer request ≡ Ok (Decide request)
-      → IsValidSuccessor card.method keys history request reply → IsLegalDecision (grounds_of issuer) shard history request reply
+      → IsValidSuccessor (window_in version) card.method keys history request reply → IsLegalDecision (grounds_in version issuer) shard history request reply
   decision-legal home passes follows =
-      legal-by issuer (IsMadeBy issuer) shard history request reply home passes follows.unused (record {
+      legal-by issuer (window_in version) (IsMadeBy issuer) shard history request reply home passes follows.in_window follows.unrecorded (record {
         number = number;
         card = card;
         keys = keys;

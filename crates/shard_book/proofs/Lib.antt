@@ -10,10 +10,14 @@ pub mod ShardSteps
 pub mod LegalDecisions
 pub mod LegalNext
 pub mod Adopted
+pub mod BothStores
 pub mod Lines
 pub mod Loaded
 pub mod LoadCrash
+pub mod LoadStops
 pub mod LoadResults
 pub mod OwnDecisions
 pub mod Exactly
+pub mod Migration
+pub mod Continuing
 pub mod Restarts

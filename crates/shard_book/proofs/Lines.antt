@@ -18,9 +18,10 @@ use Rattle.journal_rec.specs.RecordText.{newline, texts_of, IsUnbroken}
 use Rattle.shard_book.specs.declared.replay.LoadFault.{LoadFault}
 use Rattle.shard_book.specs.declared.replay.Taken.{Taken}
 use Rattle.shard_book.specs.ShardRows.{ShardRows, StandsFor}
-use Rattle.shard_book.specs.Grounds.{grounds_of}
+use Rattle.shard_book.specs.Versions.{grounds_in}
+use Rattle.shard_book.specs.declared.replay.Version.{Version}
 use Rattle.shard_book.specs.LineAhead.{IsLineAhead}
-use Rattle.shard_book.specs.Loading.{IsBad, StopsAt, TakesLine, TakesLines}
+use Rattle.shard_book.specs.Loading.{IsBad, StopsLines, TakesLine, TakesLines}
 use Rattle.shard_book.proofs.ShardSteps.{texts-more}
 
 -- no offset has a newline
@@ -62,26 +63,26 @@ legal-more grounds shard history entry legal next place other at =
     ]
 
 -- nothing was taken over
-pub takes-none : (issuer : Setup) (shard : ℕ) (history : List Entry) (text : List ℕ) (rows : ShardRows) → StandsFor issuer rows history
-    → IsLegalHistory (grounds_of issuer) shard history → TakesLines issuer shard history text (record { records = 0; bytes = 0 }) rows
-takes-none issuer shard history text rows stands legal = record {
+pub takes-none : (version : Version) (issuer : Setup) (shard : ℕ) (history : List Entry) (text : List ℕ) (rows : ShardRows) → StandsFor issuer rows history
+    → IsLegalHistory (grounds_in version issuer) shard history → TakesLines version issuer shard history text (record { records = 0; bytes = 0 }) rows
+takes-none version issuer shard history text rows stands legal = record {
   entries = [];
   count_is = refl;
   text_is = refl;
   records = All-nil IsRecord;
-  legal = subst (IsLegalHistory (grounds_of issuer) shard) (sym (append-nil history)) legal;
+  legal = subst (IsLegalHistory (grounds_in version issuer) shard) (sym (append-nil history)) legal;
   stands = subst (StandsFor issuer rows) (sym (append-nil history)) stands;
 }
 
-module _ (issuer : Setup) (shard : ℕ) (history : List Entry) (text : List ℕ) (taken : Taken) (mid : ShardRows)
-    (before : TakesLines issuer shard history text taken mid) (count : ℕ) (ahead : IsLineAhead (drop taken.bytes text) count) (line : List ℕ)
+module _ (version : Version) (issuer : Setup) (shard : ℕ) (history : List Entry) (text : List ℕ) (taken : Taken) (mid : ShardRows)
+    (before : TakesLines version issuer shard history text taken mid) (count : ℕ) (ahead : IsLineAhead (drop taken.bytes text) count) (line : List ℕ)
     (line_is : line ≡ take count (drop taken.bytes text)) where
   front : take (count + 1) (drop taken.bytes text) ≡ line ++ newline ∷ []
   front = ahead.ends ∙ ap (λ l. l ++ newline ∷ []) (sym line_is)
 
   -- and then the record of one more line
   pub takes-more : (new : ShardRows) (more : Taken) → more.records ≡ taken.records + 1 → more.bytes ≡ taken.bytes + count + 1
-      → TakesLine issuer shard (history ++ before.entries) line new → TakesLines issuer shard history text more new
+      → TakesLine version issuer shard (history ++ before.entries) line new → TakesLines version issuer shard history text more new
   takes-more new more records_are bytes_are takes =
       let entries = before.entries ++ takes.entry ∷ [] in
       let joined : (history ++ before.entries) ++ takes.entry ∷ [] ≡ history ++ entries = append_assoc history before.entries (takes.entry ∷ []) in
@@ -97,13 +98,13 @@ module _ (issuer : Setup) (shard : ℕ) (history : List Entry) (text : List ℕ)
             ∙ texts-more before.entries takes.entry;
         records = All-push IsRecord before.entries takes.entry before.records takes.line_is.0;
         legal =
-            subst (IsLegalHistory (grounds_of issuer) shard) joined
-            (legal-more (grounds_of issuer) shard (history ++ before.entries) takes.entry before.legal takes.legal);
+            subst (IsLegalHistory (grounds_in version issuer) shard) joined
+            (legal-more (grounds_in version issuer) shard (history ++ before.entries) takes.entry before.legal takes.legal);
         stands = subst (StandsFor issuer new) joined takes.stands;
       }
 
   -- or a bad line
-  pub stops-at : (fault : LoadFault) → IsBad (grounds_of issuer) shard (history ++ before.entries) line fault → StopsAt issuer shard history text fault
+  pub stops-at : (fault : LoadFault) → IsBad version issuer shard (history ++ before.entries) line fault → StopsLines version issuer shard history text fault
   stops-at fault bad = record {
     entries = before.entries;
     line = line;

@@ -7,20 +7,29 @@ use Rattle.std.proofs.lemmas.Bool.{cases_lt}
 use Rattle.std.proofs.lemmas.List.{take_all, take-append-drop, length-take-le, take-take, drop-drop}
 use Rattle.std.proofs.lemmas.List.Concat.{flat_map-append}
 use Rattle.std.proofs.lemmas.List.Elements.{All-nil, All-append}
-use Rattle.std.proofs.lemmas.Option.{slice_get_within}
 use Rattle.std.specs.Option.{is_some}
 use Rattle.issuer_base.specs.declared.entry.Entry.{Entry}
 use Rattle.issuer_setup.specs.IssuerSetup.{Setup}
 use Rattle.journal_rec.specs.Record.{IsRecord, IsLineOf}
-use Rattle.journal_rec.specs.RecordText.{newline, text_of, texts_of, IsUnbroken}
+use Rattle.journal_rec.specs.RecordText.{newline, text_of, texts_of, version_line, IsUnbroken}
 use Rattle.journal_rec.specs.declared.limits.TheConstants.{MOST_RECORD_BYTES}
 use Rattle.journal_rec.proofs.TextLaws.{length-text_of}
 use Rattle.shard_book.specs.declared.replay.LoadFault.{LoadFault}
-use Rattle.shard_book.specs.declared.replay.LoadFault.TheVariants.{BadLine, BadRecord, StoreFault, NoMemory}
+use Rattle.shard_book.specs.declared.replay.LoadFault.TheVariants.{OldLine, OldRecord, BadLine, BadRecord, StoreFault, NoMemory}
 use Rattle.shard_book.specs.declared.replay.Taken.{Taken}
 use Rattle.shard_book.specs.LineAhead.{IsLineAhead, HasLineAhead}
-use Rattle.shard_book.specs.ShardRows.{ShardRows, StandsFor}
-use Rattle.shard_book.specs.Loading.{StopsAt, TakesLines, ReadsFront, ReadsText, StopsText, is_by_store, is_store_failure}
+use Rattle.shard_book.specs.ShardRows.{ShardRows}
+use Rattle.shard_book.specs.Loading.{StopsAt, StopsLines, StopsReplay, TakesLines, ReadsFront, ReadsText, is_by_store, is_store_failure}
+use Rattle.shard_book.specs.Histories.{GoesOn}
+use Rattle.shard_book.specs.Versions.{bad_line, text_in}
+use Rattle.shard_book.specs.declared.replay.Version.{Version}
+use Rattle.shard_book.specs.declared.replay.Version.TheVariants.{One, Two}
+use Rattle.shard_book.proofs.Histories.{goes-then}
+
+-- the text of more records
+pub text_in-more : (version : Version) (history entries : List Entry) → text_in version history ++ texts_of entries ≡ text_in version (history ++ entries)
+text_in-more One history entries = sym (flat_map-append text_of history entries)
+text_in-more Two history entries = ap (λ l. version_line ++ l) (sym (flat_map-append text_of history entries))
 
 -- ---- texts without a newline, and the next line
 
@@ -143,6 +152,13 @@ rest-long (Some text) at room front back =
     subst IsUnbroken (take-append-drop room (drop at text))
     (unbroken-both (take room (drop at text)) (drop room (drop at text)) front (subst IsUnbroken (sym (drop-drop room at text)) back))
 
+-- the line of a record has a byte
+pub line-long : (line : List ℕ) (entry : Entry) → IsLineOf entry line → 0 < length line
+line-long line entry is =
+    let least = (length-text_of entry is.0).0 in
+    let whole : length (text_of entry) ≡ length line + 1 = ap length is.1 ∙ length-append line (newline ∷ []) in
+    omega (arith, least, whole)
+
 -- a line that is longer than any record is that of none
 long-line : (line : List ℕ) → MOST_RECORD_BYTES ≤ length line → (entry : Entry) → IsLineOf entry line → ⊥
 long-line line long entry is =
@@ -150,13 +166,13 @@ long-line line long entry is =
     let whole : length (text_of entry) ≡ length line + 1 = ap length is.1 ∙ length-append line (newline ∷ []) in
     absurd (omega arith)
 
-module _ (issuer : Setup) (shard : ℕ) where
+module _ (version : Version) (issuer : Setup) (shard : ℕ) (first : List Entry) where
   -- a newline after more bytes than any record has ends a bad line
-  pub stops-long : (bytes : Option (List ℕ)) (rows : ShardRows) (taken : Taken) (room size : ℕ) → ReadsFront issuer shard bytes rows taken
+  pub stops-long : (bytes : Option (List ℕ)) (rows : ShardRows) (taken : Taken) (room size : ℕ) → ReadsFront version issuer shard first bytes rows taken
       → IfSome bytes (λ text. size ≡ length text) → room < size - taken.bytes → MOST_RECORD_BYTES ≤ room
       → IfSome bytes (λ text. IsUnbroken (take room (drop taken.bytes text))) → IfSome bytes (λ text. HasLineAhead (drop (taken.bytes + room) text))
-      → StopsText issuer shard bytes (BadLine (taken.records + 1))
-  stops-long None rows taken room size reads sized long most front line = tt
+      → StopsReplay version issuer shard first bytes (bad_line version taken.records)
+  stops-long None rows taken room size reads sized long most front line = inr tt
   stops-long (Some text) rows taken room size reads sized long most front line =
       let ahead = drop taken.bytes text in
       let back : drop room ahead ≡ drop (taken.bytes + room) text = drop-drop room taken.bytes text in
@@ -171,121 +187,100 @@ module _ (issuer : Setup) (shard : ℕ) where
       (sym (take-append-drop (count + 1) (drop room ahead)) ∙ ap (λ l. l ++ behind) its.ends
       ∙ append_assoc (take count (drop room ahead)) (newline ∷ []) behind)
       ∙ sym (append_assoc (take room ahead) (take count (drop room ahead)) (newline ∷ behind)) in
-      record {
-        entries = reads.history;
+      inr (record {
+        history = reads.history;
+        goes_on = reads.goes_on;
         line = whole;
         ahead = behind;
         text_is =
-            sym (take-append-drop taken.bytes text) ∙ ap (λ l. l ++ ahead) reads.front_is ∙ ap (λ l. texts_of reads.history ++ l) parts
-            ∙ sym (append_assoc (texts_of reads.history) whole (newline ∷ behind));
+            sym (take-append-drop taken.bytes text) ∙ ap (λ l. l ++ ahead) reads.front_is ∙ ap (λ l. text_in version reads.history ++ l) parts
+            ∙ sym (append_assoc (text_in version reads.history) whole (newline ∷ behind));
         unbroken = unbroken-both (take room ahead) (take count (drop room ahead)) front its.unbroken;
         records = reads.records;
         legal = reads.legal;
-        bad = (
-          ap (λ n. n + 1) reads.count_is,
+        bad = inl (
+          ap (bad_line version) reads.count_is,
           long-line whole (omega (arith, length-append (take room ahead) (take count (drop room ahead)), room_is)),
         );
-      }
+      })
 
   -- ---- replaying part by part
 
-  -- nothing was replayed
-  front-is_empty : (bytes : Option (List ℕ)) → IfSome bytes (λ text. take 0 text ≡ texts_of [])
-  front-is_empty None = tt
-  front-is_empty (Some text) = refl
-
-  pub reads-none : (bytes : Option (List ℕ)) (rows : ShardRows) → StandsFor issuer rows []
-      → ReadsFront issuer shard bytes rows (record { records = 0; bytes = 0 })
-  reads-none bytes rows stands = record {
-    history = [];
-    front_is = front-is_empty bytes;
-    records = All-nil IsRecord;
-    legal = λ place entry at. let within = slice_get_within [] place entry at in absurd (omega arith);
-    stands = stands;
-    count_is = refl;
-    sure_is = refl;
-  }
-
   module _ (at : Taken) (count : ℕ) (chunk : List ℕ) where
-    front-grows : (bytes : Option (List ℕ)) (history entries : List Entry) (more : Taken) → IfSome bytes (λ text. take at.bytes text ≡ texts_of history)
+    front-grows : (bytes : Option (List ℕ)) (history entries : List Entry) (more : Taken) → IfSome bytes (λ text. take at.bytes text ≡ text_in version history)
         → IfSome bytes (λ text. chunk ≡ take count (drop at.bytes text)) → more.bytes ≤ count → take more.bytes chunk ≡ texts_of entries
-        → IfSome bytes (λ text. take (at.bytes + more.bytes) text ≡ texts_of (history ++ entries))
+        → IfSome bytes (λ text. take (at.bytes + more.bytes) text ≡ text_in version (history ++ entries))
     front-grows None history entries more front read within takes = tt
     front-grows (Some text) history entries more front read within takes =
         take-add at.bytes more.bytes text
         ∙ ap (λ l. l ++ take more.bytes (drop at.bytes text)) front
-        ∙ ap (λ l. texts_of history ++ l) (sym (take-take more.bytes count (drop at.bytes text) within) ∙ ap (take more.bytes) (sym read) ∙ takes)
-        ∙ sym (flat_map-append text_of history entries)
+        ∙ ap (λ l. text_in version history ++ l) (sym (take-take more.bytes count (drop at.bytes text) within) ∙ ap (take more.bytes) (sym read) ∙ takes)
+        ∙ text_in-more version history entries
 
     -- the records of the lines of one more part
-    pub reads-more : (bytes : Option (List ℕ)) (old new : ShardRows) (more : Taken) (front : ReadsFront issuer shard bytes old at)
+    pub reads-more : (bytes : Option (List ℕ)) (old new : ShardRows) (more : Taken) (front : ReadsFront version issuer shard first bytes old at)
         → IfSome bytes (λ text. chunk ≡ take count (drop at.bytes text)) → more.bytes ≤ length chunk → length chunk ≤ count
-        → TakesLines issuer shard front.history chunk more new
-        → ReadsFront issuer shard bytes new (record { records = at.records + more.records; bytes = at.bytes + more.bytes })
+        → TakesLines version issuer shard front.history chunk more new
+        → ReadsFront version issuer shard first bytes new (record { records = at.records + more.records; bytes = at.bytes + more.bytes })
     reads-more bytes old new more front read within short takes =
         let taken : more.bytes ≡ length (texts_of takes.entries) = sym (length-take-le more.bytes chunk within) ∙ ap length takes.text_is in
         record {
           history = front.history ++ takes.entries;
+          goes_on = goes-then first front.history (front.history ++ takes.entries) front.goes_on (takes.entries, refl);
           front_is = front-grows bytes front.history takes.entries more front.front_is read (omega arith) takes.text_is;
           records = All-append IsRecord front.history takes.entries front.records takes.records;
           legal = takes.legal;
           stands = takes.stands;
           count_is = let whole = length-append front.history takes.entries in omega (arith, whole, front.count_is, takes.count_is);
           sure_is =
-              let whole = ap length (flat_map-append text_of front.history takes.entries) ∙ length-append (texts_of front.history) (texts_of takes.entries) in
+              let whole = ap length (sym (text_in-more version front.history takes.entries))
+              ∙ length-append (text_in version front.history) (texts_of takes.entries) in
               omega (arith, whole, front.sure_is, taken);
         }
 
-    stops-later : (text : List ℕ) (history : List Entry) (fault : LoadFault) → take at.bytes text ≡ texts_of history
+    stops-later : (text : List ℕ) (history : List Entry) (fault : LoadFault) → GoesOn first history → take at.bytes text ≡ text_in version history
         → All IsRecord history → chunk ≡ take count (drop at.bytes text)
-        → StopsAt issuer shard history chunk fault → StopsAt issuer shard [] text fault
-    stops-later text history fault front records read stops =
+        → StopsLines version issuer shard history chunk fault → StopsAt version issuer shard first text fault
+    stops-later text history fault goes_on front records read stops =
         let rest = drop count (drop at.bytes text) in
         let behind = stops.line ++ newline ∷ stops.ahead in
         record {
-          entries = history ++ stops.entries;
+          history = history ++ stops.entries;
+          goes_on = goes-then first history (history ++ stops.entries) goes_on (stops.entries, refl);
           line = stops.line;
           ahead = stops.ahead ++ rest;
           text_is =
               sym (take-append-drop at.bytes text)
               ∙ ap (λ l. l ++ drop at.bytes text) front
-              ∙ ap (λ l. texts_of history ++ l)
+              ∙ ap (λ l. text_in version history ++ l)
               (sym (take-append-drop count (drop at.bytes text)) ∙ ap (λ l. l ++ rest)
               (sym read ∙ stops.text_is ∙ append_assoc (texts_of stops.entries) stops.line (newline ∷ stops.ahead))
               ∙ append_assoc (texts_of stops.entries) behind rest
               ∙ ap (λ l. texts_of stops.entries ++ l) (append_assoc stops.line (newline ∷ stops.ahead) rest))
-              ∙ sym (append_assoc (texts_of history) (texts_of stops.entries) (stops.line ++ newline ∷ (stops.ahead ++ rest)))
-              ∙ ap (λ l. l ++ (stops.line ++ newline ∷ (stops.ahead ++ rest))) (sym (flat_map-append text_of history stops.entries))
-              ∙ sym (append_assoc (texts_of (history ++ stops.entries)) stops.line (newline ∷ (stops.ahead ++ rest)));
+              ∙ sym (append_assoc (text_in version history) (texts_of stops.entries) (stops.line ++ newline ∷ (stops.ahead ++ rest)))
+              ∙ ap (λ l. l ++ (stops.line ++ newline ∷ (stops.ahead ++ rest))) (text_in-more version history stops.entries)
+              ∙ sym (append_assoc (text_in version (history ++ stops.entries)) stops.line (newline ∷ (stops.ahead ++ rest)));
           unbroken = stops.unbroken;
           records = All-append IsRecord history stops.entries records stops.records;
           legal = stops.legal;
           bad = stops.bad;
         }
 
-    stops-told : (bytes : Option (List ℕ)) (history : List Entry) (fault : LoadFault) → IfSome bytes (λ text. take at.bytes text ≡ texts_of history)
-        → All IsRecord history → IfSome bytes (λ text. chunk ≡ take count (drop at.bytes text)) → StopsAt issuer shard history chunk fault
-        → IfSome bytes (λ text. StopsAt issuer shard [] text fault)
-    stops-told None history fault front records read stops = tt
-    stops-told (Some text) history fault front records read stops = stops-later text history fault front records read stops
-
     -- a bad line in one more part
-    pub stops-more : (bytes : Option (List ℕ)) (rows : ShardRows) (fault : LoadFault) (front : ReadsFront issuer shard bytes rows at)
-        → IfSome bytes (λ text. chunk ≡ take count (drop at.bytes text)) → StopsAt issuer shard front.history chunk fault
-        → StopsText issuer shard bytes fault
-    stops-more bytes rows StoreFault front read stops = tt
-    stops-more bytes rows NoMemory front read stops = tt
-    stops-more bytes rows (BadLine number) front read stops = stops-told bytes front.history (BadLine number) front.front_is front.records read stops
-    stops-more bytes rows (BadRecord number) front read stops = stops-told bytes front.history (BadRecord number) front.front_is front.records read stops
+    pub stops-more : (bytes : Option (List ℕ)) (rows : ShardRows) (fault : LoadFault) (front : ReadsFront version issuer shard first bytes rows at)
+        → IfSome bytes (λ text. chunk ≡ take count (drop at.bytes text)) → StopsLines version issuer shard front.history chunk fault
+        → StopsReplay version issuer shard first bytes fault
+    stops-more None rows fault front read stops = inr tt
+    stops-more (Some text) rows fault front read stops =
+        inr (stops-later text front.history fault front.goes_on front.front_is front.records read stops)
 
   -- all parts were read, and what is after the records has no newline
-  pub reads-all : (bytes : Option (List ℕ)) (rows : ShardRows) (taken : Taken) → ReadsFront issuer shard bytes rows taken
-      → IfSome bytes (λ text. IsUnbroken (drop taken.bytes text)) → ReadsText issuer shard bytes rows taken
+  pub reads-all : (bytes : Option (List ℕ)) (rows : ShardRows) (taken : Taken) → ReadsFront version issuer shard first bytes rows taken
+      → IfSome bytes (λ text. IsUnbroken (drop taken.bytes text)) → ReadsText version issuer shard first bytes rows taken
   reads-all None rows taken front unbroken = record {
     history = front.history;
-    rest = [];
+    goes_on = front.goes_on;
     text_is = tt;
-    unbroken = All-nil (λ byte. byte ≢ newline);
     records = front.records;
     legal = front.legal;
     stands = front.stands;
@@ -294,9 +289,12 @@ module _ (issuer : Setup) (shard : ℕ) where
   }
   reads-all (Some text) rows taken front unbroken = record {
     history = front.history;
-    rest = drop taken.bytes text;
-    text_is = sym (take-append-drop taken.bytes text) ∙ ap (λ l. l ++ drop taken.bytes text) front.front_is;
-    unbroken = unbroken;
+    goes_on = front.goes_on;
+    text_is = record {
+      rest = drop taken.bytes text;
+      text_is = sym (take-append-drop taken.bytes text) ∙ ap (λ l. l ++ drop taken.bytes text) front.front_is;
+      unbroken = unbroken;
+    };
     records = front.records;
     legal = front.legal;
     stands = front.stands;
@@ -328,14 +326,26 @@ part-unbroken (Some text) at count room size chunk sized all read unbroken =
     ]
 
 -- what one more part adds, stated of the first store and shard
-pub front-step : (issuer : Setup) (shard other : ℕ) (bytes now : Option (List ℕ)) (old new : ShardRows) (taken more : Taken) → other ≡ shard → now ≡ bytes
-    → (ReadsFront issuer other now old taken → ReadsFront issuer other now new more)
-    → ReadsFront issuer shard bytes old taken → ReadsFront issuer shard bytes new more
-front-step issuer shard other bytes now old new taken more shard_is bytes_are step front =
-    subst (λ (bytes : Option (List ℕ)). ReadsFront issuer shard bytes new more) bytes_are
-    (subst (λ (shard : ℕ). ReadsFront issuer shard now new more) shard_is
-    (step (subst (λ (shard : ℕ). ReadsFront issuer shard now old taken) (sym shard_is)
-    (subst (λ (bytes : Option (List ℕ)). ReadsFront issuer shard bytes old taken) (sym bytes_are) front))))
+pub front-step : (version : Version) (issuer : Setup) (shard other : ℕ) (first : List Entry) (bytes now : Option (List ℕ)) (old new : ShardRows)
+    (taken more : Taken) → other ≡ shard → now ≡ bytes
+    → (ReadsFront version issuer other first now old taken → ReadsFront version issuer other first now new more)
+    → ReadsFront version issuer shard first bytes old taken → ReadsFront version issuer shard first bytes new more
+front-step version issuer shard other first bytes now old new taken more shard_is bytes_are step front =
+    subst (λ (bytes : Option (List ℕ)). ReadsFront version issuer shard first bytes new more) bytes_are
+    (subst (λ (shard : ℕ). ReadsFront version issuer shard first now new more) shard_is
+    (step (subst (λ (shard : ℕ). ReadsFront version issuer shard first now old taken) (sym shard_is)
+    (subst (λ (bytes : Option (List ℕ)). ReadsFront version issuer shard first bytes old taken) (sym bytes_are) front))))
+
+-- and where it stops
+pub stops-step : (version : Version) (issuer : Setup) (shard other : ℕ) (first : List Entry) (bytes now : Option (List ℕ)) (old : ShardRows)
+    (taken : Taken) (fault : LoadFault) → other ≡ shard → now ≡ bytes
+    → (ReadsFront version issuer other first now old taken → StopsReplay version issuer other first now fault)
+    → ReadsFront version issuer shard first bytes old taken → StopsReplay version issuer shard first bytes fault
+stops-step version issuer shard other first bytes now old taken fault shard_is bytes_are step front =
+    subst (λ (bytes : Option (List ℕ)). StopsReplay version issuer shard first bytes fault) bytes_are
+    (subst (λ (shard : ℕ). StopsReplay version issuer shard first now fault) shard_is
+    (step (subst (λ (shard : ℕ). ReadsFront version issuer shard first now old taken) (sym shard_is)
+    (subst (λ (bytes : Option (List ℕ)). ReadsFront version issuer shard first bytes old taken) (sym bytes_are) front))))
 
 -- what was read of the remainder
 pub rest-step : (bytes now : Option (List ℕ)) (at room other : ℕ) → now ≡ bytes → other ≡ room
@@ -346,9 +356,24 @@ rest-step bytes now at room other bytes_are room_is step front =
     (step (subst (λ (room : ℕ). IfSome now (λ text. IsUnbroken (take room (drop at text)))) (sym room_is)
     (subst (λ (bytes : Option (List ℕ)). IfSome bytes (λ text. IsUnbroken (take room (drop at text)))) (sym bytes_are) front)))
 
+-- a newline after what was read of the remainder
+pub rest-stops : (version : Version) (issuer : Setup) (shard : ℕ) (first : List Entry) (bytes now : Option (List ℕ)) (rows : ShardRows) (taken : Taken)
+    (room other : ℕ) (fault : LoadFault) → now ≡ bytes → other ≡ room
+    → (ReadsFront version issuer shard first now rows taken → IfSome now (λ text. IsUnbroken (take other (drop taken.bytes text)))
+    → StopsReplay version issuer shard first now fault)
+    → ReadsFront version issuer shard first bytes rows taken → IfSome bytes (λ text. IsUnbroken (take room (drop taken.bytes text)))
+    → StopsReplay version issuer shard first bytes fault
+rest-stops version issuer shard first bytes now rows taken room other fault bytes_are room_is step front rest =
+    subst (λ (bytes : Option (List ℕ)). StopsReplay version issuer shard first bytes fault) bytes_are
+    (step (subst (λ (bytes : Option (List ℕ)). ReadsFront version issuer shard first bytes rows taken) (sym bytes_are) front)
+    (subst (λ (room : ℕ). IfSome now (λ text. IsUnbroken (take room (drop taken.bytes text)))) (sym room_is)
+    (subst (λ (bytes : Option (List ℕ)). IfSome bytes (λ text. IsUnbroken (take room (drop taken.bytes text)))) (sym bytes_are) rest)))
+
 -- a fault that isn't the store's is counted by none
 pub own-count : (fault : LoadFault) → is_store_failure fault ≡ false → let failed : Result Taken LoadFault = Err fault in is_by_store failed ≡ false
 own-count StoreFault own = absurd (cc)
 own-count NoMemory own = refl
+own-count (OldLine number) own = refl
+own-count (OldRecord number) own = refl
 own-count (BadLine number) own = refl
 own-count (BadRecord number) own = refl

@@ -1,14 +1,16 @@
 -- What a crash left of a journal is loaded again, under any decision table.
 use Rattle.std.proofs.Common.{◌≡◌, ◌≢◌, ℕ, ◌+◌, ◌-◌, ◌<◌, ◌≤◌, List, [], ◌∷◌, ◌++◌, length, take, refl, sym, ap, ap₂, subst, ◌∙◌, inl, inr, ⊎_elim, arith}
-use Rattle.std.proofs.Common.{zero, suc, Some, All, append_assoc, append-nil, length-append}
+use Rattle.std.proofs.Common.{zero, suc, Option, None, Some, All, append_assoc, append-nil, length-append, length-take}
 use Rattle.std.proofs.lemmas.Bool.{cases_lt}
-use Rattle.std.proofs.lemmas.List.{length-take-le, take_all, take-append-le}
+use Rattle.std.proofs.lemmas.List.{length-take-le, take_all, take_at, take-append-le, take-take}
+use Rattle.std.proofs.lemmas.List.Concat.{flat_map-append}
 use Rattle.std.proofs.lemmas.List.Elements.{All-nil, All-head, All-tail, All-take}
-use Rattle.std.proofs.lemmas.Option.{same_Some, slice_get_within}
+use Rattle.std.proofs.lemmas.Option.{slice_get_within}
 use Rattle.std.specs.List.{slice_get}
 use Rattle.issuer_base.specs.Stores.{MayLeave, Moment}
 use Rattle.issuer_base.specs.declared.answer.Reply.{Reply}
 use Rattle.issuer_base.specs.declared.entry.Entry.{Entry}
+use Rattle.issuer_base.specs.declared.limits.TheConstants.{OLD_WINDOW, WINDOW}
 use Rattle.issuer_base.specs.declared.entry.Entry.TheVariants.{Decided, Queued, Status}
 use Rattle.issuer_base.specs.declared.request.Request.{Request}
 use Rattle.card_history.specs.LegalRecords.{Grounds, IsLegal, IsLegalHistory}
@@ -16,16 +18,17 @@ use Rattle.card_history.specs.Records.{CardName, card_of}
 use Rattle.decision_table.specs.declared.row.TableRow.{TableRow}
 use Rattle.issuer_setup.specs.IssuerSetup.{Setup}
 use Rattle.journal_rec.specs.Record.{IsRecord}
-use Rattle.journal_rec.specs.RecordText.{newline, text_of, texts_of, IsUnbroken}
-use Rattle.journal_rec.proofs.TextLaws.{texts_of-one_reading}
+use Rattle.journal_rec.specs.RecordText.{newline, text_of, texts_of, journal_text, version_line, IsUnbroken}
 use Rattle.line_checks.specs.RequestFacts.{HasItsKeys}
-use Rattle.record_store.specs.Images.{IsCutImage}
-use Rattle.shard_book.specs.Grounds.{IsCardOfShard, IsMadeBy, IsImageOf, IsTail, grounds_now, grounds_of}
-use Rattle.shard_book.specs.Histories.{GoesOn, IsImageBetween}
+use Rattle.shard_book.specs.declared.replay.Version.TheVariants.{One, Two}
+use Rattle.shard_book.specs.Grounds.{IsCardOfShard, IsMadeBy, IsImageOf, IsTail, grounds_by, grounds_now, grounds_of}
+use Rattle.shard_book.specs.Histories.{GoesOn, IsImageBetween, IsLegalSince}
+use Rattle.shard_book.specs.Loading.{IsOldText}
 use Rattle.shard_book.specs.Restarts.{IsHeld, LoadsBetween, LoadsPrefix, with_table}
-use Rattle.shard_book.specs.Shards.{IsCutToText, IsLoadImage, IsTextOf}
-use Rattle.shard_book.proofs.Exactly.{unbroken-front}
-use Rattle.shard_book.proofs.LoadCrash.{load-image}
+use Rattle.shard_book.specs.Shards.{IsCutToText, IsFailedImage, IsLoadImage, IsMigrated, IsTakenFor, IsTextOf}
+use Rattle.shard_book.specs.Versions.{HasText, IsPartOf}
+use Rattle.shard_book.proofs.Exactly.{longer, part-whole, same-text, unbroken-front}
+use Rattle.shard_book.proofs.Histories.{goes-none, goes-then}
 use Rattle.shard_book.proofs.OwnDecisions.{legal-then}
 
 -- ---- a prefix of a legal history
@@ -71,9 +74,9 @@ module _ (issuer : Setup) (table : List TableRow) where
   }
 
   -- a record is legal under each table
-  same-legal : (shard : ℕ) (before : List Entry) (entry : Entry) → IsLegal (grounds_of issuer) shard before entry
-      → IsLegal (grounds_of (with_table issuer table)) shard before entry
-  same-legal shard before (Decided request reply) legal = record {
+  same-legal : (window shard : ℕ) (before : List Entry) (entry : Entry) → IsLegal (grounds_by issuer window (IsMadeBy issuer)) shard before entry
+      → IsLegal (grounds_by (with_table issuer table) window (IsMadeBy (with_table issuer table))) shard before entry
+  same-legal window shard before (Decided request reply) legal = record {
     of_a_card = same-card shard (card_of request) legal.of_a_card;
     is_for_a_cryptogram_request = legal.is_for_a_cryptogram_request;
     has_its_keys = same-keys request legal.has_its_keys;
@@ -82,30 +85,39 @@ module _ (issuer : Setup) (table : List TableRow) where
     in_window = legal.in_window;
     is_the_issuers_reply = same-made before request reply legal.is_the_issuers_reply;
   }
-  same-legal shard before (Queued pan psn command) legal =
+  same-legal window shard before (Queued pan psn command) legal =
       record { of_a_card = same-card shard _ legal.of_a_card; form = legal.form; room = legal.room }
-  same-legal shard before (Status pan psn status) legal =
+  same-legal window shard before (Status pan psn status) legal =
       record { of_a_card = same-card shard _ legal.of_a_card; within = legal.within }
 
-  same-history : (shard : ℕ) (history : List Entry) → IsLegalHistory (grounds_of issuer) shard history
-      → IsLegalHistory (grounds_of (with_table issuer table)) shard history
-  same-history shard history legal place entry at = same-legal shard (take place history) entry (legal place entry at)
+  same-history : (window shard : ℕ) (history : List Entry) → IsLegalHistory (grounds_by issuer window (IsMadeBy issuer)) shard history
+      → IsLegalHistory (grounds_by (with_table issuer table) window (IsMadeBy (with_table issuer table))) shard history
+  same-history window shard history legal place entry at = same-legal window shard (take place history) entry (legal place entry at)
+
+  -- a history that is legal since the old one is so under each table, and so are its prefixes that extend the old one
+  same-since : (shard : ℕ) (old prefix history : List Entry) → GoesOn old prefix → GoesOn prefix history → IsLegalSince issuer shard old history
+      → IsLegalSince (with_table issuer table) shard old prefix
+  same-since shard old prefix history on more since = record {
+    goes_on = on;
+    old_legal = same-history OLD_WINDOW shard old since.old_legal;
+    legal = same-history WINDOW shard prefix (legal-prefix (grounds_of issuer) shard prefix history more since.legal);
+  }
 
   -- and so is one of this run
   own-tail : (shard : ℕ) (history : List Entry) (tail : List ℕ) → IsTail (grounds_now issuer) shard history tail
       → IsTail (grounds_of (with_table issuer table)) shard history tail
   own-tail shard history tail = ⊎_elim (λ (none : tail ≡ []). inl none)
       (λ (one : (entry : Entry) × IsRecord entry × IsLegal (grounds_now issuer) shard history entry × (tail ≡ text_of entry)).
-      inr (one.0, one.1, same-legal shard history one.0 (legal-then issuer shard history one.0 one.1 one.2), one.3))
+      inr (one.0, one.1, same-legal WINDOW shard history one.0 (legal-then issuer shard history one.0 one.1 one.2), one.3))
 
   own-image : (shard : ℕ) (history : List Entry) (image : List ℕ) → IsImageOf (grounds_now issuer) shard history image
       → IsImageOf (grounds_of (with_table issuer table)) shard history image
   own-image shard history image its = (its.0, own-tail shard history its.0 its.1, its.2)
 
 -- what a crash may leave of a shard that answers is what a load takes
-pub loads-between : (issuer : Setup) (shard : ℕ) (first last : List Entry) (image : List ℕ) → IsHeld issuer shard last
-    → IsImageBetween issuer shard first last image → LoadsBetween issuer shard first last image
-loads-between issuer shard first last image held left = record {
+pub loads-between : (issuer : Setup) (shard : ℕ) (old first last : List Entry) (image : List ℕ) → IsHeld issuer shard old last → GoesOn old first
+    → IsImageBetween issuer shard first last image → LoadsBetween issuer shard old first last image
+loads-between issuer shard old first last image held on left = record {
   between = left.between;
   from_first = left.from_first;
   to_last = left.to_last;
@@ -114,7 +126,8 @@ loads-between issuer shard first last image held left = record {
     told = refl;
     left = own-image issuer table shard left.between image left.image_is;
     records = records-prefix left.between last left.to_last held.records;
-    legal = same-history issuer table shard left.between (legal-prefix (grounds_of issuer) shard left.between last left.to_last held.legal);
+    since =
+        same-since issuer table shard old left.between last (goes-then old first left.between on left.from_first) left.to_last held.since;
   };
 }
 
@@ -207,60 +220,156 @@ cut-text (entry ∷ history) rest count records unbroken =
           (one-more entry history (take more (texts_of history ++ rest)) (cut-text history rest more (All-tail IsRecord entry history records) unbroken))
     ])
 
+-- of two prefixes of a history the one with the shorter text is a prefix of the other
+shorter-prefix : (records old history : List Entry) → All IsRecord records → GoesOn records history → GoesOn old history
+    → length (texts_of records) ≤ length (texts_of old) → GoesOn records old
+shorter-prefix [] old history all on other short = (old, refl)
+shorter-prefix (entry ∷ records) [] history all on other short =
+    let least = longer entry (All-head IsRecord entry records all) in
+    let whole = length-append (text_of entry) (texts_of records) in
+    absurd (omega (arith, short, least, whole))
+shorter-prefix (entry ∷ records) (first ∷ old) history all on other short =
+    let both : entry ∷ (records ++ on.0) ≡ first ∷ (old ++ other.0) = sym on.1 ∙ other.1 in
+    let same : entry ≡ first = cc in
+    let lengths = ap (λ (e : Entry). length (text_of e)) same in
+    let whole = length-append (text_of entry) (texts_of records) in
+    let others = length-append (text_of first) (texts_of old) in
+    let rest = shorter-prefix records old (records ++ on.0) (All-tail IsRecord entry records all) (on.0, refl)
+    (other.0, (let tails : records ++ on.0 ≡ old ++ other.0 = cc in tails)) (omega (arith, short, lengths, whole, others)) in
+    (rest.0, ap₂ (λ (e : Entry) (es : List Entry). e ∷ es) (sym same) rest.1)
+
+-- a prefix of a text that begins with another is a prefix of this one as far as it goes
+part-take : (text rest : List ℕ) (count : ℕ) → count ≤ length text → IsPartOf text (take count (text ++ rest))
+part-take text rest count within = record { kept = count; part_is = take-append-le count text rest within }
+
+part-part : (text bytes image : List ℕ) (count : ℕ) → IsPartOf text bytes → image ≡ take count bytes → IsPartOf text image
+part-part text bytes image count part is =
+    elim (cases_lt count part.kept) [
+      | inl below ↦ record { kept = count; part_is = is ∙ ap (take count) part.part_is ∙ take-take count part.kept text (omega arith) }
+      | inr above ↦ record {
+        kept = part.kept;
+        part_is = is ∙ take_all count bytes (omega (arith, ap length part.part_is, length-take part.kept text)) ∙ part.part_is;
+      }
+    ]
+
 -- ---- what is left of a journal that is loaded
 
-module _ (issuer : Setup) (shard : ℕ) (history : List Entry) (moment : Moment) (image : List ℕ)
-    (text : IsTextOf (grounds_of issuer) shard (Some moment.bytes) history) where
-  bytes-are : moment.bytes ≡ texts_of history ++ text.rest
-  bytes-are = same_Some moment.bytes (texts_of history ++ text.rest) text.text_is
+module _ (issuer : Setup) (shard : ℕ) (old history : List Entry) (moment : Moment) (image : List ℕ)
+    (text : IsTextOf issuer shard old (Some moment.bytes) history) where
+  old-records : All IsRecord old
+  old-records = records-prefix old history text.since.goes_on text.records
 
-  prefix-loads : IsTextOfPrefix history image → moment.safe ≤ length image → LoadsPrefix issuer shard history moment.safe image
-  prefix-loads its safe = record {
-    prefix = its.prefix;
-    to_history = its.to_history;
-    text = λ table. record {
-      rest = its.rest;
-      text_is = ap Some its.text_is;
-      unbroken = its.unbroken;
-      records = records-prefix its.prefix history its.to_history text.records;
-      legal = same-history issuer table shard its.prefix (legal-prefix (grounds_of issuer) shard its.prefix history its.to_history text.legal);
-    };
-    has_durable = λ records on short. its.whole records on (omega (arith, short, safe));
+  prefix-text : (table : List TableRow) (prefix : List Entry) → GoesOn old prefix → GoesOn prefix history → IsTakenFor old prefix image
+      → IsTextOf (with_table issuer table) shard old (Some image) prefix
+  prefix-text table prefix on more taken = record {
+    text_is = taken;
+    records = records-prefix prefix history more text.records;
+    since = same-since issuer table shard old prefix history on more text.since;
   }
 
-  -- a prefix of the bytes
-  front-loads : MayLeave moment image → LoadsPrefix issuer shard history moment.safe image
-  front-loads left =
-      let is : image ≡ take (length image) (texts_of history ++ text.rest) = left.is_front ∙ ap (take (length image)) bytes-are in
-      prefix-loads (subst (IsTextOfPrefix history) (sym is) (cut-text history text.rest (length image) text.records text.unbroken)) left.has_safe
+  -- a prefix of the old history's text
+  old-loads : ((records : List Entry) → GoesOn records history → length (journal_text records) ≤ moment.safe → GoesOn records old)
+      → IsPartOf (journal_text old) image → LoadsPrefix issuer shard old history moment.safe image
+  old-loads durable part = record {
+    prefix = old;
+    to_history = text.since.goes_on;
+    text = λ table. prefix-text table old (goes-none old) text.since.goes_on (inl (refl, part));
+    has_durable = durable;
+  }
+
+  -- where the history is the old one
+  moved-loads : history ≡ old → IsPartOf (journal_text old) image → LoadsPrefix issuer shard old history moment.safe image
+  moved-loads same part = old-loads (λ records on short. subst (GoesOn records) same on) part
 
   -- the text of the records alone
-  text-loads : image ≡ texts_of history → LoadsPrefix issuer shard history moment.safe image
+  text-loads : image ≡ journal_text history → LoadsPrefix issuer shard old history moment.safe image
   text-loads is = record {
     prefix = history;
-    to_history = ([], sym (append-nil history));
-    text = λ table. record {
+    to_history = goes-none history;
+    text = λ table. prefix-text table history text.since.goes_on (goes-none history) (inr (record {
       rest = [];
-      text_is = ap Some (is ∙ sym (append-nil (texts_of history)));
+      text_is = is ∙ sym (append-nil (journal_text history));
       unbroken = All-nil (λ byte. byte ≢ newline);
-      records = text.records;
-      legal = same-history issuer table shard history text.legal;
-    };
+    }));
     has_durable = λ records on short. on;
   }
 
-  -- what is left while it is loaded, where that fails
-  pub loads-failed : IsLoadImage moment image → LoadsPrefix issuer shard history moment.safe image
-  loads-failed = ⊎_elim front-loads alone
-    where
-      alone : IsCutToText moment.bytes image → LoadsPrefix issuer shard history moment.safe image
-      alone cut =
-          let whole : texts_of history ++ text.rest ≡ texts_of cut.history ++ cut.rest = sym bytes-are ∙ cut.text_is in
-          let same : history ≡ cut.history =
-          (texts_of-one_reading history cut.history text.rest cut.rest text.records cut.records text.unbroken cut.unbroken whole).0 in
-          text-loads (cut.cut ∙ ap texts_of (sym same))
+  -- a prefix of the bytes, at least as long as the text of the old history
+  behind-loads : (whole : HasText Two history moment.bytes) → MayLeave moment image → length (journal_text old) ≤ length image
+      → LoadsPrefix issuer shard old history moment.safe image
+  behind-loads whole left above =
+      let count : ℕ = length image - 3 in
+      let its = cut-text history whole.rest count text.records whole.unbroken in
+      let split : length image ≡ length version_line + count = omega (arith, above) in
+      let is : image ≡ version_line ++ take count (texts_of history ++ whole.rest) =
+      left.is_front ∙ ap (take (length image)) whole.text_is ∙ take-behind version_line (texts_of history ++ whole.rest) (length image) count split in
+      let long = ap length is in
+      let on = its.whole old text.since.goes_on (omega (arith, above, long)) in
+      let safe = left.has_safe in
+      record {
+        prefix = its.prefix;
+        to_history = its.to_history;
+        text = λ table. prefix-text table its.prefix on its.to_history (inr (record {
+          rest = its.rest;
+          text_is = is ∙ ap (λ l. version_line ++ l) its.text_is;
+          unbroken = its.unbroken;
+        }));
+        has_durable = λ records goes short. its.whole records goes (omega (arith, short, safe, long));
+      }
 
-  -- and where it succeeds
-  pub loads-opened : IsCutImage (length (texts_of history)) moment image → LoadsPrefix issuer shard history moment.safe image
-  loads-opened left =
-      loads-failed (load-image history text.rest (length (texts_of history)) text.unbroken text.records refl moment image bytes-are left)
+  -- a prefix of the bytes
+  front-loads : MayLeave moment image → LoadsPrefix issuer shard old history moment.safe image
+  front-loads left = ⊎_elim
+      (λ (part : (history ≡ old) × IsPartOf (journal_text old) moment.bytes).
+      moved-loads part.0 (part-part (journal_text old) moment.bytes image (length image) part.1 left.is_front))
+      (λ (whole : HasText Two history moment.bytes). elim (cases_lt (length image) (length (journal_text old))) [
+        | inl below ↦
+            let safe = left.has_safe in
+            let begins : moment.bytes ≡ journal_text old ++ (texts_of text.since.goes_on.0 ++ whole.rest) =
+            whole.text_is ∙ ap (λ (h : List Entry). journal_text h ++ whole.rest) text.since.goes_on.1
+            ∙ ap (λ l. (version_line ++ l) ++ whole.rest) (flat_map-append text_of old text.since.goes_on.0)
+            ∙ append_assoc (journal_text old) (texts_of text.since.goes_on.0) whole.rest in
+            old-loads (λ records on short.
+            shorter-prefix records old history (records-prefix records history on text.records) on text.since.goes_on (omega (arith, short, safe, below)))
+            (subst (IsPartOf (journal_text old)) (sym (left.is_front ∙ ap (take (length image)) begins))
+            (part-take (journal_text old) (texts_of text.since.goes_on.0 ++ whole.rest) (length image) (omega (arith, below))))
+        | inr above ↦ behind-loads whole left above
+      ])
+      text.text_is
+
+  -- a migration went on
+  part-loads : IsPartOf (journal_text old) moment.bytes → IsPartOf (journal_text old) image → LoadsPrefix issuer shard old history moment.safe image
+  part-loads was part = ⊎_elim
+      (λ (same : (history ≡ old) × IsPartOf (journal_text old) moment.bytes). moved-loads same.0 part)
+      (λ (whole : HasText Two history moment.bytes).
+      moved-loads (part-whole old history moment.bytes text.since.goes_on text.records was whole) part)
+      text.text_is
+
+  -- what is left while it is loaded
+  pub loads-opened : IsLoadImage old history moment image → LoadsPrefix issuer shard old history moment.safe image
+  loads-opened = ⊎_elim front-loads (⊎_elim (λ both. part-loads both.0 both.1) text-loads)
+
+  -- the bytes were truncated to the text of their records
+  cut-loads : IsCutToText moment.bytes image → LoadsPrefix issuer shard old history moment.safe image
+  cut-loads cut = ⊎_elim
+      (λ (part : (history ≡ old) × IsPartOf (journal_text old) moment.bytes).
+      moved-loads part.0 (part-part (journal_text old) moment.bytes image (length (journal_text cut.history)) part.1
+      (cut.cut ∙ sym (ap (take (length (journal_text cut.history))) cut.text_is.text_is
+      ∙ take_at (journal_text cut.history) cut.text_is.rest (length (journal_text cut.history)) refl))))
+      (λ (whole : HasText Two history moment.bytes).
+      let same = same-text Two cut.history history moment.bytes cut.records text.records cut.text_is whole in
+      text-loads (cut.cut ∙ ap journal_text same))
+      text.text_is
+
+  -- and where its load fails
+  migrated-loads : (old_bytes : Option (List ℕ)) → IsOldText issuer shard old_bytes old → IsMigrated old_bytes moment.bytes image
+      → LoadsPrefix issuer shard old history moment.safe image
+  migrated-loads None known migrated = absurd known.text_is
+  migrated-loads (Some old_text) known migrated =
+      let same = same-text One migrated.old old old_text migrated.records known.records migrated.old_text_is known.text_is in
+      part-loads (subst (λ (old : List Entry). IsPartOf (journal_text old) moment.bytes) same migrated.was)
+      (subst (λ (old : List Entry). IsPartOf (journal_text old) image) same migrated.now)
+
+  pub loads-failed : (old_bytes : Option (List ℕ)) → IsOldText issuer shard old_bytes old → IsFailedImage old_bytes moment image
+      → LoadsPrefix issuer shard old history moment.safe image
+  loads-failed old_bytes known = ⊎_elim front-loads (⊎_elim (migrated-loads old_bytes known) cut-loads)

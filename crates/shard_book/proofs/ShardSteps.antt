@@ -21,7 +21,7 @@ use Rattle.card_history.specs.Turns.{IsUnused, decided_for}
 use Rattle.row_core.specs.Replying.{reply_to}
 use Rattle.shard_book.specs.Answering.{told_after, AnswersClaimed}
 use Rattle.journal_rec.specs.Record.{IsRecord}
-use Rattle.journal_rec.specs.RecordText.{text_of, texts_of}
+use Rattle.journal_rec.specs.RecordText.{text_of, texts_of, journal_text, version_line}
 use Rattle.record_store.specs.declared.journal.Journal.{Journal}
 use Rattle.record_store.specs.Holding.{Holds}
 use Rattle.record_store.specs.Images.{HasSafeText, IsImage, IsEitherImage}
@@ -36,29 +36,33 @@ pub texts-more : (history : List Entry) (entry : Entry) → texts_of history ++ 
 texts-more history entry =
     ap (λ l. texts_of history ++ l) (sym (append-nil (text_of entry))) ∙ sym (flat_map-append text_of history (entry ∷ []))
 
+-- and in a journal of version 2
+pub journal-more : (history : List Entry) (entry : Entry) → journal_text history ++ text_of entry ≡ journal_text (history ++ entry ∷ [])
+journal-more history entry = ap (λ l. version_line ++ l) (texts-more history entry)
+
 module _ {S : Type 0} {G : Ghosts S} (history : List Entry) (entry : Entry) (new : Journal S G) (piece : List ℕ) (its : piece ≡ text_of entry) where
   -- the text with an appended record is that of the history with it
-  holds-more : Holds new (length history + 1) (texts_of history ++ piece) [] → Holds new (length (history ++ entry ∷ [])) (texts_of (history ++ entry ∷ [])) []
+  holds-more : Holds new (length history + 1) (journal_text history ++ piece) [] → Holds new (length (history ++ entry ∷ [])) (journal_text (history ++ entry ∷ [])) []
   holds-more holds =
-      subst (λ (n : ℕ). Holds new n (texts_of (history ++ entry ∷ [])) []) (sym (length_push history entry))
-      (subst (λ (text : List ℕ). Holds new (length history + 1) text []) (ap (λ l. texts_of history ++ l) its ∙ texts-more history entry) holds)
+      subst (λ (n : ℕ). Holds new n (journal_text (history ++ entry ∷ [])) []) (sym (length_push history entry))
+      (subst (λ (text : List ℕ). Holds new (length history + 1) text []) (ap (λ l. journal_text history ++ l) its ∙ journal-more history entry) holds)
 
   -- nothing is after the text with the record; or what was there, or a prefix of the record's
   pub put-tail : {E : Type 0} (tail : List ℕ) (result : Result ℕ E)
-      → IfOk result (λ place. (place ≡ length history) × Holds new (length history + 1) (texts_of history ++ piece) [])
-      → (IsErr result → Holds new (length history) (texts_of history) tail ⊎ Holds new (length history) (texts_of history) piece)
-      → MatchResult result (λ _. Holds new (length (history ++ entry ∷ [])) (texts_of (history ++ entry ∷ [])) [])
-      (λ _. Holds new (length history) (texts_of history) tail ⊎ Holds new (length history) (texts_of history) (text_of entry))
+      → IfOk result (λ place. (place ≡ length history) × Holds new (length history + 1) (journal_text history ++ piece) [])
+      → (IsErr result → Holds new (length history) (journal_text history) tail ⊎ Holds new (length history) (journal_text history) piece)
+      → MatchResult result (λ _. Holds new (length (history ++ entry ∷ [])) (journal_text (history ++ entry ∷ [])) [])
+      (λ _. Holds new (length history) (journal_text history) tail ⊎ Holds new (length history) (journal_text history) (text_of entry))
   put-tail tail (Ok place) done failed = holds-more done.1
-  put-tail tail (Err error) done failed = ⊎_elim (λ (same : Holds new (length history) (texts_of history) tail). inl same)
-      (λ (torn : Holds new (length history) (texts_of history) piece). inr (subst (Holds new (length history) (texts_of history)) its torn))
+  put-tail tail (Err error) done failed = ⊎_elim (λ (same : Holds new (length history) (journal_text history) tail). inl same)
+      (λ (torn : Holds new (length history) (journal_text history) piece). inr (subst (Holds new (length history) (journal_text history)) its torn))
       (failed refl)
 
 module _ {S : Type 0} {G : Ghosts S} (grounds : Grounds) (number : ℕ) (history : List Entry) (entry : Entry) (old new : Journal S G)
     (h : HoldsHistory grounds number old history) (piece : List ℕ) (its : piece ≡ text_of entry) (valid : IsRecord entry) where
   -- an appended record is one of the history's
   pub put-done : {E : Type 0} (result : Result ℕ E)
-      → IfOk result (λ place. (place ≡ length history) × Holds new (length history + 1) (texts_of history ++ piece) [])
+      → IfOk result (λ place. (place ≡ length history) × Holds new (length history + 1) (journal_text history ++ piece) [])
       → IfOk result (λ place. (place ≡ length history) × HoldsHistory grounds number new (history ++ entry ∷ []))
   put-done (Err error) done = tt
   put-done (Ok place) done = (
@@ -73,10 +77,10 @@ module _ {S : Type 0} {G : Ghosts S} (grounds : Grounds) (number : ℕ) (history
 
   -- one that wasn't appended may be in doubt
   pub put-failed : IsLegal grounds number history entry
-      → Holds new (length history) (texts_of history) h.tail ⊎ Holds new (length history) (texts_of history) piece → HoldsHistory grounds number new history
+      → Holds new (length history) (journal_text history) h.tail ⊎ Holds new (length history) (journal_text history) piece → HoldsHistory grounds number new history
   put-failed legal = ⊎_elim
-      (λ (same : Holds new (length history) (texts_of history) h.tail). record { tail = h.tail; tail_is = h.tail_is; records = h.records; holds = same })
-      (λ (torn : Holds new (length history) (texts_of history) piece). record {
+      (λ (same : Holds new (length history) (journal_text history) h.tail). record { tail = h.tail; tail_is = h.tail_is; records = h.records; holds = same })
+      (λ (torn : Holds new (length history) (journal_text history) piece). record {
         tail = piece;
         tail_is = inr (entry, valid, legal, its);
         records = h.records;
@@ -85,22 +89,22 @@ module _ {S : Type 0} {G : Ghosts S} (grounds : Grounds) (number : ℕ) (history
 
   -- and a crash leaves the text of the history, and a torn record after it
   pub put-crash : IsLegal grounds number history entry → (a b : Option Disk)
-      → BothTold (LeavesOnly (IsEitherImage (texts_of history) h.tail piece)) a b → BothTold (LeavesOnly (IsImageOf grounds number history)) a b
+      → BothTold (LeavesOnly (IsEitherImage (journal_text history) h.tail piece)) a b → BothTold (LeavesOnly (IsImageOf grounds number history)) a b
   put-crash legal a b =
-      BothTold-weaker (LeavesOnly (IsEitherImage (texts_of history) h.tail piece)) (LeavesOnly (IsImageOf grounds number history)) a b
-      (λ x y only. LeavesOnly-weaker (IsEitherImage (texts_of history) h.tail piece) (IsImageOf grounds number history) x y
+      BothTold-weaker (LeavesOnly (IsEitherImage (journal_text history) h.tail piece)) (LeavesOnly (IsImageOf grounds number history)) a b
+      (λ x y only. LeavesOnly-weaker (IsEitherImage (journal_text history) h.tail piece) (IsImageOf grounds number history) x y
       (λ image. ⊎_elim
-      (λ (one : IsImage (texts_of history) h.tail image). (h.tail, h.tail_is, one))
-      (λ (one : IsImage (texts_of history) piece image). (piece, inr (entry, valid, legal, its), one))) only)
+      (λ (one : IsImage (journal_text history) h.tail image). (h.tail, h.tail_is, one))
+      (λ (one : IsImage (journal_text history) piece image). (piece, inr (entry, valid, legal, its), one))) only)
 
 -- no call was made
 no_call : (grounds : Grounds) (number : ℕ) (history : List Entry) (tail : List ℕ) → IsTail grounds number history tail → (disk : Option Disk)
-    → IfSome disk (λ disk. HasSafeText (texts_of history) tail disk.now) → BothTold (LeavesOnly (IsImageOf grounds number history)) disk disk
+    → IfSome disk (λ disk. HasSafeText (journal_text history) tail disk.now) → BothTold (LeavesOnly (IsImageOf grounds number history)) disk disk
 no_call grounds number history tail tail_is None is = tt
 no_call grounds number history tail tail_is (Some disk) is =
-    LeavesOnly-passes (HasSafeText (texts_of history) tail) (IsImageOf grounds number history) disk disk
-    (λ moment image safe left. (tail, tail_is, leaves-image (texts_of history) tail moment image safe left)) is
-    (Passes-no_call (HasSafeText (texts_of history) tail) disk is)
+    LeavesOnly-passes (HasSafeText (journal_text history) tail) (IsImageOf grounds number history) disk disk
+    (λ moment image safe left. (tail, tail_is, leaves-image (journal_text history) tail moment image safe left)) is
+    (Passes-no_call (HasSafeText (journal_text history) tail) disk is)
 
 pub crash-no_call : {S : Type 0} {G : Ghosts S} (grounds : Grounds) (number : ℕ) (journal : Journal S G) (history : List Entry)
     → HoldsHistory grounds number journal history → BothTold (LeavesOnly (IsImageOf grounds number history)) (G.disk journal.store) (G.disk journal.store)

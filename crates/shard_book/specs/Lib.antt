@@ -2,6 +2,8 @@
 pub mod ShardRows
 pub mod Steps
 pub mod Grounds
+pub mod Histories
+pub mod Versions
 pub mod Shards
 pub mod Recorded
 pub mod Answering
@@ -9,6 +11,6 @@ pub mod Calls
 pub mod LineAhead
 pub mod Loading
 pub mod Loads
+pub mod Migrating
 pub mod Room
-pub mod Histories
 pub mod Restarts

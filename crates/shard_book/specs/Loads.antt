@@ -1,52 +1,86 @@
--- What loading a shard makes of its store.
-use Rattle.std.specs.Prelude.{◌≡◌, ℕ, ◌≤◌, false, List, Option}
+-- What loading a shard makes of its stores: the old one, of version 1, and the journal's own.
+use Rattle.std.specs.Prelude.{◌≡◌, ℕ, ◌+◌, ◌≤◌, max, Bool, ◌||◌, false, List, length, Option}
 use Rattle.issuer_base.specs.OutsideFaults.{CountsFaults}
 use Rattle.issuer_base.specs.Stores.{BothTold, Disk, HasRoom, LeavesOnly}
 use Rattle.issuer_base.specs.declared.outside.store.Store.{Ghosts}
 use Rattle.issuer_setup.specs.IssuerSetup.{Setup}
-use Rattle.record_store.specs.Images.{IsCutImage}
+use Rattle.journal_rec.specs.RecordText.{version_line}
+use Rattle.record_store.specs.Images.{OnlyReads}
 use Rattle.shard_book.specs.declared.replay.LoadFault.{LoadFault}
 use Rattle.shard_book.specs.declared.replay.LoadFault.TheVariants.{NoMemory}
 use Rattle.shard_book.specs.declared.shard.Shard.{Shard}
 use Rattle.shard_book.specs.Loading.{StopsText, is_store_failure}
 use Rattle.shard_book.specs.Room.{Spares}
-use Rattle.shard_book.specs.Shards.{IsUnder, sure_in, disk_in, faults_in, places_in, told_in}
-use Rattle.shard_book.specs.Shards.{IsUndoubted, IsLoaded, IsLoadImage, LeavesBytes, LeavesDisk}
+use Rattle.shard_book.specs.Shards.{IsUnder, disk_in, faults_in, places_in, told_in}
+use Rattle.shard_book.specs.Shards.{IsUndoubted, IsLoaded, IsLoadImage, IsFailedImage, LeavesBytes, LeavesDisk}
+
+-- how two fault counts change, each by failures of its own; a call failed just where one of them counted a failure
+pub record CountsBoth (old old_then new new_then : ℕ) (failed : Bool) : Type 0 where
+  pub first : Bool
+  pub second : Bool
+  pub first_counts : CountsFaults old old_then first
+  pub second_counts : CountsFaults new new_then second
+  pub either : failed ≡ (first || second)
+
+-- the size that a store may grow to while it is loaded: its own, or that of the old store's text and the first line
+abbrev pub loaded_size : ℕ → ℕ → ℕ
+loaded_size old_size size = max size (length version_line + old_size)
+
+-- both stores state their room, the old one's size is within its own, and so many more bytes than a load may need are
+-- within the other's
+pub record HaveRoom (spare : ℕ) (old_size : ℕ) (old_room : Option ℕ) (size : ℕ) (room : Option ℕ) : Type 0 where
+  pub of_old : HasRoom 0 old_size old_room
+  pub of_store : HasRoom spare (loaded_size old_size size) room
 
 module _ {S : Type 0} {G : Ghosts S} where
-  -- the shard with this number was loaded from the store
-  pub record IsLoadedFrom (issuer : Setup) (number : ℕ) (store : S) (shard : Shard S G) : Type 0 where
-    -- it stands for the history whose text the store had
-    pub loaded : IsLoaded issuer number (G.bytes store) shard
+  -- the shard with this number was loaded from the old store, which is now `old_then`, and the store
+  pub record IsLoadedFrom (issuer : Setup) (number : ℕ) (old old_then store : S) (shard : Shard S G) : Type 0 where
+    -- it stands for the history that the stores' bytes were taken for
+    pub loaded : IsLoaded issuer number (G.bytes old) (G.bytes store) shard
     -- it is one of this issuer's shards
     pub under : IsUnder issuer shard
-    -- it has at most as many records as the store had bytes
-    pub few : places_in shard ≤ G.size store
-    -- none of its answers has reported that the store failed
+    -- it has at most as many records as its store may have bytes
+    pub few : places_in shard ≤ loaded_size (G.size old) (G.size store)
+    -- none of its answers has reported that the store failed, and nothing is in doubt
     pub untold : told_in shard ≡ 0
-    -- nothing is in doubt
     pub undoubted : IsUndoubted shard
-    -- meanwhile a crash leaves what it might leave before, or the history's text
+    -- meanwhile a crash leaves what it might leave before, a prefix of the old history's text, or the history's text
     pub leaves :
-        BothTold (λ old new. LeavesOnly (IsCutImage (sure_in shard) old.now) old new) (G.disk store) (disk_in shard)
-    -- no call of the store failed
+        BothTold (λ before after. LeavesOnly (IsLoadImage loaded.old loaded.history before.now) before after)
+        (G.disk store) (disk_in shard)
+    -- no call of either store failed
+    pub old_counts : CountsFaults (G.faults old) (G.faults old_then) false
     pub counts : CountsFaults (G.faults store) (faults_in shard) false
     -- room that the store had remains
-    pub room : (spare : ℕ) → HasRoom spare (G.size store) (G.room store) → Spares spare shard
+    pub room : (spare : ℕ) → HaveRoom spare (G.size old) (G.room old) (G.size store) (G.room store) → Spares spare shard
 
--- by what is observable of stores: their bytes, their disks and their fault counts
-module _ {S : Type 0} (bytes : S → Option (List ℕ)) (disk : S → Option Disk) (faults : S → ℕ) where
-  -- the shard with this number can't be loaded from the store for this reason, and this is the store afterwards
-  pub record IsNotLoaded (issuer : Setup) (number : ℕ) (store : S) (fault : LoadFault) (back : S) : Type 0 where
-    -- the fault is that of the text's first bad line, or isn't the text's
-    pub stops : StopsText issuer number (bytes store) fault
-    -- the store has the bytes that it had; if it failed it may have those of the records alone
-    pub kept : LeavesBytes fault (bytes store) (bytes back)
-    -- if it didn't fail, it was only read
+-- by what is observable of stores: their sizes, their bytes, their disks, their room and their fault counts
+module _ {S : Type 0} (size : S → ℕ) (bytes : S → Option (List ℕ)) (disk : S → Option Disk) (room : S → Option ℕ) where
+  -- the store was only read: nothing but its fault count and what it observed of reads may have changed
+  pub record IsOnlyRead (old new : S) : Type 0 where
+    pub size_is : size new ≡ size old
+    pub bytes_are : bytes new ≡ bytes old
+    pub disk_is : BothTold OnlyReads (disk old) (disk new)
+    pub room_is : room new ≡ room old
+
+module _ {S : Type 0} (size : S → ℕ) (bytes : S → Option (List ℕ)) (disk : S → Option Disk) (faults : S → ℕ) where
+  -- the shard with this number can't be loaded from the old store and the store for this reason, and these are the two
+  -- stores afterwards
+  pub record IsNotLoaded (issuer : Setup) (number : ℕ) (old store : S) (fault : LoadFault) (old_then back : S)
+      : Type 0 where
+    -- the fault is that of the first bad line of the old text or of the text, or isn't a text's
+    pub stops : StopsText issuer number (bytes old) (bytes store) fault
+    -- the store has the bytes that it had; if a store failed they may be migrated in part or truncated to the records
+    pub kept : LeavesBytes fault (bytes old) (bytes store) (bytes back)
+    -- if neither store failed, it was only read, and has the same size
     pub still : LeavesDisk fault (disk store) (disk back)
-    -- meanwhile a crash leaves what it might leave before, or the text of the records alone
-    pub leaves : BothTold (λ old new. LeavesOnly (IsLoadImage old.now) old new) (disk store) (disk back)
-    -- the store's fault count increases just where the store is the reason
-    pub counts : CountsFaults (faults store) (faults back) (is_store_failure fault)
-    -- if memory is the reason, the store is unchanged
-    pub untouched : fault ≡ NoMemory → back ≡ store
+    pub size_is : is_store_failure fault ≡ false → size back ≡ size store
+    -- meanwhile a crash leaves what it might leave before, a prefix of the old history's text, or the text of the
+    -- records alone
+    pub leaves :
+        BothTold (λ before after. LeavesOnly (IsFailedImage (bytes old) before.now) before after)
+        (disk store) (disk back)
+    -- a store's fault count increases just where a store is the reason
+    pub counts : CountsBoth (faults old) (faults old_then) (faults store) (faults back) (is_store_failure fault)
+    -- if memory is the reason, the stores are unchanged
+    pub untouched : fault ≡ NoMemory → (old_then ≡ old) × (back ≡ store)

@@ -24,7 +24,7 @@ module _ {S : Type 0} {G : Ghosts S} where
   abbrev pub UsesRoom : ℕ → Bool → Shard S G → Shard S G → Type 0
   UsesRoom most failed old new = (spare : ℕ) → Spares (most + spare) old → (failed ≡ false) × Spares spare new
 
-  -- a store that works at its size doesn't fail, and has the same room once it is loaded
+  -- a store that works at its size doesn't fail, and has the same room once its journal is opened
   abbrev pub LoadsWithin : ℕ → Option ℕ → Result (Shard S G) (LoadBack S) → Type 0
   LoadsWithin size room result = (spare : ℕ) → HasRoom spare size room
       → MatchResult result (Spares spare) (λ back. is_store_failure back.fault ≡ false)

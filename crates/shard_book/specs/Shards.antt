@@ -1,17 +1,16 @@
 -- The history that a shard over a store stands for.
-use Rattle.std.specs.Prelude.{◌≡◌, ◌⊎◌, ℕ, false, List, [], ◌∷◌, ◌++◌, length, Option, Some, All}
+use Rattle.std.specs.Prelude.{◌≡◌, ◌⊎◌, ◌≤◌, ℕ, false, List, [], ◌∷◌, ◌++◌, length, Option, Some, IfSome, IsSomeAnd, All}
 use Rattle.issuer_base.specs.Stores.{Disk, Moment, MayLeave, BothTold}
-use Rattle.issuer_base.specs.Tells.{Tells}
 use Rattle.record_store.specs.Images.{OnlyReads}
 use Rattle.issuer_base.specs.declared.outside.store.Store.{Ghosts}
 use Rattle.issuer_base.specs.declared.answer.Answer.{Answer}
 use Rattle.issuer_base.specs.declared.answer.Answer.TheVariants.{Refused}
 use Rattle.issuer_base.specs.declared.answer.Refusal.TheVariants.{StoreFault}
 use Rattle.issuer_base.specs.declared.entry.Entry.{Entry}
-use Rattle.card_history.specs.LegalRecords.{Grounds, IsLegal, IsLegalHistory}
+use Rattle.card_history.specs.LegalRecords.{Grounds, IsLegal}
 use Rattle.issuer_setup.specs.IssuerSetup.{Setup}
 use Rattle.journal_rec.specs.Record.{IsRecord}
-use Rattle.journal_rec.specs.RecordText.{texts_of, IsUnbroken}
+use Rattle.journal_rec.specs.RecordText.{journal_text}
 use Rattle.record_store.specs.declared.journal.Journal.{Journal}
 use Rattle.record_store.specs.Holding.{Holds}
 use Rattle.shard_book.specs.declared.replay.LoadFault.{LoadFault}
@@ -19,6 +18,9 @@ use Rattle.shard_book.specs.declared.replay.LoadFault.TheVariants.{StoreFault as
 use Rattle.shard_book.specs.declared.shard.Shard.{Shard}
 use Rattle.shard_book.specs.ShardRows.{AreRowsOf, IsHome, StandsFor as RowsStandFor}
 use Rattle.shard_book.specs.Grounds.{IsTail, IsImageOf, grounds_now, grounds_of}
+use Rattle.shard_book.specs.Histories.{IsLegalSince}
+use Rattle.shard_book.specs.Versions.{HasText, IsPartOf}
+use Rattle.shard_book.specs.declared.replay.Version.TheVariants.{One, Two}
 
 -- the journal has the records of the history, possibly followed by a prefix of the text of a valid successor
 pub record HoldsHistory {S : Type 0} {G : Ghosts S} (grounds : Grounds) (number : ℕ) (journal : Journal S G)
@@ -26,7 +28,7 @@ pub record HoldsHistory {S : Type 0} {G : Ghosts S} (grounds : Grounds) (number 
   pub tail : List ℕ
   pub tail_is : IsTail grounds number history tail
   pub records : All IsRecord history
-  pub holds : Holds journal (length history) (texts_of history) tail
+  pub holds : Holds journal (length history) (journal_text history) tail
 
 module _ {S : Type 0} {G : Ghosts S} where
   -- the shard's number
@@ -59,7 +61,7 @@ module _ {S : Type 0} {G : Ghosts S} where
 
   -- its store has the text of the history, all of it durable, and after it at most a prefix of this tail
   abbrev pub HasTail : Shard S G → List Entry → List ℕ → Type 0
-  HasTail shard history tail = Holds shard.journal (length history) (texts_of history) tail
+  HasTail shard history tail = Holds shard.journal (length history) (journal_text history) tail
 
   -- nothing is in doubt unless one of its answers reported that its store failed
   abbrev pub IsUndoubted : Shard S G → Type 0
@@ -84,35 +86,48 @@ Adds issuer new history entry good answer =
     ((answer ≡ good) × StandsFor issuer new (history ++ entry ∷ []))
     ⊎ ((answer ≡ Refused StoreFault) × StandsFor issuer new history)
 
--- a shard that was loaded: if the store's bytes were observable, they were the text of a legal history and a torn last
--- line, which may be empty; the shard stands for that history, and its journal has just the history's text
-pub record IsLoaded {S : Type 0} {G : Ghosts S} (issuer : Setup) (number : ℕ) (bytes : Option (List ℕ))
-    (shard : Shard S G) : Type 0 where
-  pub history : List Entry
-  pub rest : List ℕ
-  pub text_is : Tells bytes (texts_of history ++ rest)
-  pub unbroken : IsUnbroken rest
+-- a load after this old history takes the bytes for the history: they are a prefix of the text of the old history,
+-- where a migration was stopped or never begun; or the text of the history and a torn last line, which may be empty
+abbrev pub IsTakenFor : List Entry → List Entry → List ℕ → Type 0
+IsTakenFor old history bytes = ((history ≡ old) × IsPartOf (journal_text old) bytes) ⊎ HasText Two history bytes
+
+-- if the bytes of the old store and of the store were observable, the old ones were the text of this old history and a
+-- torn last line, and a load takes the others for this history, which is legal since the old one
+pub record IsJournalOf (issuer : Setup) (number : ℕ) (old_bytes bytes : Option (List ℕ)) (old history : List Entry)
+    : Type 0 where
+  pub old_text_is : IfSome old_bytes (HasText One old)
+  pub text_is : IfSome bytes (IsTakenFor old history)
+  pub old_records : All IsRecord old
   pub records : All IsRecord history
-  pub legal : IsLegalHistory (grounds_of issuer) number history
+  pub since : IsLegalSince issuer number old history
+
+-- a shard that was loaded: it stands for the history that the stores' bytes were taken for, and its journal has just
+-- the history's text
+pub record IsLoaded {S : Type 0} {G : Ghosts S} (issuer : Setup) (number : ℕ) (old_bytes bytes : Option (List ℕ))
+    (shard : Shard S G) : Type 0 where
+  pub old : List Entry
+  pub history : List Entry
+  pub journal_is : IsJournalOf issuer number old_bytes bytes old history
   pub number_is : number_in shard ≡ number
   pub stands : StandsFor issuer shard history
   pub settled : HasTail shard history []
 
--- the bytes are known: the text of this legal history and a torn last line, which may be empty
-pub record IsTextOf (grounds : Grounds) (shard : ℕ) (bytes : Option (List ℕ)) (history : List Entry) : Type 0 where
-  pub rest : List ℕ
-  pub text_is : bytes ≡ Some (texts_of history ++ rest)
-  pub unbroken : IsUnbroken rest
+-- the store's bytes are known, and a load after this old history takes them for this history, which is legal since it
+pub record IsTextOf (issuer : Setup) (shard : ℕ) (old : List Entry) (bytes : Option (List ℕ)) (history : List Entry)
+    : Type 0 where
+  pub text_is : IsSomeAnd bytes (IsTakenFor old history)
   pub records : All IsRecord history
-  pub legal : IsLegalHistory grounds shard history
+  pub since : IsLegalSince issuer shard old history
 
--- the bytes are known: an image of this history, which is legal whatever decision table an earlier run had
-pub record IsImageLeft (issuer : Setup) (shard : ℕ) (bytes : Option (List ℕ)) (history : List Entry) : Type 0 where
+-- the store's bytes are known: an image of this history, which is legal since the old one whatever decision table an
+-- earlier run had
+pub record IsImageLeft (issuer : Setup) (shard : ℕ) (old : List Entry) (bytes : Option (List ℕ)) (history : List Entry)
+    : Type 0 where
   pub image : List ℕ
   pub told : bytes ≡ Some image
   pub left : IsImageOf (grounds_of issuer) shard history image
   pub records : All IsRecord history
-  pub legal : IsLegalHistory (grounds_of issuer) shard history
+  pub since : IsLegalSince issuer shard old history
 
 -- the shard stands for the history, and its journal has just the history's text, all of it durable
 pub record IsSettled {S : Type 0} {G : Ghosts S} (issuer : Setup) (shard : Shard S G) (history : List Entry)
@@ -125,27 +140,47 @@ abbrev pub StandsForLeft : {S : Type 0} {G : Ghosts S} → Setup → ℕ → Opt
 StandsForLeft issuer number bytes history shard =
     IsSettled issuer shard history
     ⊎ ((entry : Entry) × IsLegal (grounds_of issuer) number history entry
-    × (bytes ≡ Some (texts_of (history ++ entry ∷ []))) × IsSettled issuer shard (history ++ entry ∷ []))
+    × (bytes ≡ Some (journal_text (history ++ entry ∷ []))) × IsSettled issuer shard (history ++ entry ∷ []))
 
 -- the bytes were the text of records and a torn last line, and were truncated to the text of the records
 pub record IsCutToText (before after : List ℕ) : Type 0 where
   pub history : List Entry
-  pub rest : List ℕ
-  pub text_is : before ≡ texts_of history ++ rest
-  pub unbroken : IsUnbroken rest
   pub records : All IsRecord history
-  pub cut : after ≡ texts_of history
+  pub text_is : HasText Two history before
+  pub cut : after ≡ journal_text history
 
--- what a crash leaves of a store that is loaded: what it might leave before, or the text of the records alone
-abbrev pub IsLoadImage : Moment → List ℕ → Type 0
-IsLoadImage moment image = MayLeave moment image ⊎ IsCutToText moment.bytes image
+-- the old store's bytes are the text of a history and a torn last line; the bytes were and are a prefix of this
+-- history's text in a journal of version 2: a migration went on
+pub record IsMigrated (old_bytes : Option (List ℕ)) (before after : List ℕ) : Type 0 where
+  pub old : List Entry
+  pub records : All IsRecord old
+  pub old_text_is : IsSomeAnd old_bytes (HasText One old)
+  pub was : IsPartOf (journal_text old) before
+  pub now : IsPartOf (journal_text old) after
 
--- what a failed load leaves of the bytes: they are unchanged, or if the store failed possibly truncated to the records
-abbrev pub LeavesBytes : LoadFault → Option (List ℕ) → Option (List ℕ) → Type 0
-LeavesBytes StoreFailed old new = BothTold (λ before after. (after ≡ before) ⊎ IsCutToText before after) old new
-LeavesBytes _ old new = new ≡ old
+-- what a crash leaves of a store that is loaded after this old history for this history: what it might leave before;
+-- where a migration goes on, a prefix of the old history's text; or the text of the history
+abbrev pub IsLoadImage : List Entry → List Entry → Moment → List ℕ → Type 0
+IsLoadImage old history moment image =
+    MayLeave moment image
+    ⊎ (IsPartOf (journal_text old) moment.bytes × IsPartOf (journal_text old) image)
+    ⊎ (image ≡ journal_text history)
 
--- and of the disk: unless the store failed, each moment has the bytes of the first
+-- and if its load fails: what it might leave before; where a migration goes on, a prefix of the old history's text; or
+-- the text of the records alone
+abbrev pub IsFailedImage : Option (List ℕ) → Moment → List ℕ → Type 0
+IsFailedImage old_bytes moment image =
+    MayLeave moment image ⊎ IsMigrated old_bytes moment.bytes image ⊎ IsCutToText moment.bytes image
+
+-- what a failed load leaves of the store's bytes: they are unchanged; or if a store failed, possibly migrated in part
+-- and no shorter, or truncated to the records
+abbrev pub LeavesBytes : LoadFault → Option (List ℕ) → Option (List ℕ) → Option (List ℕ) → Type 0
+LeavesBytes StoreFailed old_bytes old new =
+    BothTold (λ before after. (after ≡ before)
+    ⊎ (IsMigrated old_bytes before after × (length before ≤ length after)) ⊎ IsCutToText before after) old new
+LeavesBytes _ old_bytes old new = new ≡ old
+
+-- and of its disk: unless a store failed, each moment has the bytes of the first
 abbrev pub LeavesDisk : LoadFault → Option Disk → Option Disk → Type 0
 LeavesDisk StoreFailed old new = Unit {0}
 LeavesDisk _ old new = BothTold OnlyReads old new

@@ -52,13 +52,13 @@ Applies old found step new =
     → IsCardOf issuer found.card card
     → IsNext card history step → step.request ≡ found.request → StandsFor issuer new (with_record history step)
 
--- whether the decision of this request of a card is a valid successor
-abbrev pub Accepts : ShardRows → CheckedRequest → Reply → Bool → Type 0
-Accepts rows found reply accepted =
+-- whether the decision of this request of a card is a valid successor by this window
+abbrev pub Accepts : ℕ → ShardRows → CheckedRequest → Reply → Bool → Type 0
+Accepts window rows found reply accepted =
     (issuer : Setup) (card : CardInfo) (history : List Entry) → StandsFor issuer rows history
     → IsCardOf issuer found.card card
     → card_of found.request ≡ name_of card
-    → (IsTrue accepted ↔ IsValidSuccessor card.method found.keys history found.request reply)
+    → (IsTrue accepted ↔ IsValidSuccessor window card.method found.keys history found.request reply)
 
 -- the decision is replayed
 abbrev pub Adopts : ShardRows → CheckedRequest → Reply → ℕ → ShardRows → Type 0

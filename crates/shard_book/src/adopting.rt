@@ -10,10 +10,12 @@ ghost use Rattle.issuer_setup.specs.CardList.{name_of};
 ghost use Rattle.issuer_setup.specs.IssuerSetup.{Setup};
 ghost use Rattle.row_core.specs.Accepting.{IsValidSuccessor};
 ghost use Rattle.journal_rec.specs.Record.{is_record};
-ghost use Rattle.shard_book.specs.Grounds.{grounds_of};
+ghost use Rattle.shard_book.specs.Grounds.{grounds_by, IsMadeBy};
+ghost use Rattle.shard_book.specs.Versions.{grounds_in};
 ghost use Rattle.shard_book.specs.ShardRows.{AreRowsOf, AreSame, IsHome, StandsFor};
 ghost use Rattle.shard_book.specs.Steps.{IsCardOf};
 
+use crate::replay::Version;
 use crate::rows::Rows;
 use issuer_base::{Command, Entry, MAX_STATUS, Pan, Reply, Request};
 use issuer_setup::Issuer;
@@ -21,17 +23,25 @@ use line_checks::{CheckedRequest, check_request};
 
 impl Rows {
     /// Replays the record with this index if it is a valid successor. The result is whether it is.
-    pub(crate) fn adopt(&mut self, issuer: &Issuer, entry: Entry, place: u64) -> bool
+    pub(crate) fn adopt(
+        &mut self,
+        version: Version,
+        issuer: &Issuer,
+        entry: Entry,
+        place: u64,
+    ) -> bool
         requires rows { AreRowsOf issuer.now self.old }
         requires form { IsTrue (is_record entry) }
         ensures exact { (history : List Entry) → StandsFor issuer.now self.old history
-            → (IsTrue result ↔ IsLegal (grounds_of issuer.now) self.old.shard history entry) }
+            → (IsTrue result ↔ IsLegal (grounds_in version issuer.now) self.old.shard history entry) }
         ensures adopted { IsTrue result → (history : List Entry) → StandsFor issuer.now self.old history
             → place ≡ length history → StandsFor issuer.now self.new (history ++ entry ∷ []) }
         ensures same { AreSame self.old self.new }
     {
         match entry {
-            Entry::Decided { request, reply } => self.adopt_decision(issuer, request, reply, place),
+            Entry::Decided { request, reply } => {
+                self.adopt_decision(version, issuer, request, reply, place)
+            }
             Entry::Queued { pan, psn, command } => self.adopt_command(issuer, pan, psn, command),
             Entry::Status { pan, psn, status } => self.adopt_status(issuer, pan, psn, status),
         }
@@ -40,6 +50,7 @@ impl Rows {
     /// Replays a decision.
     fn adopt_decision(
         &mut self,
+        version: Version,
         issuer: &Issuer,
         request: Request,
         reply: Reply,
@@ -47,7 +58,7 @@ impl Rows {
     ) -> bool
         requires { AreRowsOf issuer.now self.old }
         ensures exact { (history : List Entry) → StandsFor issuer.now self.old history
-            → (IsTrue result ↔ IsLegalDecision (grounds_of issuer.now) self.old.shard history request reply) }
+            → (IsTrue result ↔ IsLegalDecision (grounds_in version issuer.now) self.old.shard history request reply) }
         ensures adopted { IsTrue result → (history : List Entry) → StandsFor issuer.now self.old history
             → place ≡ length history → StandsFor issuer.now self.new (history ++ Entry.Decided request reply ∷ []) }
         ensures same { AreSame self.old self.new }
@@ -58,15 +69,16 @@ impl Rows {
         if issuer.shard_of(found.card) != self.shard() {
             return false;
         }
-        self.adopt_checked(found, reply, place)
+        self.adopt_checked(version, found, reply, place)
     }
 
     /// Replays a command.
     fn adopt_command(&mut self, issuer: &Issuer, pan: Pan, psn: u8, command: Command) -> bool
         requires rows { AreRowsOf issuer.now self.old }
         requires form { IsTrue (is_command command) }
-        ensures exact { (history : List Entry) → StandsFor issuer.now self.old history
-            → (IsTrue result ↔ IsLegalCommand (grounds_of issuer.now) self.old.shard history (named pan psn) command) }
+        ensures exact { (window : ℕ) (history : List Entry) → StandsFor issuer.now self.old history
+            → (IsTrue result ↔ IsLegalCommand (grounds_by issuer.now window (IsMadeBy issuer.now)) self.old.shard history
+            (named pan psn) command) }
         ensures adopted { IsTrue result → (history : List Entry) → StandsFor issuer.now self.old history
             → StandsFor issuer.now self.new (history ++ Entry.Queued pan psn command ∷ []) }
         ensures same { AreSame self.old self.new }
@@ -88,8 +100,9 @@ impl Rows {
     fn adopt_status(&mut self, issuer: &Issuer, pan: Pan, psn: u8, status: u8) -> bool
         requires rows { AreRowsOf issuer.now self.old }
         requires within { status ≤ MAX_STATUS }
-        ensures exact { (history : List Entry) → StandsFor issuer.now self.old history
-            → (IsTrue result ↔ IsLegalStatus (grounds_of issuer.now) self.old.shard (named pan psn) status) }
+        ensures exact { (window : ℕ) (history : List Entry) → StandsFor issuer.now self.old history
+            → (IsTrue result ↔ IsLegalStatus (grounds_by issuer.now window (IsMadeBy issuer.now)) self.old.shard
+            (named pan psn) status) }
         ensures adopted { IsTrue result → (history : List Entry) → StandsFor issuer.now self.old history
             → StandsFor issuer.now self.new (history ++ Entry.Status pan psn status ∷ []) }
         ensures same { AreSame self.old self.new }

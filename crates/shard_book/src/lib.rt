@@ -3,11 +3,13 @@
 
 mod adopting;
 mod law;
+mod loading;
+mod migrating;
 mod reading;
 mod replay;
 mod rows;
 mod shard;
 
 pub use law::every_image_loads_again;
-pub use replay::LoadFault;
+pub use replay::{LoadFault, Version};
 pub use shard::{LoadBack, Shard};

@@ -1,72 +1,41 @@
 //! Reads the text of a journal from its store, one part after another.
-ghost use Rattle.std.specs.Prelude.{◌≡◌, ◌≢◌, ℕ, ◌^◌, ◌<◌, ◌≤◌, [], length, take, drop, MatchBool, IfOk, IfErr, IfSome, OnOk, is_err};
+ghost use Rattle.std.specs.Prelude.{◌≡◌, ◌≢◌, ◌+◌, ℕ, ◌^◌, ◌<◌, ◌≤◌, List, [], length, take, drop, MatchBool, IfOk, IfErr, IfSome, OnOk, is_err};
 ghost use Rattle.issuer_base.specs.OutsideFaults.{CountsFaults};
 ghost use Rattle.issuer_base.specs.Stores.{BothTold, WorksWithin};
+ghost use Rattle.issuer_base.specs.declared.entry.Entry.{Entry};
 ghost use Rattle.issuer_setup.specs.IssuerSetup.{Setup};
 ghost use Rattle.journal_rec.specs.RecordText.{IsUnbroken};
 ghost use Rattle.record_store.specs.Images.{OnlyReads};
 ghost use Rattle.shard_book.specs.LineAhead.{HasLineAhead};
-ghost use Rattle.shard_book.specs.Loading.{ReadsFront, ReadsText, StopsText, is_by_store};
+ghost use Rattle.shard_book.specs.Loading.{IsWithin, ReadsFront, ReadsText, StopsReplay, is_by_store};
 ghost use Rattle.shard_book.specs.ShardRows.{ShardRows, AreRowsOf, AreSame, StandsFor};
 
-use crate::replay::{LoadFault, Taken, TakenOver, next_newline};
+use crate::replay::{LoadFault, Taken, TakenOver, Version, next_newline};
 use crate::rows::Rows;
-use issuer_base::{NoMemory, Store, StoreFail};
+use issuer_base::{Store, StoreFail};
 use issuer_setup::Issuer;
 use journal_rec::MOST_RECORD_BYTES;
 use record_store::read_from;
-use std::alloc::Global;
 
-/// The largest part of a store that is read at a time: more bytes than any record has.
-const BUFFER_BYTES: usize = 64 * 1_024;
-
-/// Reads a store, and replays the records of its whole lines into the rows of this shard.
-///
-/// It allocates all memory before it reads the store.
-pub(crate) fn take_over<S: Store>(
-    alloc: Global,
-    store: &mut S,
-    issuer: &Issuer,
-    shard: u8,
-) -> Result<TakenOver, LoadFault>
-    requires { shard < issuer.now.shards }
-    ensures taken { IfOk result (λ over. ReadsText issuer.now shard (S.bytes store.old) over.rows over.taken) }
-    ensures rows { IfOk result (λ over. AreRowsOf issuer.now over.rows × (over.rows.shard ≡ shard)) }
-    ensures within { IfOk result
-        (λ over. (over.taken.records ≤ over.taken.bytes) × (over.taken.bytes ≤ S.size store.old)) }
-    ensures stopped { IfErr result (StopsText issuer.now shard (S.bytes store.old)) }
-    ensures size { S.size store.new ≡ S.size store.old }
-    ensures bytes { S.bytes store.new ≡ S.bytes store.old }
-    ensures disk { BothTold OnlyReads (S.disk store.old) (S.disk store.new) }
-    ensures room { WorksWithin 0 (is_by_store result) (S.size store.old) (S.room store.old) (S.room store.new) }
-    ensures count { CountsFaults (S.faults store.old) (S.faults store.new) (is_by_store result) }
-    ensures untouched { IfErr result (λ fault. fault ≡ LoadFault.NoMemory → store.new ≡ store.old) }
-{
-    let Ok(rows) = Rows::new(alloc, issuer, shard) else {
-        return Err(LoadFault::NoMemory);
-    };
-    let Ok(buffer) = buffer(alloc, store.len()) else {
-        return Err(LoadFault::NoMemory);
-    };
-    let mut buffer = buffer;
-    take_text(rows, issuer, store, &mut buffer)
-}
-
-/// Replays the records of a store's whole lines into rows without records.
-fn take_text<S: Store>(
+/// Replays the records of a store's whole lines after those that were replayed, which are a prefix of the store's text.
+pub(crate) fn take_text<S: Store>(
+    version: Version,
     rows: Rows,
+    from: Taken,
     issuer: &Issuer,
     store: &mut S,
     buffer: &mut [u8],
 ) -> Result<TakenOver, LoadFault>
     requires rows { AreRowsOf issuer.now rows }
+    requires within { IsWithin from (S.size store.old) }
     requires room { MOST_RECORD_BYTES ≤ length buffer.old }
-    ensures taken { StandsFor issuer.now rows []
-        → IfOk result (λ over. ReadsText issuer.now rows.shard (S.bytes store.old) over.rows over.taken) }
-    ensures within { IfOk result
-        (λ over. (over.taken.records ≤ over.taken.bytes) × (over.taken.bytes ≤ S.size store.old)) }
-    ensures stopped { StandsFor issuer.now rows []
-        → IfErr result (StopsText issuer.now rows.shard (S.bytes store.old)) }
+    ensures taken { (first : List Entry) → ReadsFront version issuer.now rows.shard first (S.bytes store.old) rows from
+        → IfOk result (λ over.
+        ReadsText version issuer.now rows.shard first (S.bytes store.old) over.rows over.taken) }
+    ensures within { IfOk result (λ over. IsWithin over.taken (S.size store.old)) }
+    ensures stopped { (first : List Entry)
+        → ReadsFront version issuer.now rows.shard first (S.bytes store.old) rows from
+        → IfErr result (StopsReplay version issuer.now rows.shard first (S.bytes store.old)) }
     ensures same { IfOk result (λ over. AreSame rows over.rows) }
     ensures size { S.size store.new ≡ S.size store.old }
     ensures bytes { S.bytes store.new ≡ S.bytes store.old }
@@ -76,32 +45,38 @@ fn take_text<S: Store>(
     ensures memory { IfErr result (λ fault. fault ≢ LoadFault.NoMemory) }
 {
     let mut rows = rows;
-    let taken = match rows.adopt_parts(issuer, store, buffer) {
+    let taken = match rows.adopt_parts(version, from, issuer, store, buffer) {
         Ok(taken) => taken,
         Err(fault) => return Err(fault),
     };
-    match check_rest(store, taken, buffer) {
+    match check_rest(version, store, taken, buffer) {
         Ok(()) => Ok(TakenOver { rows, taken }),
         Err(fault) => Err(fault),
     }
 }
 
 impl Rows {
-    /// Replays the records of a store's lines, part by part, until a part has no whole line.
+    /// Replays the records of a store's lines after those that were replayed, part by part, until a part has no whole
+    /// line.
     fn adopt_parts<S: Store>(
         &mut self,
+        version: Version,
+        from: Taken,
         issuer: &Issuer,
         store: &mut S,
         buffer: &mut [u8],
     ) -> Result<Taken, LoadFault>
-        requires { AreRowsOf issuer.now self.old }
-        ensures front { StandsFor issuer.now self.old []
-            → IfOk result (ReadsFront issuer.now self.old.shard (S.bytes store.old) self.new) }
+        requires rows { AreRowsOf issuer.now self.old }
+        requires within { IsWithin from (S.size store.old) }
+        ensures front { (first : List Entry)
+            → ReadsFront version issuer.now self.old.shard first (S.bytes store.old) self.old from
+            → IfOk result (ReadsFront version issuer.now self.old.shard first (S.bytes store.old) self.new) }
         ensures end { IfOk result (λ taken.
             IfSome (S.bytes store.old) (λ text. IsUnbroken (take (length buffer.old) (drop taken.bytes text)))) }
-        ensures within { IfOk result (λ taken. (taken.records ≤ taken.bytes) × (taken.bytes ≤ S.size store.old)) }
-        ensures stopped { StandsFor issuer.now self.old []
-            → IfErr result (StopsText issuer.now self.old.shard (S.bytes store.old)) }
+        ensures within { IfOk result (λ taken. IsWithin taken (S.size store.old)) }
+        ensures stopped { (first : List Entry)
+            → ReadsFront version issuer.now self.old.shard first (S.bytes store.old) self.old from
+            → IfErr result (StopsReplay version issuer.now self.old.shard first (S.bytes store.old)) }
         ensures same { AreSame self.old self.new }
         ensures size { S.size store.new ≡ S.size store.old }
         ensures bytes { S.bytes store.new ≡ S.bytes store.old }
@@ -110,12 +85,9 @@ impl Rows {
         ensures count { CountsFaults (S.faults store.old) (S.faults store.new) (is_by_store result) }
         ensures memory { IfErr result (λ fault. fault ≢ LoadFault.NoMemory) }
     {
-        let mut taken = Taken {
-            records: 0,
-            bytes: 0,
-        };
+        let mut taken = from;
         'parts: while (taken.bytes as u64) < store.len() {
-            match self.adopt_part(issuer, store, taken, buffer) {
+            match self.adopt_part(version, issuer, store, taken, buffer) {
                 Ok(more) => {
                     if more.bytes == taken.bytes {
                         return Ok(more);
@@ -132,23 +104,25 @@ impl Rows {
     /// is what has then been replayed.
     fn adopt_part<S: Store>(
         &mut self,
+        version: Version,
         issuer: &Issuer,
         store: &mut S,
         taken: Taken,
         buffer: &mut [u8],
     ) -> Result<Taken, LoadFault>
         requires rows { AreRowsOf issuer.now self.old }
-        requires within { taken.bytes ≤ S.size store.old }
-        requires few { taken.records ≤ taken.bytes }
+        requires within { IsWithin taken (S.size store.old) }
         requires counted { S.size store.old < 2 ^ 64 }
-        ensures front { ReadsFront issuer.now self.old.shard (S.bytes store.old) self.old taken
-            → IfOk result (ReadsFront issuer.now self.old.shard (S.bytes store.old) self.new) }
+        ensures front { (first : List Entry)
+            → ReadsFront version issuer.now self.old.shard first (S.bytes store.old) self.old taken
+            → IfOk result (ReadsFront version issuer.now self.old.shard first (S.bytes store.old) self.new) }
         ensures end { IfOk result (λ more. more.bytes ≡ taken.bytes
             → IfSome (S.bytes store.old) (λ text. IsUnbroken (take (length buffer.old) (drop taken.bytes text)))) }
         ensures grown { IfOk result (λ more. taken.bytes ≤ more.bytes) }
-        ensures within { IfOk result (λ more. (more.records ≤ more.bytes) × (more.bytes ≤ S.size store.old)) }
-        ensures stopped { ReadsFront issuer.now self.old.shard (S.bytes store.old) self.old taken
-            → IfErr result (StopsText issuer.now self.old.shard (S.bytes store.old)) }
+        ensures within { IfOk result (λ more. IsWithin more (S.size store.old)) }
+        ensures stopped { (first : List Entry)
+            → ReadsFront version issuer.now self.old.shard first (S.bytes store.old) self.old taken
+            → IfErr result (StopsReplay version issuer.now self.old.shard first (S.bytes store.old)) }
         ensures same { AreSame self.old self.new }
         ensures size { S.size store.new ≡ S.size store.old }
         ensures bytes { S.bytes store.new ≡ S.bytes store.old }
@@ -160,7 +134,7 @@ impl Rows {
         let Ok(count) = read_from(store, taken.bytes as u64, buffer) else {
             return Err(LoadFault::StoreFault);
         };
-        match self.adopt_lines(issuer, &buffer[..count], taken.records) {
+        match self.adopt_lines(version, issuer, &buffer[..count], taken.records) {
             Ok(more) => Ok(Taken {
                 records: taken.records + more.records,
                 bytes: taken.bytes + more.bytes,
@@ -172,16 +146,20 @@ impl Rows {
 
 /// Checks that no newline is after the replayed text, if none is in its next bytes that fit the buffer. A line with so
 /// many bytes is that of no record.
-fn check_rest<S: Store>(store: &mut S, taken: Taken, buffer: &mut [u8]) -> Result<(), LoadFault>
-    requires within { taken.bytes ≤ S.size store.old }
-    requires few { taken.records ≤ taken.bytes }
+fn check_rest<S: Store>(
+    version: Version,
+    store: &mut S,
+    taken: Taken,
+    buffer: &mut [u8],
+) -> Result<(), LoadFault>
+    requires within { IsWithin taken (S.size store.old) }
     requires room { MOST_RECORD_BYTES ≤ length buffer.old }
     ensures rest { IfSome (S.bytes store.old) (λ text. IsUnbroken (take (length buffer.old) (drop taken.bytes text)))
         → OnOk result (IfSome (S.bytes store.old) (λ text. IsUnbroken (drop taken.bytes text))) }
-    ensures stopped { (issuer : Setup) (shard : ℕ) (rows : ShardRows)
-        → ReadsFront issuer shard (S.bytes store.old) rows taken
+    ensures stopped { (issuer : Setup) (shard : ℕ) (first : List Entry) (rows : ShardRows)
+        → ReadsFront version issuer shard first (S.bytes store.old) rows taken
         → IfSome (S.bytes store.old) (λ text. IsUnbroken (take (length buffer.old) (drop taken.bytes text)))
-        → IfErr result (StopsText issuer shard (S.bytes store.old)) }
+        → IfErr result (StopsReplay version issuer shard first (S.bytes store.old)) }
     ensures size { S.size store.new ≡ S.size store.old }
     ensures bytes { S.bytes store.new ≡ S.bytes store.old }
     ensures disk { BothTold OnlyReads (S.disk store.old) (S.disk store.new) }
@@ -198,7 +176,7 @@ fn check_rest<S: Store>(store: &mut S, taken: Taken, buffer: &mut [u8]) -> Resul
         return Err(LoadFault::StoreFault);
     };
     if found {
-        return Err(LoadFault::BadLine(taken.records + 1));
+        return Err(version.bad_line(taken.records));
     }
     Ok(())
 }
@@ -226,21 +204,4 @@ fn has_newline<S: Store>(store: &mut S, from: u64, buffer: &mut [u8]) -> Result<
         at += count as u64;
     }
     Ok(false)
-}
-
-/// A buffer for the parts of a store of this size: as many bytes as the store has, up to a limit, and enough for any
-/// record.
-fn buffer(alloc: Global, size: u64) -> Result<Vec<u8>, NoMemory>
-    ensures { IfOk result (λ bytes. MOST_RECORD_BYTES ≤ length bytes.items) }
-{
-    Ok(vec![in alloc; 0; buffer_bytes(size)]?)
-}
-
-fn buffer_bytes(size: u64) -> usize
-    ensures { MOST_RECORD_BYTES ≤ result }
-{
-    if size >= BUFFER_BYTES as u64 {
-        return BUFFER_BYTES;
-    }
-    MOST_RECORD_BYTES.max(size as usize)
 }

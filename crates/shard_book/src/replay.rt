@@ -1,11 +1,11 @@
 //! Replays the records of a text, line by line.
 ghost use Rattle.std.specs.Prelude.{◌≡◌, ◌≢◌, ℕ, ◌+◌, ◌^◌, ◌<◌, ◌≤◌, List, length, drop, MatchOption, IfOk, IfErr, OnOk, false};
 ghost use Rattle.issuer_base.specs.declared.entry.Entry.{Entry};
-ghost use Rattle.shard_book.specs.Loading.{IsBad, StopsAt, TakesLine, TakesLines, is_store_failure};
+ghost use Rattle.shard_book.specs.Loading.{IsBad, IsWithin, StopsLines, TakesLine, TakesLines, is_store_failure};
 ghost use Rattle.card_history.specs.LegalRecords.{IsLegalHistory};
 ghost use Rattle.journal_rec.specs.RecordText.{IsUnbroken};
 ghost use Rattle.shard_book.specs.LineAhead.{IsLineAhead};
-ghost use Rattle.shard_book.specs.Grounds.{grounds_of};
+ghost use Rattle.shard_book.specs.Versions.{bad_line, bad_record, grounds_in};
 ghost use Rattle.shard_book.specs.ShardRows.{AreRowsOf, AreSame, StandsFor};
 
 use crate::rows::Rows;
@@ -16,10 +16,19 @@ use memchr::memchr;
 /// Why a journal isn't loaded.
 #[derive(Clone, Copy, PartialEq, Eq, Debug)]
 pub enum LoadFault {
-    /// The store failed: the fault lies with the store.
+    /// The store or the old store failed: the fault lies with a store.
     StoreFault,
 
-    /// This whole line, counted from 1, is that of no record: the journal isn't one that this host wrote.
+    /// This whole line of the old journal, counted from 1, is that of no record: the old journal isn't one that a host
+    /// wrote.
+    OldLine(u64),
+
+    /// This whole line of the old journal, counted from 1, is that of a record which is no valid successor of those
+    /// before it: the old journal is of another issuer, or was changed.
+    OldRecord(u64),
+
+    /// This line, counted from 1, is that of no record, or isn't that of the old journal: the journal isn't one that
+    /// this host wrote after this old one.
     BadLine(u64),
 
     /// This whole line, counted from 1, is that of a record which is no valid successor of those before it: the journal
@@ -28,6 +37,40 @@ pub enum LoadFault {
 
     /// Memory ran out.
     NoMemory,
+}
+
+/// The version of a journal: whether its records are its whole text, and how far back their window reaches.
+#[derive(Clone, Copy)]
+pub enum Version {
+    /// An old journal: its text is that of its records.
+    One,
+
+    /// A journal whose first line names its version.
+    Two,
+}
+
+impl Version {
+    /// The fault of the line after so many records, if it is that of no record.
+    pub(crate) fn bad_line(self, records: u64) -> LoadFault
+        requires { records + 2 < 2 ^ 64 }
+        ensures { result ≡ bad_line self records }
+    {
+        match self {
+            Version::One => LoadFault::OldLine(records + 1),
+            Version::Two => LoadFault::BadLine(records + 2),
+        }
+    }
+
+    /// The fault of the line after so many records, if it is that of a record which is no valid successor.
+    fn bad_record(self, records: u64) -> LoadFault
+        requires { records + 2 < 2 ^ 64 }
+        ensures { result ≡ bad_record self records }
+    {
+        match self {
+            Version::One => LoadFault::OldRecord(records + 1),
+            Version::Two => LoadFault::BadRecord(records + 2),
+        }
+    }
 }
 
 /// What was replayed of a store: the rows of its shard, and how many records and bytes they come from.
@@ -45,23 +88,24 @@ pub(crate) struct Taken {
 }
 
 impl Rows {
-    /// Replays the records of the whole lines of a text, the first of which has this index.
+    /// Replays the records of the whole lines of a part of a journal, the first of which has this index.
     pub(crate) fn adopt_lines(
         &mut self,
+        version: Version,
         issuer: &Issuer,
         text: &[u8],
         place: u64,
     ) -> Result<Taken, LoadFault>
         requires rows { AreRowsOf issuer.now self.old }
-        requires room { place + length text.now < 2 ^ 64 }
+        requires room { place + place + length text.now < 2 ^ 64 }
         ensures taken { (history : List Entry) → StandsFor issuer.now self.old history → place ≡ length history
-            → IsLegalHistory (grounds_of issuer.now) self.old.shard history
-            → IfOk result (λ taken. TakesLines issuer.now self.old.shard history text.now taken self.new) }
+            → IsLegalHistory (grounds_in version issuer.now) self.old.shard history
+            → IfOk result (λ taken. TakesLines version issuer.now self.old.shard history text.now taken self.new) }
         ensures rest { IfOk result (λ taken. IsUnbroken (drop taken.bytes text.now)) }
-        ensures within { IfOk result (λ taken. (taken.records ≤ taken.bytes) × (taken.bytes ≤ length text.now)) }
+        ensures within { IfOk result (λ taken. IsWithin taken (length text.now)) }
         ensures stopped { (history : List Entry) → StandsFor issuer.now self.old history → place ≡ length history
-            → IsLegalHistory (grounds_of issuer.now) self.old.shard history
-            → IfErr result (StopsAt issuer.now self.old.shard history text.now) }
+            → IsLegalHistory (grounds_in version issuer.now) self.old.shard history
+            → IfErr result (StopsLines version issuer.now self.old.shard history text.now) }
         ensures own { IfErr result (λ fault. is_store_failure fault ≡ false) }
         ensures memory { IfErr result (λ fault. fault ≢ LoadFault.NoMemory) }
         ensures same { AreSame self.old self.new }
@@ -72,7 +116,12 @@ impl Rows {
         };
         while let Some(length) = next_newline(text, taken.bytes) {
             let end = taken.bytes + length;
-            match self.adopt_line(issuer, &text[taken.bytes..end], place + taken.records) {
+            match self.adopt_line(
+                version,
+                issuer,
+                &text[taken.bytes..end],
+                place + taken.records,
+            ) {
                 Ok(()) => {
                     taken.bytes = end + 1;
                     taken.records += 1;
@@ -84,22 +133,29 @@ impl Rows {
     }
 
     /// Replays the record of a line, which has this index.
-    fn adopt_line(&mut self, issuer: &Issuer, line: &[u8], place: u64) -> Result<(), LoadFault>
+    fn adopt_line(
+        &mut self,
+        version: Version,
+        issuer: &Issuer,
+        line: &[u8],
+        place: u64,
+    ) -> Result<(), LoadFault>
         requires rows { AreRowsOf issuer.now self.old }
-        requires room { place + 1 < 2 ^ 64 }
+        requires room { place + 2 < 2 ^ 64 }
         ensures taken { (history : List Entry) → StandsFor issuer.now self.old history → place ≡ length history
-            → OnOk result (TakesLine issuer.now self.old.shard history line.now self.new) }
+            → OnOk result (TakesLine version issuer.now self.old.shard history line.now self.new) }
+        ensures long { OnOk result (0 < length line.now) }
         ensures bad { (history : List Entry) → StandsFor issuer.now self.old history → place ≡ length history
-            → IfErr result (IsBad (grounds_of issuer.now) self.old.shard history line.now) }
+            → IfErr result (IsBad version issuer.now self.old.shard history line.now) }
         ensures own { IfErr result (λ fault. is_store_failure fault ≡ false) }
         ensures memory { IfErr result (λ fault. fault ≢ LoadFault.NoMemory) }
         ensures same { AreSame self.old self.new }
     {
         let Ok(entry) = read_entry(line) else {
-            return Err(LoadFault::BadLine(place + 1));
+            return Err(version.bad_line(place));
         };
-        if !self.adopt(issuer, entry, place) {
-            return Err(LoadFault::BadRecord(place + 1));
+        if !self.adopt(version, issuer, entry, place) {
+            return Err(version.bad_record(place));
         }
         Ok(())
     }

@@ -18,17 +18,17 @@ ghost use Rattle.journal_rec.specs.declared.limits.TheConstants.{LEAST_RECORD_BY
 ghost use Rattle.issuer_base.specs.Tells.{Tells};
 ghost use Rattle.record_store.specs.Holding.{Holds};
 ghost use Rattle.record_store.specs.Images.{IsCutImage};
-ghost use Rattle.shard_book.specs.Loading.{IsOutside, is_store_failure};
-ghost use Rattle.shard_book.specs.Grounds.{grounds_now, grounds_of, IsImageOf};
+ghost use Rattle.shard_book.specs.Loading.{IsOldText, IsWithin, IsOutside, is_store_failure};
+ghost use Rattle.shard_book.specs.Grounds.{grounds_now, IsImageOf};
 ghost use Rattle.shard_book.specs.Steps.{IsCardOf, IsLaunchAt};
 ghost use Rattle.shard_book.specs.Shards.{number_in, IsUnder, HasCard, store_in, sure_in, disk_in, faults_in, places_in, told_in, IsUndoubted, HoldsHistory, StandsFor, HasTail, Adds, IsTextOf, IsImageLeft, IsSettled, StandsForLeft};
 ghost use Rattle.shard_book.specs.Recorded.{AddsRecorded};
 ghost use Rattle.shard_book.specs.Room.{most_of, UsesRoom, LoadsWithin};
 ghost use Rattle.shard_book.specs.Answering.{is_store_fault, tells_change, LeavesTail, told_after, AnswersClaimed, AnswersQueueing, AnswersSetting, AnswersOrder};
 ghost use Rattle.shard_book.specs.Calls.{AnswersBy, LeavesImages, KeepsShard};
-ghost use Rattle.shard_book.specs.Loads.{IsLoadedFrom, IsNotLoaded};
+ghost use Rattle.shard_book.specs.Loads.{HaveRoom, IsLoadedFrom, IsNotLoaded, IsOnlyRead};
 
-use crate::reading::take_over;
+use crate::loading::take_over;
 use crate::replay::{LoadFault, Taken, TakenOver};
 use crate::rows::Rows;
 use arrayvec::ArrayVec;
@@ -58,39 +58,45 @@ pub struct LoadBack<S> {
 }
 
 impl<S: Store> Shard<S> {
-    /// Loads the shard with this number of an issuer from its store: replays the records of the store's whole lines,
-    /// truncates a torn last line, and syncs the store. The first bad line stops it, and then the store is unchanged.
+    /// Loads the shard with this number of an issuer from its old store, of version 1, and its store. It replays the
+    /// records of the old store's whole lines, and appends to the store what it lacks of their text. Then it replays
+    /// the records of the store's further whole lines, truncates a torn last line, and syncs the store. The first bad
+    /// line stops it, and then the store is unchanged. The old store is only read.
     ///
-    /// It allocates all memory before it reads the store. No later call allocates.
+    /// It allocates all memory before it reads the stores. No later call allocates.
     pub fn load(
         alloc: Global,
+        old: &mut S,
         store: S,
         shard: u8,
         issuer: &Issuer,
     ) -> Result<Shard<S>, LoadBack<S>>
         requires { shard < issuer.now.shards }
-        ensures loaded { IfOk result (IsLoadedFrom issuer.now shard store) }
+        ensures loaded { IfOk result (IsLoadedFrom issuer.now shard old.old old.new store) }
 
-        // The text of a legal history is loaded, and as just this history. Only memory or the store itself can stop it.
-        ensures exact { (history : List Entry) → IsTextOf (grounds_of issuer.now) shard (S.bytes store) history
+        // The text of a legal history, or a part of the old store's, is loaded, and as just this history. Only memory
+        // or the stores themselves can stop it.
+        ensures exact { (known history : List Entry) → IsOldText issuer.now shard (S.bytes old.old) known
+            → IsTextOf issuer.now shard known (S.bytes store) history
             → MatchResult result (λ loaded. IsSettled issuer.now loaded history) (λ back. IsOutside back.fault) }
 
         // So is what a crash left of a history, under whatever decision table: as that history, or as it and the one
         // record whose text is whole.
-        ensures image { (history : List Entry) → IsImageLeft issuer.now shard (S.bytes store) history
+        ensures image { (known history : List Entry) → IsOldText issuer.now shard (S.bytes old.old) known
+            → IsImageLeft issuer.now shard known (S.bytes store) history
             → MatchResult result (StandsForLeft issuer.now shard (S.bytes store) history)
             (λ back. IsOutside back.fault) }
-        ensures stopped { IfErr result
-            (λ back. IsNotLoaded S.bytes S.disk S.faults issuer.now shard store back.fault back.store) }
-        ensures size { IfErr result
-            (λ back. is_store_failure back.fault ≡ false → S.size back.store ≡ S.size store) }
+        ensures stopped { IfErr result (λ back. IsNotLoaded S.size S.bytes S.disk S.faults issuer.now shard old.old
+            store back.fault old.new back.store) }
+        ensures old { IsOnlyRead S.size S.bytes S.disk S.room old.old old.new }
 
-        // A store that works at its size doesn't fail.
-        ensures room { (spare : ℕ) → HasRoom spare (S.size store) (S.room store)
+        // Stores that work at the sizes that they have or may grow to don't fail.
+        ensures room { (spare : ℕ)
+            → HaveRoom spare (S.size old.old) (S.room old.old) (S.size store) (S.room store)
             → IfErr result (λ back. is_store_failure back.fault ≡ false) }
     {
         let mut store = store;
-        match take_over(alloc, &mut store, issuer, shard) {
+        match take_over(alloc, old, &mut store, issuer, shard) {
             Ok(TakenOver { rows, taken }) => open(store, rows, taken),
             Err(fault) => Err(LoadBack { fault, store }),
         }
@@ -354,8 +360,7 @@ impl<S: Store> Shard<S> {
 
 /// Opens the journal of a store from whose prefix the rows were replayed.
 fn open<S: Store>(store: S, rows: Rows, taken: Taken) -> Result<Shard<S>, LoadBack<S>>
-    requires within { taken.bytes ≤ S.size store }
-    requires few { taken.records ≤ taken.bytes }
+    requires within { IsWithin taken (S.size store) }
     ensures rows { IfOk result (λ loaded. loaded.rows ≡ rows) }
     ensures sure { IfOk result (λ loaded. sure_in loaded ≡ taken.bytes) }
     ensures places { IfOk result (λ loaded. places_in loaded ≡ taken.records) }

@@ -16,7 +16,8 @@ use store_edge::MemoryStore;
 /// The record of a status of the first card.
 pub(crate) const STATUS: &str = "s 4000000000000002ffff 00 3\n";
 
-const COMMAND: &str = "q 4000000000000002ffff 00 84160000\n";
+/// The record of a command for the first card.
+pub(crate) const COMMAND: &str = "q 4000000000000002ffff 00 84160000\n";
 
 /// An issuer of one shard and one card, whose table declines every request.
 pub(crate) fn one_card(alloc: Global) -> Result<Issuer, Fail>
@@ -35,29 +36,37 @@ pub(crate) fn store(alloc: Global, text: Vec<u8>, fails: &[u64]) -> Result<Memor
     Ok(MemoryStore::new(alloc, text, 4_096, fails).map_err(|_| "a store")?)
 }
 
-/// The first shard, loaded from this store.
+/// A store without bytes that works.
+fn empty(alloc: Global) -> Result<MemoryStore, Fail> {
+    store(alloc, Vec::new(alloc), &[])
+}
+
+/// The first shard, loaded from this old store and this store.
 pub(crate) fn load<S: Store>(
     alloc: Global,
     issuer: &Issuer,
+    old: &mut S,
     store: S,
 ) -> Result<Shard<S>, LoadBack<S>>
     requires { issuer.now.shards ≡ 1 }
     ensures under { IfOk result (IsUnder issuer.now) }
     ensures number { IfOk result (λ loaded. number_in loaded ≡ 0) }
 {
-    Shard::load(alloc, store, 0, issuer)
+    Shard::load(alloc, old, store, 0, issuer)
 }
 
-/// How many records a load of a store with this text finds and how many bytes the store then has, or why the load
-/// fails.
-fn loaded(
+/// How many records a load of an old store and a store with these texts finds and how many bytes the store then has, or
+/// why the load fails.
+pub(crate) fn loaded(
     alloc: Global,
     issuer: &Issuer,
+    old: &str,
     text: Vec<u8>,
 ) -> Result<Result<(u64, u64), LoadFault>, Fail>
     requires { issuer.now.shards ≡ 1 }
 {
-    match load(alloc, issuer, store(alloc, text, &[])?) {
+    let mut old = store(alloc, old.as_bytes().to_vec(alloc)?, &[])?;
+    match load(alloc, issuer, &mut old, store(alloc, text, &[])?) {
         Ok(shard) => {
             let records = shard.places();
             Ok(Ok((records, shard.into_store().len())))
@@ -121,7 +130,8 @@ fn reloaded_answer(
 ) -> Result<(Option<Answer>, MemoryStore), Fail>
     requires { issuer.now.shards ≡ 1 }
 {
-    match load(alloc, issuer, store) {
+    let mut old = empty(alloc)?;
+    match load(alloc, issuer, &mut old, store) {
         Ok(mut shard) => {
             let answer = decide(&mut shard, issuer, request);
             Ok((answer, shard.into_store()))
@@ -144,7 +154,8 @@ fn run_statuses(alloc: Global, issuer: &Issuer, lines: u8, fails: u64) -> Result
     requires { issuer.now.shards ≡ 1 }
 {
     let store = store(alloc, Vec::new(alloc), &[fails])?;
-    match load(alloc, issuer, store) {
+    let mut old = empty(alloc)?;
+    match load(alloc, issuer, &mut old, store) {
         Ok(mut shard) => {
             let mut acknowledged = 0u64;
             let mut in_doubt = false;
@@ -179,7 +190,7 @@ fn is_kept(alloc: Global, issuer: &Issuer, run: &Run) -> Result<bool, Fail>
         let Some(image) = run.store.image(length).map_err(|_| "an image")? else {
             continue;
         };
-        let Ok((records, _)) = loaded(alloc, issuer, image)? else {
+        let Ok((records, _)) = loaded(alloc, issuer, "", image)? else {
             return Ok(false);
         };
         if records.wrapping_sub(run.acknowledged) > u64::from(run.in_doubt) {
@@ -194,14 +205,14 @@ fn truncates_a_torn_record(rt: HostRuntime) -> Result<(), Fail> {
     let alloc = rt.alloc();
     let issuer = one_card(alloc)?;
     for torn in 0..COMMAND.len() + 1 {
-        let mut text = STATUS.as_bytes().to_vec(alloc)?;
+        let mut text = format!(in alloc; "v2\n{STATUS}")?.into_bytes();
         text.extend_from_slice(&COMMAND.as_bytes()[..torn])?;
         let expected = if torn == COMMAND.len() {
-            (2, 63)
+            (2, 66)
         } else {
-            (1, 28)
+            (1, 31)
         };
-        assert!(rt; loaded(alloc, &issuer, text)? == Ok(expected), "{torn}");
+        assert!(rt; loaded(alloc, &issuer, "", text)? == Ok(expected), "{torn}");
     }
     Ok(())
 }
@@ -210,12 +221,12 @@ fn truncates_a_torn_record(rt: HostRuntime) -> Result<(), Fail> {
 fn a_crash_leaves_what_was_acknowledged(rt: HostRuntime) -> Result<(), Fail> {
     let alloc = rt.alloc();
     let issuer = one_card(alloc)?;
-    // a load and three lines make seven calls if none fails
-    for fails in 0..8 {
+    // a load and three lines make nine calls if none fails: the load writes the first line, syncs it, and syncs all
+    for fails in 0..10 {
         for lines in 1..4 {
             let run = run_statuses(alloc, &issuer, lines, fails)?;
             assert!(rt; is_kept(alloc, &issuer, &run)?, "{fails} {lines}");
-            if fails == 7 {
+            if fails == 9 {
                 assert_eq!(rt; run.acknowledged, u64::from(lines));
             }
         }
@@ -245,7 +256,7 @@ fn keeps_a_decision_of_either_suite(rt: HostRuntime) -> Result<(), Fail> {
     let alloc = rt.alloc();
     let issuer = one_card(alloc)?;
     for suite in [Suite::TripleDes, Suite::Aes] {
-        let empty = store(alloc, Vec::new(alloc), &[])?;
+        let empty = empty(alloc)?;
         let request = purchase_in(suite).ok_or("a request")?;
         let repeat = request.copy();
         let (first, left) = reloaded_answer(alloc, &issuer, empty, request)?;

@@ -4,6 +4,8 @@
 #[cfg(test)]
 mod journals;
 #[cfg(test)]
+mod migration;
+#[cfg(test)]
 mod stores;
 #[cfg(test)]
 mod truncation;

@@ -69,6 +69,8 @@ impl Store for Truncating {
 
     ghost told_size = { λ s. refl };
 
+    ghost told_alike = { λ _ _. tt };
+
     ghost told_bytes = { λ s. refl };
 
     fn len(&self) -> u64 {
@@ -114,7 +116,8 @@ fn over_text(alloc: Global, text: &str, calls: &[u64], fails: bool) -> Result<Tr
 fn reloaded(alloc: Global, issuer: &Issuer, store: Truncating) -> Result<(u64, u64), Fail>
     requires { issuer.now.shards ≡ 1 }
 {
-    match load(alloc, issuer, store) {
+    let mut old = over_text(alloc, "", &[], false)?;
+    match load(alloc, issuer, &mut old, store) {
         Ok(shard) => {
             let records = shard.places();
             Ok((records, shard.into_store().len()))
@@ -140,7 +143,13 @@ fn answer_three(
 ) -> Result<Answered, Fail>
     requires { issuer.now.shards ≡ 1 }
 {
-    match load(alloc, issuer, over_text(alloc, "", calls, fails)?) {
+    let mut old = over_text(alloc, "", &[], false)?;
+    match load(
+        alloc,
+        issuer,
+        &mut old,
+        over_text(alloc, "v2\n", calls, fails)?,
+    ) {
         Ok(mut shard) => {
             let first = set_status(&mut shard, issuer);
             let second = set_status(&mut shard, issuer);
@@ -161,8 +170,9 @@ fn answer_three(
 fn a_failed_truncation_is_tried_again(rt: HostRuntime) -> Result<(), Fail> {
     let alloc = rt.alloc();
     let issuer = one_card(alloc)?;
-    // The call 0 is the load's sync, 1 the first record's append, and 2 the truncation before the second one.
-    let cases: [(&[u64], bool); 2] = [(&[1, 2], false), (&[1], true)];
+    // The call 0 reads the first line, 1 is the load's sync, 2 the first record's append, and 3 the truncation before the
+    // second one.
+    let cases: [(&[u64], bool); 2] = [(&[2, 3], false), (&[2], true)];
     for (calls, takes_effect) in cases {
         let Answered {
             first,
@@ -183,7 +193,7 @@ fn a_failed_truncation_is_tried_again(rt: HostRuntime) -> Result<(), Fail> {
             "{takes_effect}"
         );
         assert_eq!(rt; store.faults, 2);
-        assert_eq!(rt; reloaded(alloc, &issuer, store)?, (1, 28));
+        assert_eq!(rt; reloaded(alloc, &issuer, store)?, (1, 31));
     }
     Ok(())
 }
@@ -193,13 +203,15 @@ fn a_failed_truncation_is_tried_again(rt: HostRuntime) -> Result<(), Fail> {
 fn a_load_whose_truncation_fails_can_be_tried_again(rt: HostRuntime) -> Result<(), Fail> {
     let alloc = rt.alloc();
     let issuer = one_card(alloc)?;
-    // The call 0 is the load's read, and 1 its truncation.
-    let cases: [(&[u64], bool, u64); 2] = [(&[1], false, 32), (&[], true, 28)];
+    // The calls 0 and 1 are the load's reads, and 2 is its truncation.
+    let cases: [(&[u64], bool, u64); 2] = [(&[2], false, 35), (&[], true, 31)];
     for (calls, takes_effect, length) in cases {
-        let text = format!(in alloc; "{STATUS}s 40")?;
+        let text = format!(in alloc; "v2\n{STATUS}s 40")?;
+        let mut old = over_text(alloc, "", &[], false)?;
         match load(
             alloc,
             &issuer,
+            &mut old,
             over_text(alloc, &text, calls, takes_effect)?,
         ) {
             Ok(shard) => {
@@ -209,7 +221,7 @@ fn a_load_whose_truncation_fails_can_be_tried_again(rt: HostRuntime) -> Result<(
             Err(LoadBack { fault, store }) => {
                 assert_eq!(rt; fault, LoadFault::StoreFault);
                 assert_eq!(rt; store.len(), length);
-                assert_eq!(rt; reloaded(alloc, &issuer, store)?, (1, 28));
+                assert_eq!(rt; reloaded(alloc, &issuer, store)?, (1, 31));
             }
         }
     }

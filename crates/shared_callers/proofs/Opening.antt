@@ -1,6 +1,5 @@
 -- The initial state of a host of several callers.
-use Rattle.std.proofs.Common.{◌≡◌, ℕ, zero, suc, List, [], ◌∷◌, map, Some, Option, refl, ap, ◌∙◌, arith}
-use Rattle.std.proofs.lemmas.Option.{slice_get_within}
+use Rattle.std.proofs.Common.{◌≡◌, ℕ, zero, suc, List, [], ◌∷◌, map, Some, Option, refl, ap, ◌∙◌}
 use Rattle.std.specs.List.{slice_get}
 use Rattle.issuer_base.specs.Stores.{Disk}
 use Rattle.issuer_base.specs.declared.entry.Entry.{Entry}
@@ -12,7 +11,7 @@ use Rattle.shared_shards.specs.declared.logs.LogItem.TheVariants.{Record}
 use Rattle.shared_shards.specs.declared.logs.LogHead.{LogHead}
 use Rattle.shared_shards.specs.ShardLogs.{faults_of}
 use Rattle.host_calls.specs.OpeningLogs.{AreOpenedFrom}
-use Rattle.one_caller.proofs.Places.{read-within}
+use Rattle.host_calls.proofs.Sharing.{log-from}
 
 plain-map : (history : List Entry) → faults_of (map Record history) ≡ []
 plain-map [] = refl
@@ -27,11 +26,9 @@ plain-each (log ∷ logs) each (suc shard) = plain-each logs (λ number. each (s
 
 -- so it is with logs that were opened from stores
 pub opened-plain : {S : Type 0} (bytes : S → Option (List ℕ)) (disk : S → Option Disk) (faults : S → ℕ) (issuer : Setup)
-    (stores : List S) (logs : List (Log LogItem LogHead))
-    → AreOpenedFrom bytes disk faults issuer stores logs → (shard : ℕ) → faults_of (items_at logs shard) ≡ []
-opened-plain bytes disk faults issuer stores logs opened =
+    (olds read stores : List S) (logs : List (Log LogItem LogHead))
+    → AreOpenedFrom bytes disk faults issuer olds read stores logs → (shard : ℕ) → faults_of (items_at logs shard) ≡ []
+opened-plain bytes disk faults issuer olds read stores logs opened =
     plain-each logs (λ number log is.
-    let within = slice_get_within logs number log is in
-    let store = read-within stores number (omega (arith, within, opened.count_is)) in
-    let its = opened.each number store.0 log store.1 is in
+    let its = (log-from bytes disk faults issuer olds read stores logs opened number log is).3 in
     ap (λ (log : Log LogItem LogHead). faults_of log.items) its.log_is ∙ plain-map its.history)

@@ -60,11 +60,12 @@ module _ {S : Type 0} {G : Ghosts S} where
         → HadLines (issuer_in lanes) (opening_logs lanes) lane.pass (every (callers_in lanes) number lines)
         (every (callers_in lanes) number answers)
 
-  -- the lanes of an issuer with so many callers were loaded from these stores: no line was answered, and none waits
-  pub record AreLoadedFrom (issuer : Setup) (callers : ℕ) (stores : List S) (lanes : Lanes S G) : Type 0 where
+  -- the lanes of an issuer with so many callers were loaded from these old stores, which were read then, and these
+  -- stores: no line was answered, and none waits
+  pub record AreLoadedFrom (issuer : Setup) (callers : ℕ) (olds read stores : List S) (lanes : Lanes S G) : Type 0 where
     pub issuer_is : issuer_in lanes ≡ issuer
     pub callers_are : callers_in lanes ≡ callers
-    pub opening : AreOpenedFrom G.bytes G.disk G.faults issuer stores (opening_logs lanes)
+    pub opening : AreOpenedFrom G.bytes G.disk G.faults issuer olds read stores (opening_logs lanes)
     pub served : LanesServe lanes [] [] [] []
     pub none_wait : waiting_in lanes ≡ 0
     pub none_due : due_in lanes ≡ 0

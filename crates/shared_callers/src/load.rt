@@ -2,6 +2,7 @@
 ghost use Rattle.std.specs.Prelude.{◌≡◌, ℕ, ◌<◌, ◌≤◌, ◌*◌, ◌/◌, [], length, vec_len, vec_capacity, All, IfOk, IfErr};
 ghost use Rattle.issuer_base.specs.declared.limits.TheConstants.{MAX_CALLERS};
 ghost use Rattle.host_calls.specs.OpeningLogs.{HostComesBack};
+ghost use Rattle.one_caller.specs.Loading.{AreOnlyRead};
 ghost use Rattle.shared_shards.specs.ShardSeats.{opening_in};
 ghost use Rattle.shared_callers.specs.OneLane.{IsNewLane};
 ghost use Rattle.shared_callers.specs.Seated.{AreSeated};
@@ -28,15 +29,17 @@ impl<S: Store> Lanes<S> {
     /// allocates. If an allocation for the lanes fails, the stores come back as they were, and the error names shard 0.
     pub fn load(
         alloc: Global,
+        olds: &mut Vec<S>,
         stores: Vec<S>,
         issuer: Issuer,
         callers: u8,
     ) -> Result<Lanes<S>, HostBack<S>>
-        requires count { length stores.items ≡ issuer.shards }
+        requires count { (length olds.old.items ≡ issuer.shards) × (length stores.items ≡ issuer.shards) }
         requires callers { (0 < callers) × (callers ≤ MAX_CALLERS) }
-        ensures loaded { IfOk result (AreLoadedFrom issuer callers stores.items) }
-        ensures stopped { IfErr result (λ back.
-            HostComesBack S.bytes S.disk S.faults issuer stores.items back.shard back.fault back.stores.items) }
+        ensures loaded { IfOk result (AreLoadedFrom issuer callers olds.old.items olds.new.items stores.items) }
+        ensures olds { AreOnlyRead S.size S.bytes S.disk S.room olds.old.items olds.new.items }
+        ensures stopped { IfErr result (λ back. HostComesBack S.size S.bytes S.disk S.faults issuer
+            olds.old.items olds.new.items stores.items back.shard back.fault back.stores.items) }
     {
         let Ok(AllRoom { lanes, rooms }) = take_room(alloc, callers) else {
             return Err(HostBack {
@@ -45,7 +48,7 @@ impl<S: Store> Lanes<S> {
                 stores,
             });
         };
-        let (host, mut first) = match Host::load(alloc, stores, issuer) {
+        let (host, mut first) = match Host::load(alloc, olds, stores, issuer) {
             Ok(made) => made,
             Err(back) => {
                 lanes.destroy_empty();

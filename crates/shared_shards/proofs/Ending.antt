@@ -4,6 +4,7 @@ use Rattle.std.proofs.Common.{Bool, true, false, Option, None, Some, length, ◌
 use Rattle.std.specs.Option.{is_some}
 use Rattle.issuer_base.specs.declared.outside.store.Store.{Ghosts}
 use Rattle.issuer_base.specs.declared.entry.Entry.{Entry}
+use Rattle.journal_rec.specs.RecordText.{texts_of, version_line}
 use Rattle.shard_book.specs.declared.shard.Shard.{Shard}
 use Rattle.turn_book.specs.declared.logs.Log.{Log}
 use Rattle.turn_book.specs.declared.view.Turn.TheVariants.{Free}
@@ -70,8 +71,9 @@ module _ {S : Type 0} {G : Ghosts S} where
       let records = texts-length (records_of items) journal.records in
       let whole = items-length items in
       let sure = journal.holds.sure_is in
+      let text = length-append version_line (texts_of (records_of items)) in
       let few = stands.few in
-      omega (arith, records, whole, sure, few, fits)
+      omega (arith, records, whole, sure, text, few, fits)
 
   -- so has one to which an item was added, before that
   pub room-left : (shard : Shard S G) (logs : List (Log LogItem LogHead)) (number : ℕ) (added : Option LogItem)

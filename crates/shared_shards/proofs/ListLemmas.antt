@@ -60,24 +60,24 @@ length-alone (entry ∷ history) = omega (arith, length-alone history)
 
 module _ {S : Type 0} {G : Ghosts S} where
   -- a log has as many items as its shard has records
-  pub opening-length : (issuer : Setup) (stores : List S) (number : ℕ) (shard : Shard S G) (log : Log LogItem LogHead) (places : ℕ)
-      → IsOpeningLog issuer stores number shard log
+  pub opening-length : (issuer : Setup) (olds stores : List S) (number : ℕ) (shard : Shard S G) (log : Log LogItem LogHead) (places : ℕ)
+      → IsOpeningLog issuer olds stores number shard log
       → ((issuer : Setup) (history : List Entry) → StandsFor issuer shard history → places ≡ length history) → places ≡ length log.items
-  opening-length issuer stores number shard log places opening counted =
-      counted issuer opening.loaded.history opening.loaded.stands
-      ∙ sym (ap (λ (log : Log LogItem LogHead). length log.items) opening.log_is ∙ length-alone opening.loaded.history)
+  opening-length issuer olds stores number shard log places opening counted =
+      counted issuer opening.just.from.loaded.history opening.just.from.loaded.stands
+      ∙ sym (ap (λ (log : Log LogItem LogHead). length log.items) opening.log_is ∙ length-alone opening.just.from.loaded.history)
 
   -- a shard that was just loaded stands for its opening log
-  opening-stands_for : (issuer : Setup) (stores : List S) (number : ℕ) (shard : Shard S G) → IsJustLoaded issuer stores number shard
+  opening-stands_for : (issuer : Setup) (olds stores : List S) (number : ℕ) (shard : Shard S G) → IsJustLoaded issuer olds stores number shard
       → (history : List Entry) → IsLegalHistory (grounds_of issuer) number history → StandsFor issuer shard history
       → number_in shard ≡ number → StandsForLog shard (head_with issuer number (faults_in shard) (length history) (disk_in shard)) (map Record history)
-  opening-stands_for issuer stores number shard just history legal stands number_is =
+  opening-stands_for issuer olds stores number shard just history legal stands number_is =
       let same = records-alone history in
       let none = faults-alone history in
-      let untold = just.untold in
+      let untold = just.from.untold in
       record {
         number_is = number_is;
-        under = just.under;
+        under = just.from.under;
         stands = subst (StandsFor issuer shard) (sym same) stands;
         legal = subst (IsLegalHistory (grounds_of issuer) number) (sym same) legal;
         opened = subst (λ (records : List Entry). length history ≤ length records) (sym same) (omega arith);
@@ -86,7 +86,7 @@ module _ {S : Type 0} {G : Ghosts S} where
             absurd (omega arith);
         told_is = untold ∙ sym (ap (λ (counts : List ℕ). length counts) none);
         few = subst (λ (counts : List ℕ). length counts ≤ MAX_FAULTS_TOLD) (sym none) (omega arith);
-        undoubted = just.undoubted;
+        undoubted = just.from.undoubted;
         counts = subst (λ (counts : List ℕ). RiseTo (faults_in shard) counts (faults_in shard)) (sym none)
             (let least : faults_in shard ≤ faults_in shard = omega arith in least);
         last_is = subst (λ (counts : List ℕ). length counts < MAX_FAULTS_TOLD → faults_in shard ≡ last_count (faults_in shard) counts) (sym none)
@@ -98,12 +98,12 @@ module _ {S : Type 0} {G : Ghosts S} where
             (subst (λ (number : ℕ). HoldsHistory (grounds_now issuer) number shard.journal history) number_is stands.journal_holds)));
       }
 
-  pub opening-stands : (issuer : Setup) (stores : List S) (number : ℕ) (shard : Shard S G) (log : Log LogItem LogHead)
-      → IsJustLoaded issuer stores number shard
-      → IsOpeningLog issuer stores number shard log → StandsForLog shard log.head log.items
-  opening-stands issuer stores number shard log just opening =
+  pub opening-stands : (issuer : Setup) (olds stores : List S) (number : ℕ) (shard : Shard S G) (log : Log LogItem LogHead)
+      → IsJustLoaded issuer olds stores number shard
+      → IsOpeningLog issuer olds stores number shard log → StandsForLog shard log.head log.items
+  opening-stands issuer olds stores number shard log just opening =
       subst (λ (log : Log LogItem LogHead). StandsForLog shard log.head log.items) (sym opening.log_is)
-      (opening-stands_for issuer stores number shard just opening.loaded.history opening.loaded.legal opening.loaded.stands opening.loaded.number_is)
+      (opening-stands_for issuer olds stores number shard just opening.just.from.loaded.history opening.just.from.loaded.journal_is.since.legal opening.just.from.loaded.stands opening.just.from.loaded.number_is)
 
   -- values that stand for logs one by one stand for them all
   pub stand-for : (held : List (HeldShard S G)) (logs : List (Log LogItem LogHead)) → length held ≡ length logs
@@ -117,16 +117,16 @@ module _ {S : Type 0} {G : Ghosts S} where
       (each 0 first.shard log refl refl, stand-for held logs (omega arith) (λ number. each (suc number)))
 
   -- so do those of shards that were just loaded
-  pub held-stand : (issuer : Setup) (stores : List S) (shards : List (Shard S G)) (logs : List (Log LogItem LogHead)) (held : List (HeldShard S G))
-      → AreJustLoaded issuer stores shards → AreOpeningLogs issuer stores shards logs → map (λ (held : HeldShard S G). held.shard) held ≡ shards
+  pub held-stand : (issuer : Setup) (olds stores : List S) (shards : List (Shard S G)) (logs : List (Log LogItem LogHead)) (held : List (HeldShard S G))
+      → AreJustLoaded issuer olds stores shards → AreOpeningLogs issuer olds stores shards logs → map (λ (held : HeldShard S G). held.shard) held ≡ shards
       → StandFor (λ (held : HeldShard S G) head items. StandsForLog held.shard head items) held logs
-  held-stand issuer stores shards logs held just opening are =
+  held-stand issuer olds stores shards logs held just opening are =
       let long = length-map held (λ (held : HeldShard S G). held.shard) in
       let same = ap (λ (shards : List (Shard S G)). length shards) are in
       let count = opening.count_is in
       stand-for held logs (omega (arith, long, same, count)) (λ number shard log there is.
       let its : slice_get shards number ≡ Some shard = ap (λ (shards : List (Shard S G)). slice_get shards number) (sym are) ∙ there in
-      opening-stands issuer stores number shard log (just.each number shard its) (opening.each number shard log its is))
+      opening-stands issuer olds stores number shard log (just.each number shard its) (opening.each number shard log its is))
 
   -- and values that stand for logs stand for each
   pub stand-each : (held : List (HeldShard S G)) (logs : List (Log LogItem LogHead))
@@ -152,9 +152,9 @@ module _ {S : Type 0} {G : Ghosts S} where
       }
 
   -- turns that open with the shards' logs are this issuer's
-  pub are-turns_of : (issuer : Setup) (stores : List S) (shards : List (Shard S G)) (turns : ShardTurns S G) → AreJustLoaded issuer stores shards
-      → AreOpeningLogs issuer stores shards (opening_in turns) → AreTurnsOf issuer turns
-  are-turns_of issuer stores shards turns just opening = record {
+  pub are-turns_of : (issuer : Setup) (olds stores : List S) (shards : List (Shard S G)) (turns : ShardTurns S G) → AreJustLoaded issuer olds stores shards
+      → AreOpeningLogs issuer olds stores shards (opening_in turns) → AreTurnsOf issuer turns
+  are-turns_of issuer olds stores shards turns just opening = record {
     count_is = opening.count_is ∙ just.count_is;
     heads_are = λ number head is.
         let log = read-heads (opening_in turns) number head is in
@@ -162,7 +162,7 @@ module _ {S : Type 0} {G : Ghosts S} where
         let count = opening.count_is in
         let shard = read-within shards number (omega arith) in
         let its = opening.each number shard.0 log.0 shard.1 log.1 in
-        let head_is : head ≡ head_with issuer number (faults_in shard.0) (length its.loaded.history) (disk_in shard.0) =
+        let head_is : head ≡ head_with issuer number (faults_in shard.0) (length its.just.from.loaded.history) (disk_in shard.0) =
         sym log.2 ∙ ap (λ (log : Log LogItem LogHead). log.head) its.log_is in
         subst (λ (head : LogHead). head ≡ head_with issuer number head.faults head.records head.opened) (sym head_is) refl;
   }
@@ -175,14 +175,14 @@ module _ {S : Type 0} {G : Ghosts S} where
       ap (λ (front : List (Shard S G)). front ++ left) (map-push (λ (held : HeldShard S G). held.shard) held next)
       ∙ append_assoc (map (λ (held : HeldShard S G). held.shard) held) (next.shard ∷ []) left ∙ all
 
-  pub counts-next : (issuer : Setup) (stores : List S) (shards : List (Shard S G)) (logs : List (Log LogItem LogHead))
-      → AreOpeningLogs issuer stores shards logs
+  pub counts-next : (issuer : Setup) (olds stores : List S) (shards : List (Shard S G)) (logs : List (Log LogItem LogHead))
+      → AreOpeningLogs issuer olds stores shards logs
       → (held : List (HeldShard S G)) (next : HeldShard S G) (left : List (Shard S G)) (counts : List ℕ) (places : ℕ)
       → map (λ (held : HeldShard S G). held.shard) held ++ next.shard ∷ left ≡ shards
       → counts ≡ map (λ (log : Log LogItem LogHead). length log.items) (take (length held) logs)
       → ((issuer : Setup) (history : List Entry) → StandsFor issuer next.shard history → places ≡ length history)
       → counts ++ places ∷ [] ≡ map (λ (log : Log LogItem LogHead). length log.items) (take (length (held ++ next ∷ [])) logs)
-  counts-next issuer stores shards logs opening held next left counts places all counts_are counted =
+  counts-next issuer olds stores shards logs opening held next left counts places all counts_are counted =
       let size : Log LogItem LogHead → ℕ = λ (log : Log LogItem LogHead). length log.items in
       let front : List (Shard S G) = map (λ (held : HeldShard S G). held.shard) held in
       let long : length front ≡ length held = length-map held (λ (held : HeldShard S G). held.shard) in
@@ -193,7 +193,7 @@ module _ {S : Type 0} {G : Ghosts S} where
       let many = opening.count_is in
       let log = read-within logs (length held) (omega arith) in
       let opens = opening.each (length held) next.shard log.0 there log.1 in
-      let count : places ≡ size log.0 = opening-length issuer stores (length held) next.shard log.0 places opens counted in
+      let count : places ≡ size log.0 = opening-length issuer olds stores (length held) next.shard log.0 places opens counted in
       let more : length (held ++ next ∷ []) ≡ suc (length held) = omega (arith, length_push held next) in
       ap (λ (counts : List ℕ). counts ++ places ∷ []) counts_are
       ∙ ap (λ count. map size (take (length held) logs) ++ count ∷ []) count

@@ -11,51 +11,51 @@ use Rattle.shared_shards.specs.declared.logs.LogHead.{LogHead}
 use Rattle.shared_shards.specs.declared.logs.LogItem.{LogItem}
 use Rattle.shared_shards.specs.Opening.{head_with, log_with, IsJustLoaded, AreJustLoaded, IsOpeningLog, AreOpeningLogs}
 
-module _ {S : Type 0} {G : Ghosts S} (issuer : Setup) (stores : List S) where
-  pub log-of : (number : ℕ) (shard : Shard S G) → IsJustLoaded issuer stores number shard → Log LogItem LogHead
+module _ {S : Type 0} {G : Ghosts S} (issuer : Setup) (olds stores : List S) where
+  pub log-of : (number : ℕ) (shard : Shard S G) → IsJustLoaded issuer olds stores number shard → Log LogItem LogHead
   log-of number shard just =
-      log_with (head_with issuer number (faults_in shard) (length just.loaded.history) (disk_in shard)) just.loaded.history
+      log_with (head_with issuer number (faults_in shard) (length just.from.loaded.history) (disk_in shard)) just.from.loaded.history
 
-  pub log-of_opens : (number : ℕ) (shard : Shard S G) (just : IsJustLoaded issuer stores number shard)
-      → IsOpeningLog issuer stores number shard (log-of number shard just)
+  pub log-of_opens : (number : ℕ) (shard : Shard S G) (just : IsJustLoaded issuer olds stores number shard)
+      → IsOpeningLog issuer olds stores number shard (log-of number shard just)
   unfolding log-of
-  log-of_opens number shard just = record { loaded = just.loaded; log_is = refl }
+  log-of_opens number shard just = record { just = just; log_is = refl }
 
   -- the logs of shards from this number on
   pub logs-from : (first : ℕ) (shards : List (Shard S G))
-      → ((place : ℕ) (shard : Shard S G) → slice_get shards place ≡ Some shard → IsJustLoaded issuer stores (place + first) shard)
+      → ((place : ℕ) (shard : Shard S G) → slice_get shards place ≡ Some shard → IsJustLoaded issuer olds stores (place + first) shard)
       → (logs : List (Log LogItem LogHead)) × (length logs ≡ length shards)
       × ((place : ℕ) (shard : Shard S G) (log : Log LogItem LogHead) → slice_get shards place ≡ Some shard → slice_get logs place ≡ Some log
-      → IsOpeningLog issuer stores (place + first) shard log)
+      → IsOpeningLog issuer olds stores (place + first) shard log)
   logs-from first [] each = ([], refl, λ place shard log there. absurd (none-some shard there))
   logs-from first (shard ∷ shards) each =
       let rest = logs-from (suc first) shards (λ place other there.
-      subst (λ number. IsJustLoaded issuer stores number other) (omega arith) (each (suc place) other there)) in
-      let just = subst (λ number. IsJustLoaded issuer stores number shard) (omega arith) (each 0 shard refl) in (
+      subst (λ number. IsJustLoaded issuer olds stores number other) (omega arith) (each (suc place) other there)) in
+      let just = subst (λ number. IsJustLoaded issuer olds stores number shard) (omega arith) (each 0 shard refl) in (
         log-of first shard just ∷ rest.0,
         omega (arith, rest.1),
         λ place.
             elim place as (λ place. (other : Shard S G) (log : Log LogItem LogHead) → slice_get (shard ∷ shards) place ≡ Some other
-            → slice_get (log-of first shard just ∷ rest.0) place ≡ Some log → IsOpeningLog issuer stores (place + first) other log) [
+            → slice_get (log-of first shard just ∷ rest.0) place ≡ Some log → IsOpeningLog issuer olds stores (place + first) other log) [
               | zero ↦ λ other log there is.
-                  subst (λ number. IsOpeningLog issuer stores number other log) (omega arith)
-                  (subst (λ (log : Log LogItem LogHead). IsOpeningLog issuer stores first other log) (same_Some (log-of first shard just) log is)
-                  (subst (λ (other : Shard S G). IsOpeningLog issuer stores first other (log-of first shard just)) (same_Some shard other there)
+                  subst (λ number. IsOpeningLog issuer olds stores number other log) (omega arith)
+                  (subst (λ (log : Log LogItem LogHead). IsOpeningLog issuer olds stores first other log) (same_Some (log-of first shard just) log is)
+                  (subst (λ (other : Shard S G). IsOpeningLog issuer olds stores first other (log-of first shard just)) (same_Some shard other there)
                   (log-of_opens first shard just)))
               | suc place ↦ λ other log there is.
-                  subst (λ number. IsOpeningLog issuer stores number other log) (omega arith) (rest.2 place other log there is)
+                  subst (λ number. IsOpeningLog issuer olds stores number other log) (omega arith) (rest.2 place other log there is)
             ],
       )
 
-  pub logs-open : (shards : List (Shard S G)) → AreJustLoaded issuer stores shards
-      → (logs : List (Log LogItem LogHead)) × AreOpeningLogs issuer stores shards logs
+  pub logs-open : (shards : List (Shard S G)) → AreJustLoaded issuer olds stores shards
+      → (logs : List (Log LogItem LogHead)) × AreOpeningLogs issuer olds stores shards logs
   logs-open shards just =
       let logs =
-      logs-from 0 shards (λ place shard there. subst (λ number. IsJustLoaded issuer stores number shard) (omega arith) (just.each place shard there)) in (
+      logs-from 0 shards (λ place shard there. subst (λ number. IsJustLoaded issuer olds stores number shard) (omega arith) (just.each place shard there)) in (
         logs.0,
         record {
           count_is = logs.1;
           each = λ number shard log there is.
-              subst (λ number. IsOpeningLog issuer stores number shard log) (omega arith) (logs.2 number shard log there is);
+              subst (λ number. IsOpeningLog issuer olds stores number shard log) (omega arith) (logs.2 number shard log there is);
         },
       )

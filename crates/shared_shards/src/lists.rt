@@ -65,18 +65,20 @@ pub(crate) fn take_lists<S: Store>(alloc: Global, count: usize) -> Result<Lists<
 /// Moves loaded shards into the lists, in order: they stand for their opening logs, whose lengths are the counts.
 pub(crate) fn hold_all<S: Store>(
     issuer: &Issuer,
+    olds: &Snapshot<Vec<S>>,
     stores: &Snapshot<Vec<S>>,
     logs: &Mark<Logs>,
     shards: Vec<Shard<S>>,
     lists: &mut Lists<S>,
 )
-    requires opening { AreOpeningLogs issuer.now stores.now.value.items shards.items logs.now.view }
+    requires opening { AreOpeningLogs issuer.now olds.now.value.items stores.now.value.items shards.items logs.now.view }
     requires empty { (lists.old.held.items ≡ []) × (lists.old.counts.items ≡ []) }
     requires room { (vec_len shards ≤ vec_capacity lists.old.held) × (vec_len shards ≤ vec_capacity lists.old.counts) }
     ensures shards { map (λ held. held.shard) lists.new.held.items ≡ shards.items }
     ensures counts { lists.new.counts.items ≡ map (λ log. length log.items) logs.now.view }
 {
     let _ = issuer;
+    let _ = olds;
     let _ = stores;
     let _ = logs;
     let mut ahead = shards;

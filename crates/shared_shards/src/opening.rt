@@ -65,6 +65,7 @@ impl<J: MayOpen> PerchPlay<Logs> for Shows<J> {
 fn shown<J: MayOpen, S: Store>(
     alloc: Global,
     issuer: &Issuer,
+    olds: &Snapshot<Vec<S>>,
     stores: &Snapshot<Vec<S>>,
     shards: &Vec<Shard<S>>,
 ) -> Result<Mark<Logs>, AllocError>
@@ -72,6 +73,7 @@ fn shown<J: MayOpen, S: Store>(
     ensures { IfOk result (λ mark. J.may_open mark.view) }
 {
     let _ = issuer;
+    let _ = olds;
     let _ = stores;
     let _ = shards;
     let (_table, seat) = Table::<(), (), (), Anything, Global>::of_words(alloc, &[], &())?;
@@ -84,13 +86,15 @@ fn shown<J: MayOpen, S: Store>(
 pub(crate) fn opening_logs<S: Store>(
     alloc: Global,
     issuer: &Issuer,
+    olds: &Snapshot<Vec<S>>,
     stores: &Snapshot<Vec<S>>,
     shards: &Vec<Shard<S>>,
 ) -> Result<Mark<Logs>, AllocError>
-    requires { AreJustLoaded issuer.now stores.now.value.items shards.now.items }
-    ensures { IfOk result (λ mark. AreOpeningLogs issuer.now stores.now.value.items shards.now.items mark.view) }
+    requires { AreJustLoaded issuer.now olds.now.value.items stores.now.value.items shards.now.items }
+    ensures { IfOk result (λ mark.
+        AreOpeningLogs issuer.now olds.now.value.items stores.now.value.items shards.now.items mark.view) }
 {
-    shown::<Brand, S>(alloc, issuer, stores, shards)
+    shown::<Brand, S>(alloc, issuer, olds, stores, shards)
 }
 
 /// The turns at these shards, which stand for the logs that the mark shows, and the first seat. Only if an allocation

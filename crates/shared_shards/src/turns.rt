@@ -40,30 +40,31 @@ impl<S: Store> ShardTurns<S> {
     ghost use Rattle.shared_shards.specs.ShardSeats.{opening_in, AreTurnsOf, IsSeatOf, IsInside, StandsIn};
     ghost use Rattle.shared_shards.specs.ShardSeats.{StandForLogs};
 
-    /// The turns at the shards of this issuer, which were loaded from these stores, in order, and the first seat. Each
-    /// shard's log opens with the records of the history that it was loaded with. Only if an allocation fails, the
-    /// shards come back in order.
+    /// The turns at the shards of this issuer, which were loaded from these old stores and stores, in order, and the
+    /// first seat. Each shard's log opens with the records of the history that it was loaded with. Only if an allocation
+    /// fails, the shards come back in order.
     pub fn load(
         alloc: Global,
         issuer: &Issuer,
+        olds: &Snapshot<Vec<S>>,
         stores: &Snapshot<Vec<S>>,
         shards: Vec<Shard<S>>,
     ) -> Result<(ShardTurns<S>, ShardSeat), Vec<Shard<S>>>
-        requires { AreJustLoaded issuer.now stores.now.value.items shards.items }
-        ensures opening { IfOk result
-            (λ made. AreOpeningLogs issuer.now stores.now.value.items shards.items (opening_in made.0)) }
+        requires { AreJustLoaded issuer.now olds.now.value.items stores.now.value.items shards.items }
+        ensures opening { IfOk result (λ made. AreOpeningLogs issuer.now
+            olds.now.value.items stores.now.value.items shards.items (opening_in made.0)) }
         ensures turns { IfOk result (λ made. AreTurnsOf issuer.now made.0) }
         ensures seat { IfOk result
             (λ made. IsSeatOf made.0 made.1 × (view_of made.1 ≡ first_view (opening_in made.0))) }
         ensures refused { IfErr result (λ back. back.items ≡ shards.items) }
     {
-        let Ok(logs) = opening_logs(alloc, issuer, stores, &shards) else {
+        let Ok(logs) = opening_logs(alloc, issuer, olds, stores, &shards) else {
             return Err(shards);
         };
         let Ok(mut lists) = take_lists(alloc, usize::from(issuer.shards())) else {
             return Err(shards);
         };
-        hold_all(issuer, stores, &logs, shards, &mut lists);
+        hold_all(issuer, olds, stores, &logs, shards, &mut lists);
         start(alloc, lists, &logs)
     }
 

@@ -1,5 +1,6 @@
-//! A host of one caller over stores in memory: answers across a restart, a store that fails, and journals that can't be loaded.
-ghost use Rattle.std.specs.Prelude.{◌≡◌, IfOk};
+//! A host of one caller over stores in memory: answers across a restart and a migration, a store that fails, and journals
+//! that can't be loaded.
+ghost use Rattle.std.specs.Prelude.{◌≡◌, IfOk, length};
 
 use host_calls::{HostBack, LoadFault, Solo};
 use issuer_base::{Answer, Refusal, Store};
@@ -9,8 +10,11 @@ use std::alloc::Global;
 use std::test::Fail;
 use store_edge::MemoryStore;
 
-/// The first record of a journal: a status of the first card.
-const FIRST: &str = "s 4000000000000002ffff 00 3\n";
+/// A journal of version 1 with one record: a status of the first card.
+const OLD: &str = "s 4000000000000002ffff 00 3\n";
+
+/// A journal of version 2 with this record.
+const NEW: &str = "v2\ns 4000000000000002ffff 00 3\n";
 
 /// An issuer of `shards` shards and four cards, whose table declines every request.
 pub(crate) fn sample(alloc: Global, shards: u8) -> Result<Issuer, Fail>
@@ -27,13 +31,31 @@ pub(crate) fn store(alloc: Global, text: &str, fails: &[u64]) -> Result<MemorySt
     Ok(MemoryStore::new(alloc, text, 262_144, fails).map_err(|_| "a store")?)
 }
 
-/// A host of one shard over these stores.
-fn load(alloc: Global, stores: Vec<MemoryStore>) -> Result<Solo<MemoryStore>, Fail> {
-    let issuer = sample(alloc, 1)?;
-    if stores.len() != 1 {
-        return Err("one store".into());
+/// So many empty stores.
+pub(crate) fn empty_stores(alloc: Global, count: u8) -> Result<Vec<MemoryStore>, Fail>
+    ensures { IfOk result (λ stores. length stores.items ≡ count) }
+{
+    let mut stores = Vec::new(alloc);
+    for _ in 0..count {
+        stores.push(store(alloc, "", &[])?)?;
     }
-    match Solo::load(alloc, stores, issuer) {
+    if stores.len() != usize::from(count) {
+        return Err("a store for each shard".into());
+    }
+    Ok(stores)
+}
+
+/// A host of one shard over these stores, of an old journal and a journal.
+fn load(
+    alloc: Global,
+    olds: &mut Vec<MemoryStore>,
+    stores: Vec<MemoryStore>,
+) -> Result<Solo<MemoryStore>, Fail> {
+    let issuer = sample(alloc, 1)?;
+    if olds.len() != 1 || stores.len() != 1 {
+        return Err("one store of each".into());
+    }
+    match Solo::load(alloc, olds, stores, issuer) {
         Ok(host) => Ok(host),
         Err(
             HostBack {
@@ -45,11 +67,11 @@ fn load(alloc: Global, stores: Vec<MemoryStore>) -> Result<Solo<MemoryStore>, Fa
     }
 }
 
-/// A host of one shard over a store with one record, which fails at the listed calls.
-fn open(alloc: Global, fails: &[u64]) -> Result<Solo<MemoryStore>, Fail> {
+/// A list of one store with this text, which fails at the listed calls.
+fn one_store(alloc: Global, text: &str, fails: &[u64]) -> Result<Vec<MemoryStore>, Fail> {
     let mut stores = Vec::new(alloc);
-    stores.push(store(alloc, FIRST, fails)?)?;
-    load(alloc, stores)
+    stores.push(store(alloc, text, fails)?)?;
+    Ok(stores)
 }
 
 /// Whether the answer is a new decision whose record has this index of the first shard.
@@ -64,11 +86,17 @@ pub(crate) fn is_kept(answer: &Answer, at: u64) -> bool {
 
 #[test]
 fn keeps_a_reply_across_a_restart(rt: HostRuntime) -> Result<(), Fail> {
-    for line in [REQUEST, AES_REQUEST] {
-        let mut host = open(rt.alloc(), &[])?;
+    for (line, old, new) in [
+        (REQUEST, OLD, ""),
+        (AES_REQUEST, OLD, "v2\ns 40"),
+        (REQUEST, "", NEW),
+    ] {
+        let mut olds = one_store(rt.alloc(), old, &[])?;
+        let stores = one_store(rt.alloc(), new, &[])?;
+        let mut host = load(rt.alloc(), &mut olds, stores)?;
         let fresh = host.authorise(line.as_bytes());
         let kept = host.authorise(line.as_bytes());
-        let mut host = load(rt.alloc(), host.close())?;
+        let mut host = load(rt.alloc(), &mut olds, host.close())?;
         let again = host.authorise(line.as_bytes());
         assert!(rt; is_fresh(&fresh, 1), "{line}");
         assert!(rt; is_kept(&kept, 1), "{line}");
@@ -88,11 +116,13 @@ fn keeps_a_reply_across_a_restart(rt: HostRuntime) -> Result<(), Fail> {
 /// An append that fails, and a sync that fails.
 #[test]
 fn decides_anew_after_a_fault_of_the_store(rt: HostRuntime) -> Result<(), Fail> {
-    for call in [2, 3] {
-        let mut host = open(rt.alloc(), &[call])?;
+    for call in [3, 4] {
+        let mut olds = one_store(rt.alloc(), "", &[])?;
+        let stores = one_store(rt.alloc(), NEW, &[call])?;
+        let mut host = load(rt.alloc(), &mut olds, stores)?;
         let refused = host.authorise(REQUEST.as_bytes());
         let fresh = host.authorise(REQUEST.as_bytes());
-        let mut host = load(rt.alloc(), host.close())?;
+        let mut host = load(rt.alloc(), &mut olds, host.close())?;
         let kept = host.authorise(REQUEST.as_bytes());
         host.close();
         assert!(rt; refused == Answer::Refused(Refusal::StoreFault), "{call}");
@@ -102,28 +132,36 @@ fn decides_anew_after_a_fault_of_the_store(rt: HostRuntime) -> Result<(), Fail> 
     Ok(())
 }
 
+/// The first shard is migrated before the second one's old journal or journal is found to be bad.
 #[test]
 fn names_the_first_bad_journal(rt: HostRuntime) -> Result<(), Fail> {
     let alloc = rt.alloc();
-    let issuer = sample(alloc, 2)?;
-    let mut stores = Vec::new(alloc);
-    stores.push(store(alloc, FIRST, &[])?)?;
-    stores.push(store(alloc, "x\n", &[])?)?;
-    match Solo::load(alloc, stores, issuer) {
-        Ok(host) => {
-            host.close();
-            Err("no host".into())
-        }
-        Err(
-            HostBack {
-                fault,
-                shard,
-                stores,
-            },
-        ) => {
-            assert!(rt; fault == LoadFault::BadLine(1) && shard == 1);
-            assert!(rt; stores.len() == 2 && stores[0].len() == 28 && stores[1].len() == 2);
-            Ok(())
+    for (old, new, expected) in [
+        ("", "x\n", LoadFault::BadLine(1)),
+        ("x\n", "x\n", LoadFault::OldLine(1)),
+    ] {
+        let issuer = sample(alloc, 2)?;
+        let mut olds = one_store(alloc, OLD, &[])?;
+        olds.push(store(alloc, old, &[])?)?;
+        let mut stores = empty_stores(alloc, 1)?;
+        stores.push(store(alloc, new, &[])?)?;
+        match Solo::load(alloc, &mut olds, stores, issuer) {
+            Ok(host) => {
+                host.close();
+                return Err("no host".into());
+            }
+            Err(
+                HostBack {
+                    fault,
+                    shard,
+                    stores,
+                },
+            ) => {
+                assert!(rt; fault == expected && shard == 1);
+                assert!(rt; stores.len() == 2 && stores[0].len() == 31 && stores[1].len() == 2);
+                assert!(rt; olds.len() == 2 && olds[0].len() == 28);
+            }
         }
     }
+    Ok(())
 }

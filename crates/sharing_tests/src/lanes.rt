@@ -3,7 +3,7 @@ ghost use Rattle.std.specs.Prelude.{◌≡◌, ◌<◌, ◌≤◌, IfOk};
 ghost use Rattle.issuer_base.specs.declared.limits.TheConstants.{MAX_CALLERS};
 ghost use Rattle.shared_callers.specs.Lanes.{waiting_in, due_in};
 
-use crate::hosts::{sample, store};
+use crate::hosts::{empty_stores, sample};
 use crate::passes::{NINTH, SIXTH};
 use issuer_base::{Answer, KEPT_BYTES, OpenGate, Refusal};
 use sample_issuer::REQUEST;
@@ -36,14 +36,9 @@ fn open(alloc: Global, callers: u8, shards: u8) -> Result<Lanes<MemoryStore>, Fa
     ensures { IfOk result (λ lanes. (waiting_in lanes ≡ 0) × (due_in lanes ≡ 0)) }
 {
     let issuer = sample(alloc, shards)?;
-    let mut stores = Vec::new(alloc);
-    for _ in 0..shards {
-        stores.push(store(alloc, "", &[])?)?;
-    }
-    if stores.len() != usize::from(shards) {
-        return Err("a store for each shard".into());
-    }
-    match Lanes::load(alloc, stores, issuer, callers) {
+    let mut olds = empty_stores(alloc, shards)?;
+    let stores = empty_stores(alloc, shards)?;
+    match Lanes::load(alloc, &mut olds, stores, issuer, callers) {
         Ok(lanes) => Ok(lanes),
         Err(
             HostBack {

@@ -4,7 +4,7 @@ ghost use Rattle.shared_seats.specs.SeatNames.{first_names, after_split, split_o
 ghost use Rattle.host_calls.specs.Passes.{claims_of, IsFree, Holds};
 ghost use Rattle.host_calls.specs.PreChecks.{HasPassed};
 
-use crate::hosts::{is_fresh, is_kept, sample, store};
+use crate::hosts::{empty_stores, is_fresh, is_kept, sample, store};
 use cvr_settle::Flight;
 use host_calls::{CardView, Checked, Host, HostBack, Pass};
 use issuer_base::{Answer, Refusal};
@@ -35,9 +35,10 @@ fn open(alloc: Global, fails: &[u64]) -> Result<Two, Fail>
     ensures other { IfOk result (λ two. (claims_of two.other).names ≡ split_off first_names) }
 {
     let issuer = sample(alloc, 1)?;
+    let mut olds = empty_stores(alloc, 1)?;
     let mut stores = Vec::new(alloc);
     stores.push(store(alloc, "", fails)?)?;
-    match Host::load(alloc, stores, issuer) {
+    match Host::load(alloc, &mut olds, stores, issuer) {
         Ok((host, mut first)) => {
             let other = host.split(&mut first);
             Ok(Two { host, first, other })
@@ -180,7 +181,7 @@ fn a_claim_given_back_is_won_by_another(rt: HostRuntime) -> Result<(), Fail> {
         host,
         mut first,
         mut other,
-    } = open(rt.alloc(), &[1])?;
+    } = open(rt.alloc(), &[3])?;
     let failed = host.authorise(&rt, &mut first, REQUEST.as_bytes());
     let fresh = host.authorise(&rt, &mut other, REQUEST.as_bytes());
     close(host, first, other);

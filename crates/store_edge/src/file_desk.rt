@@ -6,7 +6,7 @@ ghost use Rattle.issuer_base.specs.declared.outside.DeskFault.TheVariants.{Fault
 use crate::file_source::FileSource;
 use crate::file_store::FileStore;
 use crate::named_call::NamedCall;
-use issuer_base::{Desk, DeskCall, DeskFault};
+use issuer_base::{Desk, DeskCall, DeskFault, MAX_UNSYNCED_BYTES};
 use std::fs::File;
 use std::io;
 use std::os::unix::fs::{FileExt, OpenOptionsExt};
@@ -80,9 +80,6 @@ impl Desk for FileDesk {
 /// The mode of a created journal: its owner reads and writes it.
 const OWNER_ALONE: u32 = 0o600;
 
-/// How many bytes at the end of a journal are rewritten as it is opened: more than one record has.
-const REWRITTEN_BYTES: usize = 4_096;
-
 /// A store over the file at this path, locked, with its bytes and its entry in the directory durable.
 fn open_journal(rt: &HostRuntime, name: &str) -> io::Result<FileStore>
     ensures { IfOk result (λ store. store.faults ≡ 0) }
@@ -103,11 +100,12 @@ fn open_journal(rt: &HostRuntime, name: &str) -> io::Result<FileStore>
 /// Rewrites the last bytes of a file as they are, so that the sync that follows makes them durable.
 ///
 /// After a failed sync, the system may drop what it could not write from its list, and the next sync
-/// succeeds without it. At most one record of a journal is in doubt, and it is the last.
+/// succeeds without it. At most one record of a journal is in doubt, or one step of its migration, and
+/// it is the last.
 fn rewrite_end(file: &File) -> io::Result<()> {
     let len = file.metadata()?.len();
-    let mut end = [0; REWRITTEN_BYTES];
-    let count = len.min(REWRITTEN_BYTES as u64);
+    let mut end = [0; MAX_UNSYNCED_BYTES];
+    let count = len.min(MAX_UNSYNCED_BYTES as u64);
     let end = &mut end[..count as usize];
     file.read_exact_at(end, len - count)?;
     file.write_all_at(end, len - count)

@@ -48,6 +48,8 @@ impl Store for FileStore {
 
     ghost told_size = { λ s. tt };
 
+    ghost told_alike = { λ _ _. tt };
+
     ghost told_bytes = { λ s. tt };
 
     fn len(&self) -> u64 {

@@ -163,6 +163,8 @@ impl Store for MemoryStore {
 
     ghost told_size = { λ s. refl };
 
+    ghost told_alike = { λ _ _. tt };
+
     ghost told_bytes = { λ s. refl };
 
     fn len(&self) -> u64 {

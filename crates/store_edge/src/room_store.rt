@@ -62,6 +62,8 @@ impl Store for RoomStore {
 
     ghost told_size = { λ s. refl };
 
+    ghost told_alike = { λ _ _. tt };
+
     ghost told_bytes = { λ s. tt };
 
     fn len(&self) -> u64 {

@@ -55,7 +55,7 @@ held-at history place entry held there =
     subst IsEntry (get_or_from_slice_get history place entry entry there) (held place entry (slice_get_within history place entry there))
 
 -- two runs, one after the other, are a run
-run-append : (first middle last : WorldState) (events more : List Event) → IsRunFrom first events middle → IsRunFrom middle more last
+pub run-append : (first middle last : WorldState) (events more : List Event) → IsRunFrom first events middle → IsRunFrom middle more last
     → IsRunFrom first (events ++ more) last
 run-append first middle last [] more run rest = subst (λ (w : WorldState). IsRunFrom w more last) run rest
 run-append first middle last (event ∷ events) more (between, step, run) rest = (between, step, run-append between middle last events more run rest)

@@ -194,13 +194,13 @@ lawful-once issuer shards lawful shard other_shard place other_place request oth
     let other_here : slice_get (at shards shard).history other_place ≡ Some (Decided other other_reply) =
     subst (λ shard. slice_get (at shards shard).history other_place ≡ Some (Decided other other_reply)) (sym home) other_there in
     let other_unused : IsUnused (decided_for other (take other_place (at shards shard).history)) other =
-    subst (λ shard. IsUnused (decided_for other (take other_place (at shards shard).history)) other) (sym home) (legal-unused other_legal) in (
+    subst (λ shard. IsUnused (decided_for other (take other_place (at shards shard).history)) other) (sym home) (legal-unused {grounds = grounds_of issuer} refl other_legal) in (
       home,
       elim (cases_eq place other_place) [
         | inl same ↦ same
         | inr apart ↦ elim (cases_lt place other_place) [
           | inl below ↦ absurd (never-again (at shards shard).history place other_place request other reply below is_there other_unused card counter)
-          | inr above ↦ absurd (never-again (at shards shard).history other_place place other request other_reply (omega arith) other_here (legal-unused legal)
+          | inr above ↦ absurd (never-again (at shards shard).history other_place place other request other_reply (omega arith) other_here (legal-unused {grounds = grounds_of issuer} refl legal)
               (sym card) (sym counter))
         ]
       ],

@@ -128,7 +128,7 @@ module _ (world : WorldState) (sound : IsSound world) where
               let name : name_of info ≡ card_of request =
               own-name made.number (card_of request) info made.number_is (ap (slice_get world.issuer.cards) (sym same) ∙ info_is) in
               let its = subst (λ (name : CardName). is_of name request ≡ true) (sym name) (is_of-card_of request) in
-              let unused = subst (λ (name : CardName). IsUnused (decided name (at world.shards shard).history) request) (sym name) (legal-unused legal) in
+              let unused = subst (λ (name : CardName). IsUnused (decided name (at world.shards shard).history) request) (sym name) (legal-unused {grounds = grounds_of world.issuer} refl legal) in
               let made_here : Made world.made number request = subst (λ n. Made world.made n request) (sym same) made.made in
               kept-decided (name_of info) card (Made world.made number) (at world.shards shard).history here request reply made_here its unused
           | inr apart ↦

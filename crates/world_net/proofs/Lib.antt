@@ -14,3 +14,7 @@ pub mod Replies
 pub mod NetWrites
 pub mod NewWorlds
 pub mod FilledRuns
+pub mod Truncated
+pub mod FallenSteps
+pub mod FallenRuns
+pub mod FallenRows

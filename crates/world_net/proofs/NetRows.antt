@@ -27,14 +27,14 @@ use Rattle.world_net.proofs.Hosts.{at, recorded, doubted}
 use Rattle.world_net.proofs.KeptWorlds.{number_of-own}
 
 -- what was put at a place is there
-put-read : {X : Type 0} (xs : List X) (place : ℕ) (old new : X) → slice_get xs place ≡ Some old → slice_get (set xs place new) place ≡ Some new
+pub put-read : {X : Type 0} (xs : List X) (place : ℕ) (old new : X) → slice_get xs place ≡ Some old → slice_get (set xs place new) place ≡ Some new
 put-read xs place old new old_is =
     let within = slice_get_within xs place old old_is in
     let long = length-set xs place new in
     slice_get-get_or (set xs place new) place new (omega arith) ∙ ap Some (get_or-set_same xs place new new within)
 
 -- and each other place stays
-put-stays : {X : Type 0} (xs : List X) (place other : ℕ) (new x : X) → other ≢ place → slice_get xs other ≡ Some x → slice_get (set xs place new) other ≡ Some x
+pub put-stays : {X : Type 0} (xs : List X) (place other : ℕ) (new x : X) → other ≢ place → slice_get xs other ≡ Some x → slice_get (set xs place new) other ≡ Some x
 put-stays xs place other new x apart is =
     let within = slice_get_within xs other x is in
     let long = length-set xs place new in

@@ -11,6 +11,7 @@ use Rattle.issuer_base.specs.declared.request.Request.{Request}
 use Rattle.issuer_base.specs.declared.answer.Reply.{Reply}
 use Rattle.issuer_base.specs.declared.entry.Entry.{Entry}
 use Rattle.issuer_base.specs.declared.entry.Entry.TheVariants.{Decided}
+use Rattle.issuer_base.specs.declared.limits.TheConstants.{WINDOW}
 use Rattle.card_history.specs.declared.decision.Asked.TheVariants.{Decide}
 use Rattle.card_history.specs.LegalRecords.{IsLegalDecision}
 use Rattle.card_history.specs.Records.{card_of}
@@ -27,6 +28,7 @@ use Rattle.row_core.specs.Accepting.{IsValidSuccessor}
 use Rattle.row_core.specs.CardRow.{CardRow, StandsFor}
 use Rattle.row_core.specs.Replying.{reply_to}
 use Rattle.shard_book.specs.Grounds.{IsCardOfShard, grounds_of}
+use Rattle.shard_book.specs.declared.replay.Version.TheVariants.{Two}
 use Rattle.shard_book.proofs.Adopted.{decision-follows}
 use Rattle.world_net.specs.declared.parts.Exchange.{Exchange}
 use Rattle.world_net.specs.declared.parts.OpenClaim.{OpenClaim}
@@ -66,7 +68,7 @@ pub rows-join : (issuer : Setup) (rows : List CardRow) (shards : List ShardState
     → IsLegalDecision (grounds_of issuer) (found.card % issuer.shards) (at shards (found.card % issuer.shards)).history request reply
     → place ≡ length (at shards (found.card % issuer.shards)).history → row ≡ get_or rows found.card row
     → ((card : CardInfo) (history : List Entry) → StandsFor card row history → card_of found.request ≡ name_of card
-    → (IsTrue accepted ↔ IsValidSuccessor card.method found.keys history found.request given))
+    → (IsTrue accepted ↔ IsValidSuccessor WINDOW card.method found.keys history found.request given))
     → (IsTrue accepted → (card : CardInfo) (history : List Entry) → StandsFor card row history → card_of found.request ≡ name_of card
     → place ≡ length history → StandsFor card new (history ++ Decided found.request given ∷ []))
     → RowsStand issuer (set rows found.card new) (recorded shards (found.card % issuer.shards) (Decided request reply))
@@ -78,10 +80,10 @@ rows-join issuer rows shards stand count found request reply given place row new
     let number_is : number_of (card_of request) issuer.cards ≡ Some found.card =
     ap (λ (q : Request). number_of (card_of q) issuer.cards) (sym same) ∙ at_hand.card_is.number_is in
     let keys_are : keys_of issuer found.card request ≡ Some found.keys = ap (keys_of issuer found.card) (sym same) ∙ at_hand.keys_are in
-    let follows = decision-follows issuer home history request reply found.card info.0 found.keys number_is info.1 keys_are legal in
-    let follows_found : IsValidSuccessor info.0.method found.keys history found.request given =
-    subst (λ (q : Request). IsValidSuccessor info.0.method found.keys history q given) (sym same)
-    (subst (IsValidSuccessor info.0.method found.keys history request) (sym same_reply) follows) in
+    let follows = decision-follows Two issuer home history request reply found.card info.0 found.keys number_is info.1 keys_are legal in
+    let follows_found : IsValidSuccessor WINDOW info.0.method found.keys history found.request given =
+    subst (λ (q : Request). IsValidSuccessor WINDOW info.0.method found.keys history q given) (sym same)
+    (subst (IsValidSuccessor WINDOW info.0.method found.keys history request) (sym same_reply) follows) in
     let done = adopted ((exact info.0 history stands (sym info.2)).1 follows_found) info.0 history stands (sym info.2) at_end in
     let done_here : StandsFor info.0 new (history ++ Decided request reply ∷ []) =
     subst (λ (q : Request). StandsFor info.0 new (history ++ Decided q reply ∷ [])) same
@@ -123,7 +125,7 @@ module _ (world : WorldState) (sound : IsSound world) where
       ∙ sym (ap (settled_at kept world home) is ∙ cond-true kept _ _ is_kept)
 
 -- what is found among elements that all have a property has it
-found-all : {X : Type 0} (p : X → Bool) (P : X → Type 0) (xs : List X) (x : X) → find p xs ≡ Some x → All P xs → P x
+pub found-all : {X : Type 0} (p : X → Bool) (P : X → Type 0) (xs : List X) (x : X) → find p xs ≡ Some x → All P xs → P x
 found-all p P [] x is all = absurd (none-some x is)
 found-all p P (first ∷ xs) x is all =
     elim (cases_Bool (p first)) [
@@ -198,7 +200,7 @@ pub writes-taken : (world after : WorldState) (caller : ℕ) (stored : Bool) (cl
 writes-taken world after caller stored claim request exchange claim_is same same_too legal after_is =
     let reply = exchange.reply in
     let legal_here = subst (λ (q : Request). IsLegalDecision (grounds_of world.issuer) (home_of world q) (history_for world q) q reply) (sym same) legal in (
-      record { claim = claim; claim_is = claim_is; unused = legal-unused legal_here },
+      record { claim = claim; claim_is = claim_is; unused = legal-unused {grounds = grounds_of world.issuer} refl legal_here },
       record {
         claim = claim;
         reply = reply;

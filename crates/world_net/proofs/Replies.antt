@@ -27,6 +27,7 @@ use Rattle.row_core.specs.declared.scripts.Launch.{Launch}
 use Rattle.row_core.specs.declared.row.Outcome.{Outcome}
 use Rattle.row_core.specs.declared.row.Outcome.TheVariants.{Fresh, Kept, Below, Taken}
 use Rattle.shard_book.specs.Grounds.{grounds_of}
+use Rattle.shard_book.specs.declared.replay.Version.TheVariants.{Two}
 use Rattle.shard_book.proofs.Adopted.{decision-legal}
 use Rattle.shard_book.proofs.OwnDecisions.{decided-made}
 
@@ -64,9 +65,11 @@ module _ {issuer : Setup} {history : List Entry} {request : Request} {card : ℕ
       same_Some _ _ (sym valid.its.keys_are ∙ ap (λ n. keys_of issuer n request) number ∙ planned.keys_are) in
       let whole : length (application_cryptogram keys request) ≡ 8 =
       ap (λ (k : CardKeys). length (application_cryptogram k request)) (sym same) ∙ ap length (sym valid.ac_is) ∙ planned.eight in
-      decision-legal issuer (card % issuer.shards) history request reply card planned.info keys planned.number_is planned.info_is planned.keys_are
+      let unused : IsUnused (decided_for request history) request = planned.answers.0 in
+      decision-legal Two issuer (card % issuer.shards) history request reply card planned.info keys planned.number_is planned.info_is planned.keys_are
       (record { number = card; number_is = planned.number_is; home = refl }) planned.passes (record {
-        unused = planned.answers.0;
+        in_window = unused.in_window;
+        unrecorded = unused.unrecorded;
         made =
             decided-made issuer planned.info keys history request reply (decision issuer.table (status_of (card_of request) history) request) whole refl
             step.some step.code planned.answers.3;

@@ -9,3 +9,5 @@ pub mod Stepping
 pub mod NewWorld
 pub mod Histories
 pub mod Fate
+pub mod FallBack
+pub mod Replaying

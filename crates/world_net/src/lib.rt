@@ -3,6 +3,7 @@
 
 mod claims;
 mod event;
+mod falling;
 mod generator;
 mod law;
 mod net;

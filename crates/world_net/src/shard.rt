@@ -1,6 +1,7 @@
 //! The shards of a world's host.
 ghost use Rattle.std.specs.Prelude.{◌≡◌, List, [], ◌∷◌, ◌++◌, None, Some, is_some, IsOk, OnOk, OnErr};
 ghost use Rattle.world_net.specs.WorldState.{no_shard};
+ghost use Rattle.world_net.specs.FallBack.{truncated};
 
 use crate::parts::Exchange;
 use issuer_base::{Entry, NoMemory};
@@ -72,5 +73,13 @@ impl ShardRecords {
         ensures { self.new ≡ record { history = self.old.history; doubt = doubt } }
     {
         self.doubt = doubt;
+    }
+
+    /// Truncates the records to the first `count`; a decision in doubt is dropped.
+    pub(crate) fn truncate(&mut self, count: usize)
+        ensures { self.new ≡ truncated self.old count }
+    {
+        self.history.truncate(count);
+        self.set_doubt(None);
     }
 }

@@ -19,7 +19,7 @@ use std::marker::Model;
 /// A contract sees its `WorldState`. At each moment it is the end of a run, and so safe.
 #[derive(Drop)]
 pub struct World {
-    net: Net,
+    pub(crate) net: Net,
 }
 
 impl Model for World {

@@ -17,6 +17,7 @@ use Rattle.issuer_base.specs.declared.answer.Refusal.TheVariants.{BadLine, BadTl
 use Rattle.issuer_base.specs.declared.answer.Refusal.TheVariants.{Below, Taken, Pending, QueueFull, BadCommand, StoreFault}
 use Rattle.issuer_base.specs.declared.entry.Entry.{Entry}
 use Rattle.issuer_base.specs.declared.entry.Entry.TheVariants.{Decided}
+use Rattle.issuer_base.specs.declared.limits.TheConstants.{WINDOW}
 use Rattle.issuer_base.specs.ChipData.{amount_value}
 use Rattle.issuer_base.proofs.ChipDataLemmas.{amount_value-below}
 use Rattle.card_history.specs.LegalRecords.{IsLegalDecision}
@@ -205,11 +206,12 @@ module _ (cards number : ℕ) (valid : IsIssuer (issuer cards)) (world : WorldSt
       let told = it.changes.1 in
       let history = book-history world books same shard it.old it.old_is in
       let known = right-known cards number request right valid in
+      let unused : IsUnused (decided_for request (shard_at world shard).history) request =
+      subst (λ (history : List Entry). IsUnused (decided_for request history) request) (sym history) told.0 in
       let legal : IsLegalDecision (grounds_of (issuer cards)) shard (shard_at world shard).history request reply =
-      legal-by (issuer cards) (IsMadeBy (issuer cards)) shard (shard_at world shard).history request reply
+      legal-by (issuer cards) WINDOW (IsMadeBy (issuer cards)) shard (shard_at world shard).history request reply
       (record { number = number; number_is = known; home = sym (shard_of-known (issuer cards) (card_of request) number known) })
-      right.checks
-      (subst (λ (history : List Entry). IsUnused (decided_for request history) request) (sym history) told.0)
+      right.checks unused.in_window unused.unrecorded
       (subst (λ (history : List Entry). IsMadeBy (issuer cards) history request reply) (sym history)
       (subst (IsMadeBy (issuer cards) it.old.history request) (sym told.3)
       (own-made cards number request right valid it.old.history))) in

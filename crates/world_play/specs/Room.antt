@@ -1,5 +1,5 @@
 -- The room of a run's stores and the place for its counts: what each move and each step may use of them.
-use Rattle.std.specs.Prelude.{◌≡◌, ℕ, zero, suc, ◌+◌, ◌*◌, ◌%◌, ◌<◌, ◌≤◌, ◌==◌, if◌then◌else◌, [], Option, None, Some}
+use Rattle.std.specs.Prelude.{◌≡◌, ℕ, zero, suc, ◌+◌, ◌*◌, ◌%◌, ◌<◌, ◌≤◌, ◌==◌, if◌then◌else◌, List, [], length, slice_get, Option, None, Some}
 use Rattle.store_edge.specs.MemoryStores.{RoomState}
 use Rattle.issuer_base.specs.declared.request.Parts.{Parts}
 use Rattle.issuer_setup.specs.IssuerSetup.{Setup}
@@ -7,7 +7,7 @@ use Rattle.journal_rec.specs.declared.limits.TheConstants.{MOST_QUEUED_BYTES, MO
 use Rattle.card_model.specs.Application.{CardState}
 use Rattle.line_checks.specs.Reading.{reading}
 use Rattle.request_text.specs.ChipText.{request_line}
-use Rattle.one_caller.specs.Room.{added_at, added_by, HaveRoom}
+use Rattle.one_caller.specs.Room.{added_at, added_by, HaveRoom, StoresHaveRoom}
 use Rattle.world_net.specs.WorldRuns.{IsIssuer}
 use Rattle.world_play.specs.declared.house.House.{House}
 use Rattle.world_play.specs.declared.moves.Move.{Move}
@@ -40,6 +40,15 @@ pub record IsOpened (cards steps shard : ℕ) (store : RoomState) : Type 0 where
   pub empty : store.held ≡ []
   pub faults_are : store.faults ≡ 0
   pub room_is : store.room ≡ 64 + step_room * steps_of cards shard steps
+
+-- the stores are empty
+abbrev pub AreEmpty : List RoomState → Type 0
+AreEmpty stores = (shard : ℕ) (store : RoomState) → slice_get stores shard ≡ Some store → store.held ≡ []
+
+-- the old stores and the stores have the room that a load may need, and so many more bytes, by the shard's number
+abbrev pub HaveRoomToLoad : (ℕ → ℕ) → List RoomState → List RoomState → Type 0
+HaveRoomToLoad spare olds stores =
+    StoresHaveRoom (λ store. length store.held) (λ store. Some store.room) spare olds stores
 
 -- ---- what is used
 

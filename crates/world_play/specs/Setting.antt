@@ -24,6 +24,7 @@ key_set = record {
   ac = record { 0 = range_with_len 0x00 16 };
   smi = record { 0 = range_with_len 0x10 16 };
   aes = None;
+  smc = None;
 }
 
 -- a row for every terminal, card and status, for amounts from this one on

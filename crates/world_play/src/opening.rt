@@ -3,10 +3,10 @@ ghost use Rattle.std.specs.Prelude.{◌≡◌, ◌*◌, ◌<◌, ◌≤◌, ℕ,
 ghost use Rattle.std.specs.List.{range_with_len};
 ghost use Rattle.one_caller.specs.Hosts.{Stand};
 ghost use Rattle.one_caller.specs.Loading.{AreLoaded};
-ghost use Rattle.one_caller.specs.Room.{HaveRoom, StoresHaveRoom};
+ghost use Rattle.one_caller.specs.Room.{HaveRoom};
 ghost use Rattle.shard_book.specs.declared.replay.LoadFault.TheVariants.{NoMemory as LacksMemory};
 ghost use Rattle.store_edge.specs.MemoryStores.{RoomState};
-ghost use Rattle.world_play.specs.Room.{IsOpened, step_room, steps_of};
+ghost use Rattle.world_play.specs.Room.{AreEmpty, HaveRoomToLoad, IsOpened, step_room, steps_of};
 ghost use Rattle.world_play.specs.Play.{empty_book, new_player, no_counts};
 ghost use Rattle.world_play.specs.Setting.{issuer, key_set};
 
@@ -59,7 +59,7 @@ fn new_player(alloc: Global, ciphers: &MasterCiphers, number: u32) -> Player
     }
 }
 
-/// The host of an issuer of so many cards, over empty stores with room for so many steps.
+/// The host of an issuer of so many cards, over empty stores with room for so many steps. The old stores are empty too.
 pub(crate) fn new_house(alloc: Global, cards: u32, steps: u32) -> Result<House, NoMemory>
     requires { 1 ≤ cards }
     ensures issuer { IfOk result (λ house. house.host.issuer ≡ issuer cards) }
@@ -68,26 +68,32 @@ pub(crate) fn new_house(alloc: Global, cards: u32, steps: u32) -> Result<House, 
     ensures room { IfOk result (λ house. HaveRoom
         (λ shard. step_room * steps_of cards shard steps) house.host.shards.items) }
 {
+    let mut olds = stores(alloc, cards, 0)?;
     let stores = stores(alloc, cards, steps)?;
     let issuer = issuer(alloc, cards)?;
     Ok(House {
-        host: load(alloc, stores, issuer)?,
+        host: load(alloc, &mut olds, stores, issuer)?,
         tally: Summary::default(),
     })
 }
 
-/// The host of an issuer over empty stores. The stores have room, so loading fails only out of memory.
-fn load(alloc: Global, stores: Vec<RoomStore>, issuer: Issuer) -> Result<Solo<RoomStore>, NoMemory>
-    requires count { length stores.items ≡ issuer.shards }
-    requires empty { (shard : ℕ) (store : RoomState) → slice_get stores.items shard ≡ Some store → store.held ≡ [] }
-    requires works { StoresHaveRoom (λ store. length store.held) (λ store. Some store.room) (λ _. 0) stores.items }
+/// The host of an issuer over empty stores and old stores. The stores have room, so loading fails only out of memory.
+fn load(
+    alloc: Global,
+    olds: &mut Vec<RoomStore>,
+    stores: Vec<RoomStore>,
+    issuer: Issuer,
+) -> Result<Solo<RoomStore>, NoMemory>
+    requires count { (length olds.old.items ≡ issuer.shards) × (length stores.items ≡ issuer.shards) }
+    requires empty { AreEmpty olds.old.items × AreEmpty stores.items }
+    requires works { HaveRoomToLoad (λ _. 0) olds.old.items stores.items }
     ensures issuer { IfOk result (λ host. host.issuer ≡ issuer) }
-    ensures loaded { IfOk result (λ host. AreLoaded issuer stores.items host.shards.items) }
-    ensures room { IfOk result (λ host. (spare : ℕ → ℕ)
-        → StoresHaveRoom (λ store. length store.held) (λ store. Some store.room) spare stores.items
+    ensures loaded { IfOk result (λ host.
+        AreLoaded issuer olds.old.items olds.new.items stores.items host.shards.items) }
+    ensures room { IfOk result (λ host. (spare : ℕ → ℕ) → HaveRoomToLoad spare olds.old.items stores.items
         → HaveRoom spare host.shards.items) }
 {
-    match Solo::load(alloc, stores, issuer) {
+    match Solo::load(alloc, olds, stores, issuer) {
         Ok(host) => Ok(host),
         Err(
             HostBack {

@@ -33,6 +33,7 @@ pub(crate) const KEY_SET: KeySet = KeySet {
         0x1F,
     ]),
     aes: None,
+    smc: None,
 };
 
 /// The row that declines a request over a great amount.

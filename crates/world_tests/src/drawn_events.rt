@@ -43,31 +43,31 @@ impl Deck {
 
     /// An event, allowed or not, for a world with this many records.
     pub(crate) fn draw(&mut self, records: u64) -> Result<Event, NoMemory> {
-        match self.below(32) {
-            0..=3 => self.tap(),
-            4..=11 => Ok(self.claim()),
-            12 => Ok(Event::Release {
+        match self.below(44) {
+            0..=15 => self.tap(),
+            16..=23 => Ok(self.claim()),
+            24 => Ok(Event::Release {
                 caller: self.below(u32::from(CALLERS)) as u8,
             }),
-            13..=20 => Ok(Event::Write {
+            25..=32 => Ok(Event::Write {
                 caller: self.below(u32::from(CALLERS)) as u8,
                 stored: self.below(4) > 0,
             }),
-            21..=24 => Ok(Event::Send {
+            33..=36 => Ok(Event::Send {
                 shard: self.below(u32::from(SHARDS) + 1) as u8,
                 place: u64::from(self.below(6_000)) % (records / 2 + 1),
             }),
-            25 => Ok(Event::Authenticate {
+            37 => Ok(Event::Authenticate {
                 card: self.card(),
                 value91: ArrayVec::new(),
                 arc: [0x30, 0x30],
             }),
-            26 => Ok(Event::Run {
+            38 => Ok(Event::Run {
                 card: self.card(),
                 bytes: ArrayVec::new(),
             }),
-            27..=29 => Ok(self.queue()),
-            30 => Ok(Event::Status {
+            39..=41 => Ok(self.queue()),
+            42 => Ok(Event::Status {
                 card: self.card(),
                 status: self.below(12) as u8,
             }),

@@ -4,6 +4,8 @@
 #[cfg(test)]
 mod drawn_events;
 #[cfg(test)]
+mod falling;
+#[cfg(test)]
 mod plain_world;
 #[cfg(test)]
 mod plays;

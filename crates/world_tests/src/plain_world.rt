@@ -34,12 +34,13 @@ enum PlainRecord {
 }
 
 /// The records of all shards, each with its shard, in the order in which they were appended; each shard's decision in
-/// doubt; and each caller's claim.
+/// doubt; each caller's claim; and how many writes were refused since their counters were below the window.
 #[derive(Drop)]
 pub(crate) struct PlainWorld {
     records: Vec<(u8, PlainRecord)>,
     doubts: [Option<Spot>; SHARDS as usize],
     claims: [Option<Spot>; CALLERS as usize],
+    late: u32,
 }
 
 impl PlainWorld {
@@ -48,12 +49,18 @@ impl PlainWorld {
             records: Vec::new(alloc),
             doubts: [None; SHARDS as usize],
             claims: [None; CALLERS as usize],
+            late: 0,
         }
     }
 
     /// How many records all shards have.
     pub(crate) fn size(&self) -> u64 {
         self.records.len() as u64
+    }
+
+    /// How many writes were refused since their counters were below the window.
+    pub(crate) fn late(&self) -> u32 {
+        self.late
     }
 
     /// Performs the event if it is allowed, and returns whether it is.
@@ -105,6 +112,7 @@ impl PlainWorld {
             return Ok(false);
         };
         if self.is_ruled_out(spot, u32::from(WINDOW)) {
+            self.late = self.late.saturating_add(1);
             return Ok(false);
         }
         if stored {

@@ -9,8 +9,8 @@ use std::alloc::Global;
 use std::test::Fail;
 use world_net::{World, has_first_keys};
 
-/// The number of events.
-const EVENTS: u32 = 6_000;
+/// The number of events: so many that cards leave the window of their first counters behind.
+const EVENTS: u32 = 9_000;
 
 /// The cards, of both ARPC methods.
 const NAMES: [SampleCard; 5] = [
@@ -49,7 +49,7 @@ fn answers_random_events_as_a_plain_model_does(rt: HostRuntime) -> Result<(), Fa
             assert!(rt; world.step(&event)? == expected, "event {index}");
             allowed = allowed.saturating_add(u32::from(expected));
         }
-        assert!(rt; allowed > 2_000);
+        assert!(rt; allowed > 4_000 && model.late() > 40);
     }
     Ok(())
 }

@@ -22,7 +22,7 @@ pub(crate) const PURCHASE: Terminal = Terminal {
 };
 
 /// A claim of the counter of the first card's transaction 7.
-fn claim(caller: u8) -> Event {
+pub(crate) fn claim(caller: u8) -> Event {
     let bytes: ArrayVec<u8, MAX_CHIP_BYTES> = match read_line(REQUEST.as_bytes()) {
         Ok(LineKind::Ask(bytes)) => bytes,
         _ => ArrayVec::new(),
@@ -31,7 +31,7 @@ fn claim(caller: u8) -> Event {
 }
 
 /// A card block for the first card.
-fn block() -> Event {
+pub(crate) fn block() -> Event {
     Event::Queue {
         card: 0,
         command: Command {

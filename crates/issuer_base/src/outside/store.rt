@@ -81,6 +81,9 @@ pub trait Store {
     // Exposed bytes are as many as the size.
     ghost told_size: { (store : Self) → IfSome (bytes store) (λ told. size store ≡ length told) };
 
+    // Of the stores of one type all expose their bytes, or none does.
+    ghost told_alike: { (one other : Self) → BothTold (λ _ _. Unit {0}) (bytes one) (bytes other) };
+
     // A store that exposes its disk exposes its bytes, which are those of the present moment.
     ghost told_bytes: { (store : Self) → IfSome (disk store) (λ told. bytes store ≡ Some told.now.bytes) };
 }

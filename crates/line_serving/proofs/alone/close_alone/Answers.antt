@@ -3,11 +3,11 @@ use Rattle.line_serving.proofs.AloneSteps.{leaves-alone, leaves-loaded_alone}
 use Rattle.line_serving.proofs.alone.close_alone.Goals as goal
 
 pub returns-clause-answered : goal.returns-clause-answered
-returns-clause-answered g c = λ issuer prefix logs first lines text ready sound so_far.
-    leaves-alone g.met.S.Store.told_bytes issuer prefix logs first ready sound
+returns-clause-answered g c = λ issuer prefix logs olds first lines text ready sound so_far.
+    leaves-alone g.met.S.Store.told_bytes issuer prefix logs olds first ready sound
     c.args.host lines text so_far c.close.result.items c.close.ensures.stores
 
 pub returns-clause-loaded : goal.returns-clause-loaded
-returns-clause-loaded g c = λ issuer prefix logs ready sound.
-    leaves-loaded_alone g.met.S.Store.told_bytes issuer prefix logs c.args.host
+returns-clause-loaded g c = λ issuer prefix logs olds ready sound.
+    leaves-loaded_alone g.met.S.Store.told_bytes issuer prefix logs olds c.args.host
     ready sound c.close.result.items c.close.ensures.stores

@@ -19,7 +19,7 @@ loop-shard-preserved g c =
     record {
       all = rw c.push_reserved-in-Some.ensures.items (held-next shards held next left all);
       counts = rw (c.push_reserved.ensures.items, c.push_reserved-in-Some.ensures.items)
-          (counts-next c.args.issuer.now c.args.stores.now.value.items shards c.args.logs.now.view
+          (counts-next c.args.issuer.now c.args.olds.now.value.items c.args.stores.now.value.items shards c.args.logs.now.view
           c.requires.opening held next left c.loop-shard.lists.counts.items c.places.result all
           c.loop-shard.invariant.counts c.places.ensures.history);
       held_room = search rules;

@@ -12,7 +12,8 @@ use Rattle.issuer_top.proofs.top_call.Run.do_command.Goals as goal
 pub returns-in-Ok : goal.returns-in-Ok
 returns-in-Ok g c = λ words given set_up sound same same_logs.
     c.show_cards.ensures words given _ _ (rw c.in-None.is at set_up)
-    (subst (λ (l : Logged). IsReadySolo c.args.issuer c.args.names.journal.now l c.in-Ok.host) same_logs
+    (subst (λ (l : Logged). IsReadySolo c.args.issuer c.args.names.journal.now l c.in-Ok.loaded.olds.items
+    c.in-Ok.loaded.host) same_logs
     c.in-Ok.ensures.ready)
     sound (c.in-Ok.ensures.stood refl ∙ same.faults_are)
 
@@ -29,7 +30,8 @@ returns-in-Ok-load_host g c = λ words given set_up sound same same_logs.
     c.serve_requests.ensures words given c.args.names.journal.now c.args.issuer
     (set_up-named _ _ _ _ _ _ (ap (option_map request_file) c.in-Some.is) c.in-Ok-load_host.ensures.fresh.callers_are
     set_up)
-    (subst (λ (l : Logged). IsReady c.args.issuer c.args.names.journal.now l c.in-Ok-load_host.host) same_logs
+    (subst (λ (l : Logged). IsReady c.args.issuer c.args.names.journal.now l c.in-Ok-load_host.loaded.olds.items
+    c.in-Ok-load_host.loaded.host) same_logs
     c.in-Ok-load_host.ensures.ready)
     c.in-Ok-load_host.ensures.fresh.none_served sound
     (record {

@@ -1,7 +1,6 @@
 -- How a run ends that plays a world or fills a DOL, or whose words are no command.
-use Rattle.std.proofs.Common.{refl, ap, subst}
-use Rattle.std.specs.Prelude.{map}
-use Rattle.desk_host.specs.SeenStores.{store_seen}
+use Rattle.std.proofs.Common.{refl, subst}
+use Rattle.desk_host.proofs.JournalSteps.{journals-none}
 use Rattle.command_line.specs.Pairs.{IsTask}
 use Rattle.issuer_top.proofs.EndingSteps.{ends_usage, ends_playing}
 use Rattle.issuer_top.proofs.FillingSteps.{ends_filling}
@@ -16,7 +15,7 @@ returns-in-Some-Play g c =
     (ends_playing _ size.cards size.steps size.seed
     (subst (IsTask c.args.words.now) c.in-Some-Play.field-0-is c.in-Some-Play.ensures.task)
     (record { config_is = refl; requests_is = refl; desk_stood = refl })
-    (ap (map (store_seen g.D.Journal.Store)) c.new.ensures.items) _ c.play_world-ending.ensures))
+    (journals-none g.D.Journal.Store _ _ c.none.ensures.olds c.none.ensures.stores) _ c.play_world-ending.ensures))
 
 pub returns-in-Some-Fill : goal.returns-in-Some-Fill
 returns-in-Some-Fill g c =
@@ -26,7 +25,7 @@ returns-in-Some-Fill g c =
     (ends_filling _ texts.dol.items texts.data.items
     (subst (IsTask c.args.words.now) c.in-Some-Fill.field-0-is c.in-Some-Fill.ensures.task)
     (record { config_is = refl; requests_is = refl; desk_stood = refl })
-    (ap (map (store_seen g.D.Journal.Store)) c.new-in-Some-Fill.ensures.items) _ c.fill_dol-ending.ensures))
+    (journals-none g.D.Journal.Store _ _ c.none-in-Some-Fill.ensures.olds c.none-in-Some-Fill.ensures.stores) _ c.fill_dol-ending.ensures))
 
 pub returns-in-None : goal.returns-in-None
 returns-in-None g c =
@@ -34,4 +33,4 @@ returns-in-None g c =
     rw stopped.2
     (ends-as _ _ stopped.0 refl
     (ends_usage _ _ c.in-None.ensures.other (record { config_is = refl; requests_is = refl; desk_stood = refl })
-    (ap (map (store_seen g.D.Journal.Store)) c.new-in-None.ensures.items) stopped.1))
+    (journals-none g.D.Journal.Store _ _ c.none-in-None.ensures.olds c.none-in-None.ensures.stores) stopped.1))

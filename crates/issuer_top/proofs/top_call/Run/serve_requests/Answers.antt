@@ -14,7 +14,7 @@ returns-in-Err g c =
     ends-as _ _ stopped.0 refl
     (ends_unserved _ _ journal issuer set_up _
     (record { config_is = refl; requests_is = refl; desk_stood = same.faults_are })
-    (c.close.ensures.loaded issuer journal (g.D.Desk.logs given) ready sound) stopped.1))
+    (c.close-stores.ensures.loaded issuer journal (g.D.Desk.logs given) c.args.loaded.olds.items ready sound) stopped.1))
 
 pub returns-in-Err-read : goal.returns-in-Err-read
 returns-in-Err-read g c =
@@ -22,7 +22,7 @@ returns-in-Err-read g c =
     rw stopped.2 (λ words given journal issuer set_up ready served sound same.
     ends-as _ _ stopped.0 refl
     (ends_no_requests _ _ journal issuer set_up (Unit {0}) _ _ c.in-Err-read.fault _ refl refl
-    (c.close-in-Err-read.ensures.loaded issuer journal (g.D.Desk.logs given) ready sound) same.faults_are
+    (c.close-stores-in-Err-read.ensures.loaded issuer journal (g.D.Desk.logs given) c.args.loaded.olds.items ready sound) same.faults_are
     c.in-Err-read.ensures.count c.in-Err-read.ensures.last (rw c.stop_of.ensures at stopped.1)))
 
 pub returns : goal.returns
@@ -34,9 +34,10 @@ returns g c =
     refl
     (subst (λ told. GivesInput (told c.args.name.now) (g.D.Input.Source.left c.in-Ok-read.requests)) same.holds_are
     (gives_input _ _ c.in-Ok-read.ensures.input c.in-Ok-read.ensures.absent))
-    (AnswersAll (λ lines text waiting. HasServed c.args.host lines text waiting c.serve-served.new.host))
+    (AnswersAll (λ lines text waiting. HasServed c.args.loaded.host lines text waiting c.serve-served.new.host))
     (λ asked text within answered.
-    c.close-2.ensures.answered issuer journal (g.D.Desk.logs given) c.args.host asked text ready sound within answered)
-    _ _ _ _ _ (c.serve-served.ensures.served c.args.host served) c.serve-served.ensures.sink_count
+    c.close-stores-2.ensures.answered issuer journal (g.D.Desk.logs given) c.args.loaded.olds.items c.args.loaded.host asked
+    text ready sound within answered)
+    _ _ _ _ _ (c.serve-served.ensures.served c.args.loaded.host served) c.serve-served.ensures.sink_count
     c.in-Ok-read.ensures.new
     c.serve-served.ensures.source_count c.end_serving-ending.ensures))

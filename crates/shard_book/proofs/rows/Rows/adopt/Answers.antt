@@ -2,7 +2,7 @@
 use Rattle.std.proofs.Common.{◌↔◌, [], ◌∷◌, ◌++◌, sym, subst, IsTrue}
 use Rattle.issuer_base.specs.declared.entry.Entry.{Entry}
 use Rattle.card_history.specs.LegalRecords.{IsLegal}
-use Rattle.shard_book.specs.Grounds.{grounds_of}
+use Rattle.shard_book.specs.Versions.{grounds_in, window_in}
 use Rattle.shard_book.specs.ShardRows.{StandsFor}
 use Rattle.shard_book.proofs.rows.Rows.adopt.Goals as goal
 
@@ -13,10 +13,15 @@ returns-in-Queued-clause-adopted c taken history stands at_end =
 
 pub returns-in-Status-clause-exact : goal.returns-in-Status-clause-exact
 returns-in-Status-clause-exact c history stands =
-    subst (λ (entry : Entry). IsTrue c.adopt_status.result ↔ IsLegal (grounds_of c.args.issuer.now) c.args.self.now.shard history entry) (sym c.in-Status.is)
-    (c.adopt_status.ensures.exact history stands)
+    subst (λ (entry : Entry). IsTrue c.adopt_status.result ↔ IsLegal (grounds_in c.args.version c.args.issuer.now) c.args.self.now.shard history entry) (sym c.in-Status.is)
+    (c.adopt_status.ensures.exact (window_in c.args.version) history stands)
 
 pub returns-in-Status-clause-adopted : goal.returns-in-Status-clause-adopted
 returns-in-Status-clause-adopted c taken history stands at_end =
     subst (λ (entry : Entry). StandsFor c.args.issuer.now c.adopt_status.new.self (history ++ entry ∷ [])) (sym c.in-Status.is)
     (c.adopt_status.ensures.adopted taken history stands)
+
+pub returns-in-Queued-clause-exact : goal.returns-in-Queued-clause-exact
+returns-in-Queued-clause-exact c history stands =
+    subst (λ (entry : Entry). IsTrue c.adopt_command.result ↔ IsLegal (grounds_in c.args.version c.args.issuer.now) c.args.self.now.shard history entry)
+    (sym c.in-Queued.is) (c.adopt_command.ensures.exact (window_in c.args.version) history stands)

@@ -21,7 +21,7 @@ found : (c : After-takes_command) → IsFound c.args.issuer.now (named c.args.pa
 found c = card-found _ _ _ (record { valid = c.in-Some.ensures.valid; number_is = sym c.in-Some.ensures.number })
 
 pub returns-then-not-takes_command-clause-exact : goal.returns-then-not-takes_command-clause-exact
-returns-then-not-takes_command-clause-exact c history stands =
+returns-then-not-takes_command-clause-exact c window history stands =
     let card = found (goal.at.returns-then-not-takes_command-clause-exact c).After-takes_command in
     let takes = c.takes_command.ensures c.args.issuer.now card.card history stands card.known in (
       λ taken. absurd (false≢true taken),
@@ -35,7 +35,7 @@ push-requires-clause-home c =
     (sym c.shard_of.ensures.number ∙ c.if-shard_of-shard.false ∙ c.shard.ensures)
 
 pub returns-clause-exact : goal.returns-clause-exact
-returns-clause-exact c history stands =
+returns-clause-exact c window history stands =
     let card = found (goal.at.returns-clause-exact c).After-takes_command in
     let takes = c.takes_command.ensures c.args.issuer.now card.card history stands card.known in (
       λ taken. record {

@@ -6,7 +6,7 @@ use Rattle.card_history.specs.declared.decision.Asked.TheVariants.{Decide}
 use Rattle.card_history.specs.LegalRecords.{IsLegalDecision}
 use Rattle.card_history.specs.Records.{card_of}
 use Rattle.line_checks.specs.Reading.{checked}
-use Rattle.shard_book.specs.Grounds.{grounds_of}
+use Rattle.shard_book.specs.Versions.{grounds_in}
 use Rattle.shard_book.specs.ShardRows.{StandsFor}
 use Rattle.shard_book.proofs.Adopted.{checked-own, card-at_home, decision-follows, decision-legal}
 use Rattle.shard_book.proofs.LegalNext.{card-found}
@@ -26,12 +26,12 @@ returns-clause-exact c history stands =
     let its : found.card % issuer.shards ≡ shard = sym c.shard_of.ensures.number ∙ c.if-shard_of-shard.false ∙ c.shard.ensures in
     let home = card-at_home issuer c.args.self.now c.requires (card_of asked) found.card at_hand.card_is.number_is its in
     let accepted = c.adopt_checked.ensures.exact issuer card.card history stands card.known (sym card.named) in
-    subst (λ (r : Request). IsTrue c.adopt_checked.result ↔ IsLegalDecision (grounds_of issuer) shard history r c.args.reply) own (
+    subst (λ (r : Request). IsTrue c.adopt_checked.result ↔ IsLegalDecision (grounds_in c.args.version issuer) shard history r c.args.reply) own (
       λ taken.
-          decision-legal issuer shard history asked c.args.reply found.card card.card found.keys at_hand.card_is.number_is card.known.card_is
+          decision-legal c.args.version issuer shard history asked c.args.reply found.card card.card found.keys at_hand.card_is.number_is card.known.card_is
           at_hand.keys_are home right (accepted.0 taken),
       λ legal.
-          accepted.1 (decision-follows issuer shard history asked c.args.reply found.card card.card found.keys at_hand.card_is.number_is
+          accepted.1 (decision-follows c.args.version issuer shard history asked c.args.reply found.card card.card found.keys at_hand.card_is.number_is
           card.known.card_is at_hand.keys_are legal),
     )
 

@@ -1,8 +1,8 @@
 -- What was replayed so far is a prefix of the text.
-use Rattle.std.proofs.Common.{◌≡◌, ◌-◌, ◌≤◌, List, length}
+use Rattle.std.proofs.Common.{◌≡◌, ◌+◌, ◌-◌, ◌≤◌, List, length}
 use Rattle.issuer_base.specs.declared.entry.Entry.{Entry}
 use Rattle.card_history.specs.LegalRecords.{IsLegalHistory}
-use Rattle.shard_book.specs.Grounds.{grounds_of}
+use Rattle.shard_book.specs.Versions.{grounds_in}
 use Rattle.shard_book.specs.ShardRows.{AreRowsOf, AreSame, StandsFor}
 use Rattle.shard_book.specs.Loading.{TakesLines}
 use Rattle.shard_book.proofs.rows.Rows.adopt_lines.Given as goal
@@ -12,9 +12,9 @@ invariant-loop-length l = record {
   rows : AreRowsOf l.issuer l.self;
   same : AreSame l.fn.self l.self;
   within : l.taken.bytes ≤ length l.text;
-  few : l.taken.records ≤ l.taken.bytes;
+  few : l.taken.records + l.taken.records ≤ l.taken.bytes;
   taken : (history : List Entry) → StandsFor l.issuer l.fn.self history → l.place ≡ length history
-      → IsLegalHistory (grounds_of l.issuer) l.fn.self.shard history → TakesLines l.issuer l.fn.self.shard history l.text l.taken l.self;
+      → IsLegalHistory (grounds_in l.version l.issuer) l.fn.self.shard history → TakesLines l.version l.issuer l.fn.self.shard history l.text l.taken l.self;
 }
 
 abbrev pub decreases-loop-length : goal.decreases-loop-length

@@ -16,21 +16,21 @@ overflow_add-result g c =
     let all = c.in-Ok.ensures.all in
     let long = length-take c.in-Ok.count c.read_from.new.into in
     let within = c.in-Ok-adopt_lines.ensures.within in
-    omega (arith, within.0, within.1)
+    omega (arith, within.few, within.within)
 
 pub overflow_add-result-in-Ok-adopt_lines : goal.overflow_add-result-in-Ok-adopt_lines
 overflow_add-result-in-Ok-adopt_lines g c =
     let all = c.in-Ok.ensures.all in
     let long = length-take c.in-Ok.count c.read_from.new.into in
     let within = c.in-Ok-adopt_lines.ensures.within in
-    omega (arith, within.0, within.1)
+    omega (arith, within.few, within.within)
 
 pub returns-in-Ok-adopt_lines-clause-front : goal.returns-in-Ok-adopt_lines-clause-front
-returns-in-Ok-adopt_lines-clause-front g c front =
+returns-in-Ok-adopt_lines-clause-front g c first front =
     let chunk : List ℕ = take c.in-Ok.count c.read_from.new.into in
-    reads-more c.args.issuer.now c.args.self.now.shard c.args.taken c.in-Ok.count chunk _ c.args.self.now c.adopt_lines.new.self
+    reads-more c.args.version c.args.issuer.now c.args.self.now.shard first c.args.taken c.in-Ok.count chunk _ c.args.self.now c.adopt_lines.new.self
     c.in-Ok-adopt_lines.more front
-    (part-read _ c.args.taken.bytes c.in-Ok.count c.read_from.new.into c.in-Ok.ensures.given chunk refl) c.in-Ok-adopt_lines.ensures.within.1
+    (part-read _ c.args.taken.bytes c.in-Ok.count c.read_from.new.into c.in-Ok.ensures.given chunk refl) c.in-Ok-adopt_lines.ensures.within.within
     (let long = length-take c.in-Ok.count c.read_from.new.into in omega arith)
     (c.in-Ok-adopt_lines.ensures.taken front.history front.stands front.count_is front.legal)
 
@@ -46,9 +46,9 @@ returns-in-Ok-adopt_lines-clause-end g c same =
     (subst (λ n. IsUnbroken (drop n chunk)) none c.in-Ok-adopt_lines.ensures.rest)
 
 pub returns-in-Err-clause-stopped : goal.returns-in-Err-clause-stopped
-returns-in-Err-clause-stopped g c front =
+returns-in-Err-clause-stopped g c first front =
     let chunk : List ℕ = take c.in-Ok.count c.read_from.new.into in
-    stops-more c.args.issuer.now c.args.self.now.shard c.args.taken c.in-Ok.count chunk _ c.args.self.now c.in-Err.fault front
+    stops-more c.args.version c.args.issuer.now c.args.self.now.shard first c.args.taken c.in-Ok.count chunk _ c.args.self.now c.in-Err.fault front
     (part-read _ c.args.taken.bytes c.in-Ok.count c.read_from.new.into c.in-Ok.ensures.given chunk refl)
     (c.in-Err.ensures.stopped front.history front.stands front.count_is front.legal)
 

@@ -1,14 +1,17 @@
 -- The lanes begin without lines, or the stores come back.
 use Rattle.std.proofs.Common.{◌≡◌, ◌*◌, ◌/◌, ◌<◌, ◌≤◌, [], vec_len, inl, rules, refl, sym, subst, ap, ◌∙◌}
 use Rattle.shared_shards.specs.ShardSeats.{opening_in}
-use Rattle.one_caller.proofs.Loads.{none-loaded}
+use Rattle.one_caller.proofs.Loads.{none-loaded, none-read}
 use Rattle.shared_callers.specs.declared.lanes.TheConstants.{BLOCK_LINES}
 use Rattle.shared_callers.proofs.Opening.{opened-plain}
 use Rattle.shared_callers.proofs.Seating.{seated-none, new-in-turns, new-all-served, rooms-all, room-some, room-most}
 use Rattle.shared_callers.proofs.lanes.Lanes.load.Goals as goal
 
 pub returns-in_default-clause-stopped : goal.returns-in_default-clause-stopped
-returns-in_default-clause-stopped g c = inl (none-loaded g.S.Store c.args.issuer c.args.stores.items (search rules))
+returns-in_default-clause-stopped g c = inl (none-loaded g.S.Store c.args.issuer c.args.olds.now.items c.args.stores.items (c.requires.count.0 ∙ sym c.requires.count.1) (search rules))
+
+pub returns-in_default-clause-olds : goal.returns-in_default-clause-olds
+returns-in_default-clause-olds g c = none-read g.S.Store c.args.olds.now.items
 
 pub seat_all-lanes-requires-clause-first : goal.seat_all-lanes-requires-clause-first
 seat_all-lanes-requires-clause-first g c =
@@ -40,7 +43,7 @@ invariant_of-dealer-clause-in_turn g c =
 
 pub invariant_of-result-clause-plain : goal.invariant_of-result-clause-plain
 invariant_of-result-clause-plain g c =
-    opened-plain g.S.Store.bytes g.S.Store.disk g.S.Store.faults c.args.issuer c.args.stores.items
+    opened-plain g.S.Store.bytes g.S.Store.disk g.S.Store.faults c.args.issuer c.args.olds.now.items _ c.args.stores.items
     (opening_in c.in-Ok-load.made.0.turns) c.in-Ok-load.ensures.opening
 
 pub invariant_of-result-clause-some_room : goal.invariant_of-result-clause-some_room
