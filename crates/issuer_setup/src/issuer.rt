@@ -1,8 +1,9 @@
 //! An issuer: its shards, its key sets, its cards with their master keys, and its decision table.
 ghost use Rattle.std.specs.Prelude.{◌≡◌, ◌%◌, ◌<◌, true, None, Some, length, slice_get, IsSome, MatchOption, IfOk, IfErr};
+ghost use Rattle.std.specs.Option.{option_map};
 ghost use Rattle.card_history.specs.Records.{CardName};
 ghost use Rattle.issuer_setup.specs.Shards.{are_shards};
-ghost use Rattle.issuer_setup.specs.KeyList.{bad_key, AreKeys};
+ghost use Rattle.issuer_setup.specs.KeyList.{bad_key, key_of, AreKeys};
 ghost use Rattle.issuer_setup.specs.CardList.{number_of, bad_card, AreCards};
 ghost use Rattle.issuer_setup.specs.IssuerSetup.{IsFaultOf, keys_of, shard_of};
 ghost use Rattle.key_derive.specs.declared.card.CardKeys.{CardKeys};
@@ -167,6 +168,13 @@ impl Issuer {
         ensures { slice_get self.now.keys 0 ≡ Some result.now }
     {
         self.keys.first()
+    }
+
+    /// The key set with this derivation key index; `None` if no key set has it.
+    pub fn key_set(&self, dki: u8) -> Option<&KeySet>
+        ensures { option_map (λ set. set.now) result ≡ key_of dki self.now.keys }
+    {
+        self.keys.find(dki)
     }
 
     /// The master keys of this card in the request's suite, from the key set that the request's derivation key index

@@ -1,7 +1,8 @@
 //! The key sets of an issuer, each named by its derivation key index.
 ghost use Rattle.std.specs.Prelude.{◌≡◌, ◌<◌, ◌≤◌, [], None, Some, length, slice_get, IfSome, IfOk, IfErr};
 ghost use Rattle.std.specs.List.{list_any, position};
-ghost use Rattle.issuer_setup.specs.KeyList.{has_dki, has_suite, first_repeat, bad_key, AreKeys};
+ghost use Rattle.std.specs.Option.{option_map};
+ghost use Rattle.issuer_setup.specs.KeyList.{has_dki, has_suite, key_of, first_repeat, bad_key, AreKeys};
 
 use arrayvec::ArrayVec;
 use issuer_base::{MAX_KEY_SETS, Suite};
@@ -54,6 +55,13 @@ impl KeySets {
         ensures { result ≡ position (has_dki dki) self.now }
     {
         self.as_slice().iter().position(|set| set.dki == dki)
+    }
+
+    /// The key set with this derivation key index; `None` if no key set has it.
+    pub(crate) fn find(&self, dki: u8) -> Option<&KeySet>
+        ensures { option_map (λ set. set.now) result ≡ key_of dki self.now }
+    {
+        self.as_slice().iter().find(|set| set.dki == dki)
     }
 
     /// Whether the key set at this index has keys of the suite.
