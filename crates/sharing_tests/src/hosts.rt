@@ -45,17 +45,27 @@ pub(crate) fn empty_stores(alloc: Global, count: u8) -> Result<Vec<MemoryStore>,
     Ok(stores)
 }
 
+/// A host of so many shards over these stores, of old journals and journals, or what its loading gives back.
+fn load_shards(
+    alloc: Global,
+    shards: u8,
+    olds: &mut Vec<MemoryStore>,
+    stores: Vec<MemoryStore>,
+) -> Result<Result<Solo<MemoryStore>, HostBack<MemoryStore>>, Fail> {
+    let issuer = sample(alloc, shards)?;
+    if olds.len() != usize::from(shards) || stores.len() != usize::from(shards) {
+        return Err("two stores for each shard".into());
+    }
+    Ok(Solo::load(alloc, olds, stores, issuer))
+}
+
 /// A host of one shard over these stores, of an old journal and a journal.
 fn load(
     alloc: Global,
     olds: &mut Vec<MemoryStore>,
     stores: Vec<MemoryStore>,
 ) -> Result<Solo<MemoryStore>, Fail> {
-    let issuer = sample(alloc, 1)?;
-    if olds.len() != 1 || stores.len() != 1 {
-        return Err("one store of each".into());
-    }
-    match Solo::load(alloc, olds, stores, issuer) {
+    match load_shards(alloc, 1, olds, stores)? {
         Ok(host) => Ok(host),
         Err(
             HostBack {
@@ -140,12 +150,11 @@ fn names_the_first_bad_journal(rt: HostRuntime) -> Result<(), Fail> {
         ("", "x\n", LoadFault::BadLine(1)),
         ("x\n", "x\n", LoadFault::OldLine(1)),
     ] {
-        let issuer = sample(alloc, 2)?;
         let mut olds = one_store(alloc, OLD, &[])?;
         olds.push(store(alloc, old, &[])?)?;
         let mut stores = empty_stores(alloc, 1)?;
         stores.push(store(alloc, new, &[])?)?;
-        match Solo::load(alloc, &mut olds, stores, issuer) {
+        match load_shards(alloc, 2, &mut olds, stores)? {
             Ok(host) => {
                 host.close();
                 return Err("no host".into());
