@@ -2,7 +2,7 @@
 ghost use Rattle.std.specs.Prelude.{◌≡◌, ◌≤◌, Result, ℕ, IfOk, true, length};
 ghost use Rattle.std.specs.Result.{result_map_both};
 ghost use Rattle.chip_request.specs.Lines.{ReadsAs};
-ghost use Rattle.chip_request.specs.LineParts.{kind_at, line_of};
+ghost use Rattle.chip_request.specs.LineParts.{kind_at, line_of, queue_at};
 ghost use Rattle.chip_request.specs.InBuffer.{kind_in, is_within};
 
 use crate::line_parts::{read_byte, read_card, read_data, read_last_digit};
@@ -124,11 +124,7 @@ fn form_of<'a>(line: &'a [u8], bytes: &mut [u8; MAX_CHIP_BYTES]) -> Result<LineF
             let count = read_data(rest, MAX_CHIP_BYTES, bytes)?;
             Ok(LineForm::Ask { count })
         }
-        [b'Q', rest @ ..] => {
-            let (pan, psn, rest) = read_card(rest)?;
-            let count = read_data(rest, MAX_QUEUE_BYTES, bytes)?;
-            Ok(LineForm::Queue { pan, psn, count })
-        }
+        [b'Q', rest @ ..] => queue_form(rest, bytes),
         [b'S', rest @ ..] => {
             let (pan, psn, rest) = read_card(rest)?;
             let status = read_last_digit(rest)?;
@@ -136,4 +132,16 @@ fn form_of<'a>(line: &'a [u8], bytes: &mut [u8; MAX_CHIP_BYTES]) -> Result<LineF
         }
         _ => Err(line),
     }
+}
+
+// What a `Q` line asks for, from the text after its letter. In a function of its own, its memory isn't cleared for the
+// lines of requests.
+#[inline(never)]
+fn queue_form<'a>(text: &'a [u8], bytes: &mut [u8; MAX_CHIP_BYTES]) -> Result<LineForm, &'a [u8]>
+    ensures same { result_map_both (kind_in bytes.new) (λ rest. rest.now) result ≡ queue_at text.now }
+    ensures within { IfOk result (λ form. is_within form ≡ true) }
+{
+    let (pan, psn, rest) = read_card(text)?;
+    let count = read_data(rest, MAX_QUEUE_BYTES, bytes)?;
+    Ok(LineForm::Queue { pan, psn, count })
 }

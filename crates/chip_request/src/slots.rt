@@ -194,13 +194,13 @@ impl<'a> Slots<'a> {
     pub(crate) fn bytes<const N: usize>(&self, tag: u32) -> [u8; N]
         ensures { result ≡ sized N (first_with_tag tag (founds_in self.now)) }
     {
-        let mut bytes = [0; N];
-        if let Some(value) = self.first_value(tag) {
-            if value.len() == N {
-                bytes.copy_from_slice(value);
-            }
+        let Some(value) = self.first_value(tag) else {
+            return [0; N];
+        };
+        match <&[u8; N]>::try_from(value) {
+            Ok(bytes) => *bytes,
+            Err(_) => [0; N],
         }
-        bytes
     }
 }
 

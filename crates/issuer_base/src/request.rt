@@ -126,6 +126,7 @@ impl Request {
     /// the issuer application data isn't of the profile's form: 0F first, then the common core
     /// identifier A5 or A6, and 0F before the issuer's discretionary data.
     #[tactic(auto, unfolding(crate::specs::ChipData::request_from))]
+    #[inline(always)]
     pub fn new(parts: Parts) -> Option<Request>
         ensures { result ≡ request_from parts }
     {

@@ -47,7 +47,7 @@ impl SessionKey {
 
     /// A session key of this suite with its key schedules. Each suite has a path of its own, on which the compiler copies
     /// the key schedules once.
-    #[inline(never)]
+    #[inline(always)]
     pub(crate) fn new(suite: Suite, key: Key16) -> SessionKey
         ensures { result ≡ record { suite = suite; key = key.0 } }
     {

@@ -104,6 +104,9 @@ fn open_journal(rt: &HostRuntime, name: &str) -> io::Result<FileStore>
 /// it is the last.
 fn rewrite_end(file: &File) -> io::Result<()> {
     let len = file.metadata()?.len();
+    if len == 0 {
+        return Ok(());
+    }
     let mut end = [0; MAX_UNSYNCED_BYTES];
     let count = len.min(MAX_UNSYNCED_BYTES as u64);
     let end = &mut end[..count as usize];
