@@ -1,9 +1,9 @@
 -- The rows of a world's cards, cleared and then given the records of each shard again.
-use Rattle.std.proofs.Common.{◌≡◌, ◌≢◌, ℕ, zero, suc, ◌+◌, ◌%◌, ◌<◌, ◌≤◌, List, [], ◌∷◌, ◌++◌, length, take, get_or, set, replicate, Some, None, Option, Result, Bool}
-use Rattle.std.proofs.Common.{refl, ap, sym, ◌∙◌, subst, inl, inr, arith, length-set, IsTrue, ◌↔◌, IsOk, IfOk, Ok}
+use Rattle.std.proofs.Common.{◌≡◌, ◌≢◌, ℕ, zero, suc, ◌+◌, ◌%◌, ◌<◌, ◌≤◌, List, [], ◌∷◌, ◌++◌, length, take, get_or, set, replicate, Some, None, Result, Bool}
+use Rattle.std.proofs.Common.{refl, ap, sym, ◌∙◌, subst, inl, inr, arith, length-set, IsTrue, ◌↔◌, IsOk, IfOk}
 use Rattle.std.proofs.lemmas.Bool.{cases_eq, cases_lt}
 use Rattle.std.proofs.lemmas.List.{get_or-set_same, get_or-set_other, set-set, take_more, length-replicate, length-take-le, take_all, take-take}
-use Rattle.std.proofs.lemmas.Option.{same_Some, none-some, slice_get_within, slice_get-get_or, get_or_from_slice_get}
+use Rattle.std.proofs.lemmas.Option.{same_Some, slice_get_within, slice_get-get_or}
 use Rattle.std.specs.List.{slice_get}
 use Rattle.issuer_base.specs.declared.command.Command.{Command}
 use Rattle.issuer_base.specs.declared.entry.Entry.{Entry}
@@ -15,7 +15,7 @@ use Rattle.card_history.specs.LegalRecords.{Grounds, IsLegal, IsLegalDecision, I
 use Rattle.card_history.specs.Records.{card_in, card_of, named}
 use Rattle.card_history.specs.Scripts.{scripts_of, waiting}
 use Rattle.issuer_setup.specs.declared.card.CardInfo.{CardInfo}
-use Rattle.issuer_setup.specs.CardList.{AreCards, name_of, number_of}
+use Rattle.issuer_setup.specs.CardList.{name_of, number_of}
 use Rattle.issuer_setup.specs.IssuerSetup.{Setup}
 use Rattle.issuer_setup.proofs.CardListLemmas.{number_of-found}
 use Rattle.issuer_setup.proofs.Shards.{are_shards-range}
@@ -32,7 +32,7 @@ use Rattle.world_net.specs.WorldRuns.{IsIssuer}
 use Rattle.world_net.specs.WorldState.{ShardState, no_shard}
 use Rattle.world_net.specs.FallBack.{all_truncated}
 use Rattle.world_net.proofs.Truncated.{take-left, truncated-at}
-use Rattle.world_net.proofs.Hosts.{AreLawful, at, recorded, home-within, legal-home, none-at}
+use Rattle.world_net.proofs.Hosts.{AreLawful, at, home-within, legal-home, none-at}
 use Rattle.world_net.proofs.NetWrites.{rows-join}
 use Rattle.world_net.proofs.NetRows.{put-read, put-stays, row-there, row-stands, rows-record, rows-doubt}
 

@@ -1,6 +1,6 @@
 -- A world that fell back is the end of a run of its own: that of the world, without the records that are lost.
-use Rattle.std.proofs.Common.{◌≡◌, ℕ, zero, suc, ◌%◌, ◌<◌, ◌≤◌, Bool, true, false, List, [], ◌∷◌, ◌++◌, length, get_or, set, take, replicate, Some, None}
-use Rattle.std.proofs.Common.{Contains, Ok, refl, ap, sym, ◌∙◌, subst, inl, inr, ◌⊎◌, arith}
+use Rattle.std.proofs.Common.{◌≡◌, ℕ, zero, suc, ◌%◌, ◌<◌, Bool, true, false, List, [], ◌∷◌, ◌++◌, length, get_or, take, replicate, Some, None}
+use Rattle.std.proofs.Common.{Contains, refl, ap, sym, ◌∙◌, subst, inl, inr, arith}
 use Rattle.std.proofs.Common.{IsTrue, ◌↔◌}
 use Rattle.std.proofs.lemmas.Bool.{cases_lt, cases_Bool}
 use Rattle.std.proofs.lemmas.List.{take_all, take-take, length-replicate, get_or_past}
@@ -19,7 +19,7 @@ use Rattle.issuer_setup.specs.declared.card.CardInfo.{CardInfo}
 use Rattle.issuer_setup.specs.IssuerSetup.{Setup}
 use Rattle.issuer_setup.proofs.CardListLemmas.{number_of-found}
 use Rattle.card_model.specs.Application.{CardState}
-use Rattle.card_model.specs.CardSteps.{new_card, CardStep, Authenticate as IsAuthenticate, Run as IsCommand}
+use Rattle.card_model.specs.CardSteps.{new_card, CardStep, Run as IsCommand}
 use Rattle.shard_book.specs.Grounds.{grounds_of}
 use Rattle.shard_book.proofs.LegalDecisions.{legal-checked}
 use Rattle.world_net.specs.declared.event.Event.{Event}
@@ -27,23 +27,23 @@ use Rattle.world_net.specs.declared.event.Event.TheVariants.{Tap, Claim, Release
 use Rattle.world_net.specs.declared.parts.OpenClaim.{OpenClaim}
 use Rattle.world_net.specs.declared.parts.Exchange.{Exchange}
 use Rattle.world_net.specs.declared.parts.MadeRequest.{MadeRequest}
-use Rattle.world_net.specs.WorldState.{WorldState, ShardState, no_shard, home_of, history_for, with_record}
+use Rattle.world_net.specs.WorldState.{WorldState, ShardState, no_shard, home_of, history_for}
 use Rattle.world_net.specs.WorldSteps.{IsStep, Claims, Writes}
-use Rattle.world_net.specs.WorldRuns.{IsIssuer, IsNewWorld, IsNewCard, IsRunFrom, IsRun, IsGenuineStep, IsGenuineFrom, IsGenuineRun}
-use Rattle.world_net.specs.WorldRuns.{IsMade, DecidesMade, IsAcceptedRight, IsAnswered, IsOfBatch}
+use Rattle.world_net.specs.WorldRuns.{IsNewWorld, IsNewCard, IsRunFrom, IsGenuineFrom}
+use Rattle.world_net.specs.WorldRuns.{DecidesMade, IsAcceptedRight, IsAnswered, IsOfBatch}
 use Rattle.world_net.specs.Stepping.{IsReached}
-use Rattle.world_net.specs.Safety.{IsSafe, RunsInOrder}
-use Rattle.world_net.specs.FallBack.{truncated, all_truncated, fallen_back, CanFallBack, IsGenuinelyReached, KeepsLaws}
+use Rattle.world_net.specs.Safety.{RunsInOrder}
+use Rattle.world_net.specs.FallBack.{all_truncated, fallen_back, CanFallBack, IsGenuinelyReached, KeepsLaws}
 use Rattle.world_net.proofs.CardMoves.{ran-moves}
-use Rattle.world_net.proofs.FallenSteps.{IsSaid, SaidIn, AreSaid, AddsRecord, ChangesDoubt, IsOfHost, IsLater, AreAnswered, HasReply}
+use Rattle.world_net.proofs.FallenSteps.{IsSaid, SaidIn, AreSaid, AddsRecord, ChangesDoubt, IsOfHost, IsLater, AreAnswered}
 use Rattle.world_net.proofs.FallenSteps.{of-claim, of-release, of-write, of-queue, of-status, of-restart, said-step, later-from, answered-step}
 use Rattle.world_net.proofs.FilledRuns.{run-append}
-use Rattle.world_net.proofs.Hosts.{at, recorded, doubted, recorded-stays, none-at}
+use Rattle.world_net.proofs.Hosts.{at, recorded, recorded-stays, none-at}
 use Rattle.world_net.proofs.KeptWorlds.{kept-run_end, kept-in_order}
 use Rattle.world_net.proofs.NetRows.{card-there}
 use Rattle.world_net.proofs.NetWrites.{home-shard, reached-sound, reached-safe}
 use Rattle.world_net.proofs.Truncated.{truncated-at, truncated-count, truncated-same, truncated-lost, truncated-history, truncated-kept, take-left, take-kept}
-use Rattle.world_net.proofs.Worlds.{IsSound, shard-within, sound-step, sound-new, sound-run, step-issuer}
+use Rattle.world_net.proofs.Worlds.{IsSound, sound-step, sound-new, step-issuer}
 
 -- a run from a world to another, which is genuine if this holds
 record Follows (before after : WorldState) (Genuine : Type 0) : Type 0 where

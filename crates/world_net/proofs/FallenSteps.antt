@@ -1,12 +1,11 @@
 -- What each step does to the shards, to the claims and to the cards, as a run needs it that goes without the records that are lost.
-use Rattle.std.proofs.Common.{◌≡◌, ◌≢◌, ℕ, ◌%◌, ◌<◌, ◌≤◌, Bool, true, false, not, ◌==◌, List, [], ◌∷◌, ◌++◌, length, get_or, set, Option, Some, None}
+use Rattle.std.proofs.Common.{◌≡◌, ℕ, ◌%◌, ◌<◌, Bool, true, false, not, ◌==◌, List, [], ◌∷◌, ◌++◌, length, set, Option, Some, None}
 use Rattle.std.proofs.Common.{Contains, Ok, refl, ap, sym, ◌∙◌, subst, inl, inr, ◌⊎◌, arith}
 use Rattle.std.proofs.lemmas.Bool.{cases_eq}
 use Rattle.std.proofs.lemmas.List.Elements.{All-filter, All-push, Contains-append_left}
 use Rattle.std.proofs.lemmas.Option.{none-some, same_Some, slice_get_within}
-use Rattle.std.specs.List.{slice_get, All, find}
+use Rattle.std.specs.List.{slice_get, All}
 use Rattle.issuer_base.specs.declared.request.Request.{Request}
-use Rattle.issuer_base.specs.declared.answer.Reply.{Reply}
 use Rattle.issuer_base.specs.declared.entry.Entry.{Entry}
 use Rattle.issuer_base.specs.declared.entry.Entry.TheVariants.{Decided, Queued as IsQueued, Status as IsStatus}
 use Rattle.card_history.specs.LegalRecords.{IsLegal, IsLegalDecision}
@@ -22,8 +21,7 @@ use Rattle.world_net.specs.declared.event.Event.{Event}
 use Rattle.world_net.specs.declared.event.Event.TheVariants.{Tap, Claim, Release, Write, Send, Authenticate, Run, Queue, Status, Restart}
 use Rattle.world_net.specs.declared.parts.OpenClaim.{OpenClaim}
 use Rattle.world_net.specs.declared.parts.Exchange.{Exchange}
-use Rattle.world_net.specs.declared.parts.MadeRequest.{MadeRequest}
-use Rattle.world_net.specs.WorldState.{WorldState, ShardState, home_of, claim_of, without, with_record, with_doubt}
+use Rattle.world_net.specs.WorldState.{WorldState, ShardState, home_of, without, with_record, with_doubt}
 use Rattle.world_net.specs.WorldSteps.{IsStep, Claims, Releases, Writes, Queues, Sets, written, settled_at, settled_in, restarted, first_doubtful}
 use Rattle.world_net.specs.WorldRuns.{IsRunFrom, IsGenuineStep, IsAnswered}
 use Rattle.world_net.proofs.CardMoves.{tap-moves, right-moves, wrong-stays, ran-moves, refused-moves}

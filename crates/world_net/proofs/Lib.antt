@@ -18,3 +18,4 @@ pub mod Truncated
 pub mod FallenSteps
 pub mod FallenRuns
 pub mod FallenRows
+pub mod LastPins

@@ -1,7 +1,7 @@
 -- The shards of a world that fell back, one by one.
 use Rattle.std.proofs.Common.{◌-◌, drop, Contains, Bool, IsTrue, ◌↔◌}
 use Rattle.std.proofs.Common.{◌≡◌, ℕ, zero, suc, ◌≤◌, ◌<◌, List, [], ◌∷◌, ◌++◌, length, take, set, get_or, Some, None}
-use Rattle.std.proofs.Common.{◌≢◌, ◌+◌, refl, ap, sym, ◌∙◌, subst, arith, inl, inr, length-set}
+use Rattle.std.proofs.Common.{◌≢◌, ◌+◌, refl, ap, sym, ◌∙◌, arith, inl, inr, length-set}
 use Rattle.std.proofs.lemmas.Bool.{cases_eq, cases_lt}
 use Rattle.std.proofs.lemmas.List.{set-get_or, take_all, take-append-le, length_push, ext_get_or, get_or-set_same, get_or-set_other}
 use Rattle.std.specs.List.{slice_get}

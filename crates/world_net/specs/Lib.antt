@@ -11,3 +11,4 @@ pub mod Histories
 pub mod Fate
 pub mod FallBack
 pub mod Replaying
+pub mod LastPins

@@ -5,6 +5,7 @@ mod claims;
 mod event;
 mod falling;
 mod generator;
+mod last_pin;
 mod law;
 mod net;
 mod parts;

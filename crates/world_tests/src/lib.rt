@@ -6,6 +6,8 @@ mod drawn_events;
 #[cfg(test)]
 mod falling;
 #[cfg(test)]
+mod last_pins;
+#[cfg(test)]
 mod plain_world;
 #[cfg(test)]
 mod plays;

@@ -1,5 +1,5 @@
 -- One more record is replayed.
-use Rattle.std.proofs.Common.{◌≡◌, ◌<◌, ℕ, Some, List, length, take, sym, ap, ◌∙◌, arith, subst}
+use Rattle.std.proofs.Common.{◌≡◌, Some, take, sym, ap, ◌∙◌, arith}
 use Rattle.std.specs.List.{slice_get}
 use Rattle.std.proofs.lemmas.Option.{slice_get-get_or}
 use Rattle.world_net.proofs.FallenRows.{filled-more}

@@ -1,9 +1,8 @@
 -- One more shard is replayed.
-use Rattle.std.proofs.Common.{◌≡◌, ◌<◌, List, length, sym, ap, ◌∙◌, arith, subst}
-use Rattle.issuer_base.specs.declared.entry.Entry.{Entry}
+use Rattle.std.proofs.Common.{◌≡◌, sym, ap, ◌∙◌, arith, subst}
 use Rattle.card_history.specs.LegalRecords.{IsLegalHistory}
 use Rattle.shard_book.specs.Grounds.{grounds_of}
-use Rattle.world_net.specs.WorldState.{ShardState, no_shard}
+use Rattle.world_net.specs.WorldState.{ShardState}
 use Rattle.world_net.proofs.Hosts.{at}
 use Rattle.world_net.proofs.FallenRows.{stand-none, stand-more, stand-all}
 use Rattle.world_net.proofs.NetRows.{shard-read}

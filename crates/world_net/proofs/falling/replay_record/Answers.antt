@@ -1,13 +1,12 @@
 -- The row of the record's card has the record.
-use Rattle.std.proofs.Common.{◌≡◌, ◌<◌, ◌++◌, ◌∷◌, [], ℕ, List, length, get_or, set, ap, sym, ◌∙◌, subst, arith, IfOk}
+use Rattle.std.proofs.Common.{get_or, set, sym, subst, arith}
 use Rattle.std.proofs.lemmas.List.{get_or_default}
 use Rattle.issuer_base.specs.declared.command.Command.{Command}
 use Rattle.issuer_base.specs.declared.entry.Entry.{Entry}
-use Rattle.issuer_base.specs.declared.entry.Entry.TheVariants.{Queued, Status}
+use Rattle.issuer_base.specs.declared.entry.Entry.TheVariants.{Queued}
 use Rattle.card_history.specs.LegalRecords.{IsLegal}
 use Rattle.card_history.specs.Records.{named}
 use Rattle.line_checks.proofs.Numbers.{number-within}
-use Rattle.row_core.specs.CardRow.{StandsFor}
 use Rattle.shard_book.specs.Grounds.{grounds_of}
 use Rattle.world_net.specs.Replaying.{with_entry}
 use Rattle.world_net.specs.Stepping.{RowsStand}
