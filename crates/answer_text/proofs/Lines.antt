@@ -1,5 +1,5 @@
 -- What is printed is one line: no word has a newline.
-use Rattle.std.proofs.Common.{◌≡◌, ℕ, zero, suc, ◌/◌, ◌%◌, ◌==◌, Bool, true, false, not, if◌then◌else◌, List, [], ◌∷◌, codes, get_or, refl, ◌∙◌, arith}
+use Rattle.std.proofs.Common.{◌≡◌, ℕ, ◌+◌, zero, suc, ◌/◌, ◌%◌, ◌==◌, Bool, true, false, not, if◌then◌else◌, List, [], ◌∷◌, codes, get_or, refl, ◌∙◌, arith}
 use Rattle.std.proofs.lemmas.Bool.{and_from, and_parts}
 use Rattle.std.proofs.lemmas.List.Folds.{list_all-append}
 use Rattle.std.proofs.lemmas.List.Sums.{AllPass-from_list_all}
@@ -12,10 +12,15 @@ use Rattle.issuer_base.specs.declared.answer.Refusal.{Refusal}
 use Rattle.issuer_base.specs.declared.answer.Refusal.TheVariants.{BadLine, BadTlv, Missing, BadField, Repeated, UnknownCard, NotArqc, UnknownKey}
 use Rattle.issuer_base.specs.declared.answer.Refusal.TheVariants.{BadCryptogram, Below, Taken, Pending, QueueFull, BadCommand, StoreFault}
 use Rattle.answer_text.specs.AnswerText.{newline, line_of, IsLine, yes_or_no, refusal_words, answer_words, printed, bytes_text}
+use Rattle.issuer_base.specs.ChipData.{digits_of}
+use Rattle.issuer_base.specs.ScriptCommand.{command_bytes}
+use Rattle.issuer_base.specs.declared.command.Command.{Command}
+use Rattle.chip_request.specs.Lines.{digits_text}
+use Rattle.answer_text.specs.QueueText.{queue_text}
 use Rattle.answer_text.specs.StopText.{stop_words, stop_text}
 use Rattle.answer_text.specs.declared.stop_line.Stop.{Stop}
 use Rattle.answer_text.specs.declared.stop_line.Stop.TheVariants.{Usage, Config, ReadFault, BadJournal, BadOldJournal, NoMemory}
-use Rattle.answer_text.specs.declared.stop_line.Stop.TheVariants.{TooLong, BadDol, BadData}
+use Rattle.answer_text.specs.declared.stop_line.Stop.TheVariants.{TooLong, BadDol, BadData, NoKey}
 use Rattle.answer_text.specs.declared.stop_line.Stop.TheVariants.{StoreFault as JournalFault}
 
 -- a byte is no newline
@@ -116,6 +121,7 @@ stop_words-inner NoMemory = simp decimal-inner
 stop_words-inner (TooLong line) = simp decimal-inner
 stop_words-inner (BadDol at) = simp decimal-inner
 stop_words-inner (BadData at) = simp decimal-inner
+stop_words-inner NoKey = simp decimal-inner
 
 -- the text of a stop is one line
 pub stop_text-IsLine : (stop : Stop) → IsLine (stop_text stop)
@@ -125,3 +131,15 @@ stop_text-IsLine stop = line_of-IsLine (codes "stop" ∷ stop_words stop) (stop_
 -- the text of bytes is one line
 pub bytes_text-IsLine : (bytes : List ℕ) → IsLine (bytes_text bytes)
 bytes_text-IsLine bytes = line_of-IsLine (encode_lower bytes ∷ []) (simp encode_lower-inner)
+
+-- the text of decimal digits
+digits_text-inner : (digits : List ℕ) → has_no_newline (digits_text digits) ≡ true
+digits_text-inner [] = refl
+digits_text-inner (digit ∷ digits) = let here : is_inner (48 + digit) ≡ true = grind arith in rw here (digits_text-inner digits)
+
+-- the text that queues a command is one line
+pub queue_text-IsLine : (pan : List ℕ) (psn : ℕ) (command : Command) → IsLine (queue_text pan psn command)
+unfolding queue_text
+queue_text-IsLine pan psn command =
+    line_of-IsLine (codes "Q" ∷ digits_text pan ∷ digits_text (digits_of psn) ∷ encode_lower (command_bytes command) ∷ [])
+    (simp (digits_text-inner pan, digits_text-inner (digits_of psn), encode_lower-inner))

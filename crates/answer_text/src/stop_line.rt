@@ -41,6 +41,10 @@ pub enum Stop {
 
     /// The data object at this offset isn't whole, repeats a tag or is past a limit: status 10.
     BadData { at: usize },
+
+    /// No card has the account number and the sequence number, no key set has the derivation key index, or that set has
+    /// no master key for confidentiality: status 12.
+    NoKey,
 }
 
 impl Stop {
@@ -58,6 +62,7 @@ impl Stop {
             Stop::TooLong { .. } => 8,
             Stop::BadDol { .. } => 9,
             Stop::BadData { .. } => 10,
+            Stop::NoKey => 12,
         }
     }
 }
@@ -72,7 +77,7 @@ pub fn write_stop(stop: &Stop, out: &mut ArrayVec<u8, LINE_ROOM>)
     put(out, b"stop");
     put_number(out, u64::from(stop.status()));
     match *stop {
-        Stop::Usage | Stop::ReadFault | Stop::NoMemory => {}
+        Stop::Usage | Stop::ReadFault | Stop::NoMemory | Stop::NoKey => {}
         Stop::Config { part, index } => {
             put_number(out, u64::from(part));
             put_number(out, u64::from(index));

@@ -3,7 +3,7 @@ use Rattle.std.specs.Prelude.{◌≡◌, ℕ, ◌+◌, ◌≤◌, Bool, true, fa
 use Rattle.std.specs.Io.KnownBytes.{Consumes, IsAtEnd}
 use Rattle.answer_text.specs.declared.stop_line.Stop.{Stop}
 use Rattle.answer_text.specs.declared.stop_line.Stop.TheVariants.{Usage, Config, ReadFault, StoreFault, BadJournal}
-use Rattle.answer_text.specs.declared.stop_line.Stop.TheVariants.{BadOldJournal, NoMemory as Memory, TooLong, BadDol, BadData}
+use Rattle.answer_text.specs.declared.stop_line.Stop.TheVariants.{BadOldJournal, NoMemory as Memory, TooLong, BadDol, BadData, NoKey}
 use Rattle.issuer_setup.specs.IssuerSetup.{Setup}
 use Rattle.issuer_setup.specs.KeyList.{AreKeys}
 use Rattle.world_net.specs.WorldRuns.{IsIssuer}
@@ -64,6 +64,7 @@ GivesNoIssuer left (BadOldJournal shard line) = ⊥
 GivesNoIssuer left (TooLong line) = ⊥
 GivesNoIssuer left (BadDol at) = ⊥
 GivesNoIssuer left (BadData at) = ⊥
+GivesNoIssuer left NoKey = ⊥
 
 -- the run stops since the input failed
 abbrev pub is_read_cause : Stop → Bool
@@ -77,6 +78,7 @@ is_read_cause (BadOldJournal shard line) = false
 is_read_cause (TooLong line) = false
 is_read_cause (BadDol at) = false
 is_read_cause (BadData at) = false
+is_read_cause NoKey = false
 
 -- the input failed
 abbrev pub is_read_stop : {T : Type 0} → Result T Stop → Bool

@@ -9,7 +9,7 @@ use Rattle.issuer_base.specs.declared.outside.DeskCall.TheVariants.{Log}
 use Rattle.issuer_base.specs.declared.outside.store.Store.{Ghosts as Store}
 use Rattle.answer_text.specs.declared.stop_line.Stop.{Stop}
 use Rattle.answer_text.specs.declared.stop_line.Stop.TheVariants.{Usage, Config, ReadFault, StoreFault, BadJournal}
-use Rattle.answer_text.specs.declared.stop_line.Stop.TheVariants.{BadOldJournal, NoMemory, TooLong, BadDol, BadData}
+use Rattle.answer_text.specs.declared.stop_line.Stop.TheVariants.{BadOldJournal, NoMemory, TooLong, BadDol, BadData, NoKey}
 use Rattle.issuer_setup.specs.IssuerSetup.{Setup}
 use Rattle.shard_book.specs.declared.replay.LoadFault.{LoadFault}
 use Rattle.shard_book.specs.declared.replay.LoadFault.TheVariants.{OldLine, OldRecord, BadLine, BadRecord}
@@ -128,6 +128,7 @@ GivesNoHost issuer prefix logs desk journals ReadFault = ⊥
 GivesNoHost issuer prefix logs desk journals (TooLong line) = ⊥
 GivesNoHost issuer prefix logs desk journals (BadDol at) = ⊥
 GivesNoHost issuer prefix logs desk journals (BadData at) = ⊥
+GivesNoHost issuer prefix logs desk journals NoKey = ⊥
 
 -- how a run stops where this shard can't be opened or loaded
 abbrev pub stop_of_load : LoadFault → ℕ → Stop

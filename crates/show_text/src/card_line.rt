@@ -6,7 +6,7 @@ ghost use Rattle.issuer_base.specs.ChipData.{digits_of};
 ghost use Rattle.chip_request.specs.Lines.{digits_text};
 ghost use Rattle.show_text.specs.CardText.{card_text, counter_word, flight_words};
 
-use answer_text::{LINE_ROOM, put, put_number};
+use answer_text::{LINE_ROOM, put, put_card, put_number};
 use arrayvec::ArrayVec;
 use card_history::CardView;
 use cvr_settle::Flight;
@@ -35,29 +35,6 @@ pub fn write_card(pan: &Pan, psn: u8, view: &CardView, out: &mut ArrayVec<u8, CA
     put_flight(out, view.flight);
     put(out, if view.halted { b" halt" } else { b" ok" });
     out.push(b'\n');
-}
-
-/// The two numbers of a card, parted by a space.
-fn put_card(out: &mut ArrayVec<u8, CARD_ROOM>, pan: &Pan, psn: u8)
-    requires { array_vec_len out.old + 22 ≤ CARD_ROOM }
-    ensures text { out.new.items ≡ out.old.items ++ digits_text pan.now ++ 32 ∷ digits_text (digits_of psn) }
-    ensures room { array_vec_len out.new ≤ array_vec_len out.old + 22 }
-{
-    put_digits(out, pan);
-    out.push(b' ');
-    out.push(b'0' + psn / 16);
-    out.push(b'0' + psn % 16);
-}
-
-fn put_digits(out: &mut ArrayVec<u8, CARD_ROOM>, pan: &Pan)
-    requires { array_vec_len out.old + 19 ≤ CARD_ROOM }
-    ensures text { out.new.items ≡ out.old.items ++ digits_text pan.now }
-    ensures room { array_vec_len out.new ≤ array_vec_len out.old + 19 }
-{
-    let digits = pan.digits();
-    for digit in digits {
-        out.push(b'0' + *digit);
-    }
 }
 
 fn put_counter(out: &mut ArrayVec<u8, CARD_ROOM>, counter: Option<u16>)

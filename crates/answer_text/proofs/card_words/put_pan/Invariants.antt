@@ -1,7 +1,7 @@
 -- The digits that are written.
 use Rattle.std.proofs.Common.{◌≡◌, ◌+◌, ◌++◌, length, take}
 use Rattle.chip_request.specs.Lines.{digits_text}
-use Rattle.show_text.proofs.card_line.put_digits.Given as goal
+use Rattle.answer_text.proofs.card_words.put_pan.Given as goal
 
 abbrev pub invariant-loop-digit : goal.invariant-loop-digit
 invariant-loop-digit l =

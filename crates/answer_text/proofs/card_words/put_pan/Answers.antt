@@ -2,7 +2,7 @@
 use Rattle.std.proofs.Common.{◌<◌, IsTrue, length, ap, arith}
 use Rattle.issuer_base.specs.CardNumber.{is_pan}
 use Rattle.issuer_base.proofs.CardNumberLemmas.{digit-pan, length-pan}
-use Rattle.show_text.proofs.card_line.put_digits.Goals as goal
+use Rattle.answer_text.proofs.card_words.put_pan.Goals as goal
 
 pub overflow_add-digit : goal.overflow_add-digit
 overflow_add-digit c =
