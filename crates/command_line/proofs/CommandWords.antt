@@ -17,12 +17,14 @@ use Rattle.std.proofs.lemmas.List.{drop_all}
 use Rattle.std.proofs.lemmas.List.Elements.{All-from_recursion, recursion_from_All}
 use Rattle.hex.specs.Hex.{decode_of}
 use Rattle.hex.proofs.HexLemmas.{decode_of-ok}
+use Rattle.issuer_base.specs.ChipData.{digits_of}
+use Rattle.chip_request.specs.Lines.{digits_text}
 use Rattle.command_line.specs.declared.words.Command.{Command}
-use Rattle.command_line.specs.declared.words.Command.TheVariants.{Serve, Show, World, Fill}
+use Rattle.command_line.specs.declared.words.Command.TheVariants.{Serve, Show, World, Fill, Pin}
 use Rattle.command_line.specs.Command.{IsValue, Pair, words_of, values_of, is_one_of, IsCall, IsSize, serve_options}
-use Rattle.command_line.specs.Command.{callers_option, show_options, world_options, fill_options, SpellsBytes}
+use Rattle.command_line.specs.Command.{callers_option, show_options, world_options, fill_options, pin_options, SpellsBytes}
 use Rattle.command_line.specs.Command.{RequestFile, IsGroup, IsServe, IsShow, IsWorld, IsFill, IsCommand}
-use Rattle.command_line.specs.Command.{IsNoCommand}
+use Rattle.command_line.specs.Command.{PinOrder, IsPin, IsNoCommand}
 use Rattle.command_line.specs.Pairs.{is_value, first_word, pairs_of, is_pair, are_pairs, only, values_in, value_in}
 use Rattle.command_line.specs.Pairs.{AreWordsWith, AreWordsOf, GivesCallers, Asks, is_within}
 
@@ -315,6 +317,19 @@ four-values words one two three four first second third fourth a b c d =
     ∙ ap (λ (rest : List (List (List ℕ))). (first ∷ []) ∷ rest)
     (three-values words two three four second third fourth b c d)
 
+six-values : (words : List (List ℕ)) (one two three four five six first second third fourth fifth sixth : List ℕ)
+    → value_in words one ≡ Some first → value_in words two ≡ Some second → value_in words three ≡ Some third
+    → value_in words four ≡ Some fourth → value_in words five ≡ Some fifth → value_in words six ≡ Some sixth
+    → map (values_in words) (one ∷ two ∷ three ∷ four ∷ five ∷ six ∷ [])
+    ≡ map (λ (value : List ℕ). value ∷ []) (first ∷ second ∷ third ∷ fourth ∷ fifth ∷ sixth ∷ [])
+six-values words one two three four five six first second third fourth fifth sixth a b c d e f =
+    let x = only-one (values_in words one) first a in
+    let y = only-one (values_in words two) second b in
+    ap (λ (vs : List (List ℕ)). vs ∷ map (values_in words) (two ∷ three ∷ four ∷ five ∷ six ∷ [])) x
+    ∙ ap (λ (vs : List (List ℕ)). (first ∷ []) ∷ vs ∷ map (values_in words) (three ∷ four ∷ five ∷ six ∷ [])) y
+    ∙ ap (λ (rest : List (List (List ℕ))). (first ∷ []) ∷ (second ∷ []) ∷ rest)
+    (four-values words three four five six third fourth fifth sixth c d e f)
+
 pub serve-from : (words : List (List ℕ)) (config name journal : List ℕ) (callers : ℕ) → AreWordsOf Serve words
     → value_in words (codes "--config") ≡ Some config → value_in words (codes "--requests") ≡ Some name
     → value_in words (codes "--journal") ≡ Some journal → GivesCallers words callers
@@ -517,6 +532,39 @@ fill-gives words dol given fill =
     let d : values_of (codes "--data") pairs ≡ fill.data_word ∷ [] = cc in
     record { dol_is = ap only l; data_is = ap only d }
 
+pub pin-from : (words : List (List ℕ)) (config pan psn dki salt pin : List ℕ) → AreWordsOf Pin words
+    → value_in words (codes "--config") ≡ Some config → value_in words (codes "--pan") ≡ Some pan
+    → value_in words (codes "--psn") ≡ Some psn → value_in words (codes "--dki") ≡ Some dki
+    → value_in words (codes "--salt") ≡ Some salt → value_in words (codes "--pin") ≡ Some pin
+    → IsCall (codes "pin") pin_options words (config ∷ pan ∷ psn ∷ dki ∷ salt ∷ pin ∷ [])
+pin-from words config pan psn dki salt pin are a b c d e f =
+    call-from (codes "pin") pin_options words (config ∷ pan ∷ psn ∷ dki ∷ salt ∷ pin ∷ []) are
+    (six-values words (codes "--config") (codes "--pan") (codes "--psn") (codes "--dki") (codes "--salt") (codes "--pin")
+    config pan psn dki salt pin a b c d e f)
+
+pub record PinGives (words : List (List ℕ)) (order : PinOrder) (dki_word salt_word : List ℕ) : Type 0 where
+  pub config_is : value_in words (codes "--config") ≡ Some order.config
+  pub pan_is : value_in words (codes "--pan") ≡ Some (digits_text order.pan)
+  pub psn_is : value_in words (codes "--psn") ≡ Some (digits_text (digits_of order.psn))
+  pub dki_is : value_in words (codes "--dki") ≡ Some dki_word
+  pub salt_is : value_in words (codes "--salt") ≡ Some salt_word
+  pub pin_is : value_in words (codes "--pin") ≡ Some (digits_text order.pin)
+
+pub pin-gives : (words : List (List ℕ)) (order : PinOrder) (pin : IsPin words order)
+    → PinGives words order pin.dki_word pin.salt_word
+pin-gives words order pin =
+    let parts = parted (codes "pin") pin_options words
+    (order.config ∷ digits_text order.pan ∷ digits_text (digits_of order.psn) ∷ pin.dki_word ∷ pin.salt_word
+    ∷ digits_text order.pin ∷ []) pin.call in
+    record {
+      config_is = ap (λ (lists : List (List (List ℕ))). only (get_or lists 0 [])) parts.once;
+      pan_is = ap (λ (lists : List (List (List ℕ))). only (get_or lists 1 [])) parts.once;
+      psn_is = ap (λ (lists : List (List (List ℕ))). only (get_or lists 2 [])) parts.once;
+      dki_is = ap (λ (lists : List (List (List ℕ))). only (get_or lists 3 [])) parts.once;
+      salt_is = ap (λ (lists : List (List (List ℕ))). only (get_or lists 4 [])) parts.once;
+      pin_is = ap (λ (lists : List (List (List ℕ))). only (get_or lists 5 [])) parts.once;
+    }
+
 -- what is given is one word
 pub one-word : (value : Option (List ℕ)) (word other : List ℕ) → Some word ≡ value → value ≡ Some other → word ≡ other
 one-word value word other is others = let both : Some word ≡ Some other = is ∙ others in cc
@@ -557,13 +605,18 @@ gives-group words word (Some callers) values said = inr (values ∙ ap (λ (w : 
 -- ---- one command
 
 -- the words of a command begin with it, and after it are pairs of its options
-asks-words : (words : List (List ℕ)) (command : Command) → Asks command words → AreWordsOf command words
+pub asks-words : (words : List (List ℕ)) (command : Command) → Asks command words → AreWordsOf command words
 asks-words words Serve asks = (serve-gives words asks.0 asks.1 asks.2 asks.3).are
 asks-words words Show asks = (parted (codes "show") show_options words (asks.0 ∷ asks.1 ∷ []) asks.2).are
 asks-words words World asks =
     (parted (codes "world") world_options words (decimal asks.0 ∷ decimal asks.1 ∷ decimal asks.2 ∷ []) asks.3.call).are
 asks-words words Fill asks =
     (parted (codes "fill") fill_options words (asks.2.dol_word ∷ asks.2.data_word ∷ []) asks.2.call).are
+asks-words words Pin asks =
+    let order = asks.0 in
+    (parted (codes "pin") pin_options words
+    (order.config ∷ digits_text order.pan ∷ digits_text (digits_of order.psn) ∷ asks.1.dki_word ∷ asks.1.salt_word
+    ∷ digits_text order.pin ∷ []) asks.1.call).are
 
 -- no two commands begin alike
 same-command : (command other : Command) → first_word command ≡ first_word other → command ≡ other
@@ -587,9 +640,18 @@ same-command Show Fill same =
     let first : ◌≡◌ {A = ℕ} 115 102 = ap (λ (word : List ℕ). get_or word 0 0) same in absurd (omega (arith, first))
 same-command Fill Show same =
     let first : ◌≡◌ {A = ℕ} 102 115 = ap (λ (word : List ℕ). get_or word 0 0) same in absurd (omega (arith, first))
+same-command Pin Pin same = refl
+same-command Serve Pin same = let long : 5 ≡ 3 = ap length same in absurd (omega (arith, long))
+same-command Pin Serve same = let long : 3 ≡ 5 = ap length same in absurd (omega (arith, long))
+same-command Show Pin same = let long : 4 ≡ 3 = ap length same in absurd (omega (arith, long))
+same-command Pin Show same = let long : 3 ≡ 4 = ap length same in absurd (omega (arith, long))
+same-command World Pin same = let long : 5 ≡ 3 = ap length same in absurd (omega (arith, long))
+same-command Pin World same = let long : 3 ≡ 5 = ap length same in absurd (omega (arith, long))
+same-command Fill Pin same = let long : 4 ≡ 3 = ap length same in absurd (omega (arith, long))
+same-command Pin Fill same = let long : 3 ≡ 4 = ap length same in absurd (omega (arith, long))
 
 -- words are those of one command
-one-command : (words : List (List ℕ)) (command other : Command) → AreWordsOf command words → AreWordsOf other words
+pub one-command : (words : List (List ℕ)) (command other : Command) → AreWordsOf command words → AreWordsOf other words
     → command ≡ other
 one-command words command other are others =
     let begins : Some (first_word command) ≡ Some (first_word other) = sym are.first ∙ others.first in
@@ -604,6 +666,7 @@ none-asked words none = record {
   ];
   no_world = λ cards steps seed world. none World (cards, steps, seed, world);
   no_fill = λ dol given fill. none Fill (dol, given, fill);
+  no_pin = λ order pin. none Pin (order, pin);
 }
 
 pub no-words : (words : List (List ℕ)) → ((command : Command) → AreWordsOf command words → ⊥) → IsNoCommand words

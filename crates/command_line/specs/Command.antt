@@ -1,10 +1,14 @@
--- The words of the four commands that the program knows.
+-- The words of the five commands that the program knows.
 use Rattle.std.specs.Prelude.{◌≡◌, ◌≢◌, ◌⊎◌, ℕ, ◌*◌, ◌^◌, ◌<◌, ◌≤◌, Bool, false, ◌||◌, if◌then◌else◌}
 use Rattle.std.specs.Prelude.{List, [], ◌∷◌, length, map, Option, None, Some, Ok, codes, IsTrue, All}
 use Rattle.std.specs.Fmt.{decimal}
 use Rattle.std.specs.Str.{bytes_eq}
-use Rattle.hex.specs.Hex.{decode_of}
+use Rattle.hex.specs.Hex.{decode_of, decode_sized}
+use Rattle.issuer_base.specs.CardNumber.{is_pan}
+use Rattle.issuer_base.specs.ChipData.{is_bcd, digits_of}
 use Rattle.issuer_base.specs.declared.limits.TheConstants.{MAX_CALLERS, MAX_CARD_REQUESTS, MAX_CARDS, MAX_CHIP_BYTES, MAX_STEPS}
+use Rattle.chip_request.specs.Lines.{digits_text}
+use Rattle.secure_msg.specs.Pins.{is_pin}
 
 -- a value is a word that isn't empty and doesn't begin with a hyphen
 abbrev pub IsValue : List ℕ → Type 0
@@ -42,7 +46,7 @@ pub record IsCall (command : List ℕ) (options words values : List (List ℕ)) 
   pub named : All (λ pair. IsValue pair.value) pairs
 
 -- the options that the command to serve needs and the one that it may have besides, those of the command to show, of
--- the one to play a world, and of the one to fill a DOL
+-- the one to play a world, of the one to fill a DOL, and of the one to change a PIN
 abbrev pub serve_options : List (List ℕ)
 serve_options = codes "--config" ∷ codes "--requests" ∷ codes "--journal" ∷ []
 
@@ -57,6 +61,10 @@ world_options = codes "--cards" ∷ codes "--steps" ∷ codes "--seed" ∷ []
 
 abbrev pub fill_options : List (List ℕ)
 fill_options = codes "--dol" ∷ codes "--data" ∷ []
+
+abbrev pub pin_options : List (List ℕ)
+pin_options =
+    codes "--config" ∷ codes "--pan" ∷ codes "--psn" ∷ codes "--dki" ∷ codes "--salt" ∷ codes "--pin" ∷ []
 
 -- a request file, by its name and by how many callers answer its lines
 pub record RequestFile : Type 0 where
@@ -110,14 +118,43 @@ pub record IsFill (words : List (List ℕ)) (dol given : List ℕ) : Type 0 wher
   pub dol_is : SpellsBytes dol_word dol
   pub data_is : SpellsBytes data_word given
 
+-- a word spells just so many bytes, each by two hexadecimal digits of either case
+abbrev pub SpellsJust : ℕ → List ℕ → List ℕ → Type 0
+SpellsJust count word bytes = decode_sized word count ≡ Ok bytes
+
+-- an order to change a card's PIN: the name of the configuration, the card's account number and sequence number, the
+-- derivation key index of the key set, the bytes from which the session key is derived, and the new PIN
+pub record PinOrder : Type 0 where
+  pub config : List ℕ
+  pub pan : List ℕ
+  pub psn : ℕ
+  pub dki : ℕ
+  pub salt : List ℕ
+  pub pin : List ℕ
+
+-- the words are the command to change a PIN, with this order: the card's numbers and the PIN are in decimal digits, the
+-- index and the salt of eight bytes in hexadecimal ones
+pub record IsPin (words : List (List ℕ)) (order : PinOrder) : Type 0 where
+  pub dki_word : List ℕ
+  pub salt_word : List ℕ
+  pub call : IsCall (codes "pin") pin_options words
+      (order.config ∷ digits_text order.pan ∷ digits_text (digits_of order.psn) ∷ dki_word ∷ salt_word
+      ∷ digits_text order.pin ∷ [])
+  pub pan_is : IsTrue (is_pan order.pan)
+  pub psn_is : IsTrue (is_bcd order.psn)
+  pub dki_is : SpellsJust 1 dki_word (order.dki ∷ [])
+  pub salt_is : SpellsJust 8 salt_word order.salt
+  pub pin_is : IsTrue (is_pin order.pin)
+
 -- the words are a command over journals, with these names, and it is to serve where there is a request file
 abbrev pub IsCommand : List (List ℕ) → List ℕ → Option RequestFile → List ℕ → Type 0
 IsCommand words config (Some requests) journal = IsServe words config requests journal
 IsCommand words config None journal = IsShow words config journal
 
--- the words are none of the four
+-- the words are none of the five
 pub record IsNoCommand (words : List (List ℕ)) : Type 0 where
   pub no_host : (config : List ℕ) (requests : Option RequestFile) (journal : List ℕ)
       → IsCommand words config requests journal → ⊥
   pub no_world : (cards steps seed : ℕ) → IsWorld words cards steps seed → ⊥
   pub no_fill : (dol given : List ℕ) → IsFill words dol given → ⊥
+  pub no_pin : (order : PinOrder) → IsPin words order → ⊥

@@ -1,6 +1,8 @@
 //! The words of a run: the command that they are, and its names and numbers.
 #![tactic(auto)]
 
+mod pin_words;
 mod words;
 
+pub use pin_words::PinWords;
 pub use words::{DolTexts, Names, Requests, Task, WorldSize, read_words};

@@ -3,13 +3,14 @@ ghost use Rattle.std.specs.Prelude.{◌≡◌, ◌≢◌, ◌+◌, ◌*◌, ◌%
 ghost use Rattle.std.specs.Prelude.{MatchOption};
 ghost use Rattle.std.specs.Fmt.{decimal};
 ghost use Rattle.std.specs.Option.{option_map};
-ghost use Rattle.command_line.specs.Command.{is_one_of, IsGroup, IsNoCommand, SpellsBytes};
+ghost use Rattle.command_line.specs.Command.{is_one_of, pin_options, IsGroup, IsNoCommand, SpellsBytes};
 ghost use Rattle.command_line.specs.Pairs.{is_value, first_word, options_of, is_pair, are_pairs, pairs_of, values_in};
 ghost use Rattle.command_line.specs.Pairs.{value_in, is_within, AreWordsOf, GivesCallers, Asks, IsTask};
 ghost use Rattle.command_line.specs.declared.words.Command.{Command};
 ghost use Rattle.command_line.specs.declared.words.Command.TheVariants.{Serve, Show, World, Fill};
 ghost use Rattle.command_line.specs.declared.words.Task.TheVariants.{Host, Play, Fill as FillTask};
 
+use crate::pin_words::{PinWords, pin_words};
 use arrayvec::ArrayVec;
 use issuer_base::{MAX_CALLERS, MAX_CARD_REQUESTS, MAX_CARDS, MAX_CHIP_BYTES, MAX_STEPS, Words};
 use itoa::Buffer;
@@ -25,6 +26,8 @@ pub(crate) enum Command {
     World,
     /// It fills a DOL.
     Fill,
+    /// It changes a PIN.
+    Pin,
 }
 
 /// What the program does.
@@ -36,6 +39,8 @@ pub enum Task<'a> {
     Play(WorldSize),
     /// It fills a DOL from data objects.
     Fill(DolTexts),
+    /// It writes the command that changes a card's PIN.
+    Pin(PinWords<'a>),
 }
 
 /// The names in the words of a command over journals.
@@ -88,6 +93,7 @@ pub fn read_words(words: &Words) -> Option<Task<'_>>
         Command::Show => Some(Task::Host(show_names(words)?)),
         Command::World => Some(Task::Play(world_size(words)?)),
         Command::Fill => Some(Task::Fill(dol_texts(words)?)),
+        Command::Pin => Some(Task::Pin(pin_words(words)?)),
     }
 }
 
@@ -250,6 +256,8 @@ fn command_of(word: &str) -> Option<Command>
         Some(Command::World)
     } else if word == "fill" {
         Some(Command::Fill)
+    } else if word == "pin" {
+        Some(Command::Pin)
     } else {
         None
     }
@@ -287,7 +295,19 @@ fn is_option(word: &str, command: Command) -> bool
         Command::Show => word == "--config" || word == "--journal",
         Command::World => word == "--cards" || word == "--steps" || word == "--seed",
         Command::Fill => word == "--dol" || word == "--data",
+        Command::Pin => is_pin_option(word),
     }
+}
+
+fn is_pin_option(word: &str) -> bool
+    ensures { result ≡ is_one_of pin_options word.now }
+{
+    word == "--config"
+        || word == "--pan"
+        || word == "--psn"
+        || word == "--dki"
+        || word == "--salt"
+        || word == "--pin"
 }
 
 fn is_value(word: &str) -> bool
@@ -297,7 +317,7 @@ fn is_value(word: &str) -> bool
 }
 
 /// The value that the words after the first one give the option, if they give it once.
-fn value_of<'a>(words: &'a Words, option: &str) -> Option<&'a str>
+pub(crate) fn value_of<'a>(words: &'a Words, option: &str) -> Option<&'a str>
     requires { length words.now % 2 ≡ 1 }
     ensures { option_map (λ value. value.now) result ≡ value_in words.now option.now }
 {

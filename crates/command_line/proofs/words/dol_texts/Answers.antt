@@ -1,6 +1,5 @@
 -- Words whose options lack a value, are given two, or spell no bytes within the limits, are no command to fill a DOL.
-use Rattle.std.proofs.Common.{◌≡◌, subst, rules}
-use Rattle.command_line.specs.Command.{SpellsBytes}
+use Rattle.std.proofs.Common.{◌≡◌, rules}
 use Rattle.command_line.proofs.CommandWords.{fill-from, fill-gives, one-word}
 use Rattle.command_line.proofs.words.dol_texts.Goals as goal
 
