@@ -41,6 +41,24 @@ pub(crate) const AES_CONFIG: &str = configuration!(
     "999999999999"
 );
 
+/// The first one with a key for confidentiality.
+pub(crate) const PIN_CONFIG: &str = configuration!(
+    "1",
+    "1",
+    r#","smc":"202122232425262728292A2B2C2D2E2F""#,
+    "4000000000000010",
+    "999999999999"
+);
+
+/// Two key sets, of both options, with different keys for confidentiality.
+pub(crate) const TWO_KEY_SETS: &str = configuration!(
+    "1",
+    "1",
+    r#","smc":"202122232425262728292A2B2C2D2E2F"},{"dki":2,"option":"B","ac":"000102030405060708090A0B0C0D0E0F","smi":"101112131415161718191A1B1C1D1E1F","smc":"303132333435363738393A3B3C3D3E3F""#,
+    "4000000000000010",
+    "999999999999"
+);
+
 /// A key index of more than a byte.
 pub(crate) const LARGE_KEY_INDEX: &str = configuration!(
     "1",

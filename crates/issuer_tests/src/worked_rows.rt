@@ -872,6 +872,220 @@ fn dols() -> &'static [Run] {
     &DOLS
 }
 
+/// A change of the PIN of the first card to one of four digits.
+const PIN_CHANGE: Run = Run {
+    name: "a PIN of 4 digits",
+    words: "pin --config config --pan 4000000000000002 --psn 00 --dki 01 --salt 0000000000000001 --pin 1234",
+    config: PIN_CONFIG,
+    answers: &["Q 4000000000000002 00 842400020000000000000001805487f58f3e41715997853eaa19fa4e\n"],
+    after: None,
+    ..SERVED
+};
+
+/// Changes to PINs of each number of digits.
+static PIN_LENGTHS: [Run; 9] = [
+    PIN_CHANGE,
+    Run {
+        name: "a PIN of 5 digits",
+        words: "pin --config config --pan 4000000000000002 --psn 00 --dki 01 --salt 0000000000000001 --pin 12345",
+        answers: &[
+            "Q 4000000000000002 00 8424000200000000000000014e7072d50f03852e88c2a3599d2abdde\n",
+        ],
+        ..PIN_CHANGE
+    },
+    Run {
+        name: "a PIN of 6 digits",
+        words: "pin --config config --pan 4000000000000002 --psn 00 --dki 01 --salt 0000000000000001 --pin 123456",
+        answers: &[
+            "Q 4000000000000002 00 842400020000000000000001f19d6fbdfcd6d7385271147a3c9de40d\n",
+        ],
+        ..PIN_CHANGE
+    },
+    Run {
+        name: "a PIN of 7 digits",
+        words: "pin --config config --pan 4000000000000002 --psn 00 --dki 01 --salt 0000000000000001 --pin 1234567",
+        answers: &[
+            "Q 4000000000000002 00 842400020000000000000001393c435656c23a3dbdb9ffc03eac3518\n",
+        ],
+        ..PIN_CHANGE
+    },
+    Run {
+        name: "a PIN of 8 digits",
+        words: "pin --config config --pan 4000000000000002 --psn 00 --dki 01 --salt 0000000000000001 --pin 12345678",
+        answers: &[
+            "Q 4000000000000002 00 842400020000000000000001acbbd547cbc63cae60d5ac166e0350a6\n",
+        ],
+        ..PIN_CHANGE
+    },
+    Run {
+        name: "a PIN of 9 digits",
+        words: "pin --config config --pan 4000000000000002 --psn 00 --dki 01 --salt 0000000000000001 --pin 123456789",
+        answers: &[
+            "Q 4000000000000002 00 8424000200000000000000015502fc6f58acd33b3b87b1525c2c3bcc\n",
+        ],
+        ..PIN_CHANGE
+    },
+    Run {
+        name: "a PIN of 10 digits",
+        words: "pin --config config --pan 4000000000000002 --psn 00 --dki 01 --salt 0000000000000001 --pin 1234567890",
+        answers: &[
+            "Q 4000000000000002 00 842400020000000000000001d7b2885c0652e29d587f6c2336541ffa\n",
+        ],
+        ..PIN_CHANGE
+    },
+    Run {
+        name: "a PIN of 11 digits",
+        words: "pin --config config --pan 4000000000000002 --psn 00 --dki 01 --salt 0000000000000001 --pin 12345678901",
+        answers: &[
+            "Q 4000000000000002 00 8424000200000000000000010e9d35c2152c3d32da113ba0d290531d\n",
+        ],
+        ..PIN_CHANGE
+    },
+    Run {
+        name: "a PIN of 12 digits",
+        words: "pin --config config --pan 4000000000000002 --psn 00 --dki 01 --salt 0000000000000001 --pin 123456789012",
+        answers: &[
+            "Q 4000000000000002 00 842400020000000000000001dbf6bf74fd7526aaf4447e512d4c79b2\n",
+        ],
+        ..PIN_CHANGE
+    },
+];
+
+fn pin_lengths() -> &'static [Run] {
+    &PIN_LENGTHS
+}
+
+/// Changes of a PIN under a key set, and those whose card or key is missing.
+static PIN_KEYS: [Run; 7] = [
+    Run {
+        name: "a second key set, of option B",
+        words: "pin --config config --pan 4000000000000010 --psn 00 --dki 02 --salt aAbBcCdDeEfF0123 --pin 0000",
+        config: TWO_KEY_SETS,
+        answers: &[
+            "Q 4000000000000010 00 84240002aabbccddeeff0123df3606a710113a40cbc8e09731a0ef5a\n",
+        ],
+        ..PIN_CHANGE
+    },
+    Run {
+        name: "the first key set, and pairs in another order",
+        words: "pin --pin 9999 --salt 0123456789ABCDEF --dki 01 --psn 00 --pan 4000000000000010 --config config",
+        config: TWO_KEY_SETS,
+        answers: &[
+            "Q 4000000000000010 00 842400020123456789abcdeff7f50813977b0301ea390b264569b5f5\n",
+        ],
+        ..PIN_CHANGE
+    },
+    Run {
+        name: "a key set without a key for confidentiality",
+        config: CONFIG,
+        answers: &["stop 12\n"],
+        status: 12,
+        ..PIN_CHANGE
+    },
+    Run {
+        name: "a key set that isn't there",
+        words: "pin --config config --pan 4000000000000002 --psn 00 --dki 02 --salt 0000000000000001 --pin 1234",
+        answers: &["stop 12\n"],
+        status: 12,
+        ..PIN_CHANGE
+    },
+    Run {
+        name: "an account number that no card has",
+        words: "pin --config config --pan 4000000000000028 --psn 00 --dki 01 --salt 0000000000000001 --pin 1234",
+        answers: &["stop 12\n"],
+        status: 12,
+        ..PIN_CHANGE
+    },
+    Run {
+        name: "a sequence number that the card hasn't",
+        words: "pin --config config --pan 4000000000000002 --psn 01 --dki 01 --salt 0000000000000001 --pin 1234",
+        answers: &["stop 12\n"],
+        status: 12,
+        ..PIN_CHANGE
+    },
+    Run {
+        name: "a broken configuration, looked for before the key",
+        words: "pin --config config --pan 4000000000000028 --psn 00 --dki 01 --salt 0000000000000001 --pin 1234",
+        config: LARGE_KEY_INDEX,
+        answers: &["stop 2 3 1\n"],
+        status: 2,
+        ..PIN_CHANGE
+    },
+];
+
+fn pin_keys() -> &'static [Run] {
+    &PIN_KEYS
+}
+
+/// Words that are no change of a PIN, and devices that fail.
+static PIN_STOPS: [Run; 10] = [
+    Run {
+        name: "a PIN of 3 digits",
+        words: "pin --config config --pan 4000000000000002 --psn 00 --dki 01 --salt 0000000000000001 --pin 123",
+        ..NO_PIN_CHANGE
+    },
+    Run {
+        name: "a PIN of 13 digits",
+        words: "pin --config config --pan 4000000000000002 --psn 00 --dki 01 --salt 0000000000000001 --pin 1234567890123",
+        ..NO_PIN_CHANGE
+    },
+    Run {
+        name: "a letter in a PIN",
+        words: "pin --config config --pan 4000000000000002 --psn 00 --dki 01 --salt 0000000000000001 --pin 123A",
+        ..NO_PIN_CHANGE
+    },
+    Run {
+        name: "a sequence number of one digit",
+        words: "pin --config config --pan 4000000000000002 --psn 0 --dki 01 --salt 0000000000000001 --pin 1234",
+        ..NO_PIN_CHANGE
+    },
+    Run {
+        name: "a sequence number in hexadecimal digits",
+        words: "pin --config config --pan 4000000000000002 --psn 0A --dki 01 --salt 0000000000000001 --pin 1234",
+        ..NO_PIN_CHANGE
+    },
+    Run {
+        name: "an account number of 7 digits",
+        words: "pin --config config --pan 4000000 --psn 00 --dki 01 --salt 0000000000000001 --pin 1234",
+        ..NO_PIN_CHANGE
+    },
+    Run {
+        name: "a salt of seven bytes",
+        words: "pin --config config --pan 4000000000000002 --psn 00 --dki 01 --salt 00000000000001 --pin 1234",
+        ..NO_PIN_CHANGE
+    },
+    Run {
+        name: "an index of one digit",
+        words: "pin --config config --pan 4000000000000002 --psn 00 --dki 1 --salt 0000000000000001 --pin 1234",
+        ..NO_PIN_CHANGE
+    },
+    Run {
+        name: "a configuration that fails",
+        fails: [Some(0), None, None, None, None, None],
+        answers: &["stop 3\n"],
+        status: 3,
+        ..PIN_CHANGE
+    },
+    Run {
+        name: "a sink that fails",
+        fails: [None, None, None, Some(0), None, None],
+        answers: &[],
+        status: 4,
+        ..PIN_CHANGE
+    },
+];
+
+/// Words that are no command.
+const NO_PIN_CHANGE: Run = Run {
+    answers: &["stop 1\n"],
+    status: 1,
+    ..PIN_CHANGE
+};
+
+fn pin_stops() -> &'static [Run] {
+    &PIN_STOPS
+}
+
 /// Whether a run has the expected outcome. The journals are those that the run before left, unless it begins with its
 /// own; then the old one has to stay as it was.
 fn comes_to_the_expected<R: AllocGlobal + Threads + Wait + Sync>(
@@ -915,6 +1129,9 @@ fn comes_to_the_worked_rows(rt: HostRuntime) -> Result<(), Fail> {
         settings(),
         worlds(),
         dols(),
+        pin_lengths(),
+        pin_keys(),
+        pin_stops(),
     ] {
         for run in runs {
             let is_right = comes_to_the_expected(&rt, run, &mut journals)?;

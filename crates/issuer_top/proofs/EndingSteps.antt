@@ -18,7 +18,7 @@ use Rattle.line_reader.specs.declared.limits.TheConstants.{MAX_LINES}
 use Rattle.answer_text.specs.StopText.{stop_text}
 use Rattle.answer_text.specs.declared.stop_line.Stop.{Stop}
 use Rattle.answer_text.specs.declared.stop_line.Stop.TheVariants.{Usage, Config, ReadFault, StoreFault, BadJournal}
-use Rattle.answer_text.specs.declared.stop_line.Stop.TheVariants.{BadOldJournal, NoMemory, TooLong, BadDol, BadData}
+use Rattle.answer_text.specs.declared.stop_line.Stop.TheVariants.{BadOldJournal, NoMemory, TooLong, BadDol, BadData, NoKey}
 use Rattle.issuer_setup.specs.IssuerSetup.{Setup}
 use Rattle.one_caller.specs.Books.{Book}
 use Rattle.issuer_top.specs.declared.ending.Ending.{Ending}
@@ -39,7 +39,7 @@ use Rattle.line_serving.specs.Serving.{ServesLines, Serves, read_failed, write_f
 use Rattle.issuer_top.specs.Stopping.{is_broken, GivesStop, EndsServing, written_ending}
 use Rattle.issuer_top.specs.Played.{IsWorldText, GivesText, PlaysBy}
 use Rattle.issuer_top.specs.Endings.{OpenedNoInput, OpenedConfigOnly, OpenedBothInputs, IsSetUp, AnswersLines}
-use Rattle.issuer_top.specs.Endings.{AnswersNoLine, IsPlayed, OnlyLoads, HasNoHost}
+use Rattle.issuer_top.specs.Endings.{AnswersNoLine, IsPlayed, OnlyLoads, HasNoHost, IsNoMemory, ReadsConfig}
 use Rattle.issuer_top.specs.Endings.{Stops, IsDone, IsDue, EndsBy}
 
 -- an input that a desk gave is one that stands there
@@ -49,7 +49,7 @@ gives_input told left tells absent =
     record { tells = tells; stands = λ none. (let both : false ≡ true = absent none in cc) }
 
 -- what an input had is what the desk tells of its name
-told-given : (told : Option (Option (List ℕ))) (left : Option (List ℕ)) (content : List ℕ) → GivesInput told left
+pub told-given : (told : Option (Option (List ℕ))) (left : Option (List ℕ)) (content : List ℕ) → GivesInput told left
     → Tells left content
     → Tells told (Some content)
 told-given told left content given had = Tells-from_left told left content given.stands given.tells had
@@ -116,14 +116,13 @@ ends_usage seen ending none opened none_opened stopping =
     ends_at_once seen Usage ending (record { no_command = none; opened = opened; none_opened = none_opened; last = refl })
     stopping
 
-module _ (seen : Seen) (config : List ℕ) (requests : Option RequestFile) (journal : List ℕ) (ending : Ending)
+-- a command over journals without memory
+module _ (seen : Seen) (config : List ℕ) (requests : Option RequestFile) (journal : List ℕ)
     (command : IsCommand seen.words config requests journal) where
-  -- no memory was left
-  ends_no_memory : OpenedNoInput seen ⊎ OpenedConfigOnly seen → LeaveJournals journal seen.desk.logs seen.journals
-      → StopsAtOnce seen NoMemory ending → EndsBy seen ending
-  ends_no_memory opened left stopping =
-      ends_at_once seen NoMemory ending
-      (inl (record {
+  lacks-host : OpenedNoInput seen ⊎ OpenedConfigOnly seen → LeaveJournals journal seen.desk.logs seen.journals
+      → IsNoMemory seen (stop_text NoMemory)
+  lacks-host opened left =
+      inl (record {
         config = config;
         requests = requests;
         journal = journal;
@@ -131,9 +130,16 @@ module _ (seen : Seen) (config : List ℕ) (requests : Option RequestFile) (jour
         opened = opened;
         left = left;
         last = refl;
-      }))
-      stopping
+      })
 
+  -- and one that opened no journal
+  pub lacks-none : seen.journals ≡ no_journals → OpenedNoInput seen ⊎ OpenedConfigOnly seen
+      → IsNoMemory seen (stop_text NoMemory)
+  lacks-none none_opened opened = lacks-host opened (none-left journal seen.desk.logs seen.journals none_opened)
+
+module _ (seen : Seen) (config : List ℕ) (ending : Ending) (command : ReadsConfig seen.words config)
+    (lacks : seen.journals ≡ no_journals → OpenedNoInput seen ⊎ OpenedConfigOnly seen
+    → IsNoMemory seen (stop_text NoMemory)) where
   -- the desk gave no configuration
   pub ends_no_config : (T : Type 0) (other : Option FailedCall) (fault : DeskFault)
       → is_some seen.config ≡ false → is_some seen.requests ≡ false → seen.journals ≡ no_journals
@@ -144,8 +150,6 @@ module _ (seen : Seen) (config : List ℕ) (requests : Option RequestFile) (jour
       ends_at_once seen ReadFault ending
       (inl (record {
         config = config;
-        requests = requests;
-        journal = journal;
         command = command;
         fails = record { config_is = no_config; requests_is = no_requests; rose = desk_count.counted; call_is = last };
         none_opened = none_opened;
@@ -153,12 +157,13 @@ module _ (seen : Seen) (config : List ℕ) (requests : Option RequestFile) (jour
       }))
       stopping
   ends_no_config T other NoRoom no_config no_requests none_opened desk_count last stopping =
-      ends_no_memory (inl (record {
+      ends_at_once seen NoMemory ending
+      (lacks none_opened (inl (record {
         config_is = no_config;
         requests_is = no_requests;
         desk_stood = desk_count.counted;
-      }))
-      (none-left journal seen.desk.logs seen.journals none_opened) stopping
+      })))
+      stopping
 
   -- the configuration gave no issuer
   pub ends_no_issuer : (T : Type 0) (first : ℕ) (input : SeenInput) (left : Option (List ℕ)) (cause : Stop)
@@ -171,8 +176,6 @@ module _ (seen : Seen) (config : List ℕ) (requests : Option RequestFile) (jour
       ends_at_once seen (Config part index) ending
       (record {
         config = config;
-        requests = requests;
-        journal = journal;
         content = none.content;
         fault = none.fault;
         command = command;
@@ -189,8 +192,6 @@ module _ (seen : Seen) (config : List ℕ) (requests : Option RequestFile) (jour
       ends_at_once seen ReadFault ending
       (inr (inl (record {
         config = config;
-        requests = requests;
-        journal = journal;
         command = command;
         opened = opened;
         failed =
@@ -201,7 +202,7 @@ module _ (seen : Seen) (config : List ℕ) (requests : Option RequestFile) (jour
       })))
       stopping
   ends_no_issuer T first input left NoMemory opened input_is none_opened given none fresh count stopping =
-      ends_no_memory (inr opened) (none-left journal seen.desk.logs seen.journals none_opened) stopping
+      ends_at_once seen NoMemory ending (lacks none_opened (inr opened)) stopping
   ends_no_issuer T first input left Usage opened input_is none_opened given none fresh count stopping = absurd none
   ends_no_issuer T first input left (StoreFault shard) opened input_is none_opened given none fresh count stopping =
       absurd none
@@ -215,6 +216,7 @@ module _ (seen : Seen) (config : List ℕ) (requests : Option RequestFile) (jour
   ends_no_issuer T first input left (BadDol at) opened input_is none_opened given none fresh count stopping = absurd none
   ends_no_issuer T first input left (BadData at) opened input_is none_opened given none fresh count stopping =
       absurd none
+  ends_no_issuer T first input left NoKey opened input_is none_opened given none fresh count stopping = absurd none
 
 -- the words and the configuration are as they should be
 pub IsSetUp-from_said : (seen : Seen) (config : List ℕ) (requests : Option RequestFile) (journal : List ℕ)
@@ -258,7 +260,8 @@ module _ (seen : Seen) (requests : Option RequestFile) (journal : List ℕ) (iss
       → StopsAtOnce seen NoMemory ending
       → EndsBy seen ending
   ends_without_memory opened left stopping =
-      ends_no_memory seen set_up.config requests journal ending set_up.command (inr opened) left stopping
+      ends_at_once seen NoMemory ending (lacks-host seen set_up.config requests journal set_up.command (inr opened) left)
+      stopping
 
   -- the journals gave no host
   no-host : (stop : Stop) → is_some seen.config ≡ true → is_some seen.requests ≡ false
@@ -301,6 +304,7 @@ module _ (seen : Seen) (requests : Option RequestFile) (journal : List ℕ) (iss
   ends_no_host (TooLong line) with_config no_requests cause left stopping = absurd cause
   ends_no_host (BadDol at) with_config no_requests cause left stopping = absurd cause
   ends_no_host (BadData at) with_config no_requests cause left stopping = absurd cause
+  ends_no_host NoKey with_config no_requests cause left stopping = absurd cause
 
 -- the journals gave no host, by what the desk told and counted before
 pub ends_unloaded : (seen : Seen) (requests : Option RequestFile) (journal : List ℕ) (issuer : Setup) (ending : Ending)
@@ -561,7 +565,7 @@ module _ (seen : Seen) (cards steps seed : ℕ) (world : IsWorld seen.words card
       (λ told. ends_played ending told.0 told.1 told.2)
       (λ stopping.
       ends_at_once seen NoMemory ending
-      (inr (inr (record {
+      (inr (inr (inl (record {
         cards = cards;
         steps = steps;
         seed = seed;
@@ -569,6 +573,6 @@ module _ (seen : Seen) (cards steps seed : ℕ) (world : IsWorld seen.words card
         opened = opened;
         none_opened = none_opened;
         last = refl;
-      })))
+      }))))
       stopping)
       plays

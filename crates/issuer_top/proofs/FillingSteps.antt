@@ -7,7 +7,7 @@ use Rattle.answer_text.specs.AnswerText.{bytes_text}
 use Rattle.answer_text.specs.StopText.{status_of_stop, stop_text}
 use Rattle.answer_text.specs.declared.stop_line.Stop.{Stop}
 use Rattle.answer_text.specs.declared.stop_line.Stop.TheVariants.{Usage, Config, ReadFault, StoreFault, BadJournal}
-use Rattle.answer_text.specs.declared.stop_line.Stop.TheVariants.{BadOldJournal, NoMemory, TooLong}
+use Rattle.answer_text.specs.declared.stop_line.Stop.TheVariants.{BadOldJournal, NoMemory, TooLong, NoKey}
 use Rattle.answer_text.specs.declared.stop_line.Stop.TheVariants.{BadDol as StopsAtDol, BadData as StopsAtData}
 use Rattle.terminal_kernel.specs.declared.dol.DolEntry.{DolEntry}
 use Rattle.terminal_kernel.specs.declared.dol.BadDol.{BadDol}
@@ -17,13 +17,14 @@ use Rattle.terminal_kernel.specs.Given.{DataObject, data_of}
 use Rattle.terminal_kernel.specs.Filling.{filled}
 use Rattle.command_line.specs.Command.{RequestFile, IsFill, IsCommand}
 use Rattle.command_line.proofs.CommandWords.{fill-no_command, fill-no_world, one-fill}
+use Rattle.command_line.proofs.PinOrders.{pin-no_fill}
 use Rattle.issuer_top.specs.declared.ending.Ending.{Ending}
 use Rattle.issuer_top.specs.declared.ending.Ending.TheVariants.{Done, Stopped, WriteFault}
 use Rattle.desk_host.specs.SeenStores.{no_journals}
 use Rattle.issuer_top.specs.Seen.{Seen}
 use Rattle.issuer_top.specs.Status.{status_of}
 use Rattle.issuer_top.specs.Filling.{filled_or_stop, filling, FillsBy, fill_status, Fills}
-use Rattle.issuer_top.specs.Endings.{OpenedNoInput, IsDone, IsFilled, CannotFill, IsReadFault, HasNoHost, IsNoMemory}
+use Rattle.issuer_top.specs.Endings.{OpenedNoInput, IsDone, IsFilled, CannotFill, IsReadFault, HasNoHost, IsNoMemory, ReadsConfig}
 use Rattle.issuer_top.specs.Endings.{EndsBy}
 use Rattle.issuer_top.proofs.EndingSteps.{ends_at_once, ends_by_text}
 
@@ -65,7 +66,7 @@ module _ (seen : Seen) (dol given : List ℕ) (fill : IsFill seen.words dol give
   ends_as (Ok parsed) (Ok objects) is fills =
       let bytes = filled objects parsed.items in
       let done = whole bytes is in
-      ends_by_text seen ending (bytes_text bytes) (inr (inr (inr done))) (inr (inr (inr (inr done)))) fills
+      ends_by_text seen ending (bytes_text bytes) (inr (inr (inr (inl done)))) (inr (inr (inr (inr (inl done))))) fills
 
   pub ends_filling : FillsBy (filling dol given) seen.sink.held_before seen.sink.held_after seen.sink.faults_before
       seen.sink.faults_after ending → EndsBy seen ending
@@ -79,10 +80,15 @@ module _ (seen : Seen) (dol given : List ℕ) (fill : IsFill seen.words dol give
       → IsCommand seen.words config requests journal → ⊥
   no_host config requests journal command = fill-no_command seen.words dol given config requests journal fill command
 
+  no_config : (config : List ℕ) → ReadsConfig seen.words config → ⊥
+  no_config config command =
+      ⊎_elim (λ host. no_host config host.0 host.1 host.2) (λ pin. pin-no_fill seen.words pin.0 dol given pin.1 fill)
+      command
+
   not-unread : (text : List ℕ) → IsReadFault seen text → ⊥
   not-unread text cannot =
-      ⊎_elim (λ a. no_host a.config a.requests a.journal a.command)
-      (λ more. ⊎_elim (λ b. no_host b.config b.requests b.journal b.command)
+      ⊎_elim (λ a. no_config a.config a.command)
+      (λ more. ⊎_elim (λ b. no_config b.config b.command)
       (λ more. ⊎_elim (λ c. let l = c.loaded in no_host l.set_up.config (Some l.requests) l.journal l.set_up.command)
       (λ d. let l = d.lines in no_host l.set_up.config (Some l.requests) l.journal l.set_up.command) more) more)
       cannot
@@ -94,7 +100,8 @@ module _ (seen : Seen) (dol given : List ℕ) (fill : IsFill seen.words dol give
   not-short text short =
       ⊎_elim (λ a. no_host a.config a.requests a.journal a.command)
       (λ more. ⊎_elim (λ b. let l = b.loaded in no_host l.set_up.config (Some l.requests) l.journal l.set_up.command)
-      (λ c. fill-no_world seen.words dol given c.cards c.steps c.seed fill c.world) more)
+      (λ more. ⊎_elim (λ c. fill-no_world seen.words dol given c.cards c.steps c.seed fill c.world)
+      (λ d. pin-no_fill seen.words d.order dol given d.pin fill) more) more)
       short
 
   -- it is what the words spell that was filled
@@ -115,7 +122,8 @@ module _ (seen : Seen) (dol given : List ℕ) (fill : IsFill seen.words dol give
       (λ a. let l = a.lines in absurd (no_host l.set_up.config (Some l.requests) l.journal l.set_up.command))
       (λ more. ⊎_elim (λ b. absurd (no_host b.set_up.config None b.journal b.set_up.command))
       (λ more. ⊎_elim (λ c. absurd (fill-no_world seen.words dol given c.cards c.steps c.seed fill c.world))
-      (λ d. is ∙ ap fill_status (sym d.filled_is ∙ same d.dol d.given d.fill)) more) more)
+      (λ more. ⊎_elim (λ d. is ∙ ap fill_status (sym d.filled_is ∙ same d.dol d.given d.fill))
+      (λ e. absurd (pin-no_fill seen.words e.order dol given e.ordered.pin fill)) more) more) more)
       ends
 
   pub status-of : (status : ℕ) (ending : Ending) → status ≡ status_of ending → EndsBy seen ending
@@ -124,7 +132,7 @@ module _ (seen : Seen) (dol given : List ℕ) (fill : IsFill seen.words dol give
   status-of status Done is ends = inl (done status ends.0 is ends.1)
   status-of status (Stopped Usage) is ends = absurd (ends.1.no_command.no_fill dol given fill)
   status-of status (Stopped (Config part index)) is ends =
-      let c = ends.1 in absurd (no_host c.config c.requests c.journal c.command)
+      let c = ends.1 in absurd (no_config c.config c.command)
   status-of status (Stopped ReadFault) is ends = absurd (not-unread ends.0 ends.1)
   status-of status (Stopped (StoreFault shard)) is ends = absurd (not-unloaded (StoreFault shard) ends.0 ends.1)
   status-of status (Stopped (BadJournal shard line)) is ends =
@@ -136,6 +144,8 @@ module _ (seen : Seen) (dol given : List ℕ) (fill : IsFill seen.words dol give
       let l = ends.1.lines in absurd (no_host l.set_up.config (Some l.requests) l.journal l.set_up.command)
   status-of status (Stopped (StopsAtDol at)) is ends = inl (stopped status (StopsAtDol at) ends.0 is ends.1)
   status-of status (Stopped (StopsAtData at)) is ends = inl (stopped status (StopsAtData at) ends.0 is ends.1)
+  status-of status (Stopped NoKey) is ends =
+      let k = ends.1 in absurd (pin-no_fill seen.words k.order dol given k.ordered.pin fill)
   status-of status WriteFault is ends = inr (is, ends.rose)
 
 pub fills : (seen : Seen) (status : ℕ) (ending : Ending) → status ≡ status_of ending → EndsBy seen ending

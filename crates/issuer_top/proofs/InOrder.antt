@@ -17,7 +17,7 @@ use Rattle.config_read.specs.declared.fault.ConfigFault.{ConfigFault}
 use Rattle.config_read.specs.Configuration.{configured}
 use Rattle.answer_text.specs.declared.stop_line.Stop.{Stop}
 use Rattle.answer_text.specs.declared.stop_line.Stop.TheVariants.{Usage, Config, ReadFault, StoreFault, BadJournal}
-use Rattle.answer_text.specs.declared.stop_line.Stop.TheVariants.{BadOldJournal, NoMemory, TooLong, BadDol, BadData}
+use Rattle.answer_text.specs.declared.stop_line.Stop.TheVariants.{BadOldJournal, NoMemory, TooLong, BadDol, BadData, NoKey}
 use Rattle.shard_book.specs.declared.replay.LoadFault.{LoadFault}
 use Rattle.shard_book.specs.declared.replay.LoadFault.TheVariants.{OldLine, OldRecord, BadLine, BadRecord}
 use Rattle.shard_book.specs.Loading.{IsOutside}
@@ -32,9 +32,10 @@ use Rattle.desk_host.specs.Journals.{old_name, journal_name}
 use Rattle.desk_host.specs.Loading.{DeskFaults, IsBadAt, IsBadLine, IsBadOldLine}
 use Rattle.issuer_top.specs.Status.{status_of}
 use Rattle.issuer_top.specs.Endings.{EndsBy, IsReadFault, HasNoHost, IsInOrder, ServesInOrder, ShowsInOrder}
-use Rattle.issuer_top.specs.Endings.{PlaysInOrder, Completes}
+use Rattle.issuer_top.specs.Endings.{PlaysInOrder, Completes, ReadsConfig}
 use Rattle.command_line.proofs.CommandWords.{serve-gives, show-gives, serve-no_show, command-no_world}
 use Rattle.command_line.proofs.CommandWords.{fill-no_command, fill-no_world}
+use Rattle.command_line.proofs.PinOrders.{pin-no_command, pin-no_world}
 
 -- ---- what is said once
 
@@ -199,16 +200,22 @@ module _ (seen : Seen) (config journal : List ℕ) (requests : Option RequestFil
       load.failed) more)
       none.cause
 
+  -- the configuration that was read is that of the words
+  same-config : (other : List ℕ) → ReadsConfig seen.words other → other ≡ config
+  same-config other reads =
+      ⊎_elim
+      (λ host. sym (same-names seen.words config other requests host.0 journal host.1 command host.2).config_is)
+      (λ pin. absurd (pin-no_command seen.words pin.0 config requests journal pin.1 command))
+      reads
+
   -- where the request file isn't too long, the status is 0 or 7
   in-order : (status : ℕ) (ending : Ending) → status ≡ status_of ending → EndsBy seen ending
       → ((line : ℕ) → ending ≡ Stopped (TooLong line) → ⊥) → (status ≡ 0) ⊎ (status ≡ 7)
   in-order status Done is ends short = inl is
   in-order status (Stopped Usage) is ends short = absurd (ends.1.no_command.no_host config requests journal command)
   in-order status (Stopped (Config part index)) is ends short =
-      let same = same-names seen.words config ends.1.config requests ends.1.requests journal ends.1.journal command
-      ends.1.command in
-      let content = same-content seen.desk.tells config ends.1.config ends.1.content order.content (sym same.config_is)
-      order.config_held ends.1.held in
+      let content = same-content seen.desk.tells config ends.1.config ends.1.content order.content
+      (same-config ends.1.config ends.1.command) order.config_held ends.1.held in
       absurd (not-both ends.1.content order.content order.issuer ends.1.fault content order.says ends.1.broken)
   in-order status (Stopped ReadFault) is ends short = absurd (not-unread ends.0 ends.1)
   in-order status (Stopped (StoreFault shard)) is ends short = absurd (not-unstored shard ends.0 ends.1)
@@ -224,6 +231,8 @@ module _ (seen : Seen) (config journal : List ℕ) (requests : Option RequestFil
       let f = ends.1 in absurd (fill-no_command seen.words f.dol f.given config requests journal f.fill command)
   in-order status (Stopped (BadData at)) is ends short =
       let f = ends.1 in absurd (fill-no_command seen.words f.dol f.given config requests journal f.fill command)
+  in-order status (Stopped NoKey) is ends short =
+      let k = ends.1 in absurd (pin-no_command seen.words k.order config requests journal k.ordered.pin command)
   in-order status WriteFault is ends short = absurd (order.sink_stood ends.rose)
 
 -- ---- the three commands
@@ -264,10 +273,16 @@ module _ (seen : Seen) (order : PlaysInOrder seen) where
   no_host config requests journal command =
       command-no_world seen.words config requests journal order.cards order.steps order.seed command order.world
 
+  no_config : (config : List ℕ) → ReadsConfig seen.words config → ⊥
+  no_config config command =
+      ⊎_elim (λ host. no_host config host.0 host.1 host.2)
+      (λ pin. pin-no_world seen.words pin.0 order.cards order.steps order.seed pin.1 order.world)
+      command
+
   none-unread : (text : List ℕ) → IsReadFault seen text → ⊥
   none-unread text cannot =
-      ⊎_elim (λ a. no_host a.config a.requests a.journal a.command)
-      (λ more. ⊎_elim (λ b. no_host b.config b.requests b.journal b.command)
+      ⊎_elim (λ a. no_config a.config a.command)
+      (λ more. ⊎_elim (λ b. no_config b.config b.command)
       (λ more. ⊎_elim (λ c. let l = c.loaded in no_host l.set_up.config (Some l.requests) l.journal l.set_up.command)
       (λ d. let l = d.lines in no_host l.set_up.config (Some l.requests) l.journal l.set_up.command) more) more)
       cannot
@@ -281,7 +296,7 @@ module _ (seen : Seen) (order : PlaysInOrder seen) where
   plays-in_order status (Stopped Usage) is ends =
       absurd (ends.1.no_command.no_world order.cards order.steps order.seed order.world)
   plays-in_order status (Stopped (Config part index)) is ends =
-      let c = ends.1 in absurd (no_host c.config c.requests c.journal c.command)
+      let c = ends.1 in absurd (no_config c.config c.command)
   plays-in_order status (Stopped ReadFault) is ends = absurd (none-unread ends.0 ends.1)
   plays-in_order status (Stopped (StoreFault shard)) is ends = absurd (none-unloaded (StoreFault shard) ends.0 ends.1)
   plays-in_order status (Stopped (BadJournal shard line)) is ends =
@@ -297,6 +312,9 @@ module _ (seen : Seen) (order : PlaysInOrder seen) where
   plays-in_order status (Stopped (BadData at)) is ends =
       let f = ends.1 in
       absurd (fill-no_world seen.words f.dol f.given order.cards order.steps order.seed f.fill order.world)
+  plays-in_order status (Stopped NoKey) is ends =
+      let k = ends.1 in
+      absurd (pin-no_world seen.words k.order order.cards order.steps order.seed k.ordered.pin order.world)
   plays-in_order status WriteFault is ends = absurd (order.sink_stood ends.rose)
 
 pub completes : (seen : Seen) (status : ℕ) (ending : Ending) → status ≡ status_of ending → EndsBy seen ending

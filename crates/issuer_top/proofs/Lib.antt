@@ -3,3 +3,4 @@ pub mod EndingSteps
 pub mod Statuses
 pub mod InOrder
 mod FillingSteps
+mod PinSteps

@@ -18,11 +18,11 @@ use Rattle.answer_text.specs.AnswerText.{printed, bytes_text}
 use Rattle.answer_text.specs.StopText.{stop_text}
 use Rattle.answer_text.specs.declared.stop_line.Stop.{Stop}
 use Rattle.answer_text.specs.declared.stop_line.Stop.TheVariants.{Usage, Config, ReadFault, StoreFault, BadJournal}
-use Rattle.answer_text.specs.declared.stop_line.Stop.TheVariants.{BadOldJournal, NoMemory, TooLong, BadDol, BadData}
+use Rattle.answer_text.specs.declared.stop_line.Stop.TheVariants.{BadOldJournal, NoMemory, TooLong, BadDol, BadData, NoKey}
 use Rattle.shard_book.specs.Loading.{IsOldText}
 use Rattle.shard_book.specs.Shards.{IsTextOf}
 use Rattle.one_caller.specs.Books.{Book}
-use Rattle.command_line.specs.Command.{RequestFile, IsServe, IsShow, IsWorld, IsFill, IsCommand, IsNoCommand}
+use Rattle.command_line.specs.Command.{RequestFile, PinOrder, IsServe, IsShow, IsWorld, IsFill, IsPin, IsCommand, IsNoCommand}
 use Rattle.line_serving.specs.Answers.{AreAnsweredBy, AnswersNone}
 use Rattle.desk_host.specs.SeenStores.{SeenStore, no_journals}
 use Rattle.issuer_top.specs.Seen.{Seen, SeenInput}
@@ -37,6 +37,7 @@ use Rattle.desk_host.specs.Shown.{shown_text}
 use Rattle.issuer_top.specs.Status.{status_of}
 use Rattle.issuer_top.specs.Played.{IsWorldText}
 use Rattle.issuer_top.specs.Filling.{filling}
+use Rattle.issuer_top.specs.PinChanges.{SaysIssuer, changing}
 use Rattle.issuer_top.specs.declared.ending.Ending.{Ending}
 use Rattle.issuer_top.specs.declared.ending.Ending.TheVariants.{Done, Stopped, WriteFault}
 
@@ -64,6 +65,12 @@ pub record FailsToOpen (seen : Seen) (name : List ℕ) (config : Bool) : Type 0 
   pub requests_is : is_some seen.requests ≡ false
   pub rose : Rose seen.desk.faults_before seen.desk.faults_after
   pub call_is : seen.desk.last_fault ≡ Some (record { call = Read; name = name })
+
+-- the words are a command that reads the configuration of this name: one over journals, or the one to change a PIN
+abbrev pub ReadsConfig : List (List ℕ) → List ℕ → Type 0
+ReadsConfig words config =
+    ((requests : Option RequestFile) × (journal : List ℕ) × IsCommand words config requests journal)
+    ⊎ ((order : PinOrder) × IsPin words order × (order.config ≡ config))
 
 -- the words are a command, with this request file where there is one and this name of journals, and the configuration
 -- says this issuer
@@ -152,9 +159,26 @@ pub record IsFilled (seen : Seen) (text : List ℕ) : Type 0 where
   pub filled_is : filling dol given ≡ Ok bytes
   pub text_is : text ≡ bytes_text bytes
 
--- status 0: all lines of the request file were answered, all cards were shown, a world was played, or a DOL was filled
+-- the words are the command to change a PIN, with this order, and the configuration says this issuer; nothing else was
+-- opened
+pub record IsOrdered (seen : Seen) (order : PinOrder) (issuer : Setup) : Type 0 where
+  pub pin : IsPin seen.words order
+  pub opened : OpenedConfigOnly seen
+  pub none_opened : seen.journals ≡ no_journals
+  pub said : SaysIssuer seen order.config issuer
+
+-- the line that queues a change of a PIN is the text
+pub record IsChanged (seen : Seen) (text : List ℕ) : Type 0 where
+  pub order : PinOrder
+  pub issuer : Setup
+  pub ordered : IsOrdered seen order issuer
+  pub text_is : changing issuer order ≡ Ok text
+
+-- status 0: all lines of the request file were answered, all cards were shown, a world was played, a DOL was filled, or
+-- a change of a PIN was written
 abbrev pub IsDone : Seen → List ℕ → Type 0
-IsDone seen text = IsServed seen text ⊎ (IsShown seen text ⊎ (IsPlayed seen text ⊎ IsFilled seen text))
+IsDone seen text =
+    IsServed seen text ⊎ (IsShown seen text ⊎ (IsPlayed seen text ⊎ (IsFilled seen text ⊎ IsChanged seen text)))
 
 -- ---- the other statuses
 
@@ -168,11 +192,9 @@ pub record IsUsage (seen : Seen) (text : List ℕ) : Type 0 where
 -- status 2: the configuration is broken, and its place is told; no journal was opened, nor the request file
 pub record IsConfig (stop : Stop) (seen : Seen) (text : List ℕ) : Type 0 where
   pub config : List ℕ
-  pub requests : Option RequestFile
-  pub journal : List ℕ
   pub content : List ℕ
   pub fault : ConfigFault
-  pub command : IsCommand seen.words config requests journal
+  pub command : ReadsConfig seen.words config
   pub opened : OpenedConfigOnly seen
   pub none_opened : seen.journals ≡ no_journals
   pub held : Tells (seen.desk.tells config) (Some content)
@@ -183,9 +205,7 @@ pub record IsConfig (stop : Stop) (seen : Seen) (text : List ℕ) : Type 0 where
 -- status 3: the desk failed at the configuration's name
 pub record CannotOpenConfig (seen : Seen) (text : List ℕ) : Type 0 where
   pub config : List ℕ
-  pub requests : Option RequestFile
-  pub journal : List ℕ
-  pub command : IsCommand seen.words config requests journal
+  pub command : ReadsConfig seen.words config
   pub fails : FailsToOpen seen config false
   pub none_opened : seen.journals ≡ no_journals
   pub last : text ≡ stop_text ReadFault
@@ -193,9 +213,7 @@ pub record CannotOpenConfig (seen : Seen) (text : List ℕ) : Type 0 where
 -- status 3: the configuration failed while it was read
 pub record CannotReadConfig (seen : Seen) (text : List ℕ) : Type 0 where
   pub config : List ℕ
-  pub requests : Option RequestFile
-  pub journal : List ℕ
-  pub command : IsCommand seen.words config requests journal
+  pub command : ReadsConfig seen.words config
   pub opened : OpenedConfigOnly seen
   pub failed : IsSomeAnd seen.config (λ input. 0 < input.faults)
   pub none_opened : seen.journals ≡ no_journals
@@ -265,9 +283,18 @@ pub record CannotPlay (seen : Seen) (text : List ℕ) : Type 0 where
   pub none_opened : seen.journals ≡ no_journals
   pub last : text ≡ stop_text NoMemory
 
+-- status 7: no memory was left for the configuration of a change of a PIN; nothing else was opened
+pub record CannotConfigure (seen : Seen) (text : List ℕ) : Type 0 where
+  pub order : PinOrder
+  pub pin : IsPin seen.words order
+  pub opened : OpenedNoInput seen ⊎ OpenedConfigOnly seen
+  pub none_opened : seen.journals ≡ no_journals
+  pub last : text ≡ stop_text NoMemory
+
 -- status 7: no memory was left
 abbrev pub IsNoMemory : Seen → List ℕ → Type 0
-IsNoMemory seen text = LacksMemory seen text ⊎ (CannotServe seen text ⊎ CannotPlay seen text)
+IsNoMemory seen text =
+    LacksMemory seen text ⊎ (CannotServe seen text ⊎ (CannotPlay seen text ⊎ CannotConfigure seen text))
 
 -- status 8: a byte of the request file past a limit was read, in the line of this number, and the lines before were
 -- answered
@@ -287,6 +314,14 @@ pub record CannotFill (stop : Stop) (seen : Seen) (text : List ℕ) : Type 0 whe
   pub cause : filling dol given ≡ Err stop
   pub last : text ≡ stop_text stop
 
+-- status 12: no card has the order's numbers, no key set its index, or that set no master key for confidentiality
+pub record HasNoKey (seen : Seen) (text : List ℕ) : Type 0 where
+  pub order : PinOrder
+  pub issuer : Setup
+  pub ordered : IsOrdered seen order issuer
+  pub cause : changing issuer order ≡ Err NoKey
+  pub last : text ≡ stop_text NoKey
+
 -- a run that stops so has this cause, and this text was due
 abbrev pub Stops : Stop → Seen → List ℕ → Type 0
 Stops Usage seen text = IsUsage seen text
@@ -299,6 +334,7 @@ Stops NoMemory seen text = IsNoMemory seen text
 Stops (TooLong number) seen text = IsTooLong number seen text
 Stops (BadDol at) seen text = CannotFill (BadDol at) seen text
 Stops (BadData at) seen text = CannotFill (BadData at) seen text
+Stops NoKey seen text = HasNoKey seen text
 
 -- the sink took all of a text of this kind, and nothing else
 abbrev pub Writes : (Seen → List ℕ → Type 0) → Seen → Type 0
@@ -310,11 +346,12 @@ pub record IsBegun (seen : Seen) (text : List ℕ) : Type 0 where
   pub which : AreFirstLines lines.file lines.read lines.asked
 
 -- status 4: the texts of which the sink may have taken a prefix alone: that of a run that stops, the answers so far,
--- the cards, what a world came to, or a filled DOL
+-- the cards, what a world came to, a filled DOL, or a change of a PIN
 abbrev pub IsDue : Seen → List ℕ → Type 0
 IsDue seen text =
     ((stop : Stop) × Stops stop seen text)
-    ⊎ (IsBegun seen text ⊎ (IsShown seen text ⊎ (IsPlayed seen text ⊎ IsFilled seen text)))
+    ⊎ (IsBegun seen text
+    ⊎ (IsShown seen text ⊎ (IsPlayed seen text ⊎ (IsFilled seen text ⊎ IsChanged seen text))))
 
 -- status 4: the sink failed, and took a prefix of a text that was due, but not all of it
 pub record IsWriteFault (seen : Seen) : Type 0 where

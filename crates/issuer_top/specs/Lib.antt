@@ -6,3 +6,4 @@ pub mod Endings
 pub mod Stopping
 pub mod Played
 pub mod Filling
+pub mod PinChanges

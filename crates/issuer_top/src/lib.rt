@@ -3,6 +3,7 @@
 
 mod ending;
 mod filling;
+mod pin;
 mod play;
 mod stopping;
 mod top_call;

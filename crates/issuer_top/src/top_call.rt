@@ -11,6 +11,7 @@ ghost use Rattle.command_line.specs.Pairs.{request_file};
 ghost use Rattle.issuer_top.specs.Endings.{IsSetUp, Ends, Completes};
 ghost use Rattle.issuer_top.specs.Filling.{Fills};
 ghost use Rattle.issuer_top.specs.Opening.{stop_of};
+ghost use Rattle.issuer_top.specs.PinChanges.{Pins};
 ghost use Rattle.issuer_top.specs.Seen.{IsSameDesk, seen_by};
 ghost use Rattle.issuer_top.specs.Status.{status_of};
 ghost use Rattle.issuer_top.specs.Stopping.{EndsServing, GivesStop};
@@ -31,10 +32,11 @@ use std::thread::Threads;
 
 /// What a run gives back: its status, the desk, and all that was opened.
 pub struct Ended<D: Desk> {
-    /// 0: all lines were answered, all cards shown, a world played, or a DOL filled; 1: the words are no command; 2: the
-    /// configuration is none; 3: an input failed; 4: the sink failed; 5: a journal, old or new, can't be opened, or its
-    /// store failed while it was loaded; 6: a line of a journal is bad, or of an old one; 7: no memory was left; 8: the
-    /// request file goes past a limit; 9: the DOL is broken; 10: the data are.
+    /// 0: all lines were answered, all cards shown, a world played, a DOL filled, or a change of a PIN written; 1: the
+    /// words are no command; 2: the configuration is none; 3: an input failed; 4: the sink failed; 5: a journal, old or
+    /// new, can't be opened, or its store failed while it was loaded; 6: a line of a journal is bad, or of an old one;
+    /// 7: no memory was left; 8: the request file goes past a limit; 9: the DOL is broken; 10: the data are; 12: the card
+    /// or its key for a change of a PIN is missing.
     pub status: u8,
     /// The desk that was given.
     pub desk: D,
@@ -49,8 +51,8 @@ pub struct Ended<D: Desk> {
 }
 
 /// Does all that the program does: reads the words and the configuration, loads the journals, and answers each line of
-/// the request file, by one caller or by several at once, or shows all cards; or plays a world of its own, or fills a
-/// DOL.
+/// the request file, by one caller or by several at once, or shows all cards; or plays a world of its own, fills a DOL,
+/// or writes a change of a PIN.
 ///
 /// The gate is told of each request line by its number, from 1: before it is answered and once it is. It may wait for
 /// the gate.
@@ -74,20 +76,25 @@ where
     // A DOL is filled, or its first error has its status, the DOL's before the data's; or the sink failed.
     ensures fills { Fills result.status
         (seen_by D.Desk D.Input.Source D.Journal.Store W.Sink words.now desk result out.old out.new) }
+
+    // A change of a PIN is written, or its card or its key is missing, looked for after the configuration; or the
+    // configuration gave no issuer, or the sink failed.
+    ensures pins { Pins result.status
+        (seen_by D.Desk D.Input.Source D.Journal.Store W.Sink words.now desk result out.old out.new) }
 {
     Run { rt, gate, desk }.do_task(words, out)
 }
 
 /// What a run works with: the threads and the gate of its lines, and the desk.
-struct Run<'a, R, D, G> {
-    rt: &'a R,
-    gate: &'a G,
-    desk: D,
+pub(crate) struct Run<'a, R, D, G> {
+    pub(crate) rt: &'a R,
+    pub(crate) gate: &'a G,
+    pub(crate) desk: D,
 }
 
 impl<R, D: Desk, G> Run<'_, R, D, G> {
     /// What the run gives back where it ended so and opened this.
-    fn ended(
+    pub(crate) fn ended(
         self,
         ending: Ending,
         config: Option<D::Input>,
@@ -120,7 +127,7 @@ impl<R, D: Desk, G> Run<'_, R, D, G> {
     }
 
     /// Stops the run before its request file is opened: writes the last line, and gives back what was opened.
-    fn stop<W: Sink>(
+    pub(crate) fn stop<W: Sink>(
         self,
         stop: Stop,
         config: Option<D::Input>,
@@ -213,6 +220,7 @@ where
                 let ending = fill_dol(&texts, out);
                 self.ended(ending, None, None, Journals::none(alloc))
             }
+            Some(Task::Pin(order)) => self.change_pin(order, out),
             None => self.stop(Stop::Usage, None, Journals::none(alloc), out),
         }
     }
@@ -316,7 +324,7 @@ where
 }
 
 /// Why a run stops where the desk gives no input.
-fn stop_of(fault: DeskFault) -> Stop
+pub(crate) fn stop_of(fault: DeskFault) -> Stop
     ensures { result ≡ stop_of fault }
 {
     match fault {
