@@ -12,6 +12,8 @@ mod derived_keys;
 #[cfg(test)]
 mod many_lanes;
 #[cfg(test)]
+mod pin_changes;
+#[cfg(test)]
 mod response_cryptograms;
 #[cfg(test)]
 mod sealed_commands;

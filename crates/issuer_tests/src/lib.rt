@@ -14,6 +14,8 @@ mod own_devices;
 #[cfg(test)]
 mod pieces;
 #[cfg(test)]
+mod pin_changes;
+#[cfg(test)]
 mod running;
 #[cfg(test)]
 mod samples;

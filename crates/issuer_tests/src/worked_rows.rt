@@ -11,7 +11,7 @@ use std::test::Fail;
 use std::thread::Threads;
 
 /// A row without request lines, over an empty journal.
-const SERVED: Run = Run {
+pub(crate) const SERVED: Run = Run {
     name: "",
     words: SERVE,
     config: CONFIG,
@@ -951,7 +951,7 @@ static PIN_LENGTHS: [Run; 9] = [
     },
 ];
 
-fn pin_lengths() -> &'static [Run] {
+pub(crate) fn pin_lengths() -> &'static [Run] {
     &PIN_LENGTHS
 }
 
