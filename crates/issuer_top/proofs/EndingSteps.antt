@@ -1,8 +1,8 @@
 -- How a run ends, from what its parts did.
 use Rattle.std.proofs.Common.{◌≡◌, ◌⊎◌, ℕ, ◌<◌, ◌≤◌, true, false, List, [], ◌++◌, length, Option, None, Some, Err, Ok}
 use Rattle.std.proofs.Common.{inl, inr, ⊎_elim}
-use Rattle.std.proofs.Common.{refl, sym, subst, ap, ◌∙◌, arith}
-use Rattle.std.specs.Prelude.{is_some, IsSomeAnd, Result, is_err, slice_get}
+use Rattle.std.proofs.Common.{refl, sym, subst, ◌∙◌, arith}
+use Rattle.std.specs.Prelude.{is_some, IsSomeAnd, Result, is_err}
 use Rattle.std.specs.Io.KnownBytes.{Appends}
 use Rattle.std.proofs.KnownBytes.{Appends-nil, Appends-trans}
 use Rattle.issuer_base.specs.OutsideFaults.{Rose, CountsFaults}
@@ -25,7 +25,7 @@ use Rattle.issuer_top.specs.declared.ending.Ending.{Ending}
 use Rattle.line_serving.specs.declared.serve.Served.{Served}
 use Rattle.line_serving.specs.declared.serve.Served.TheVariants.{All, ReadFault as ReadStopped, WriteFault as SinkFault}
 use Rattle.line_serving.specs.declared.serve.Served.TheVariants.{TooLong as LongStopped}
-use Rattle.desk_host.specs.SeenStores.{SeenJournals, SeenStore, Logged, no_journals}
+use Rattle.desk_host.specs.SeenStores.{SeenJournals, Logged, no_journals}
 use Rattle.issuer_top.specs.Seen.{Seen, SeenInput}
 use Rattle.line_serving.specs.Answered.{AreAllLines, AreWholeLines, AreLinesBefore, AreFirstLines}
 use Rattle.line_serving.specs.Hosts.{LeavesAnswered, LeavesLoaded}

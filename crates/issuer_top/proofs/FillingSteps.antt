@@ -1,5 +1,5 @@
 -- How a run ends that fills a DOL.
-use Rattle.std.proofs.Common.{◌≡◌, ℕ, ◌⊎◌, List, [], Option, None, Some, Ok, Err, inl, inr, ⊎_elim, refl, sym, ap, ◌∙◌}
+use Rattle.std.proofs.Common.{◌≡◌, ℕ, ◌⊎◌, List, Option, None, Some, Ok, Err, inl, inr, ⊎_elim, refl, sym, ap, ◌∙◌}
 use Rattle.std.specs.Prelude.{Result}
 use Rattle.arrayvec.specs.ArrayVec.{ArrayVec}
 use Rattle.issuer_base.specs.OutsideFaults.{Rose}

@@ -5,7 +5,7 @@ use Rattle.std.proofs.Common.{refl, sym, subst, ap, ◌∙◌, arith}
 use Rattle.std.proofs.lemmas.List.{length-append, take-append-le}
 use Rattle.std.specs.List.{flat_map}
 use Rattle.std.specs.Option.{option_map}
-use Rattle.std.specs.Prelude.{IsSomeAnd, IfSome, codes}
+use Rattle.std.specs.Prelude.{IsSomeAnd, codes}
 use Rattle.issuer_base.specs.Tells.{Tells}
 use Rattle.line_reader.specs.declared.limits.TheConstants.{MAX_BYTES}
 use Rattle.line_reader.specs.Lines.{lines, ended, IsUnbroken}
@@ -19,7 +19,6 @@ use Rattle.answer_text.specs.declared.stop_line.Stop.{Stop}
 use Rattle.answer_text.specs.declared.stop_line.Stop.TheVariants.{Usage, Config, ReadFault, StoreFault, BadJournal}
 use Rattle.answer_text.specs.declared.stop_line.Stop.TheVariants.{BadOldJournal, NoMemory, TooLong, BadDol, BadData, NoKey}
 use Rattle.shard_book.specs.declared.replay.LoadFault.{LoadFault}
-use Rattle.shard_book.specs.declared.replay.LoadFault.TheVariants.{OldLine, OldRecord, BadLine, BadRecord}
 use Rattle.shard_book.specs.Loading.{IsOutside}
 use Rattle.shard_book.proofs.Exactly.{stops-outside}
 use Rattle.issuer_top.specs.declared.ending.Ending.{Ending}
@@ -32,10 +31,12 @@ use Rattle.desk_host.specs.Journals.{old_name, journal_name}
 use Rattle.desk_host.specs.Loading.{DeskFaults, IsBadAt, IsBadLine, IsBadOldLine}
 use Rattle.issuer_top.specs.Status.{status_of}
 use Rattle.issuer_top.specs.Endings.{EndsBy, IsReadFault, HasNoHost, IsInOrder, ServesInOrder, ShowsInOrder}
-use Rattle.issuer_top.specs.Endings.{PlaysInOrder, Completes, ReadsConfig}
+use Rattle.issuer_top.specs.Endings.{PlaysInOrder, ChangesInOrder, Completes, ReadsConfig, HasNoKey}
 use Rattle.command_line.proofs.CommandWords.{serve-gives, show-gives, serve-no_show, command-no_world}
 use Rattle.command_line.proofs.CommandWords.{fill-no_command, fill-no_world}
-use Rattle.command_line.proofs.PinOrders.{pin-no_command, pin-no_world}
+use Rattle.command_line.proofs.PinOrders.{one-order, pin-no_command, pin-no_world, pin-no_fill}
+use Rattle.command_line.specs.Command.{PinOrder}
+use Rattle.issuer_top.specs.PinChanges.{changing}
 
 -- ---- what is said once
 
@@ -317,9 +318,73 @@ module _ (seen : Seen) (order : PlaysInOrder seen) where
       absurd (pin-no_world seen.words k.order order.cards order.steps order.seed k.ordered.pin order.world)
   plays-in_order status WriteFault is ends = absurd (order.sink_stood ends.rose)
 
+module _ (seen : Seen) (order : ChangesInOrder seen) where
+  -- the words are no command over journals
+  not-over_journals : (config : List ℕ) (requests : Option RequestFile) (journal : List ℕ)
+      → IsCommand seen.words config requests journal → ⊥
+  not-over_journals config requests journal command =
+      pin-no_command seen.words order.order config requests journal order.pin command
+
+  none-failed : (text : List ℕ) → IsReadFault seen text → ⊥
+  none-failed text cannot =
+      ⊎_elim (λ a. order.desk_stood a.fails.rose)
+      (λ more. ⊎_elim (λ b. order.config_stood b.failed)
+      (λ more. ⊎_elim
+      (λ c. let l = c.loaded in not-over_journals l.set_up.config (Some l.requests) l.journal l.set_up.command)
+      (λ d. let l = d.lines in not-over_journals l.set_up.config (Some l.requests) l.journal l.set_up.command) more) more)
+      cannot
+
+  none-loaded : (stop : Stop) (text : List ℕ) → HasNoHost stop seen text → ⊥
+  none-loaded stop text none = not-over_journals none.set_up.config none.requests none.journal none.set_up.command
+
+  -- the configuration that was read is that of the order
+  ordered-config : (other : List ℕ) → ReadsConfig seen.words other → other ≡ order.order.config
+  ordered-config other reads =
+      ⊎_elim (λ host. absurd (not-over_journals other host.0 host.1 host.2))
+      (λ pin. sym pin.2 ∙ ap (λ (o : PinOrder). o.config) (one-order seen.words pin.0 order.order pin.1 order.pin))
+      reads
+
+  -- and so the card and the key were there
+  not-keyless : (text : List ℕ) → HasNoKey seen text → ⊥
+  not-keyless text none =
+      let same = one-order seen.words none.order order.order none.ordered.pin order.pin in
+      let content = same-content seen.desk.tells order.order.config none.order.config none.ordered.said.content order.content
+      (ap (λ (o : PinOrder). o.config) same) order.config_held none.ordered.said.held in
+      let issuer = one-issuer none.ordered.said.content order.content order.issuer none.issuer content order.says
+      none.ordered.said.says in
+      let e : Err NoKey ≡ Ok order.line =
+      sym none.cause ∙ ap (λ (i : Setup). changing i none.order) issuer ∙ ap (changing order.issuer) same ∙ order.has_key in
+      cc
+
+  changes-in_order : (status : ℕ) (ending : Ending) → status ≡ status_of ending → EndsBy seen ending
+      → (status ≡ 0) ⊎ (status ≡ 7)
+  changes-in_order status Done is ends = inl is
+  changes-in_order status (Stopped Usage) is ends = absurd (ends.1.no_command.no_pin order.order order.pin)
+  changes-in_order status (Stopped (Config part index)) is ends =
+      let content = same-content seen.desk.tells order.order.config ends.1.config ends.1.content order.content
+      (ordered-config ends.1.config ends.1.command) order.config_held ends.1.held in
+      absurd (not-both ends.1.content order.content order.issuer ends.1.fault content order.says ends.1.broken)
+  changes-in_order status (Stopped ReadFault) is ends = absurd (none-failed ends.0 ends.1)
+  changes-in_order status (Stopped (StoreFault shard)) is ends = absurd (none-loaded (StoreFault shard) ends.0 ends.1)
+  changes-in_order status (Stopped (BadJournal shard line)) is ends =
+      absurd (none-loaded (BadJournal shard line) ends.0 ends.1)
+  changes-in_order status (Stopped (BadOldJournal shard line)) is ends =
+      absurd (none-loaded (BadOldJournal shard line) ends.0 ends.1)
+  changes-in_order status (Stopped NoMemory) is ends = inr is
+  changes-in_order status (Stopped (TooLong line)) is ends =
+      let l = ends.1.lines in absurd (not-over_journals l.set_up.config (Some l.requests) l.journal l.set_up.command)
+  changes-in_order status (Stopped (BadDol at)) is ends =
+      let f = ends.1 in absurd (pin-no_fill seen.words order.order f.dol f.given order.pin f.fill)
+  changes-in_order status (Stopped (BadData at)) is ends =
+      let f = ends.1 in absurd (pin-no_fill seen.words order.order f.dol f.given order.pin f.fill)
+  changes-in_order status (Stopped NoKey) is ends = absurd (not-keyless ends.0 ends.1)
+  changes-in_order status WriteFault is ends = absurd (order.sink_stood ends.rose)
+
 pub completes : (seen : Seen) (status : ℕ) (ending : Ending) → status ≡ status_of ending → EndsBy seen ending
     → Completes status seen
 completes seen status ending is ends order =
     ⊎_elim (serves-in_order seen status ending is ends)
-    (⊎_elim (shows-in_order seen status ending is ends) (λ plays. plays-in_order seen plays status ending is ends))
+    (⊎_elim (shows-in_order seen status ending is ends)
+    (⊎_elim (λ plays. plays-in_order seen plays status ending is ends)
+    (λ changes. changes-in_order seen changes status ending is ends)))
     order

@@ -1,5 +1,5 @@
 -- How a run may end: for each ending a relation of what the run saw and of the text that was due at the sink.
-use Rattle.std.specs.Prelude.{◌≡◌, ℕ, ◌<◌, ◌⊎◌, Bool, true, false, List, [], length, ◌++◌, slice_get, Option, Some}
+use Rattle.std.specs.Prelude.{◌≡◌, ℕ, ◌<◌, ◌⊎◌, Bool, true, false, List, length, ◌++◌, slice_get, Option, Some}
 use Rattle.std.specs.Prelude.{None, is_some, IsSomeAnd, Ok, Err}
 use Rattle.std.specs.List.{flat_map}
 use Rattle.std.specs.Io.KnownBytes.{Appends}
@@ -429,6 +429,23 @@ pub record PlaysInOrder (seen : Seen) : Type 0 where
   pub world : IsWorld seen.words cards steps seed
   pub sink_stood : Rose seen.sink.faults_before seen.sink.faults_after → ⊥
 
+-- the words are the command to change a PIN, the desk tells of an issuer that has the card and the key, and no count
+-- rose
+pub record ChangesInOrder (seen : Seen) : Type 0 where
+  pub order : PinOrder
+  pub content : List ℕ
+  pub issuer : Setup
+  pub line : List ℕ
+  pub pin : IsPin seen.words order
+  pub config_held : seen.desk.tells order.config ≡ Some (Some content)
+  pub says : configured content ≡ Ok issuer
+  pub has_key : changing issuer order ≡ Ok line
+  pub desk_stood : Rose seen.desk.faults_before seen.desk.faults_after → ⊥
+  pub config_stood : IsSomeAnd seen.config (λ input. 0 < input.faults) → ⊥
+  pub sink_stood : Rose seen.sink.faults_before seen.sink.faults_after → ⊥
+
 -- where all is in order and no count rose, all is done, or memory was wanting
 abbrev pub Completes : ℕ → Seen → Type 0
-Completes status seen = (ServesInOrder seen ⊎ (ShowsInOrder seen ⊎ PlaysInOrder seen)) → (status ≡ 0) ⊎ (status ≡ 7)
+Completes status seen =
+    (ServesInOrder seen ⊎ (ShowsInOrder seen ⊎ (PlaysInOrder seen ⊎ ChangesInOrder seen)))
+    → (status ≡ 0) ⊎ (status ≡ 7)
