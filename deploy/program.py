@@ -28,7 +28,7 @@ RUN_LINES = 1_048_576
 RUN_BYTES = 2_147_483_648
 
 OK, WORDS, CONFIGURATION, UNREADABLE, OUTPUT, JOURNAL_CLOSED, JOURNAL_WRONG, MEMORY, TOO_LONG = range(9)
-NO_KEY = 12
+BAD_DOL, BAD_DATA, NO_KEY = 9, 10, 12
 NO_PROGRAM = 70
 # issuer-run's own refusal, and the bridge's.
 REFUSED = 78
@@ -42,6 +42,8 @@ MEANINGS = {
     JOURNAL_WRONG: "a line of a journal is no valid record under this configuration: see `A journal that doesn't load` in docs/FORMATS.md",
     MEMORY: "out of memory",
     TOO_LONG: "the run reached its limit of lines or bytes",
+    BAD_DOL: "the DOL is invalid",
+    BAD_DATA: "the data that the DOL is filled from are invalid",
     NO_KEY: "the card, the key set or its `smc` is missing for a PIN change",
     NO_PROGRAM: "there is no proved program to run",
     REFUSED: "the start was refused",
