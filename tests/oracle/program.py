@@ -5,7 +5,7 @@ from configuration import LIMIT, Fault, read_configuration
 from dol import BadData, BadDol, fill_dol
 from host import Host
 from journals import BadLine, BadOldLine, Journals
-from pin import pin_command
+from pin import pin_line
 from world import play
 
 LINES = 1_048_576
@@ -83,15 +83,15 @@ def load_issuer(options):
         raise Stop(2, *fault.args) from fault
 
 
-def pin_line(options):
-    """The line that queues a PIN change."""
+def pin_text(options):
+    """The text of the line that queues a PIN change."""
     pan, psn = matching(options, "--pan", "[0-9]{8,19}"), matching(options, "--psn", "[0-9]{2}")
     dki, salt = (bytes.fromhex(matching(options, f"--{name}", f"[0-9A-Fa-f]{{{digits}}}")) for name, digits in (("dki", 2), ("salt", 16)))
     digits = matching(options, "--pin", "[0-9]{4,12}")
-    master = load_issuer(options).confidentiality_of(pan, psn, dki[0])
-    if master is None:
+    issuer = load_issuer(options)
+    if issuer.confidentiality_of(pan, psn, dki[0]) is None:
         raise Stop(12)
-    return f"Q {pan} {psn} {pin_command(master, salt, digits).hex()}\n"
+    return f"{pin_line(issuer, pan, psn, dki[0], salt, digits)}\n"
 
 
 def load(options, journals):
@@ -139,7 +139,7 @@ def run_command(words, out):
         out.write(filled_line(spelled(options, "--dol"), spelled(options, "--data")).encode())
         return
     if command == "pin":
-        out.write(pin_line(options).encode())
+        out.write(pin_text(options).encode())
         return
     number(options, "--callers", 1, 16, "1")
     journals = Journals()
