@@ -45,12 +45,14 @@ def name_of(card):
 
 
 def folded(key_set):
-    """A key set with its digits in one case."""
-    return {name: value.lower() if name in ("ac", "smi", "aes_ac", "aes_smi") else value for name, value in key_set.items()}
+    """What records depend on in a key set, with its digits in one case. None depends on the key for confidentiality."""
+    kept = {name: value for name, value in key_set.items() if name != "smc"}
+    return {name: value.lower() if name in ("ac", "smi", "aes_ac", "aes_smi") else value for name, value in kept.items()}
 
 
 def check_keys(old, new):
-    """Refuses a key set that is gone or changed: the records made with it would be none. It may get keys for AES."""
+    """Refuses a key set that is gone or changed: the records made with it would be none. It may get keys for AES, and `smc` may
+    come, change and go."""
     now = {it["dki"]: folded(it) for it in new}
     for it in old:
         if it["dki"] not in now:
