@@ -22,7 +22,8 @@ use Rattle.chip_request.specs.Lines.{digits_text}
 use Rattle.command_line.specs.declared.words.Command.{Command}
 use Rattle.command_line.specs.declared.words.Command.TheVariants.{Serve, Show, World, Fill, Pin}
 use Rattle.command_line.specs.Command.{IsValue, Pair, words_of, values_of, is_one_of, IsCall, IsSize, serve_options}
-use Rattle.command_line.specs.Command.{callers_option, show_options, world_options, fill_options, pin_options, SpellsBytes}
+use Rattle.command_line.specs.Command.{callers_option, show_options, world_options, fill_options, pin_options}
+use Rattle.command_line.specs.Command.{SpellsBytes}
 use Rattle.command_line.specs.Command.{RequestFile, IsGroup, IsServe, IsShow, IsWorld, IsFill, IsCommand}
 use Rattle.command_line.specs.Command.{PinOrder, IsPin, IsNoCommand}
 use Rattle.command_line.specs.Pairs.{is_value, first_word, pairs_of, is_pair, are_pairs, only, values_in, value_in}
@@ -539,7 +540,8 @@ pub pin-from : (words : List (List ℕ)) (config pan psn dki salt pin : List ℕ
     → IsCall (codes "pin") pin_options words (config ∷ pan ∷ psn ∷ dki ∷ salt ∷ pin ∷ [])
 pin-from words config pan psn dki salt pin are a b c d e f =
     call-from (codes "pin") pin_options words (config ∷ pan ∷ psn ∷ dki ∷ salt ∷ pin ∷ []) are
-    (six-values words (codes "--config") (codes "--pan") (codes "--psn") (codes "--dki") (codes "--salt") (codes "--pin")
+    (six-values words (codes "--config") (codes "--pan") (codes "--psn") (codes "--dki") (codes "--salt")
+    (codes "--pin")
     config pan psn dki salt pin a b c d e f)
 
 pub record PinGives (words : List (List ℕ)) (order : PinOrder) (dki_word salt_word : List ℕ) : Type 0 where

@@ -22,7 +22,8 @@ use Rattle.command_line.specs.Command.{SpellsJust, PinOrder, IsPin, RequestFile,
 use Rattle.command_line.specs.declared.pin_words.PinWords.{PinWords}
 use Rattle.command_line.specs.Pairs.{AreWordsOf, order_of}
 use Rattle.command_line.proofs.CommandWords.{asks-words, one-command, pin-from, pin-gives}
-use Rattle.command_line.specs.PinWords.{◌>>=◌, digits_in, pan_in, pin_in, psn_in, bytes_in, byte_in, only_byte, order_in}
+use Rattle.command_line.specs.PinWords.{◌>>=◌, digits_in, pan_in, pin_in, psn_in, bytes_in, byte_in, only_byte}
+use Rattle.command_line.specs.PinWords.{order_in}
 
 -- the character of a digit
 digit-text : (digit : ℕ) → digit ≤ 9 → (is_ascii_digit (48 + digit) ≡ true) × (digit_value (48 + digit) ≡ digit)
@@ -33,7 +34,8 @@ digit-text digit small =
     (and_from _ _ low high, omega (arith, spelled))
 
 -- the digit of a character
-text-digit : (character : ℕ) → is_ascii_digit character ≡ true → (48 + digit_value character ≡ character) × (digit_value character ≤ 9)
+text-digit : (character : ℕ) → is_ascii_digit character ≡ true
+    → (48 + digit_value character ≡ character) × (digit_value character ≤ 9)
 text-digit character is =
     let within = and_parts _ _ is in
     let low : 48 ≤ character = leb-true _ _ within.0 in
@@ -88,11 +90,13 @@ record IsSaid (From : List ℕ → Option (List ℕ)) (word said : List ℕ) : T
   from : From said ≡ Some said
   text : word ≡ digits_text said
 
-said-by : (most : ℕ) (From : List ℕ → Option (List ℕ)) → ((digits said : List ℕ) → From digits ≡ Some said → digits ≡ said)
+said-by : (most : ℕ) (From : List ℕ → Option (List ℕ))
+    → ((digits said : List ℕ) → From digits ≡ Some said → digits ≡ said)
     → (word said : List ℕ) → option_and_then From (digits_in most word) ≡ Some said → IsSaid From word said
 said-by most From same word said is = go (digits_in most word) refl is
   where
-    go : (digits : Option (List ℕ)) → digits_in most word ≡ digits → option_and_then From digits ≡ Some said → IsSaid From word said
+    go : (digits : Option (List ℕ)) → digits_in most word ≡ digits
+        → option_and_then From digits ≡ Some said → IsSaid From word said
     go None none is = absurd (none-some said is)
     go (Some digits) found is =
         let alike = same digits said is in
@@ -130,7 +134,8 @@ psn_in-text psn valid =
     let value : 16 * digit_value (48 + psn / 16) + digit_value (48 + psn % 16) ≡ psn = omega (arith, high, low) in
     cond-true _ _ _ (and_from _ _ tens.0 ones.0) ∙ ap Some value
 
-said-psn : (word : List ℕ) (psn : ℕ) → psn_in word ≡ Some psn → (word ≡ digits_text (digits_of psn)) × IsTrue (is_bcd psn)
+said-psn : (word : List ℕ) (psn : ℕ) → psn_in word ≡ Some psn
+    → (word ≡ digits_text (digits_of psn)) × IsTrue (is_bcd psn)
 unfolding psn_in is_bcd
 said-psn [] psn is = absurd (none-some psn is)
 said-psn (tens ∷ []) psn is = absurd (none-some psn is)
@@ -148,7 +153,8 @@ said-psn (tens ∷ ones ∷ []) psn is =
     let first : tens ≡ 48 + psn / 16 = omega (arith, value, above, below, few, small) in
     let second : ones ≡ 48 + psn % 16 = omega (arith, value, above, below, few, small) in (
       ap₂ (λ a b. a ∷ b ∷ []) first second,
-      and_from _ _ (le-leb (psn / 16) 9 (omega (arith, value, few, small))) (le-leb (psn % 16) 9 (omega (arith, value, few, small))),
+      and_from _ _ (le-leb (psn / 16) 9 (omega (arith, value, few, small)))
+          (le-leb (psn % 16) 9 (omega (arith, value, few, small))),
     )
 
 -- ---- hexadecimal digits
@@ -180,7 +186,8 @@ record IsGiven {A B : Type 0} (value : Option A) (next : A → Option B) (result
   is : value ≡ Some given
   parsed : next given ≡ Some result
 
-and_then-some : {A B : Type 0} (value : Option A) (next : A → Option B) (result : B) → option_and_then next value ≡ Some result
+and_then-some : {A B : Type 0} (value : Option A) (next : A → Option B) (result : B)
+    → option_and_then next value ≡ Some result
     → IsGiven value next result
 and_then-some None next result is = absurd (none-some result is)
 and_then-some (Some given) next result is = record { given = given; is = refl; parsed = is }
@@ -213,10 +220,12 @@ order-said words order pin =
     (step-to _ order.pan _ _ (and_then-to _ _ _ _ given.pan_is (pan_in-text order.pan pin.pan_is))
     (step-to _ order.psn _ _ (and_then-to _ _ _ _ given.psn_is (psn_in-text order.psn pin.psn_is))
     (step-to _ order.dki _ _ (and_then-to _ _ _ _ given.dki_is (byte_in-spelled pin.dki_word order.dki pin.dki_is))
-    (step-to _ order.salt _ _ (and_then-to _ _ _ _ given.salt_is (bytes_in-spelled 8 pin.salt_word order.salt pin.salt_is))
+    (step-to _ order.salt _ _
+    (and_then-to _ _ _ _ given.salt_is (bytes_in-spelled 8 pin.salt_word order.salt pin.salt_is))
     (step-to _ order.pin _ _ (and_then-to _ _ _ _ given.pin_is (pin_in-text order.pin pin.pin_is)) refl)))))
 
-pub said-order : (words : List (List ℕ)) (order : PinOrder) → AreWordsOf Pin words → order_in words ≡ Some order → IsPin words order
+pub said-order : (words : List (List ℕ)) (order : PinOrder) → AreWordsOf Pin words
+    → order_in words ≡ Some order → IsPin words order
 unfolding order_in
 said-order words order are is =
     let config = step-some _ _ order is in
@@ -236,8 +245,10 @@ said-order words order are is =
     subst (IsPin words) (same_Some _ _ pin.parsed) (record {
       dki_word = dki_word.given;
       salt_word = salt_word.given;
-      call = pin-from words config.given (digits_text pan.given) (digits_text (digits_of psn.given)) dki_word.given salt_word.given
-          (digits_text pin.given) are config.is (pan_word.is ∙ ap Some pan_said.0) (psn_word.is ∙ ap Some psn_said.0) dki_word.is
+      call = pin-from words config.given (digits_text pan.given) (digits_text (digits_of psn.given))
+          dki_word.given salt_word.given
+          (digits_text pin.given) are config.is (pan_word.is ∙ ap Some pan_said.0)
+          (psn_word.is ∙ ap Some psn_said.0) dki_word.is
           salt_word.is (pin_word.is ∙ ap Some pin_said.0);
       pan_is = pan_said.1;
       psn_is = psn_said.1;
@@ -247,7 +258,8 @@ said-order words order are is =
     })
 
 -- what the code names is the order that the words say
-pub order-named : (words : List (List ℕ)) (result : Option PinWords) → AreWordsOf Pin words → option_map order_of result ≡ order_in words
+pub order-named : (words : List (List ℕ)) (result : Option PinWords) → AreWordsOf Pin words
+    → option_map order_of result ≡ order_in words
     → IfSome result (λ named. IsPin words (order_of named))
 order-named words None are is = tt
 order-named words (Some named) are is = said-order words (order_of named) are (sym is)

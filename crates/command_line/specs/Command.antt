@@ -6,7 +6,8 @@ use Rattle.std.specs.Str.{bytes_eq}
 use Rattle.hex.specs.Hex.{decode_of, decode_sized}
 use Rattle.issuer_base.specs.CardNumber.{is_pan}
 use Rattle.issuer_base.specs.ChipData.{is_bcd, digits_of}
-use Rattle.issuer_base.specs.declared.limits.TheConstants.{MAX_CALLERS, MAX_CARD_REQUESTS, MAX_CARDS, MAX_CHIP_BYTES, MAX_STEPS}
+use Rattle.issuer_base.specs.declared.limits.TheConstants.{MAX_CALLERS, MAX_CARD_REQUESTS, MAX_CARDS, MAX_CHIP_BYTES}
+use Rattle.issuer_base.specs.declared.limits.TheConstants.{MAX_STEPS}
 use Rattle.chip_request.specs.Lines.{digits_text}
 use Rattle.secure_msg.specs.Pins.{is_pin}
 
