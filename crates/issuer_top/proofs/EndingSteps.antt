@@ -18,7 +18,8 @@ use Rattle.line_reader.specs.declared.limits.TheConstants.{MAX_LINES}
 use Rattle.answer_text.specs.StopText.{stop_text}
 use Rattle.answer_text.specs.declared.stop_line.Stop.{Stop}
 use Rattle.answer_text.specs.declared.stop_line.Stop.TheVariants.{Usage, Config, ReadFault, StoreFault, BadJournal}
-use Rattle.answer_text.specs.declared.stop_line.Stop.TheVariants.{BadOldJournal, NoMemory, TooLong, BadDol, BadData, NoKey}
+use Rattle.answer_text.specs.declared.stop_line.Stop.TheVariants.{BadOldJournal, NoMemory, TooLong, BadDol, BadData}
+use Rattle.answer_text.specs.declared.stop_line.Stop.TheVariants.{NoKey}
 use Rattle.issuer_setup.specs.IssuerSetup.{Setup}
 use Rattle.one_caller.specs.Books.{Book}
 use Rattle.issuer_top.specs.declared.ending.Ending.{Ending}
@@ -260,7 +261,8 @@ module _ (seen : Seen) (requests : Option RequestFile) (journal : List ℕ) (iss
       → StopsAtOnce seen NoMemory ending
       → EndsBy seen ending
   ends_without_memory opened left stopping =
-      ends_at_once seen NoMemory ending (lacks-host seen set_up.config requests journal set_up.command (inr opened) left)
+      ends_at_once seen NoMemory ending
+      (lacks-host seen set_up.config requests journal set_up.command (inr opened) left)
       stopping
 
   -- the journals gave no host

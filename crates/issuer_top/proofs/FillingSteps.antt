@@ -24,7 +24,8 @@ use Rattle.desk_host.specs.SeenStores.{no_journals}
 use Rattle.issuer_top.specs.Seen.{Seen}
 use Rattle.issuer_top.specs.Status.{status_of}
 use Rattle.issuer_top.specs.Filling.{filled_or_stop, filling, FillsBy, fill_status, Fills}
-use Rattle.issuer_top.specs.Endings.{OpenedNoInput, IsDone, IsFilled, CannotFill, IsReadFault, HasNoHost, IsNoMemory, ReadsConfig}
+use Rattle.issuer_top.specs.Endings.{OpenedNoInput, IsDone, IsFilled, CannotFill, IsReadFault, HasNoHost, IsNoMemory}
+use Rattle.issuer_top.specs.Endings.{ReadsConfig}
 use Rattle.issuer_top.specs.Endings.{EndsBy}
 use Rattle.issuer_top.proofs.EndingSteps.{ends_at_once, ends_by_text}
 

@@ -17,7 +17,8 @@ use Rattle.config_read.specs.declared.fault.ConfigFault.{ConfigFault}
 use Rattle.config_read.specs.Configuration.{configured}
 use Rattle.answer_text.specs.declared.stop_line.Stop.{Stop}
 use Rattle.answer_text.specs.declared.stop_line.Stop.TheVariants.{Usage, Config, ReadFault, StoreFault, BadJournal}
-use Rattle.answer_text.specs.declared.stop_line.Stop.TheVariants.{BadOldJournal, NoMemory, TooLong, BadDol, BadData, NoKey}
+use Rattle.answer_text.specs.declared.stop_line.Stop.TheVariants.{BadOldJournal, NoMemory, TooLong, BadDol, BadData}
+use Rattle.answer_text.specs.declared.stop_line.Stop.TheVariants.{NoKey}
 use Rattle.shard_book.specs.declared.replay.LoadFault.{LoadFault}
 use Rattle.shard_book.specs.Loading.{IsOutside}
 use Rattle.shard_book.proofs.Exactly.{stops-outside}
@@ -331,7 +332,8 @@ module _ (seen : Seen) (order : ChangesInOrder seen) where
       (λ more. ⊎_elim (λ b. order.config_stood b.failed)
       (λ more. ⊎_elim
       (λ c. let l = c.loaded in not-over_journals l.set_up.config (Some l.requests) l.journal l.set_up.command)
-      (λ d. let l = d.lines in not-over_journals l.set_up.config (Some l.requests) l.journal l.set_up.command) more) more)
+      (λ d. let l = d.lines in not-over_journals l.set_up.config (Some l.requests) l.journal l.set_up.command) more)
+      more)
       cannot
 
   none-loaded : (stop : Stop) (text : List ℕ) → HasNoHost stop seen text → ⊥
@@ -348,12 +350,14 @@ module _ (seen : Seen) (order : ChangesInOrder seen) where
   not-keyless : (text : List ℕ) → HasNoKey seen text → ⊥
   not-keyless text none =
       let same = one-order seen.words none.order order.order none.ordered.pin order.pin in
-      let content = same-content seen.desk.tells order.order.config none.order.config none.ordered.said.content order.content
+      let content = same-content seen.desk.tells order.order.config none.order.config none.ordered.said.content
+      order.content
       (ap (λ (o : PinOrder). o.config) same) order.config_held none.ordered.said.held in
       let issuer = one-issuer none.ordered.said.content order.content order.issuer none.issuer content order.says
       none.ordered.said.says in
       let e : Err NoKey ≡ Ok order.line =
-      sym none.cause ∙ ap (λ (i : Setup). changing i none.order) issuer ∙ ap (changing order.issuer) same ∙ order.has_key in
+      sym none.cause ∙ ap (λ (i : Setup). changing i none.order) issuer ∙ ap (changing order.issuer) same
+      ∙ order.has_key in
       cc
 
   changes-in_order : (status : ℕ) (ending : Ending) → status ≡ status_of ending → EndsBy seen ending

@@ -4,7 +4,8 @@ use Rattle.issuer_base.specs.OutsideFaults.{Rose}
 use Rattle.answer_text.specs.StopText.{stop_text}
 use Rattle.answer_text.specs.declared.stop_line.Stop.{Stop}
 use Rattle.answer_text.specs.declared.stop_line.Stop.TheVariants.{Usage, Config, ReadFault, StoreFault, BadJournal}
-use Rattle.answer_text.specs.declared.stop_line.Stop.TheVariants.{BadOldJournal, NoMemory, TooLong, BadDol, BadData, NoKey}
+use Rattle.answer_text.specs.declared.stop_line.Stop.TheVariants.{BadOldJournal, NoMemory, TooLong, BadDol, BadData}
+use Rattle.answer_text.specs.declared.stop_line.Stop.TheVariants.{NoKey}
 use Rattle.des_block.specs.declared.Key16.{Key16}
 use Rattle.issuer_setup.specs.IssuerSetup.{Setup}
 use Rattle.command_line.specs.Command.{RequestFile, PinOrder, IsPin, IsCommand}
@@ -16,8 +17,10 @@ use Rattle.issuer_top.specs.declared.ending.Ending.TheVariants.{Done, Stopped, W
 use Rattle.issuer_top.specs.Opening.{GivesInput}
 use Rattle.issuer_top.specs.Seen.{Seen}
 use Rattle.issuer_top.specs.Status.{status_of}
-use Rattle.issuer_top.specs.PinChanges.{smc_for, change_by, change_text, changing, ChangesBy, SaysIssuer, change_status, IsUnread, IsAnswered, Pins}
-use Rattle.issuer_top.specs.Endings.{OpenedNoInput, OpenedConfigOnly, IsOrdered, IsChanged, IsDone, HasNoHost, IsNoMemory, EndsBy}
+use Rattle.issuer_top.specs.PinChanges.{smc_for, change_by, change_text, changing, ChangesBy, SaysIssuer, change_status}
+use Rattle.issuer_top.specs.PinChanges.{IsUnread, IsAnswered, Pins}
+use Rattle.issuer_top.specs.Endings.{OpenedNoInput, OpenedConfigOnly, IsOrdered, IsChanged, IsDone, HasNoHost}
+use Rattle.issuer_top.specs.Endings.{IsNoMemory, EndsBy}
 use Rattle.issuer_top.proofs.EndingSteps.{told-given, ends_at_once, ends_by_text}
 
 -- ---- the ways that a change of a PIN ends
@@ -37,17 +40,20 @@ says-issuer seen config left issuer given said = record {
   says = said.says;
 }
 
-module _ (seen : Seen) (order : PinOrder) (issuer : Setup) (ordered : IsOrdered seen order issuer) (ending : Ending) where
+module _ (seen : Seen) (order : PinOrder) (issuer : Setup) (ordered : IsOrdered seen order issuer)
+    (ending : Ending) where
   ends_as : (smc : Option Key16) → smc_for issuer order ≡ smc
       → ChangesBy (change_by order smc) seen.sink.held_before seen.sink.held_after seen.sink.faults_before
       seen.sink.faults_after ending → EndsBy seen ending
   ends_as None is changes =
       ends_at_once seen NoKey ending
-      (record { order = order; issuer = issuer; ordered = ordered; cause = ap (change_by order) is; last = refl }) changes
+      (record { order = order; issuer = issuer; ordered = ordered; cause = ap (change_by order) is; last = refl })
+      changes
   ends_as (Some smc) is changes =
       let done : IsChanged seen (change_text order smc) =
       record { order = order; issuer = issuer; ordered = ordered; text_is = ap (change_by order) is } in
-      ends_by_text seen ending (change_text order smc) (inr (inr (inr (inr done)))) (inr (inr (inr (inr (inr done))))) changes
+      ends_by_text seen ending (change_text order smc) (inr (inr (inr (inr done))))
+      (inr (inr (inr (inr (inr done))))) changes
 
   pub ends_changing : ChangesBy (changing issuer order) seen.sink.held_before seen.sink.held_after
       seen.sink.faults_before seen.sink.faults_after ending → EndsBy seen ending
@@ -69,7 +75,7 @@ module _ (seen : Seen) (order : PinOrder) (pin : IsPin seen.words order) where
       → status ≡ change_status (changing issuer other) → IsAnswered status seen order
   answered status other issuer ordered is =
       let same = one-order seen.words other order ordered.pin pin in
-      subst (λ (o : PinOrder). (issuer : Setup) × SaysIssuer seen o.config issuer × (status ≡ change_status (changing issuer o)))
+      subst (IsAnswered status seen)
       same (issuer, ordered.said, is)
 
   done : (status : ℕ) (text : List ℕ) → status ≡ 0 → IsDone seen text → IsAnswered status seen order

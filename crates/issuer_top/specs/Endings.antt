@@ -18,11 +18,13 @@ use Rattle.answer_text.specs.AnswerText.{printed, bytes_text}
 use Rattle.answer_text.specs.StopText.{stop_text}
 use Rattle.answer_text.specs.declared.stop_line.Stop.{Stop}
 use Rattle.answer_text.specs.declared.stop_line.Stop.TheVariants.{Usage, Config, ReadFault, StoreFault, BadJournal}
-use Rattle.answer_text.specs.declared.stop_line.Stop.TheVariants.{BadOldJournal, NoMemory, TooLong, BadDol, BadData, NoKey}
+use Rattle.answer_text.specs.declared.stop_line.Stop.TheVariants.{BadOldJournal, NoMemory, TooLong, BadDol, BadData}
+use Rattle.answer_text.specs.declared.stop_line.Stop.TheVariants.{NoKey}
 use Rattle.shard_book.specs.Loading.{IsOldText}
 use Rattle.shard_book.specs.Shards.{IsTextOf}
 use Rattle.one_caller.specs.Books.{Book}
-use Rattle.command_line.specs.Command.{RequestFile, PinOrder, IsServe, IsShow, IsWorld, IsFill, IsPin, IsCommand, IsNoCommand}
+use Rattle.command_line.specs.Command.{RequestFile, PinOrder, IsServe, IsShow, IsWorld, IsFill, IsPin, IsCommand}
+use Rattle.command_line.specs.Command.{IsNoCommand}
 use Rattle.line_serving.specs.Answers.{AreAnsweredBy, AnswersNone}
 use Rattle.desk_host.specs.SeenStores.{SeenStore, no_journals}
 use Rattle.issuer_top.specs.Seen.{Seen, SeenInput}

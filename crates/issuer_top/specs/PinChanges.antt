@@ -30,7 +30,8 @@ smc_under order (Some card) set = option_and_then (λ set. card_smc set order.pa
 -- that under the key set of the order's derivation key index
 abbrev pub smc_for : Setup → PinOrder → Option Key16
 smc_for issuer order =
-    smc_under order (number_of (record { pan = order.pan; psn = order.psn }) issuer.cards) (key_of order.dki issuer.keys)
+    smc_under order (number_of (record { pan = order.pan; psn = order.psn }) issuer.cards)
+    (key_of order.dki issuer.keys)
 
 -- the line that queues the change of the PIN for the card that has this key
 abbrev pub change_text : PinOrder → Key16 → List ℕ

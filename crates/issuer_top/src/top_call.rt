@@ -35,8 +35,8 @@ pub struct Ended<D: Desk> {
     /// 0: all lines were answered, all cards shown, a world played, a DOL filled, or a change of a PIN written; 1: the
     /// words are no command; 2: the configuration is none; 3: an input failed; 4: the sink failed; 5: a journal, old or
     /// new, can't be opened, or its store failed while it was loaded; 6: a line of a journal is bad, or of an old one;
-    /// 7: no memory was left; 8: the request file goes past a limit; 9: the DOL is broken; 10: the data are; 12: the card
-    /// or its key for a change of a PIN is missing.
+    /// 7: no memory was left; 8: the request file goes past a limit; 9: the DOL is broken; 10: the data are; 12: the
+    /// card or the key for a change of a PIN is missing.
     pub status: u8,
     /// The desk that was given.
     pub desk: D,

@@ -12,7 +12,8 @@ returns-in-Err g c =
     rw stopped.2 (λ words pin.
     ends-as _ _ stopped.0 refl
     (ends_no_config _ _ _ (inr (_, pin, refl)) (lacks-pin _ _ pin) (Unit {0}) _ c.in-Err.fault refl refl
-    (journals-none g.D.Journal.Store _ _ c.none.ensures.olds c.none.ensures.stores) c.in-Err.ensures.count c.in-Err.ensures.last
+    (journals-none g.D.Journal.Store _ _ c.none.ensures.olds c.none.ensures.stores) c.in-Err.ensures.count
+    c.in-Err.ensures.last
     (rw c.stop_of.ensures at stopped.1)))
 
 pub returns-in-Ok-read_issuer : goal.returns-in-Ok-read_issuer
@@ -23,8 +24,12 @@ returns-in-Ok-read_issuer g c =
     (record {
       pin = pin;
       opened = record { config_is = refl; requests_is = refl; desk_stood = c.in-Ok.ensures.count.counted };
-      none_opened = journals-none g.D.Journal.Store _ _ c.none-in-Ok-read_issuer.ensures.olds c.none-in-Ok-read_issuer.ensures.stores;
-      said = says-issuer _ _ _ _ (gives_input _ _ c.in-Ok.ensures.input c.in-Ok.ensures.absent) c.in-Ok-read_issuer.ensures.says;
+      none_opened =
+          journals-none g.D.Journal.Store _ _ c.none-in-Ok-read_issuer.ensures.olds
+          c.none-in-Ok-read_issuer.ensures.stores;
+      said =
+          says-issuer _ _ _ _ (gives_input _ _ c.in-Ok.ensures.input c.in-Ok.ensures.absent)
+          c.in-Ok-read_issuer.ensures.says;
     })
     _ c.write_change-ending.ensures))
 
@@ -35,6 +40,7 @@ returns-in-Err-read_issuer g c =
     ends-as _ _ stopped.0 refl
     (ends_no_issuer _ _ _ (inr (_, pin, refl)) (lacks-pin _ _ pin) (Unit {0}) _ _ _ c.in-Err-read_issuer.cause
     (record { config_is = refl; requests_is = refl; desk_stood = c.in-Ok.ensures.count.counted }) refl
-    (journals-none g.D.Journal.Store _ _ c.none-in-Err-read_issuer.ensures.olds c.none-in-Err-read_issuer.ensures.stores)
+    (journals-none g.D.Journal.Store _ _ c.none-in-Err-read_issuer.ensures.olds
+    c.none-in-Err-read_issuer.ensures.stores)
     (gives_input _ _ c.in-Ok.ensures.input c.in-Ok.ensures.absent) c.in-Err-read_issuer.ensures.none c.in-Ok.ensures.new
     c.in-Err-read_issuer.ensures.count stopped.1))
