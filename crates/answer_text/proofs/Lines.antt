@@ -24,11 +24,11 @@ use Rattle.answer_text.specs.declared.stop_line.Stop.TheVariants.{TooLong, BadDo
 use Rattle.answer_text.specs.declared.stop_line.Stop.TheVariants.{StoreFault as JournalFault}
 
 -- a byte is no newline
-abbrev is_inner : ℕ → Bool
+abbrev pub is_inner : ℕ → Bool
 is_inner byte = not (byte == newline)
 
 -- a text has no newline
-abbrev has_no_newline : List ℕ → Bool
+abbrev pub has_no_newline : List ℕ → Bool
 has_no_newline text = list_all is_inner text
 
 digit-inner : (d : ℕ) → is_inner (digit_glyph false d) ≡ true
@@ -73,7 +73,7 @@ join-inner (word ∷ next ∷ words) h =
     list_all-append is_inner word (32 ∷ join_with_byte 32 (next ∷ words)) ∙ and_from _ _ parts.0 (join-inner (next ∷ words) parts.1)
 
 -- a line of words that have no newline
-line_of-IsLine : (words : List (List ℕ)) → list_all has_no_newline words ≡ true → IsLine (line_of words)
+pub line_of-IsLine : (words : List (List ℕ)) → list_all has_no_newline words ≡ true → IsLine (line_of words)
 line_of-IsLine words h =
     let inner = AllPass-from_list_all is_inner (join_with_byte 32 words) (join-inner words h) in
     (join_with_byte 32 words, refl, λ k d below. let passes = inner k d below in grind arith)

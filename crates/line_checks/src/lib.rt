@@ -10,5 +10,5 @@ mod sought;
 
 pub use checked::{Checked, CheckedCommand, CheckedOrder, CheckedRequest, CheckedStatus};
 pub use line::{check_line, look_up};
-pub use request::check_request;
+pub use request::{check_request, refusal_of};
 pub use sought::{Sought, SoughtRequest};

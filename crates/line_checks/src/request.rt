@@ -27,7 +27,8 @@ pub(crate) fn look_up_data(issuer: &Issuer, bytes: &[u8]) -> Result<SoughtReques
     look_up_request(issuer, request)
 }
 
-fn refusal_of(fault: RequestFault) -> Refusal
+/// The refusal of a line for a fault in its chip data.
+pub fn refusal_of(fault: RequestFault) -> Refusal
     ensures fault { result ≡ refusal_of fault }
     ensures other { result ≢ BadCryptogram }
 {
