@@ -16,9 +16,9 @@ use std::alloc::Global;
 /// How many bytes their answers have, at most.
 const BLOCK_ROOM: usize = BLOCK_LINES * LINE_ROOM;
 
-/// The answers to so many lines.
+/// Lines of text that are written together: the answers to so many lines.
 #[derive(Drop)]
-pub(crate) struct Block {
+pub struct Block {
     pub(crate) text: Vec<u8>,
     pub(crate) lines: usize,
 
@@ -30,7 +30,7 @@ pub(crate) struct Block {
 
 impl Block {
     /// No answers, with room for those of a whole block.
-    pub(crate) fn new(alloc: Global) -> Result<Self, NoMemory>
+    pub fn new(alloc: Global) -> Result<Self, NoMemory>
         ensures none { IfOk result (λ block. block.text.items ≡ []) }
         ensures no_lines { IfOk result (λ block. block.lines ≡ 0) }
     {
@@ -42,7 +42,7 @@ impl Block {
     }
 
     /// Whether it has the answers of as many lines as it takes.
-    pub(crate) fn is_full(&self) -> bool
+    pub fn is_full(&self) -> bool
         ensures { result ≡ (self.now.lines == BLOCK_LINES) }
     {
         self.lines == BLOCK_LINES
@@ -58,6 +58,16 @@ impl Block {
         self.append_line();
     }
 
+    /// Puts a line behind those that are there.
+    pub fn add_line(&mut self, line: &ArrayVec<u8, LINE_ROOM>)
+        requires { self.old.lines < BLOCK_LINES }
+        ensures text { self.new.text.items ≡ self.old.text.items ++ line.now.items }
+        ensures lines { self.new.lines ≡ self.old.lines + 1 }
+    {
+        self.text.extend_from_slice(line.as_slice()).unwrap();
+        self.lines += 1;
+    }
+
     /// Appends the last answer's line to the text.
     fn append_line(&mut self)
         requires { self.old.lines < BLOCK_LINES }
@@ -69,7 +79,7 @@ impl Block {
     }
 
     /// Writes all answers, and begins a new block.
-    pub(crate) fn write<W: Sink>(&mut self, out: &mut W) -> Result<(), WriteFault>
+    pub fn write<W: Sink>(&mut self, out: &mut W) -> Result<(), WriteFault>
         ensures written { WritesAll (W.held out.old) (W.held out.new) result self.old.text.items }
         ensures none { self.new.text.items ≡ [] }
         ensures no_lines { self.new.lines ≡ 0 }

@@ -8,6 +8,7 @@ mod loading;
 mod serve;
 mod together;
 
+pub use block::Block;
 pub use hosts::LineHost;
 pub use loading::load_host;
 pub use serve::{Served, Server};

@@ -1,0 +1,6 @@
+//! An issuer's journals, opened at a desk and loaded for a command that only reads them.
+#![tactic(auto)]
+
+mod loading;
+
+pub use loading::load_journals;

@@ -1,0 +1,47 @@
+//! Journals that are loaded, and whose rows aren't needed any more.
+ghost use Rattle.std.specs.Prelude.{◌≡◌, true, is_ok, IfOk, IfErr};
+ghost use Rattle.desk_host.specs.Configuration.{HasSoundParts};
+ghost use Rattle.desk_host.specs.Loading.{ComesToNoHost};
+ghost use Rattle.desk_host.specs.SeenStores.{journals_seen};
+ghost use Rattle.journal_loading.specs.Loaded.{AreLoadedFrom};
+
+use desk_host::{Journals, NoHost, no_host, open_journals};
+use issuer_base::Desk;
+use issuer_setup::Issuer;
+use one_caller::{HostBack, Lists, LoadFault, load_all, take_lists, take_stores};
+use std::alloc::Global;
+
+/// The journals of an issuer under these names, opened at the desk and loaded: each old journal is migrated, a torn last
+/// line is truncated, and each record is checked. No host takes the issuer. It is faster where the issuer's keys are
+/// cached ([`Issuer::keep_all`]).
+///
+/// The first journal that can't be opened or loaded stops it: its fault comes back with the journals that were opened.
+pub fn load_journals<D: Desk>(
+    alloc: Global,
+    desk: &mut D,
+    prefix: &str,
+    issuer: &Issuer,
+) -> Result<Journals<D::Journal>, NoHost<D::Journal>>
+    ensures loaded { HasSoundParts issuer.now → IfOk result (λ journals. AreLoadedFrom issuer.now prefix.now
+        (D.logs desk.old) (journals_seen D.Journal.Store journals.olds.items journals.stores.items)) }
+    ensures none { IfErr result (ComesToNoHost D.Desk D.Journal.Store issuer.now prefix.now desk.old desk.new) }
+    ensures stood { is_ok result ≡ true → D.faults desk.new ≡ D.faults desk.old }
+    ensures kept { D.holds desk.new ≡ D.holds desk.old }
+{
+    let Journals { mut olds, stores } = open_journals(alloc, desk, prefix, issuer)?;
+    let Ok(lists) = take_lists(alloc, stores.len()) else {
+        let back = HostBack {
+            fault: LoadFault::NoMemory,
+            shard: 0,
+            stores,
+        };
+        return Err(no_host(back, olds));
+    };
+    match load_all(alloc, issuer, &mut olds, stores, lists) {
+        Ok(Lists { shards, back }) => Ok(Journals {
+            olds,
+            stores: take_stores(shards, back),
+        }),
+        Err(back) => Err(no_host(back, olds)),
+    }
+}
