@@ -7,6 +7,7 @@ ghost use Rattle.issuer_setup.specs.KeyList.{bad_key, key_of, AreKeys};
 ghost use Rattle.issuer_setup.specs.CardList.{number_of, bad_card, AreCards};
 ghost use Rattle.issuer_setup.specs.IssuerSetup.{IsFaultOf, keys_of, shard_of};
 ghost use Rattle.key_derive.specs.declared.card.CardKeys.{CardKeys};
+ghost use Rattle.key_derive.specs.CardSecret.{keys_in};
 ghost use Rattle.key_derive.specs.SessionKey.{session_of};
 ghost use Rattle.issuer_setup.specs.KeySlots.{keys_at, IsSlotOf};
 
@@ -18,7 +19,7 @@ use crate::shard_count::ShardCount;
 use arrayvec::ArrayVec;
 use decision_table::Table;
 use issuer_base::{MAX_KEY_SETS, NoMemory, Pan, Request};
-use key_derive::{CardKeys, KeySet, LazyKeys, SessionKey};
+use key_derive::{CardKeys, CardSecrets, KeySet, LazyKeys, SessionKey};
 use std::alloc::Global;
 use std::marker::Model;
 
@@ -209,14 +210,22 @@ impl Issuer {
         self.kept.secrets(slot.index).keys(slot.suite).unwrap()
     }
 
+    /// The card's master keys in this slot, of both suites. This derives none.
+    #[inline(always)]
+    pub fn secrets(&self, slot: KeySlot) -> &CardSecrets
+        requires { IsSome (keys_at self.now slot) }
+        ensures { keys_in slot.suite result.now ≡ keys_at self.now slot }
+    {
+        self.kept.secrets(slot.index)
+    }
+
     /// The session key for the cryptograms of the transaction with this ATC, from the keys in this slot. If the master
     /// key is cached, this costs one key schedule and the encipherment of the session key's blocks.
-    #[inline(always)]
     pub fn session(&self, slot: KeySlot, atc: u16) -> SessionKey
         requires { IsSome (keys_at self.now slot) }
         ensures { (keys : CardKeys) → keys_at self.now slot ≡ Some keys → result ≡ session_of keys atc }
     {
-        self.kept.secrets(slot.index).session(slot.suite, atc)
+        self.secrets(slot).session(slot.suite, atc)
     }
 
     /// Caches the key schedule of the master key for cryptograms in this slot. If it isn't cached yet, this computes two

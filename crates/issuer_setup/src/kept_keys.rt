@@ -18,6 +18,16 @@ pub struct KeySlot {
     pub(crate) suite: Suite,
 }
 
+impl KeySlot {
+    /// The suite of the keys.
+    #[inline(always)]
+    pub fn suite(self) -> Suite
+        ensures { result ≡ self.suite }
+    {
+        self.suite
+    }
+}
+
 /// The master keys of each card from each key set. The key schedules of those for cryptograms can be cached; the others
 /// are derived at each use.
 ///

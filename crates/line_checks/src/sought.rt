@@ -43,7 +43,8 @@ impl SoughtRequest {
             ≡ checked issuer.now self.request }
         ensures at_hand { IfOk result (IsRequestAtHand issuer.now) }
     {
-        let session = issuer.session(self.slot, self.request.parts().atc);
+        let secrets = issuer.secrets(self.slot);
+        let session = secrets.session(self.slot.suite(), self.request.parts().atc);
         if !holds(&session, &self.request) {
             return Err(Refusal::BadCryptogram);
         }
