@@ -20,9 +20,10 @@ use Rattle.hex.proofs.HexLemmas.{decode_of-ok}
 use Rattle.issuer_base.specs.ChipData.{digits_of}
 use Rattle.chip_request.specs.Lines.{digits_text}
 use Rattle.command_line.specs.declared.words.Command.{Command}
-use Rattle.command_line.specs.declared.words.Command.TheVariants.{Serve, Show, World, Fill, Pin}
+use Rattle.command_line.specs.declared.words.Command.TheVariants.{Serve, Show, World, Fill, Pin, Clear}
 use Rattle.command_line.specs.Command.{IsValue, Pair, words_of, values_of, is_one_of, IsCall, IsSize, serve_options}
 use Rattle.command_line.specs.Command.{callers_option, show_options, world_options, fill_options, pin_options}
+use Rattle.command_line.specs.Command.{clear_options, IsClear}
 use Rattle.command_line.specs.Command.{SpellsBytes}
 use Rattle.command_line.specs.Command.{RequestFile, IsGroup, IsServe, IsShow, IsWorld, IsFill, IsCommand}
 use Rattle.command_line.specs.Command.{PinOrder, IsPin, IsNoCommand}
@@ -366,6 +367,13 @@ show-from words config journal are a b =
     call-from (codes "show") show_options words (config ∷ journal ∷ []) are
     (two-values words (codes "--config") (codes "--journal") config journal a b)
 
+pub clear-from : (words : List (List ℕ)) (config clearing journal : List ℕ) → AreWordsOf Clear words
+    → value_in words (codes "--config") ≡ Some config → value_in words (codes "--clearing") ≡ Some clearing
+    → value_in words (codes "--journal") ≡ Some journal → IsClear words config clearing journal
+clear-from words config clearing journal are a b c =
+    call-from (codes "clear") clear_options words (config ∷ clearing ∷ journal ∷ []) are
+    (three-values words (codes "--config") (codes "--clearing") (codes "--journal") config clearing journal a b c)
+
 -- the numbers are within the limits where the test says so
 size-true : (cards steps : ℕ) → is_within cards steps ≡ true → IsSize cards steps
 size-true cards steps is = grind (arith, is)
@@ -468,6 +476,24 @@ show-gives words config journal call =
     let c : values_of (codes "--config") pairs ≡ config ∷ [] = cc in
     let j : values_of (codes "--journal") pairs ≡ journal ∷ [] = cc in
     record { config_is = ap only c; journal_is = ap only j }
+
+pub record ClearGives (words : List (List ℕ)) (config clearing journal : List ℕ) : Type 0 where
+  pub config_is : value_in words (codes "--config") ≡ Some config
+  pub clearing_is : value_in words (codes "--clearing") ≡ Some clearing
+  pub journal_is : value_in words (codes "--journal") ≡ Some journal
+
+pub clear-gives : (words : List (List ℕ)) (config clearing journal : List ℕ) → IsClear words config clearing journal
+    → ClearGives words config clearing journal
+clear-gives words config clearing journal call =
+    let parts = parted (codes "clear") clear_options words (config ∷ clearing ∷ journal ∷ []) call in
+    let pairs = pairs_of (drop 1 words) in
+    let lists : values_of (codes "--config") pairs ∷ values_of (codes "--clearing") pairs
+    ∷ values_of (codes "--journal") pairs ∷ []
+    ≡ (config ∷ []) ∷ (clearing ∷ []) ∷ (journal ∷ []) ∷ [] = parts.once in
+    let f : values_of (codes "--config") pairs ≡ config ∷ [] = cc in
+    let c : values_of (codes "--clearing") pairs ≡ clearing ∷ [] = cc in
+    let j : values_of (codes "--journal") pairs ≡ journal ∷ [] = cc in
+    record { config_is = ap only f; clearing_is = ap only c; journal_is = ap only j }
 
 pub record WorldGives (words : List (List ℕ)) (cards steps seed : ℕ) : Type 0 where
   pub cards_are : value_in words (codes "--cards") ≡ Some (decimal cards)
@@ -619,6 +645,8 @@ asks-words words Pin asks =
     (parted (codes "pin") pin_options words
     (order.config ∷ digits_text order.pan ∷ digits_text (digits_of order.psn) ∷ asks.1.dki_word ∷ asks.1.salt_word
     ∷ digits_text order.pin ∷ []) asks.1.call).are
+asks-words words Clear asks =
+    (parted (codes "clear") clear_options words (asks.0 ∷ asks.1 ∷ asks.2 ∷ []) asks.3).are
 
 -- no two commands begin alike
 same-command : (command other : Command) → first_word command ≡ first_word other → command ≡ other
@@ -651,6 +679,21 @@ same-command World Pin same = let long : 5 ≡ 3 = ap length same in absurd (ome
 same-command Pin World same = let long : 3 ≡ 5 = ap length same in absurd (omega (arith, long))
 same-command Fill Pin same = let long : 4 ≡ 3 = ap length same in absurd (omega (arith, long))
 same-command Pin Fill same = let long : 3 ≡ 4 = ap length same in absurd (omega (arith, long))
+same-command Clear Clear same = refl
+same-command Clear Serve same =
+    let first : ◌≡◌ {A = ℕ} 99 115 = ap (λ (word : List ℕ). get_or word 0 0) same in absurd (omega (arith, first))
+same-command Serve Clear same =
+    let first : ◌≡◌ {A = ℕ} 115 99 = ap (λ (word : List ℕ). get_or word 0 0) same in absurd (omega (arith, first))
+same-command Clear Show same = let long : 5 ≡ 4 = ap length same in absurd (omega (arith, long))
+same-command Show Clear same = let long : 4 ≡ 5 = ap length same in absurd (omega (arith, long))
+same-command Clear World same =
+    let first : ◌≡◌ {A = ℕ} 99 119 = ap (λ (word : List ℕ). get_or word 0 0) same in absurd (omega (arith, first))
+same-command World Clear same =
+    let first : ◌≡◌ {A = ℕ} 119 99 = ap (λ (word : List ℕ). get_or word 0 0) same in absurd (omega (arith, first))
+same-command Clear Fill same = let long : 5 ≡ 4 = ap length same in absurd (omega (arith, long))
+same-command Fill Clear same = let long : 4 ≡ 5 = ap length same in absurd (omega (arith, long))
+same-command Clear Pin same = let long : 5 ≡ 3 = ap length same in absurd (omega (arith, long))
+same-command Pin Clear same = let long : 3 ≡ 5 = ap length same in absurd (omega (arith, long))
 
 -- words are those of one command
 pub one-command : (words : List (List ℕ)) (command other : Command) → AreWordsOf command words → AreWordsOf other words
@@ -669,6 +712,7 @@ none-asked words none = record {
   no_world = λ cards steps seed world. none World (cards, steps, seed, world);
   no_fill = λ dol given fill. none Fill (dol, given, fill);
   no_pin = λ order pin. none Pin (order, pin);
+  no_clear = λ config clearing journal clear. none Clear (config, clearing, journal, clear);
 }
 
 pub no-words : (words : List (List ℕ)) → ((command : Command) → AreWordsOf command words → ⊥) → IsNoCommand words

@@ -1,3 +1,4 @@
 -- The lemmas of this crate.
+pub mod ClearNames
 pub mod CommandWords
 pub mod PinOrders

@@ -1,4 +1,4 @@
--- The words of the five commands that the program knows.
+-- The words of the six commands that the program knows.
 use Rattle.std.specs.Prelude.{◌≡◌, ◌≢◌, ◌⊎◌, ℕ, ◌*◌, ◌^◌, ◌<◌, ◌≤◌, Bool, false, ◌||◌, if◌then◌else◌}
 use Rattle.std.specs.Prelude.{List, [], ◌∷◌, length, map, Option, None, Some, Ok, codes, IsTrue, All}
 use Rattle.std.specs.Fmt.{decimal}
@@ -47,7 +47,7 @@ pub record IsCall (command : List ℕ) (options words values : List (List ℕ)) 
   pub named : All (λ pair. IsValue pair.value) pairs
 
 -- the options that the command to serve needs and the one that it may have besides, those of the command to show, of
--- the one to play a world, of the one to fill a DOL, and of the one to change a PIN
+-- the one to play a world, of the one to fill a DOL, of the one to change a PIN, and of the clearing check
 abbrev pub serve_options : List (List ℕ)
 serve_options = codes "--config" ∷ codes "--requests" ∷ codes "--journal" ∷ []
 
@@ -66,6 +66,9 @@ fill_options = codes "--dol" ∷ codes "--data" ∷ []
 abbrev pub pin_options : List (List ℕ)
 pin_options =
     codes "--config" ∷ codes "--pan" ∷ codes "--psn" ∷ codes "--dki" ∷ codes "--salt" ∷ codes "--pin" ∷ []
+
+abbrev pub clear_options : List (List ℕ)
+clear_options = codes "--config" ∷ codes "--clearing" ∷ codes "--journal" ∷ []
 
 -- a request file, by its name and by how many callers answer its lines
 pub record RequestFile : Type 0 where
@@ -147,15 +150,22 @@ pub record IsPin (words : List (List ℕ)) (order : PinOrder) : Type 0 where
   pub salt_is : SpellsJust 8 salt_word order.salt
   pub pin_is : IsTrue (is_pin order.pin)
 
+-- the words are the command to check clearing lines, with the names of the configuration, of the clearing file and of
+-- the journals
+abbrev pub IsClear : List (List ℕ) → List ℕ → List ℕ → List ℕ → Type 0
+IsClear words config clearing journal =
+    IsCall (codes "clear") clear_options words (config ∷ clearing ∷ journal ∷ [])
+
 -- the words are a command over journals, with these names, and it is to serve where there is a request file
 abbrev pub IsCommand : List (List ℕ) → List ℕ → Option RequestFile → List ℕ → Type 0
 IsCommand words config (Some requests) journal = IsServe words config requests journal
 IsCommand words config None journal = IsShow words config journal
 
--- the words are none of the five
+-- the words are none of the six
 pub record IsNoCommand (words : List (List ℕ)) : Type 0 where
   pub no_host : (config : List ℕ) (requests : Option RequestFile) (journal : List ℕ)
       → IsCommand words config requests journal → ⊥
   pub no_world : (cards steps seed : ℕ) → IsWorld words cards steps seed → ⊥
   pub no_fill : (dol given : List ℕ) → IsFill words dol given → ⊥
   pub no_pin : (order : PinOrder) → IsPin words order → ⊥
+  pub no_clear : (config clearing journal : List ℕ) → IsClear words config clearing journal → ⊥

@@ -5,14 +5,16 @@ use Rattle.std.specs.Fmt.{decimal}
 use Rattle.std.specs.Option.{option_map}
 use Rattle.issuer_base.specs.declared.limits.TheConstants.{MAX_CARDS, MAX_CARD_REQUESTS, MAX_STEPS}
 use Rattle.command_line.specs.declared.words.Command.{Command}
-use Rattle.command_line.specs.declared.words.Command.TheVariants.{Serve, Show, World, Fill, Pin}
+use Rattle.command_line.specs.declared.words.Command.TheVariants.{Serve, Show, World, Fill, Pin, Clear}
 use Rattle.command_line.specs.declared.pin_words.PinWords.{PinWords}
 use Rattle.command_line.specs.declared.words.Requests.{Requests}
 use Rattle.command_line.specs.declared.words.Task.{Task}
 use Rattle.command_line.specs.declared.words.Task.TheVariants.{Host, Play, Fill as FillTask, Pin as PinTask}
+use Rattle.command_line.specs.declared.words.Task.TheVariants.{Clear as ClearTask}
 use Rattle.command_line.specs.Command.{Pair, values_of, is_one_of, serve_options, callers_option, show_options}
-use Rattle.command_line.specs.Command.{world_options, fill_options, pin_options, PinOrder, IsPin}
-use Rattle.command_line.specs.Command.{RequestFile, IsGroup, IsServe, IsShow, IsWorld, IsFill, IsCommand}
+use Rattle.command_line.specs.Command.{world_options, fill_options, pin_options, clear_options, PinOrder, IsPin}
+use Rattle.command_line.specs.Command.{RequestFile, IsGroup, IsServe, IsShow, IsWorld, IsFill, IsClear}
+use Rattle.command_line.specs.Command.{IsCommand}
 
 -- whether a word is a value
 abbrev pub is_value : List ℕ → Bool
@@ -26,6 +28,7 @@ first_word Show = codes "show"
 first_word World = codes "world"
 first_word Fill = codes "fill"
 first_word Pin = codes "pin"
+first_word Clear = codes "clear"
 
 abbrev pub options_of : Command → List (List ℕ)
 options_of Serve = callers_option ∷ serve_options
@@ -33,6 +36,7 @@ options_of Show = show_options
 options_of World = world_options
 options_of Fill = fill_options
 options_of Pin = pin_options
+options_of Clear = clear_options
 
 -- the pairs of words, two by two
 abbrev pub pairs_of : List (List ℕ) → List Pair
@@ -86,6 +90,7 @@ Asks Show words = (config journal : List ℕ) × IsShow words config journal
 Asks World words = (cards steps seed : ℕ) × IsWorld words cards steps seed
 Asks Fill words = (dol given : List ℕ) × IsFill words dol given
 Asks Pin words = (order : PinOrder) × IsPin words order
+Asks Clear words = (config clearing journal : List ℕ) × IsClear words config clearing journal
 
 -- the request file that the code names
 abbrev pub request_file : Requests → RequestFile
@@ -108,6 +113,7 @@ IsTask words (Host names) = IsCommand words names.config.now (option_map request
 IsTask words (Play size) = IsWorld words size.cards size.steps size.seed
 IsTask words (FillTask texts) = IsFill words texts.dol.items texts.data.items
 IsTask words (PinTask named) = IsPin words (order_of named)
+IsTask words (ClearTask names) = IsClear words names.config.now names.clearing.now names.journal.now
 
 -- whether a world may have so many cards and steps
 abbrev pub is_within : ℕ → ℕ → Bool

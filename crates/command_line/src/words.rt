@@ -7,8 +7,9 @@ ghost use Rattle.command_line.specs.Command.{is_one_of, pin_options, IsGroup, Is
 ghost use Rattle.command_line.specs.Pairs.{is_value, first_word, options_of, is_pair, are_pairs, pairs_of, values_in};
 ghost use Rattle.command_line.specs.Pairs.{value_in, is_within, AreWordsOf, GivesCallers, Asks, IsTask};
 ghost use Rattle.command_line.specs.declared.words.Command.{Command};
-ghost use Rattle.command_line.specs.declared.words.Command.TheVariants.{Serve, Show, World, Fill};
+ghost use Rattle.command_line.specs.declared.words.Command.TheVariants.{Serve, Show, World, Fill, Clear};
 ghost use Rattle.command_line.specs.declared.words.Task.TheVariants.{Host, Play, Fill as FillTask};
+ghost use Rattle.command_line.specs.declared.words.Task.TheVariants.{Clear as ClearTask};
 
 use crate::pin_words::{PinWords, pin_words};
 use arrayvec::ArrayVec;
@@ -28,6 +29,8 @@ pub(crate) enum Command {
     Fill,
     /// It changes a PIN.
     Pin,
+    /// It checks clearing lines.
+    Clear,
 }
 
 /// What the program does.
@@ -41,6 +44,8 @@ pub enum Task<'a> {
     Fill(DolTexts),
     /// It writes the command that changes a card's PIN.
     Pin(PinWords<'a>),
+    /// It checks clearing lines against the journals of a configuration.
+    Clear(ClearWords<'a>),
 }
 
 /// The names in the words of a command over journals.
@@ -83,6 +88,17 @@ pub struct DolTexts {
     pub data: ArrayVec<u8, MAX_CHIP_BYTES>,
 }
 
+/// The names in the words of the command to check clearing lines.
+#[derive(Clone, Copy)]
+pub struct ClearWords<'a> {
+    /// The name of the configuration.
+    pub config: &'a str,
+    /// The name of the clearing file.
+    pub clearing: &'a str,
+    /// The prefix of the journals' names.
+    pub journal: &'a str,
+}
+
 /// What the words ask for, and `None` where they are no command.
 pub fn read_words(words: &Words) -> Option<Task<'_>>
     ensures task { IfSome result (IsTask words.now) }
@@ -94,6 +110,7 @@ pub fn read_words(words: &Words) -> Option<Task<'_>>
         Command::World => Some(Task::Play(world_size(words)?)),
         Command::Fill => Some(Task::Fill(dol_texts(words)?)),
         Command::Pin => Some(Task::Pin(pin_words(words)?)),
+        Command::Clear => Some(Task::Clear(clear_words(words)?)),
     }
 }
 
@@ -166,6 +183,22 @@ fn show_names(words: &Words) -> Option<Names<'_>>
     Some(Names {
         config,
         requests: None,
+        journal,
+    })
+}
+
+/// The names in the words of the command to check clearing lines.
+fn clear_words(words: &Words) -> Option<ClearWords<'_>>
+    requires { AreWordsOf Clear words.now }
+    ensures names { IfSome result (λ names. IsTask words.now (ClearTask names)) }
+    ensures none { IfNone result (Asks Clear words.now → ⊥) }
+{
+    let config = value_of(words, "--config")?;
+    let clearing = value_of(words, "--clearing")?;
+    let journal = value_of(words, "--journal")?;
+    Some(ClearWords {
+        config,
+        clearing,
         journal,
     })
 }
@@ -258,6 +291,8 @@ fn command_of(word: &str) -> Option<Command>
         Some(Command::Fill)
     } else if word == "pin" {
         Some(Command::Pin)
+    } else if word == "clear" {
+        Some(Command::Clear)
     } else {
         None
     }
@@ -296,6 +331,7 @@ fn is_option(word: &str, command: Command) -> bool
         Command::World => word == "--cards" || word == "--steps" || word == "--seed",
         Command::Fill => word == "--dol" || word == "--data",
         Command::Pin => is_pin_option(word),
+        Command::Clear => word == "--config" || word == "--clearing" || word == "--journal",
     }
 }
 
