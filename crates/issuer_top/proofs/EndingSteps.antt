@@ -39,7 +39,8 @@ use Rattle.desk_host.specs.Shown.{shown_text}
 use Rattle.line_serving.specs.Serving.{ServesLines, Serves, read_failed, write_failed}
 use Rattle.issuer_top.specs.Stopping.{is_broken, GivesStop, EndsServing, written_ending}
 use Rattle.issuer_top.specs.Played.{IsWorldText, GivesText, PlaysBy}
-use Rattle.issuer_top.specs.Endings.{OpenedNoInput, OpenedConfigOnly, OpenedBothInputs, IsSetUp, AnswersLines}
+use Rattle.issuer_top.specs.Opened.{OpenedNoInput, OpenedConfigOnly, OpenedBothInputs}
+use Rattle.issuer_top.specs.Endings.{IsSetUp, HasIssuer, IsOverJournals, AnswersLines}
 use Rattle.issuer_top.specs.Endings.{AnswersNoLine, IsPlayed, OnlyLoads, HasNoHost, IsNoMemory, ReadsConfig}
 use Rattle.issuer_top.specs.Endings.{Stops, IsDone, IsDue, EndsBy}
 
@@ -118,14 +119,12 @@ ends_usage seen ending none opened none_opened stopping =
     stopping
 
 -- a command over journals without memory
-module _ (seen : Seen) (config : List ℕ) (requests : Option RequestFile) (journal : List ℕ)
-    (command : IsCommand seen.words config requests journal) where
+module _ (seen : Seen) (config journal : List ℕ) (command : IsOverJournals seen.words config journal) where
   lacks-host : OpenedNoInput seen ⊎ OpenedConfigOnly seen → LeaveJournals journal seen.desk.logs seen.journals
       → IsNoMemory seen (stop_text NoMemory)
   lacks-host opened left =
       inl (record {
         config = config;
-        requests = requests;
         journal = journal;
         command = command;
         opened = opened;
@@ -232,6 +231,15 @@ IsSetUp-from_said seen config requests journal left issuer command given said = 
   says = said.says;
 }
 
+-- they are those of a command over journals
+pub has-issuer : (seen : Seen) (requests : Option RequestFile) (journal : List ℕ) (issuer : Setup)
+    → IsSetUp seen requests journal issuer → HasIssuer seen journal issuer
+has-issuer seen requests journal issuer set_up = record {
+  config = set_up.config;
+  command = inl (requests, set_up.command);
+  said = record { content = set_up.content; held = set_up.held; says = set_up.says };
+}
+
 -- and with the request file that they name, for as many callers as there are
 pub set_up-named : (seen : Seen) (requests : Option RequestFile) (file : RequestFile) (callers : ℕ) (journal : List ℕ)
     (issuer : Setup)
@@ -254,15 +262,15 @@ no_host-since issuer journal logs other before mid after last journals cause tol
     (subst (λ (l : Logged). GivesNoHost issuer journal l (record { before = mid; after = after; last = last }) journals
     cause) told none)
 
-module _ (seen : Seen) (requests : Option RequestFile) (journal : List ℕ) (issuer : Setup) (ending : Ending)
-    (set_up : IsSetUp seen requests journal issuer) where
+module _ (seen : Seen) (journal : List ℕ) (issuer : Setup) (ending : Ending)
+    (set_up : HasIssuer seen journal issuer) where
   -- no memory was left once the issuer was known
   pub ends_without_memory : OpenedConfigOnly seen → LeaveJournals journal seen.desk.logs seen.journals
       → StopsAtOnce seen NoMemory ending
       → EndsBy seen ending
   ends_without_memory opened left stopping =
       ends_at_once seen NoMemory ending
-      (lacks-host seen set_up.config requests journal set_up.command (inr opened) left)
+      (lacks-host seen set_up.config journal set_up.command (inr opened) left)
       stopping
 
   -- the journals gave no host
@@ -272,7 +280,6 @@ module _ (seen : Seen) (requests : Option RequestFile) (journal : List ℕ) (iss
       seen.journals stop
       → LeaveJournals journal seen.desk.logs seen.journals → HasNoHost stop seen (stop_text stop)
   no-host stop with_config no_requests cause left = record {
-    requests = requests;
     journal = journal;
     issuer = issuer;
     set_up = set_up;
@@ -289,11 +296,11 @@ module _ (seen : Seen) (requests : Option RequestFile) (journal : List ℕ) (iss
       seen.journals stop
       → LeaveJournals journal seen.desk.logs seen.journals → StopsAtOnce seen stop ending → EndsBy seen ending
   ends_no_host (StoreFault shard) with_config no_requests cause left stopping =
-      ends_at_once seen (StoreFault shard) ending (no-host (StoreFault shard) with_config no_requests cause left)
+      ends_at_once seen (StoreFault shard) ending (inl (no-host (StoreFault shard) with_config no_requests cause left))
       stopping
   ends_no_host (BadJournal shard line) with_config no_requests cause left stopping =
       ends_at_once seen (BadJournal shard line) ending
-      (no-host (BadJournal shard line) with_config no_requests cause left) stopping
+      (inl (no-host (BadJournal shard line) with_config no_requests cause left)) stopping
   ends_no_host (BadOldJournal shard line) with_config no_requests cause left stopping =
       ends_at_once seen (BadOldJournal shard line) ending
       (no-host (BadOldJournal shard line) with_config no_requests cause left) stopping
@@ -309,17 +316,17 @@ module _ (seen : Seen) (requests : Option RequestFile) (journal : List ℕ) (iss
   ends_no_host NoKey with_config no_requests cause left stopping = absurd cause
 
 -- the journals gave no host, by what the desk told and counted before
-pub ends_unloaded : (seen : Seen) (requests : Option RequestFile) (journal : List ℕ) (issuer : Setup) (ending : Ending)
-    (set_up : IsSetUp seen requests journal issuer) (other : Logged) (mid : ℕ) (journals : SeenJournals) (cause : Stop)
+pub ends_unloaded : (seen : Seen) (journal : List ℕ) (issuer : Setup) (ending : Ending)
+    (set_up : HasIssuer seen journal issuer) (other : Logged) (mid : ℕ) (journals : SeenJournals) (cause : Stop)
     → is_some seen.config ≡ true → is_some seen.requests ≡ false → seen.journals ≡ journals → other ≡ seen.desk.logs
     → mid ≡ seen.desk.faults_before
     → GivesNoHost issuer journal other (record
     { before = mid; after = seen.desk.faults_after; last = seen.desk.last_fault }) journals cause
     → LeaveJournals journal other journals → StopsAtOnce seen cause ending → EndsBy seen ending
-ends_unloaded seen requests journal issuer ending set_up other mid journals cause with_config no_requests same told
+ends_unloaded seen journal issuer ending set_up other mid journals cause with_config no_requests same told
     stood none left stopping =
     let logs = seen.desk.logs in
-    ends_no_host seen requests journal issuer ending set_up cause with_config no_requests
+    ends_no_host seen journal issuer ending set_up cause with_config no_requests
     (subst (λ (js : SeenJournals). GivesNoHost issuer journal logs
     (record { before = seen.desk.faults_before; after = seen.desk.faults_after; last = seen.desk.last_fault }) js
     cause) (sym same)
@@ -463,7 +470,7 @@ module _ (seen : Seen) (requests : RequestFile) (journal : List ℕ) (issuer : S
     ends_serving ReadStopped ending held faults fresh serves counts none failed ends =
         let rose : Rose 0 input.faults = subst (λ (n : ℕ). Rose n input.faults) none (failed refl) in
         ends_by_stop seen held faults ReadFault ending serves.text
-        (inr (inr (inr (record {
+        (inr (inr (inr (inl (record {
           answers = serves.text;
           lines =
               lines-served (λ file read asked. AreWholeLines read asked) (Appends seen.sink.held_before held) serves
@@ -471,11 +478,11 @@ module _ (seen : Seen) (requests : RequestFile) (journal : List ℕ) (issuer : S
           which = serves.which;
           failed = Rose-from_none input.faults rose;
           last = refl;
-        }))))
+        })))))
         serves.written counts.never_falls ends
     ends_serving (LongStopped number) ending held faults fresh serves counts none failed ends =
         ends_by_stop seen held faults (TooLong number) ending serves.text
-        (record {
+        (inl (record {
           answers = serves.text;
           lines =
               lines-served (λ file read asked. AreLinesBefore number read asked) (Appends seen.sink.held_before held)
@@ -483,7 +490,7 @@ module _ (seen : Seen) (requests : RequestFile) (journal : List ℕ) (issuer : S
               serves.which.within.lines_within;
           which = serves.which;
           last = refl;
-        })
+        }))
         serves.written counts.never_falls ends
 
 -- ---- the ways that showing ends

@@ -17,6 +17,7 @@ use Rattle.terminal_kernel.specs.Given.{DataObject, data_of}
 use Rattle.terminal_kernel.specs.Filling.{filled}
 use Rattle.command_line.specs.Command.{RequestFile, IsFill, IsCommand}
 use Rattle.command_line.proofs.CommandWords.{fill-no_command, fill-no_world, one-fill}
+use Rattle.command_line.proofs.ClearNames.{clear-no_fill}
 use Rattle.command_line.proofs.PinOrders.{pin-no_fill}
 use Rattle.issuer_top.specs.declared.ending.Ending.{Ending}
 use Rattle.issuer_top.specs.declared.ending.Ending.TheVariants.{Done, Stopped, WriteFault}
@@ -24,10 +25,13 @@ use Rattle.desk_host.specs.SeenStores.{no_journals}
 use Rattle.issuer_top.specs.Seen.{Seen}
 use Rattle.issuer_top.specs.Status.{status_of}
 use Rattle.issuer_top.specs.Filling.{filled_or_stop, filling, FillsBy, fill_status, Fills}
-use Rattle.issuer_top.specs.Endings.{OpenedNoInput, IsDone, IsFilled, CannotFill, IsReadFault, HasNoHost, IsNoMemory}
+use Rattle.issuer_top.specs.Opened.{OpenedNoInput}
+use Rattle.issuer_top.specs.Endings.{IsDone, IsFilled, CannotFill, IsReadFault, HasNoHost, IsNoMemory}
 use Rattle.issuer_top.specs.Endings.{ReadsConfig}
+use Rattle.issuer_top.specs.Clearing.{LoadsToClear}
 use Rattle.issuer_top.specs.Endings.{EndsBy}
 use Rattle.issuer_top.proofs.EndingSteps.{ends_at_once, ends_by_text}
+use Rattle.issuer_top.proofs.OverJournals.{over-no_fill}
 
 -- ---- the ways that filling ends
 
@@ -83,26 +87,33 @@ module _ (seen : Seen) (dol given : List ℕ) (fill : IsFill seen.words dol give
 
   no_config : (config : List ℕ) → ReadsConfig seen.words config → ⊥
   no_config config command =
-      ⊎_elim (λ host. no_host config host.0 host.1 host.2) (λ pin. pin-no_fill seen.words pin.0 dol given pin.1 fill)
-      command
+      ⊎_elim (λ over. over-no_fill seen.words config over.0 over.1 dol given fill)
+      (λ pin. pin-no_fill seen.words pin.0 dol given pin.1 fill) command
+
+  no_check : LoadsToClear seen → ⊥
+  no_check loaded =
+      clear-no_fill seen.words loaded.set_up.config loaded.clearing loaded.journal loaded.set_up.command dol given fill
 
   not-unread : (text : List ℕ) → IsReadFault seen text → ⊥
   not-unread text cannot =
       ⊎_elim (λ a. no_config a.config a.command)
       (λ more. ⊎_elim (λ b. no_config b.config b.command)
       (λ more. ⊎_elim (λ c. let l = c.loaded in no_host l.set_up.config (Some l.requests) l.journal l.set_up.command)
-      (λ d. let l = d.lines in no_host l.set_up.config (Some l.requests) l.journal l.set_up.command) more) more)
+      (λ more. ⊎_elim (λ d. let l = d.lines in no_host l.set_up.config (Some l.requests) l.journal l.set_up.command)
+      (λ more. ⊎_elim (λ e. no_check e.loaded) (λ f. no_check f.lines.loaded) more) more) more) more)
       cannot
 
   not-unloaded : (stop : Stop) (text : List ℕ) → HasNoHost stop seen text → ⊥
-  not-unloaded stop text none = no_host none.set_up.config none.requests none.journal none.set_up.command
+  not-unloaded stop text none =
+      over-no_fill seen.words none.set_up.config none.journal none.set_up.command dol given fill
 
   not-short : (text : List ℕ) → IsNoMemory seen text → ⊥
   not-short text short =
-      ⊎_elim (λ a. no_host a.config a.requests a.journal a.command)
+      ⊎_elim (λ a. over-no_fill seen.words a.config a.journal a.command dol given fill)
       (λ more. ⊎_elim (λ b. let l = b.loaded in no_host l.set_up.config (Some l.requests) l.journal l.set_up.command)
       (λ more. ⊎_elim (λ c. fill-no_world seen.words dol given c.cards c.steps c.seed fill c.world)
-      (λ d. pin-no_fill seen.words d.order dol given d.pin fill) more) more)
+      (λ more. ⊎_elim (λ d. pin-no_fill seen.words d.order dol given d.pin fill) (λ e. no_check e.loaded) more) more)
+      more)
       short
 
   -- it is what the words spell that was filled
@@ -124,7 +135,8 @@ module _ (seen : Seen) (dol given : List ℕ) (fill : IsFill seen.words dol give
       (λ more. ⊎_elim (λ b. absurd (no_host b.set_up.config None b.journal b.set_up.command))
       (λ more. ⊎_elim (λ c. absurd (fill-no_world seen.words dol given c.cards c.steps c.seed fill c.world))
       (λ more. ⊎_elim (λ d. is ∙ ap fill_status (sym d.filled_is ∙ same d.dol d.given d.fill))
-      (λ e. absurd (pin-no_fill seen.words e.order dol given e.ordered.pin fill)) more) more) more)
+      (λ more. ⊎_elim (λ e. absurd (pin-no_fill seen.words e.order dol given e.ordered.pin fill))
+      (λ f. absurd (no_check f.lines.loaded)) more) more) more) more)
       ends
 
   pub status-of : (status : ℕ) (ending : Ending) → status ≡ status_of ending → EndsBy seen ending
@@ -135,14 +147,19 @@ module _ (seen : Seen) (dol given : List ℕ) (fill : IsFill seen.words dol give
   status-of status (Stopped (Config part index)) is ends =
       let c = ends.1 in absurd (no_config c.config c.command)
   status-of status (Stopped ReadFault) is ends = absurd (not-unread ends.0 ends.1)
-  status-of status (Stopped (StoreFault shard)) is ends = absurd (not-unloaded (StoreFault shard) ends.0 ends.1)
+  status-of status (Stopped (StoreFault shard)) is ends =
+      ⊎_elim (λ none. absurd (not-unloaded (StoreFault shard) ends.0 none)) (λ again. absurd (no_check again.loaded))
+      ends.1
   status-of status (Stopped (BadJournal shard line)) is ends =
-      absurd (not-unloaded (BadJournal shard line) ends.0 ends.1)
+      ⊎_elim (λ none. absurd (not-unloaded (BadJournal shard line) ends.0 none))
+      (λ again. absurd (no_check again.loaded)) ends.1
   status-of status (Stopped (BadOldJournal shard line)) is ends =
       absurd (not-unloaded (BadOldJournal shard line) ends.0 ends.1)
   status-of status (Stopped NoMemory) is ends = absurd (not-short ends.0 ends.1)
   status-of status (Stopped (TooLong line)) is ends =
-      let l = ends.1.lines in absurd (no_host l.set_up.config (Some l.requests) l.journal l.set_up.command)
+      ⊎_elim
+      (λ long. let l = long.lines in absurd (no_host l.set_up.config (Some l.requests) l.journal l.set_up.command))
+      (λ long. absurd (no_check long.lines.loaded)) ends.1
   status-of status (Stopped (StopsAtDol at)) is ends = inl (stopped status (StopsAtDol at) ends.0 is ends.1)
   status-of status (Stopped (StopsAtData at)) is ends = inl (stopped status (StopsAtData at) ends.0 is ends.1)
   status-of status (Stopped NoKey) is ends =

@@ -3,7 +3,7 @@ use Rattle.std.proofs.Common.{◌≡◌, ℕ, ◌-◌, ◌<◌, ◌≤◌, ◌�
 use Rattle.std.proofs.Common.{inr, ⊎_elim}
 use Rattle.std.proofs.Common.{refl, sym, subst, ap, ◌∙◌, arith}
 use Rattle.std.proofs.lemmas.List.{length-append, take-append-le}
-use Rattle.std.specs.List.{flat_map}
+use Rattle.std.specs.List.{flat_map, slice_get}
 use Rattle.std.specs.Option.{option_map}
 use Rattle.std.specs.Prelude.{IsSomeAnd, codes}
 use Rattle.issuer_base.specs.Tells.{Tells}
@@ -28,16 +28,24 @@ use Rattle.command_line.specs.Command.{RequestFile, IsCommand}
 use Rattle.command_line.specs.Pairs.{value_in}
 use Rattle.issuer_top.specs.Seen.{Told, Seen, SeenInput}
 use Rattle.line_serving.specs.Answered.{AreLinesBefore, WasRead}
+use Rattle.journal_filing.specs.declared.filing.FilingFault.{FilingFault}
+use Rattle.journal_filing.specs.declared.filing.FilingFault.TheVariants.{StoreFault as StoreFails, BadLine as FileLine}
+use Rattle.journal_filing.specs.declared.filing.FilingFault.TheVariants.{NoMemory as NoRoom}
+use Rattle.desk_host.specs.SeenStores.{SeenStore}
 use Rattle.desk_host.specs.Journals.{old_name, journal_name}
 use Rattle.desk_host.specs.Loading.{DeskFaults, IsBadAt, IsBadLine, IsBadOldLine}
 use Rattle.issuer_top.specs.Status.{status_of}
 use Rattle.issuer_top.specs.Endings.{EndsBy, IsReadFault, HasNoHost, IsInOrder, ServesInOrder, ShowsInOrder}
-use Rattle.issuer_top.specs.Endings.{PlaysInOrder, ChangesInOrder, Completes, ReadsConfig, HasNoKey}
+use Rattle.issuer_top.specs.Endings.{PlaysInOrder, ChangesInOrder, ClearsInOrder, Completes, ReadsConfig, HasNoKey}
+use Rattle.issuer_top.specs.Endings.{IsOverJournals}
+use Rattle.issuer_top.specs.Clearing.{LoadsToClear, StopsFiling, stop_of_filing}
+use Rattle.command_line.proofs.ClearNames.{clear-no_command, clear-no_pin, clear-no_world, one-clear}
 use Rattle.command_line.proofs.CommandWords.{serve-gives, show-gives, serve-no_show, command-no_world}
-use Rattle.command_line.proofs.CommandWords.{fill-no_command, fill-no_world}
+use Rattle.command_line.proofs.CommandWords.{fill-no_world}
 use Rattle.command_line.proofs.PinOrders.{one-order, pin-no_command, pin-no_world, pin-no_fill}
 use Rattle.command_line.specs.Command.{PinOrder}
 use Rattle.issuer_top.specs.PinChanges.{changing}
+use Rattle.issuer_top.proofs.OverJournals.{over-known, over-no_fill, over-no_pin, over-no_world}
 
 -- ---- what is said once
 
@@ -150,16 +158,47 @@ counted : (input : Option SeenInput) (seen : SeenInput) → input ≡ Some seen 
     → IsSomeAnd input (λ i. 0 < i.faults)
 counted input seen is failed = subst (λ o. IsSomeAnd o (λ (i : SeenInput). 0 < i.faults)) (sym is) failed
 
-module _ (seen : Seen) (config journal : List ℕ) (requests : Option RequestFile)
-    (command : IsCommand seen.words config requests journal)
-    (order : IsInOrder seen config journal) where
+-- words are a command over journals in one way: with the same names
+record AreSameOver (config other_config journal other_journal : List ℕ) : Type 0 where
+  config_is : config ≡ other_config
+  journal_is : journal ≡ other_journal
+
+same-over : (words : List (List ℕ)) (config other_config journal other_journal : List ℕ)
+    → IsOverJournals words config journal → IsOverJournals words other_config other_journal
+    → AreSameOver config other_config journal other_journal
+same-over words config other_config journal other_journal over other =
+    ⊎_elim
+    (λ host. ⊎_elim
+    (λ another.
+    let same = same-names words config other_config host.0 another.0 journal other_journal host.1 another.1 in
+    record { config_is = same.config_is; journal_is = same.journal_is })
+    (λ clear.
+    absurd (clear-no_command words other_config clear.0 other_journal clear.1 config host.0 journal host.1))
+    other)
+    (λ clear. ⊎_elim
+    (λ host.
+    absurd (clear-no_command words config clear.0 journal clear.1 other_config host.0 other_journal host.1))
+    (λ another.
+    let same =
+    one-clear words config clear.0 journal other_config another.0 other_journal clear.1 another.1 in
+    record { config_is = same.config_is; journal_is = same.journal_is })
+    other)
+    over
+
+module _ (seen : Seen) (config journal : List ℕ) (command : IsOverJournals seen.words config journal)
+    (order : IsInOrder seen config journal)
+    (told : LoadsToClear seen → (shard : ℕ) (store : SeenStore) → slice_get seen.journals.stores shard ≡ Some store
+    → store.bytes ≡ None → ⊥) where
   -- nothing could not be read
   not-unread : (text : List ℕ) → IsReadFault seen text → ⊥
   not-unread text cannot =
       ⊎_elim (λ a. order.desk_stood a.fails.rose)
       (λ more. ⊎_elim (λ b. order.config_stood b.failed)
       (λ more. ⊎_elim (λ c. order.desk_stood c.fails.rose)
-      (λ d. order.requests_stood (counted seen.requests d.lines.input d.lines.input_is d.failed)) more) more)
+      (λ more. ⊎_elim (λ d. order.requests_stood (counted seen.requests d.lines.input d.lines.input_is d.failed))
+      (λ more. ⊎_elim (λ e. order.desk_stood e.fails.rose)
+      (λ f. order.requests_stood (counted seen.requests f.lines.input f.lines.input_is f.failed)) more) more) more)
+      more)
       cannot
 
   -- no journal is bad, and no old one
@@ -177,13 +216,12 @@ module _ (seen : Seen) (config journal : List ℕ) (requests : Option RequestFil
       → IsBadAt none.issuer none.journal seen.desk.logs (desk_faults seen) seen.journals shard IsSuch
       → ((fault : LoadFault) → IsSuch fault → IsOutside fault → ⊥) → ⊥
   not-bad_journal stop shard IsSuch text none cause apart =
-      let same = same-names seen.words config none.set_up.config requests none.requests journal none.journal command
-      none.set_up.command in
+      let same = same-over seen.words config none.set_up.config journal none.journal command none.set_up.command in
+      let said = none.set_up.said in
       let content =
-      same-content seen.desk.tells config none.set_up.config none.set_up.content order.content (sym same.config_is)
-      order.config_held none.set_up.held in
-      let issuer = one-issuer none.set_up.content order.content order.issuer none.issuer content order.says
-      none.set_up.says in
+      same-content seen.desk.tells config none.set_up.config said.content order.content (sym same.config_is)
+      order.config_held said.held in
+      let issuer = one-issuer said.content order.content order.issuer none.issuer content order.says said.says in
       let logs = seen.desk.logs in
       let bad = subst (λ (i : Setup). IsBadAt i none.journal logs (desk_faults seen) seen.journals shard IsSuch) issuer
       cause in
@@ -202,51 +240,77 @@ module _ (seen : Seen) (config journal : List ℕ) (requests : Option RequestFil
       load.failed) more)
       none.cause
 
+  -- and none fails when it is read again
+  not-again : (loaded : LoadsToClear seen) (fault : FilingFault) (shard : ℕ) (stop : Stop)
+      → StopsFiling seen.journals.stores shard fault → stop ≡ stop_of_filing fault shard → (stop ≡ NoMemory → ⊥) → ⊥
+  not-again loaded StoreFails shard stop cause is other = order.stores_stood shard cause.0 cause.1 cause.2
+  not-again loaded (FileLine line) shard stop cause is other = told loaded shard cause.0 cause.1 cause.2
+  not-again loaded NoRoom shard stop cause is other = other is
+
   -- the configuration that was read is that of the words
   same-config : (other : List ℕ) → ReadsConfig seen.words other → other ≡ config
   same-config other reads =
       ⊎_elim
-      (λ host. sym (same-names seen.words config other requests host.0 journal host.1 command host.2).config_is)
-      (λ pin. absurd (pin-no_command seen.words pin.0 config requests journal pin.1 command))
+      (λ over. sym (same-over seen.words config other journal over.0 command over.1).config_is)
+      (λ pin. absurd (over-no_pin seen.words config journal command pin.0 pin.1))
       reads
 
   -- where the request file isn't too long, the status is 0 or 7
   in-order : (status : ℕ) (ending : Ending) → status ≡ status_of ending → EndsBy seen ending
       → ((line : ℕ) → ending ≡ Stopped (TooLong line) → ⊥) → (status ≡ 0) ⊎ (status ≡ 7)
   in-order status Done is ends short = inl is
-  in-order status (Stopped Usage) is ends short = absurd (ends.1.no_command.no_host config requests journal command)
+  in-order status (Stopped Usage) is ends short =
+      absurd (over-known seen.words config journal command ends.1.no_command)
   in-order status (Stopped (Config part index)) is ends short =
       let content = same-content seen.desk.tells config ends.1.config ends.1.content order.content
       (same-config ends.1.config ends.1.command) order.config_held ends.1.held in
       absurd (not-both ends.1.content order.content order.issuer ends.1.fault content order.says ends.1.broken)
   in-order status (Stopped ReadFault) is ends short = absurd (not-unread ends.0 ends.1)
-  in-order status (Stopped (StoreFault shard)) is ends short = absurd (not-unstored shard ends.0 ends.1)
+  in-order status (Stopped (StoreFault shard)) is ends short =
+      ⊎_elim (λ none. absurd (not-unstored shard ends.0 none))
+      (λ again. absurd (not-again again.loaded again.fault again.shard (StoreFault shard) again.cause again.stop_is
+      (λ e. absurd (cc))))
+      ends.1
   in-order status (Stopped (BadJournal shard line)) is ends short =
-      absurd (not-bad_journal (BadJournal shard line) shard (IsBadLine line) ends.0 ends.1 ends.1.cause
-      (λ fault. not-bad_line fault line))
+      ⊎_elim
+      (λ none. absurd (not-bad_journal (BadJournal shard line) shard (IsBadLine line) ends.0 none none.cause
+      (λ fault. not-bad_line fault line)))
+      (λ again. absurd (not-again again.loaded again.fault again.shard (BadJournal shard line) again.cause again.stop_is
+      (λ e. absurd (cc))))
+      ends.1
   in-order status (Stopped (BadOldJournal shard line)) is ends short =
       absurd (not-bad_journal (BadOldJournal shard line) shard (IsBadOldLine line) ends.0 ends.1 ends.1.cause
       (λ fault. not-bad_old_line fault line))
   in-order status (Stopped NoMemory) is ends short = inr is
   in-order status (Stopped (TooLong line)) is ends short = absurd (short line refl)
   in-order status (Stopped (BadDol at)) is ends short =
-      let f = ends.1 in absurd (fill-no_command seen.words f.dol f.given config requests journal f.fill command)
+      let f = ends.1 in absurd (over-no_fill seen.words config journal command f.dol f.given f.fill)
   in-order status (Stopped (BadData at)) is ends short =
-      let f = ends.1 in absurd (fill-no_command seen.words f.dol f.given config requests journal f.fill command)
+      let f = ends.1 in absurd (over-no_fill seen.words config journal command f.dol f.given f.fill)
   in-order status (Stopped NoKey) is ends short =
-      let k = ends.1 in absurd (pin-no_command seen.words k.order config requests journal k.ordered.pin command)
+      let k = ends.1 in absurd (over-no_pin seen.words config journal command k.order k.ordered.pin)
   in-order status WriteFault is ends short = absurd (order.sink_stood ends.rose)
 
--- ---- the three commands
+-- ---- the commands
+
+-- words that serve or show don't check clearing lines
+not-to-clear : (seen : Seen) (config : List ℕ) (requests : Option RequestFile) (journal : List ℕ)
+    → IsCommand seen.words config requests journal → LoadsToClear seen → ⊥
+not-to-clear seen config requests journal command loaded =
+    clear-no_command seen.words loaded.set_up.config loaded.clearing loaded.journal loaded.set_up.command config
+    requests journal command
 
 serves-in_order : (seen : Seen) (status : ℕ) (ending : Ending) → status ≡ status_of ending → EndsBy seen ending
     → ServesInOrder seen
     → (status ≡ 0) ⊎ (status ≡ 7)
 serves-in_order seen status ending is ends order =
-    in-order seen order.config order.journal (Some order.requests) order.serve order.in_order status ending is ends
+    in-order seen order.config order.journal (inl (Some order.requests, order.serve)) order.in_order
+    (λ loaded. absurd (not-to-clear seen order.config (Some order.requests) order.journal order.serve loaded))
+    status ending is ends
     (λ line long.
     let passed = subst (EndsBy seen) long ends in
-    let l = passed.1.lines in
+    ⊎_elim (λ past.
+    let l = past.lines in
     let same =
     same-names seen.words order.config l.set_up.config (Some order.requests) (Some l.requests) order.journal l.journal
     order.serve l.set_up.command in
@@ -254,19 +318,46 @@ serves-in_order seen status ending is ends order =
     (let e : Some order.requests.name ≡ Some l.requests.name = same.file_is in cc) in
     let content = same-content seen.desk.tells order.requests.name l.requests.name l.file order.file name
     order.requests_held l.held in
-    not-past l.file order.file l.read l.asked line l.input.left content order.within l.was_read passed.1.which)
+    not-past l.file order.file l.read l.asked line l.input.left content order.within l.was_read past.which)
+    (λ past. not-to-clear seen order.config (Some order.requests) order.journal order.serve past.lines.loaded)
+    passed.1)
 
 shows-in_order : (seen : Seen) (status : ℕ) (ending : Ending) → status ≡ status_of ending → EndsBy seen ending
     → ShowsInOrder seen
     → (status ≡ 0) ⊎ (status ≡ 7)
 shows-in_order seen status ending is ends order =
-    in-order seen order.config order.journal None order.show order.in_order status ending is ends
+    in-order seen order.config order.journal (inl (None, order.show)) order.in_order
+    (λ loaded. absurd (not-to-clear seen order.config None order.journal order.show loaded)) status ending is ends
     (λ line long.
     let passed = subst (EndsBy seen) long ends in
-    let l = passed.1.lines in
+    ⊎_elim (λ past.
+    let l = past.lines in
     let same = same-names seen.words order.config l.set_up.config None (Some l.requests) order.journal l.journal
     order.show l.set_up.command in
     (let e : None ≡ Some l.requests.name = same.file_is in cc))
+    (λ past. not-to-clear seen order.config None order.journal order.show past.lines.loaded) passed.1)
+
+clears-in_order : (seen : Seen) (status : ℕ) (ending : Ending) → status ≡ status_of ending → EndsBy seen ending
+    → ClearsInOrder seen
+    → (status ≡ 0) ⊎ (status ≡ 7)
+clears-in_order seen status ending is ends order =
+    in-order seen order.config order.journal (inr (order.clearing, order.clear)) order.in_order
+    (λ loaded. order.stores_told) status ending is ends
+    (λ line long.
+    let passed = subst (EndsBy seen) long ends in
+    ⊎_elim (λ past.
+    let l = past.lines in
+    clear-no_command seen.words order.config order.clearing order.journal order.clear l.set_up.config
+    (Some l.requests) l.journal l.set_up.command)
+    (λ past.
+    let l = past.lines in
+    let set_up = l.loaded.set_up in
+    let same = one-clear seen.words order.config order.clearing order.journal set_up.config l.loaded.clearing
+    l.loaded.journal order.clear set_up.command in
+    let content = same-content seen.desk.tells order.clearing l.loaded.clearing l.file order.file
+    (sym same.clearing_is) order.clearing_held l.held in
+    not-past l.file order.file l.read l.asked line l.input.left content order.within l.was_read past.which)
+    passed.1)
 
 module _ (seen : Seen) (order : PlaysInOrder seen) where
   -- the words are no command over journals
@@ -277,20 +368,28 @@ module _ (seen : Seen) (order : PlaysInOrder seen) where
 
   no_config : (config : List ℕ) → ReadsConfig seen.words config → ⊥
   no_config config command =
-      ⊎_elim (λ host. no_host config host.0 host.1 host.2)
+      ⊎_elim (λ over. over-no_world seen.words config over.0 over.1 order.cards order.steps order.seed order.world)
       (λ pin. pin-no_world seen.words pin.0 order.cards order.steps order.seed pin.1 order.world)
       command
+
+  no_check : LoadsToClear seen → ⊥
+  no_check loaded =
+      clear-no_world seen.words loaded.set_up.config loaded.clearing loaded.journal loaded.set_up.command order.cards
+      order.steps order.seed order.world
 
   none-unread : (text : List ℕ) → IsReadFault seen text → ⊥
   none-unread text cannot =
       ⊎_elim (λ a. no_config a.config a.command)
       (λ more. ⊎_elim (λ b. no_config b.config b.command)
       (λ more. ⊎_elim (λ c. let l = c.loaded in no_host l.set_up.config (Some l.requests) l.journal l.set_up.command)
-      (λ d. let l = d.lines in no_host l.set_up.config (Some l.requests) l.journal l.set_up.command) more) more)
+      (λ more. ⊎_elim (λ d. let l = d.lines in no_host l.set_up.config (Some l.requests) l.journal l.set_up.command)
+      (λ more. ⊎_elim (λ e. no_check e.loaded) (λ f. no_check f.lines.loaded) more) more) more) more)
       cannot
 
   none-unloaded : (stop : Stop) (text : List ℕ) → HasNoHost stop seen text → ⊥
-  none-unloaded stop text none = no_host none.set_up.config none.requests none.journal none.set_up.command
+  none-unloaded stop text none =
+      over-no_world seen.words none.set_up.config none.journal none.set_up.command order.cards order.steps order.seed
+      order.world
 
   plays-in_order : (status : ℕ) (ending : Ending) → status ≡ status_of ending → EndsBy seen ending
       → (status ≡ 0) ⊎ (status ≡ 7)
@@ -300,14 +399,19 @@ module _ (seen : Seen) (order : PlaysInOrder seen) where
   plays-in_order status (Stopped (Config part index)) is ends =
       let c = ends.1 in absurd (no_config c.config c.command)
   plays-in_order status (Stopped ReadFault) is ends = absurd (none-unread ends.0 ends.1)
-  plays-in_order status (Stopped (StoreFault shard)) is ends = absurd (none-unloaded (StoreFault shard) ends.0 ends.1)
+  plays-in_order status (Stopped (StoreFault shard)) is ends =
+      ⊎_elim (λ none. absurd (none-unloaded (StoreFault shard) ends.0 none)) (λ again. absurd (no_check again.loaded))
+      ends.1
   plays-in_order status (Stopped (BadJournal shard line)) is ends =
-      absurd (none-unloaded (BadJournal shard line) ends.0 ends.1)
+      ⊎_elim (λ none. absurd (none-unloaded (BadJournal shard line) ends.0 none))
+      (λ again. absurd (no_check again.loaded)) ends.1
   plays-in_order status (Stopped (BadOldJournal shard line)) is ends =
       absurd (none-unloaded (BadOldJournal shard line) ends.0 ends.1)
   plays-in_order status (Stopped NoMemory) is ends = inr is
   plays-in_order status (Stopped (TooLong line)) is ends =
-      let l = ends.1.lines in absurd (no_host l.set_up.config (Some l.requests) l.journal l.set_up.command)
+      ⊎_elim
+      (λ long. let l = long.lines in absurd (no_host l.set_up.config (Some l.requests) l.journal l.set_up.command))
+      (λ long. absurd (no_check long.lines.loaded)) ends.1
   plays-in_order status (Stopped (BadDol at)) is ends =
       let f = ends.1 in
       absurd (fill-no_world seen.words f.dol f.given order.cards order.steps order.seed f.fill order.world)
@@ -326,23 +430,31 @@ module _ (seen : Seen) (order : ChangesInOrder seen) where
   not-over_journals config requests journal command =
       pin-no_command seen.words order.order config requests journal order.pin command
 
+  not-checked : LoadsToClear seen → ⊥
+  not-checked loaded =
+      clear-no_pin seen.words loaded.set_up.config loaded.clearing loaded.journal loaded.set_up.command order.order
+      order.pin
+
   none-failed : (text : List ℕ) → IsReadFault seen text → ⊥
   none-failed text cannot =
       ⊎_elim (λ a. order.desk_stood a.fails.rose)
       (λ more. ⊎_elim (λ b. order.config_stood b.failed)
       (λ more. ⊎_elim
       (λ c. let l = c.loaded in not-over_journals l.set_up.config (Some l.requests) l.journal l.set_up.command)
-      (λ d. let l = d.lines in not-over_journals l.set_up.config (Some l.requests) l.journal l.set_up.command) more)
+      (λ more. ⊎_elim
+      (λ d. let l = d.lines in not-over_journals l.set_up.config (Some l.requests) l.journal l.set_up.command)
+      (λ more. ⊎_elim (λ e. not-checked e.loaded) (λ f. not-checked f.lines.loaded) more) more) more)
       more)
       cannot
 
   none-loaded : (stop : Stop) (text : List ℕ) → HasNoHost stop seen text → ⊥
-  none-loaded stop text none = not-over_journals none.set_up.config none.requests none.journal none.set_up.command
+  none-loaded stop text none =
+      over-no_pin seen.words none.set_up.config none.journal none.set_up.command order.order order.pin
 
   -- the configuration that was read is that of the order
   ordered-config : (other : List ℕ) → ReadsConfig seen.words other → other ≡ order.order.config
   ordered-config other reads =
-      ⊎_elim (λ host. absurd (not-over_journals other host.0 host.1 host.2))
+      ⊎_elim (λ over. absurd (over-no_pin seen.words other over.0 over.1 order.order order.pin))
       (λ pin. sym pin.2 ∙ ap (λ (o : PinOrder). o.config) (one-order seen.words pin.0 order.order pin.1 order.pin))
       reads
 
@@ -369,14 +481,20 @@ module _ (seen : Seen) (order : ChangesInOrder seen) where
       (ordered-config ends.1.config ends.1.command) order.config_held ends.1.held in
       absurd (not-both ends.1.content order.content order.issuer ends.1.fault content order.says ends.1.broken)
   changes-in_order status (Stopped ReadFault) is ends = absurd (none-failed ends.0 ends.1)
-  changes-in_order status (Stopped (StoreFault shard)) is ends = absurd (none-loaded (StoreFault shard) ends.0 ends.1)
+  changes-in_order status (Stopped (StoreFault shard)) is ends =
+      ⊎_elim (λ none. absurd (none-loaded (StoreFault shard) ends.0 none)) (λ again. absurd (not-checked again.loaded))
+      ends.1
   changes-in_order status (Stopped (BadJournal shard line)) is ends =
-      absurd (none-loaded (BadJournal shard line) ends.0 ends.1)
+      ⊎_elim (λ none. absurd (none-loaded (BadJournal shard line) ends.0 none))
+      (λ again. absurd (not-checked again.loaded)) ends.1
   changes-in_order status (Stopped (BadOldJournal shard line)) is ends =
       absurd (none-loaded (BadOldJournal shard line) ends.0 ends.1)
   changes-in_order status (Stopped NoMemory) is ends = inr is
   changes-in_order status (Stopped (TooLong line)) is ends =
-      let l = ends.1.lines in absurd (not-over_journals l.set_up.config (Some l.requests) l.journal l.set_up.command)
+      ⊎_elim
+      (λ long. let l = long.lines in
+      absurd (not-over_journals l.set_up.config (Some l.requests) l.journal l.set_up.command))
+      (λ long. absurd (not-checked long.lines.loaded)) ends.1
   changes-in_order status (Stopped (BadDol at)) is ends =
       let f = ends.1 in absurd (pin-no_fill seen.words order.order f.dol f.given order.pin f.fill)
   changes-in_order status (Stopped (BadData at)) is ends =
@@ -390,5 +508,6 @@ completes seen status ending is ends order =
     ⊎_elim (serves-in_order seen status ending is ends)
     (⊎_elim (shows-in_order seen status ending is ends)
     (⊎_elim (λ plays. plays-in_order seen plays status ending is ends)
-    (λ changes. changes-in_order seen changes status ending is ends)))
+    (⊎_elim (λ changes. changes-in_order seen changes status ending is ends)
+    (clears-in_order seen status ending is ends))))
     order

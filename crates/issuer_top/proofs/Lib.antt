@@ -2,5 +2,7 @@
 pub mod EndingSteps
 pub mod Statuses
 pub mod InOrder
+mod ClearingSteps
 mod FillingSteps
+mod OverJournals
 mod PinSteps

@@ -9,6 +9,7 @@ use Rattle.answer_text.specs.declared.stop_line.Stop.TheVariants.{NoKey}
 use Rattle.des_block.specs.declared.Key16.{Key16}
 use Rattle.issuer_setup.specs.IssuerSetup.{Setup}
 use Rattle.command_line.specs.Command.{RequestFile, PinOrder, IsPin, IsCommand}
+use Rattle.command_line.proofs.ClearNames.{clear-no_pin}
 use Rattle.command_line.proofs.PinOrders.{one-order, pin-no_command, pin-no_world, pin-no_fill}
 use Rattle.desk_host.specs.Configuration.{Says}
 use Rattle.desk_host.specs.SeenStores.{no_journals}
@@ -19,8 +20,11 @@ use Rattle.issuer_top.specs.Seen.{Seen}
 use Rattle.issuer_top.specs.Status.{status_of}
 use Rattle.issuer_top.specs.PinChanges.{smc_for, change_by, change_text, changing, ChangesBy, SaysIssuer, change_status}
 use Rattle.issuer_top.specs.PinChanges.{IsUnread, IsAnswered, Pins}
-use Rattle.issuer_top.specs.Endings.{OpenedNoInput, OpenedConfigOnly, IsOrdered, IsChanged, IsDone, HasNoHost}
+use Rattle.issuer_top.specs.Opened.{OpenedNoInput, OpenedConfigOnly}
+use Rattle.issuer_top.specs.Endings.{IsOrdered, IsChanged, IsDone, HasNoHost}
+use Rattle.issuer_top.specs.Clearing.{LoadsToClear}
 use Rattle.issuer_top.specs.Endings.{IsNoMemory, EndsBy}
+use Rattle.issuer_top.proofs.OverJournals.{over-no_pin}
 use Rattle.issuer_top.proofs.EndingSteps.{told-given, ends_at_once, ends_by_text}
 
 -- ---- the ways that a change of a PIN ends
@@ -29,7 +33,8 @@ use Rattle.issuer_top.proofs.EndingSteps.{told-given, ends_at_once, ends_by_text
 pub lacks-pin : (seen : Seen) (order : PinOrder) → IsPin seen.words order → seen.journals ≡ no_journals
     → OpenedNoInput seen ⊎ OpenedConfigOnly seen → IsNoMemory seen (stop_text NoMemory)
 lacks-pin seen order pin none_opened opened =
-    inr (inr (inr (record { order = order; pin = pin; opened = opened; none_opened = none_opened; last = refl })))
+    inr (inr (inr (inl (record
+    { order = order; pin = pin; opened = opened; none_opened = none_opened; last = refl }))))
 
 -- the configuration says an issuer
 pub says-issuer : (seen : Seen) (config : List ℕ) (left : Option (List ℕ)) (issuer : Setup)
@@ -52,8 +57,8 @@ module _ (seen : Seen) (order : PinOrder) (issuer : Setup) (ordered : IsOrdered 
   ends_as (Some smc) is changes =
       let done : IsChanged seen (change_text order smc) =
       record { order = order; issuer = issuer; ordered = ordered; text_is = ap (change_by order) is } in
-      ends_by_text seen ending (change_text order smc) (inr (inr (inr (inr done))))
-      (inr (inr (inr (inr (inr done))))) changes
+      ends_by_text seen ending (change_text order smc) (inr (inr (inr (inr (inl done)))))
+      (inr (inr (inr (inr (inr (inl done)))))) changes
 
   pub ends_changing : ChangesBy (changing issuer order) seen.sink.held_before seen.sink.held_after
       seen.sink.faults_before seen.sink.faults_after ending → EndsBy seen ending
@@ -68,7 +73,12 @@ module _ (seen : Seen) (order : PinOrder) (pin : IsPin seen.words order) where
   no_host config requests journal command = pin-no_command seen.words order config requests journal pin command
 
   not-unloaded : (stop : Stop) (text : List ℕ) → HasNoHost stop seen text → ⊥
-  not-unloaded stop text none = no_host none.set_up.config none.requests none.journal none.set_up.command
+  not-unloaded stop text none =
+      over-no_pin seen.words none.set_up.config none.journal none.set_up.command order pin
+
+  no_check : LoadsToClear seen → ⊥
+  no_check loaded =
+      clear-no_pin seen.words loaded.set_up.config loaded.clearing loaded.journal loaded.set_up.command order pin
 
   -- the issuer of another order is that of this one
   answered : (status : ℕ) (other : PinOrder) (issuer : Setup) → IsOrdered seen other issuer
@@ -85,7 +95,8 @@ module _ (seen : Seen) (order : PinOrder) (pin : IsPin seen.words order) where
       (λ more. ⊎_elim (λ b. absurd (no_host b.set_up.config None b.journal b.set_up.command))
       (λ more. ⊎_elim (λ c. absurd (pin-no_world seen.words order c.cards c.steps c.seed pin c.world))
       (λ more. ⊎_elim (λ d. absurd (pin-no_fill seen.words order d.dol d.given pin d.fill))
-      (λ e. answered status e.order e.issuer e.ordered (is ∙ sym (ap change_status e.text_is))) more) more) more)
+      (λ more. ⊎_elim (λ e. answered status e.order e.issuer e.ordered (is ∙ sym (ap change_status e.text_is)))
+      (λ f. absurd (no_check f.lines.loaded)) more) more) more) more)
       ends
 
   pub status-of : (status : ℕ) (ending : Ending) → status ≡ status_of ending → EndsBy seen ending
@@ -95,14 +106,19 @@ module _ (seen : Seen) (order : PinOrder) (pin : IsPin seen.words order) where
   status-of status (Stopped Usage) is ends = absurd (ends.1.no_command.no_pin order pin)
   status-of status (Stopped (Config part index)) is ends = inl (inl is)
   status-of status (Stopped ReadFault) is ends = inl (inr (inl is))
-  status-of status (Stopped (StoreFault shard)) is ends = absurd (not-unloaded (StoreFault shard) ends.0 ends.1)
+  status-of status (Stopped (StoreFault shard)) is ends =
+      ⊎_elim (λ none. absurd (not-unloaded (StoreFault shard) ends.0 none)) (λ again. absurd (no_check again.loaded))
+      ends.1
   status-of status (Stopped (BadJournal shard line)) is ends =
-      absurd (not-unloaded (BadJournal shard line) ends.0 ends.1)
+      ⊎_elim (λ none. absurd (not-unloaded (BadJournal shard line) ends.0 none))
+      (λ again. absurd (no_check again.loaded)) ends.1
   status-of status (Stopped (BadOldJournal shard line)) is ends =
       absurd (not-unloaded (BadOldJournal shard line) ends.0 ends.1)
   status-of status (Stopped NoMemory) is ends = inl (inr (inr is))
   status-of status (Stopped (TooLong line)) is ends =
-      let l = ends.1.lines in absurd (no_host l.set_up.config (Some l.requests) l.journal l.set_up.command)
+      ⊎_elim
+      (λ long. let l = long.lines in absurd (no_host l.set_up.config (Some l.requests) l.journal l.set_up.command))
+      (λ long. absurd (no_check long.lines.loaded)) ends.1
   status-of status (Stopped (BadDol at)) is ends =
       let f = ends.1 in absurd (pin-no_fill seen.words order f.dol f.given pin f.fill)
   status-of status (Stopped (BadData at)) is ends =

@@ -1,5 +1,5 @@
 -- How a run may end: for each ending a relation of what the run saw and of the text that was due at the sink.
-use Rattle.std.specs.Prelude.{◌≡◌, ℕ, ◌<◌, ◌⊎◌, Bool, true, false, List, length, ◌++◌, slice_get, Option, Some}
+use Rattle.std.specs.Prelude.{◌≡◌, ℕ, ◌<◌, ◌⊎◌, true, false, List, length, ◌++◌, slice_get, Option, Some}
 use Rattle.std.specs.Prelude.{None, is_some, IsSomeAnd, Ok, Err}
 use Rattle.std.specs.List.{flat_map}
 use Rattle.std.specs.Io.KnownBytes.{Appends}
@@ -7,7 +7,6 @@ use Rattle.issuer_base.specs.OutsideFaults.{Rose}
 use Rattle.issuer_base.specs.Sink.{AppendsFront}
 use Rattle.issuer_base.specs.Tells.{Tells}
 use Rattle.issuer_base.specs.declared.answer.Answer.{Answer}
-use Rattle.issuer_base.specs.declared.outside.DeskCall.TheVariants.{Read}
 use Rattle.issuer_base.specs.declared.entry.Entry.{Entry}
 use Rattle.line_reader.specs.Lines.{lines}
 use Rattle.line_reader.specs.Reading.{IsWithinLimits}
@@ -23,11 +22,14 @@ use Rattle.answer_text.specs.declared.stop_line.Stop.TheVariants.{NoKey}
 use Rattle.shard_book.specs.Loading.{IsOldText}
 use Rattle.shard_book.specs.Shards.{IsTextOf}
 use Rattle.one_caller.specs.Books.{Book}
-use Rattle.command_line.specs.Command.{RequestFile, PinOrder, IsServe, IsShow, IsWorld, IsFill, IsPin, IsCommand}
-use Rattle.command_line.specs.Command.{IsNoCommand}
+use Rattle.command_line.specs.Command.{RequestFile, PinOrder, IsServe, IsShow, IsWorld, IsFill, IsPin, IsClear}
+use Rattle.command_line.specs.Command.{IsCommand, IsNoCommand}
 use Rattle.line_serving.specs.Answers.{AreAnsweredBy, AnswersNone}
 use Rattle.desk_host.specs.SeenStores.{SeenStore, no_journals}
 use Rattle.issuer_top.specs.Seen.{Seen, SeenInput}
+use Rattle.issuer_top.specs.Opened.{OpenedNoInput, OpenedConfigOnly, OpenedBothInputs, FailsToOpen}
+use Rattle.issuer_top.specs.Clearing.{IsCleared, IsCheckBegun, CannotReadAgain, CannotOpenClearing, CannotReadClearing}
+use Rattle.issuer_top.specs.Clearing.{CannotCheck, IsClearingTooLong}
 use Rattle.desk_host.specs.Configuration.{config_stop}
 use Rattle.desk_host.specs.Journals.{old_name, journal_name}
 use Rattle.desk_host.specs.Loading.{GivesNoHost}
@@ -45,33 +47,17 @@ use Rattle.issuer_top.specs.declared.ending.Ending.TheVariants.{Done, Stopped, W
 
 -- ---- what endings have in common
 
--- just these inputs were opened, and the desk failed at no name
-pub record HasOpened (seen : Seen) (config requests : Bool) : Type 0 where
-  pub config_is : is_some seen.config ≡ config
-  pub requests_is : is_some seen.requests ≡ requests
-  pub desk_stood : seen.desk.faults_after ≡ seen.desk.faults_before
-
--- no input was opened, the configuration alone, or both
-abbrev pub OpenedNoInput : Seen → Type 0
-OpenedNoInput seen = HasOpened seen false false
-
-abbrev pub OpenedConfigOnly : Seen → Type 0
-OpenedConfigOnly seen = HasOpened seen true false
-
-abbrev pub OpenedBothInputs : Seen → Type 0
-OpenedBothInputs seen = HasOpened seen true true
-
--- the desk failed at this name of an input, and the request file was not opened; the configuration was, or was not
-pub record FailsToOpen (seen : Seen) (name : List ℕ) (config : Bool) : Type 0 where
-  pub config_is : is_some seen.config ≡ config
-  pub requests_is : is_some seen.requests ≡ false
-  pub rose : Rose seen.desk.faults_before seen.desk.faults_after
-  pub call_is : seen.desk.last_fault ≡ Some (record { call = Read; name = name })
+-- the words are a command over the journals of this name, with this configuration: to serve, to show, or to check
+-- clearing lines
+abbrev pub IsOverJournals : List (List ℕ) → List ℕ → List ℕ → Type 0
+IsOverJournals words config journal =
+    ((requests : Option RequestFile) × IsCommand words config requests journal)
+    ⊎ ((clearing : List ℕ) × IsClear words config clearing journal)
 
 -- the words are a command that reads the configuration of this name: one over journals, or the one to change a PIN
 abbrev pub ReadsConfig : List (List ℕ) → List ℕ → Type 0
 ReadsConfig words config =
-    ((requests : Option RequestFile) × (journal : List ℕ) × IsCommand words config requests journal)
+    ((journal : List ℕ) × IsOverJournals words config journal)
     ⊎ ((order : PinOrder) × IsPin words order × (order.config ≡ config))
 
 -- the words are a command, with this request file where there is one and this name of journals, and the configuration
@@ -176,11 +162,12 @@ pub record IsChanged (seen : Seen) (text : List ℕ) : Type 0 where
   pub ordered : IsOrdered seen order issuer
   pub text_is : changing issuer order ≡ Ok text
 
--- status 0: all lines of the request file were answered, all cards were shown, a world was played, a DOL was filled, or
--- a change of a PIN was written
+-- status 0: all lines of the request file were answered, all cards were shown, a world was played, a DOL was filled, a
+-- change of a PIN was written, or all lines of a clearing file were checked
 abbrev pub IsDone : Seen → List ℕ → Type 0
 IsDone seen text =
-    IsServed seen text ⊎ (IsShown seen text ⊎ (IsPlayed seen text ⊎ (IsFilled seen text ⊎ IsChanged seen text)))
+    IsServed seen text ⊎ (IsShown seen text ⊎ (IsPlayed seen text
+    ⊎ (IsFilled seen text ⊎ (IsChanged seen text ⊎ IsCleared seen text))))
 
 -- ---- the other statuses
 
@@ -239,15 +226,21 @@ pub record CannotReadRequests (seen : Seen) (text : List ℕ) : Type 0 where
 abbrev pub IsReadFault : Seen → List ℕ → Type 0
 IsReadFault seen text =
     CannotOpenConfig seen text ⊎ (CannotReadConfig seen text
-    ⊎ (CannotOpenRequests seen text ⊎ CannotReadRequests seen text))
+    ⊎ (CannotOpenRequests seen text ⊎ (CannotReadRequests seen text
+    ⊎ (CannotOpenClearing seen text ⊎ CannotReadClearing seen text))))
 
--- statuses 5 and 6: the journals gave no host, for this cause. The old ones stay, and the whole lines of the others; the
--- request file was not opened
+-- the words are a command over the journals of this name, and the configuration says this issuer
+pub record HasIssuer (seen : Seen) (journal : List ℕ) (issuer : Setup) : Type 0 where
+  pub config : List ℕ
+  pub command : IsOverJournals seen.words config journal
+  pub said : SaysIssuer seen config issuer
+
+-- statuses 5 and 6: the journals weren't loaded, for this cause. The old ones stay, and the whole lines of the others;
+-- no request file was opened, and no clearing file
 pub record HasNoHost (stop : Stop) (seen : Seen) (text : List ℕ) : Type 0 where
-  pub requests : Option RequestFile
   pub journal : List ℕ
   pub issuer : Setup
-  pub set_up : IsSetUp seen requests journal issuer
+  pub set_up : HasIssuer seen journal issuer
   pub config_is : is_some seen.config ≡ true
   pub requests_is : is_some seen.requests ≡ false
   pub cause : GivesNoHost issuer journal seen.desk.logs
@@ -260,9 +253,8 @@ pub record HasNoHost (stop : Stop) (seen : Seen) (text : List ℕ) : Type 0 wher
 -- were opened stay
 pub record LacksMemory (seen : Seen) (text : List ℕ) : Type 0 where
   pub config : List ℕ
-  pub requests : Option RequestFile
   pub journal : List ℕ
-  pub command : IsCommand seen.words config requests journal
+  pub command : IsOverJournals seen.words config journal
   pub opened : OpenedNoInput seen ⊎ OpenedConfigOnly seen
   pub left : LeaveJournals journal seen.desk.logs seen.journals
   pub last : text ≡ stop_text NoMemory
@@ -296,7 +288,8 @@ pub record CannotConfigure (seen : Seen) (text : List ℕ) : Type 0 where
 -- status 7: no memory was left
 abbrev pub IsNoMemory : Seen → List ℕ → Type 0
 IsNoMemory seen text =
-    LacksMemory seen text ⊎ (CannotServe seen text ⊎ (CannotPlay seen text ⊎ CannotConfigure seen text))
+    LacksMemory seen text ⊎ (CannotServe seen text ⊎ (CannotPlay seen text
+    ⊎ (CannotConfigure seen text ⊎ CannotCheck seen text)))
 
 -- status 8: a byte of the request file past a limit was read, in the line of this number, and the lines before were
 -- answered
@@ -329,11 +322,13 @@ abbrev pub Stops : Stop → Seen → List ℕ → Type 0
 Stops Usage seen text = IsUsage seen text
 Stops (Config part index) seen text = IsConfig (Config part index) seen text
 Stops ReadFault seen text = IsReadFault seen text
-Stops (StoreFault shard) seen text = HasNoHost (StoreFault shard) seen text
-Stops (BadJournal shard line) seen text = HasNoHost (BadJournal shard line) seen text
+Stops (StoreFault shard) seen text =
+    HasNoHost (StoreFault shard) seen text ⊎ CannotReadAgain (StoreFault shard) seen text
+Stops (BadJournal shard line) seen text =
+    HasNoHost (BadJournal shard line) seen text ⊎ CannotReadAgain (BadJournal shard line) seen text
 Stops (BadOldJournal shard line) seen text = HasNoHost (BadOldJournal shard line) seen text
 Stops NoMemory seen text = IsNoMemory seen text
-Stops (TooLong number) seen text = IsTooLong number seen text
+Stops (TooLong number) seen text = IsTooLong number seen text ⊎ IsClearingTooLong number seen text
 Stops (BadDol at) seen text = CannotFill (BadDol at) seen text
 Stops (BadData at) seen text = CannotFill (BadData at) seen text
 Stops NoKey seen text = HasNoKey seen text
@@ -348,12 +343,13 @@ pub record IsBegun (seen : Seen) (text : List ℕ) : Type 0 where
   pub which : AreFirstLines lines.file lines.read lines.asked
 
 -- status 4: the texts of which the sink may have taken a prefix alone: that of a run that stops, the answers so far,
--- the cards, what a world came to, a filled DOL, or a change of a PIN
+-- the cards, what a world came to, a filled DOL, a change of a PIN, the verdicts so far, or a clearing check
 abbrev pub IsDue : Seen → List ℕ → Type 0
 IsDue seen text =
     ((stop : Stop) × Stops stop seen text)
     ⊎ (IsBegun seen text
-    ⊎ (IsShown seen text ⊎ (IsPlayed seen text ⊎ (IsFilled seen text ⊎ IsChanged seen text))))
+    ⊎ (IsShown seen text ⊎ (IsPlayed seen text ⊎ (IsFilled seen text
+    ⊎ (IsChanged seen text ⊎ (IsCheckBegun seen text ⊎ IsCleared seen text))))))
 
 -- status 4: the sink failed, and took a prefix of a text that was due, but not all of it
 pub record IsWriteFault (seen : Seen) : Type 0 where
@@ -446,8 +442,22 @@ pub record ChangesInOrder (seen : Seen) : Type 0 where
   pub config_stood : IsSomeAnd seen.config (λ input. 0 < input.faults) → ⊥
   pub sink_stood : Rose seen.sink.faults_before seen.sink.faults_after → ⊥
 
+-- the words are the command to check clearing lines, all is in order, the stores' bytes are observable, and the desk
+-- tells of a clearing file within the limits
+pub record ClearsInOrder (seen : Seen) : Type 0 where
+  pub config : List ℕ
+  pub clearing : List ℕ
+  pub journal : List ℕ
+  pub file : List ℕ
+  pub clear : IsClear seen.words config clearing journal
+  pub in_order : IsInOrder seen config journal
+  pub stores_told : (shard : ℕ) (store : SeenStore) → slice_get seen.journals.stores shard ≡ Some store
+      → store.bytes ≡ None → ⊥
+  pub clearing_held : seen.desk.tells clearing ≡ Some (Some file)
+  pub within : IsWithinLimits (length (lines file)) (length file)
+
 -- where all is in order and no count rose, all is done, or memory was wanting
 abbrev pub Completes : ℕ → Seen → Type 0
 Completes status seen =
-    (ServesInOrder seen ⊎ (ShowsInOrder seen ⊎ (PlaysInOrder seen ⊎ ChangesInOrder seen)))
+    (ServesInOrder seen ⊎ (ShowsInOrder seen ⊎ (PlaysInOrder seen ⊎ (ChangesInOrder seen ⊎ ClearsInOrder seen))))
     → (status ≡ 0) ⊎ (status ≡ 7)

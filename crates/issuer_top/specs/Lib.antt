@@ -2,6 +2,8 @@
 pub mod Seen
 pub mod Opening
 pub mod Status
+pub mod Opened
+pub mod Clearing
 pub mod Endings
 pub mod Stopping
 pub mod Played

@@ -1,6 +1,7 @@
 //! The whole run of the program: words, configuration, journals, request lines and answers, over any desk and sink.
 #![tactic(auto)]
 
+mod clear;
 mod ending;
 mod filling;
 mod pin;

@@ -32,17 +32,17 @@ use std::thread::Threads;
 
 /// What a run gives back: its status, the desk, and all that was opened.
 pub struct Ended<D: Desk> {
-    /// 0: all lines were answered, all cards shown, a world played, a DOL filled, or a change of a PIN written; 1: the
-    /// words are no command; 2: the configuration is none; 3: an input failed; 4: the sink failed; 5: a journal, old or
-    /// new, can't be opened, or its store failed while it was loaded; 6: a line of a journal is bad, or of an old one;
-    /// 7: no memory was left; 8: the request file goes past a limit; 9: the DOL is broken; 10: the data are; 12: the
-    /// card or the key for a change of a PIN is missing.
+    /// 0: all lines were answered or checked, all cards shown, a world played, a DOL filled, or a change of a PIN
+    /// written; 1: the words are no command; 2: the configuration is none; 3: an input failed; 4: the sink failed; 5: a
+    /// journal, old or new, can't be opened, or its store failed while it was loaded or read again; 6: a line of a
+    /// journal is bad, or of an old one; 7: no memory was left; 8: the request file or the clearing file goes past a
+    /// limit; 9: the DOL is broken; 10: the data are; 12: the card or the key for a change of a PIN is missing.
     pub status: u8,
     /// The desk that was given.
     pub desk: D,
     /// The configuration, if it was opened.
     pub config: Option<D::Input>,
-    /// The request file, if it was opened.
+    /// The request file or the clearing file, if it was opened.
     pub requests: Option<D::Input>,
     /// The stores of the old journals that were opened, in the order of their shards. They were only read.
     pub olds: Vec<D::Journal>,
@@ -51,8 +51,8 @@ pub struct Ended<D: Desk> {
 }
 
 /// Does all that the program does: reads the words and the configuration, loads the journals, and answers each line of
-/// the request file, by one caller or by several at once, or shows all cards; or plays a world of its own, fills a DOL,
-/// or writes a change of a PIN.
+/// the request file, by one caller or by several at once, shows all cards, or checks the lines of a clearing file; or
+/// plays a world of its own, fills a DOL, or writes a change of a PIN.
 ///
 /// The gate is told of each request line by its number, from 1: before it is answered and once it is. It may wait for
 /// the gate.
@@ -150,7 +150,7 @@ impl<R, D: Desk, G> Run<'_, R, D, G> {
     }
 
     /// Stops the run whose journals gave no host.
-    fn not_loaded<W: Sink>(
+    pub(crate) fn not_loaded<W: Sink>(
         self,
         none: NoHost<D::Journal>,
         config: D::Input,
@@ -221,6 +221,7 @@ where
                 self.ended(ending, None, None, Journals::none(alloc))
             }
             Some(Task::Pin(order)) => self.change_pin(order, out),
+            Some(Task::Clear(names)) => self.clear(names, out),
             None => self.stop(Stop::Usage, None, Journals::none(alloc), out),
         }
     }
@@ -334,7 +335,7 @@ pub(crate) fn stop_of(fault: DeskFault) -> Stop
 }
 
 /// Writes the last line where serving stopped early, and says how the run ends.
-fn end_serving<W: Sink>(served: Served, out: &mut W) -> Ending
+pub(crate) fn end_serving<W: Sink>(served: Served, out: &mut W) -> Ending
     ensures { EndsServing (W.held out.old) (W.held out.new) (W.faults out.old) (W.faults out.new) served result }
 {
     match served {

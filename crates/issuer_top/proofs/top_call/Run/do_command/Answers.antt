@@ -5,7 +5,7 @@ use Rattle.desk_host.specs.SeenStores.{Logged}
 use Rattle.command_line.specs.Pairs.{request_file}
 use Rattle.desk_host.specs.Journals.{IsReadySolo}
 use Rattle.line_serving.specs.Hosts.{IsReady}
-use Rattle.issuer_top.proofs.EndingSteps.{ends_unloaded, set_up-named}
+use Rattle.issuer_top.proofs.EndingSteps.{ends_unloaded, has-issuer, set_up-named}
 use Rattle.issuer_top.proofs.Statuses.{ends-as}
 use Rattle.issuer_top.proofs.top_call.Run.do_command.Goals as goal
 
@@ -22,7 +22,8 @@ returns-in-Err g c =
     let stopped = c.not_loaded.ensures in
     rw stopped.2 (λ words given set_up sound same same_logs.
     ends-as _ _ stopped.0 refl
-    (ends_unloaded _ _ _ _ _ set_up _ _ _ _ refl refl refl same_logs same.faults_are c.in-Err.ensures.none.why
+    (ends_unloaded _ _ _ _ (has-issuer _ _ _ _ set_up) _ _ _ _ refl refl refl same_logs same.faults_are
+    c.in-Err.ensures.none.why
     c.in-Err.ensures.none.left stopped.1))
 
 pub returns-in-Ok-load_host : goal.returns-in-Ok-load_host
@@ -44,5 +45,5 @@ returns-in-Err-load_host g c =
     let stopped = c.not_loaded-in-Err-load_host.ensures in
     rw stopped.2 (λ words given set_up sound same same_logs.
     ends-as _ _ stopped.0 refl
-    (ends_unloaded _ _ _ _ _ set_up _ _ _ _ refl refl refl same_logs same.faults_are
+    (ends_unloaded _ _ _ _ (has-issuer _ _ _ _ set_up) _ _ _ _ refl refl refl same_logs same.faults_are
     c.in-Err-load_host.ensures.none.why c.in-Err-load_host.ensures.none.left stopped.1))

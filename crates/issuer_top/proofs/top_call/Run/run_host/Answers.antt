@@ -10,8 +10,10 @@ returns-in-Err g c =
     let stopped = c.stop.ensures in
     rw stopped.2 (λ words command.
     ends-as _ _ stopped.0 refl
-    (ends_no_config _ _ _ (inl (_, _, command)) (lacks-none _ _ _ _ command) (Unit {0}) _ c.in-Err.fault refl refl
-    (journals-none g.D.Journal.Store _ _ c.none.ensures.olds c.none.ensures.stores) c.in-Err.ensures.count c.in-Err.ensures.last
+    (ends_no_config _ _ _ (inl (_, inl (_, command))) (lacks-none _ _ _ (inl (_, command))) (Unit {0}) _
+    c.in-Err.fault refl refl
+    (journals-none g.D.Journal.Store _ _ c.none.ensures.olds c.none.ensures.stores) c.in-Err.ensures.count
+    c.in-Err.ensures.last
     (rw c.stop_of.ensures at stopped.1)))
 
 pub returns-in-Ok-read_issuer : goal.returns-in-Ok-read_issuer
@@ -27,8 +29,10 @@ returns-in-Err-read_issuer g c =
     let stopped = c.stop-in-Err-read_issuer.ensures in
     rw stopped.2 (λ words command.
     ends-as _ _ stopped.0 refl
-    (ends_no_issuer _ _ _ (inl (_, _, command)) (lacks-none _ _ _ _ command) (Unit {0}) _ _ _ c.in-Err-read_issuer.cause
+    (ends_no_issuer _ _ _ (inl (_, inl (_, command))) (lacks-none _ _ _ (inl (_, command))) (Unit {0}) _ _ _
+    c.in-Err-read_issuer.cause
     (record { config_is = refl; requests_is = refl; desk_stood = c.in-Ok.ensures.count.counted }) refl
-    (journals-none g.D.Journal.Store _ _ c.none-in-Err-read_issuer.ensures.olds c.none-in-Err-read_issuer.ensures.stores)
+    (journals-none g.D.Journal.Store _ _ c.none-in-Err-read_issuer.ensures.olds
+    c.none-in-Err-read_issuer.ensures.stores)
     (gives_input _ _ c.in-Ok.ensures.input c.in-Ok.ensures.absent) c.in-Err-read_issuer.ensures.none c.in-Ok.ensures.new
     c.in-Err-read_issuer.ensures.count stopped.1))
