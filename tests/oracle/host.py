@@ -132,12 +132,16 @@ class Host:
         row = self.row_of(request.pan, request.psn)
         if not request.is_for_an_arqc():
             raise Refused("7")
+        return row, self.keys_for(row, request)
+
+    def keys_for(self, row, request):
+        """The card's master keys, under which the request's cryptogram is right, or refusal 8 or 9."""
         keys = self.issuer.keys_of(row.info, request.dki, request.suite)
         if keys is None:
             raise Refused(f"8 {request.dki:02x}")
         if application_cryptogram(keys.cryptograms, request) != request.cryptogram:
             raise Refused("9")
-        return row, keys
+        return keys
 
     def take(self, row, record):
         """Counts a record that stands; its place."""

@@ -1,6 +1,7 @@
 """The program's words, statuses and last lines (docs/FORMATS.md, words and statuses)."""
 import re
 
+from clearing import Book
 from configuration import LIMIT, Fault, read_configuration
 from dol import BadData, BadDol, fill_dol
 from host import Host
@@ -14,6 +15,7 @@ BYTES = 2_147_483_648
 COMMANDS = {
     "serve": ({"--config", "--requests", "--journal"}, {"--callers"}),
     "show": ({"--config", "--journal"}, set()),
+    "clear": ({"--config", "--clearing", "--journal"}, set()),
     "world": ({"--cards", "--steps", "--seed"}, set()),
     "fill": ({"--dol", "--data"}, set()),
     "pin": ({"--config", "--pan", "--psn", "--dki", "--salt", "--pin"}, set()),
@@ -114,8 +116,8 @@ def load(options, journals):
     return host
 
 
-def answer_all(host, name, out):
-    """Answers the lines of the request file. Several callers would give the same answers where no two of them ask of one shard."""
+def answer_all(answer, name, out):
+    """Writes the answer to each line of a file. Several callers would give the same answers where no two of them ask of one shard."""
     try:
         with open(name, "rb") as file:
             taken = 0
@@ -123,7 +125,7 @@ def answer_all(host, name, out):
                 taken += len(line)
                 if line_number > LINES or taken > BYTES:
                     raise Stop(8, line_number)
-                out.write(host.answer(line.removesuffix(b"\n")).encode() + b"\n")
+                out.write(answer(line.removesuffix(b"\n")).encode() + b"\n")
     except OSError as fault:
         raise Stop(3) from fault
 
@@ -147,8 +149,12 @@ def run_command(words, out):
         host = load(options, journals)
         if command == "show":
             out.write(host.show().encode())
+        elif command == "clear":
+            book = Book(host)
+            answer_all(book.judge, options["--clearing"], out)
+            out.write(book.rest().encode())
         else:
-            answer_all(host, options["--requests"], out)
+            answer_all(host.answer, options["--requests"], out)
     finally:
         journals.close()
 
