@@ -13,7 +13,7 @@ PROGRAM = os.path.join(HOME, ".build/issuer")
 RECORD = os.path.join(HOME, ".build/issuer.proved")
 
 # The commands that open journals. Others go to the program as they are.
-OVER_JOURNALS = ("serve", "show")
+OVER_JOURNALS = ("serve", "show", "clear")
 # A journal's name ends so: a dot, the shard's number in two digits, and the version. That of an old journal, of version 1, has no version.
 SHARD = re.compile(r"\.(\d{2})(\.v2)?")
 # The first line of a journal.
