@@ -4,6 +4,8 @@
 #[cfg(test)]
 mod callers;
 #[cfg(test)]
+mod clearings;
+#[cfg(test)]
 mod failing_devices;
 #[cfg(test)]
 mod loading_order;

@@ -127,6 +127,22 @@ macro_rules! paying {
     };
 }
 
+/// A clearing line of the first card: ATC, cryptogram, amount. It is a request line with the cryptogram information data of
+/// a transaction certificate.
+macro_rules! certificate {
+    ($atc:literal $ac:literal $amount:literal) => {
+        concat!(
+            "A 5A0840000000000000029F2608",
+            $ac,
+            "9F2701409F10200FA501A00000000000000000000000000F0000000000000000000000000000009F37041A2B3C4D9F3602",
+            $atc,
+            "950500000080009A032601159C01009F0206",
+            $amount,
+            "5F2A020978820239009F1A0202769F3303E0F8C89F34031E03009F3501229F1E0831323334353637388407A00000000410109F090200029F41040000012300\n"
+        )
+    };
+}
+
 /// A record of the first card's decision, up to the reply: ATC, cryptogram, script count, register, amount, response code and approval.
 macro_rules! decision {
     ($atc:literal $ac:literal $count:literal $register:literal $amount:literal $decided:literal) => {
@@ -190,6 +206,13 @@ pub(crate) const AES_REQUEST_1: &str =
 
 pub(crate) const AES_REQUEST_7: &str =
     "A 5A0840000000000000029F260847ECBC0F2DCA2ECE9F2701809F10200FA601A00000000000000000000000000F0000000000000000000000000000009F37041A2B3C4D9F36020007950500000080009A032601159C01009F02060000000123455F2A020978820239009F1A0202769F3303E0F8C89F34031E03009F3501229F1E0831323334353637388407A00000000410109F090200029F41040000012300\n";
+
+/// The transaction certificates of requests 7 and 8, and one of another amount than request 7.
+pub(crate) const CERTIFICATE_7: &str = certificate!("0007" "6317DE17856BF19A" "000000012345");
+
+pub(crate) const CERTIFICATE_8: &str = certificate!("0008" "09B47BE3DCCA54C3" "000000012345");
+
+pub(crate) const CERTIFICATE_7_MORE: &str = certificate!("0007" "E441705DBE73C08A" "000000012346");
 
 /// The last bit of the cryptogram is changed.
 pub(crate) const REQUEST_7_FORGED: &str = request!("0007" "6317DE17856BF19B");

@@ -1088,7 +1088,7 @@ fn pin_stops() -> &'static [Run] {
 
 /// Whether a run has the expected outcome. The journals are those that the run before left, unless it begins with its
 /// own; then the old one has to stay as it was.
-fn comes_to_the_expected<R: AllocGlobal + Threads + Wait + Sync>(
+pub(crate) fn comes_to_the_expected<R: AllocGlobal + Threads + Wait + Sync>(
     rt: &R,
     run: &Run,
     journals: &mut Texts,
