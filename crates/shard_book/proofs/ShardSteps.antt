@@ -1,6 +1,6 @@
 -- A record that is appended to the journal of a shard: what the shard holds then, and what a crash may leave.
 use Rattle.std.proofs.Common.{◌≡◌, ◌⊎◌, ℕ, ◌+◌, List, [], ◌∷◌, ◌++◌, length, append-nil, refl, sym, ap, subst, ◌∙◌, inl, inr, ⊎_elim, Bool, true, false}
-use Rattle.std.proofs.Common.{Option, None, Some, Result, Ok, Err, IfOk, IfSome, IsErr, MatchResult, OnOk, is_err, zero, suc, arith}
+use Rattle.std.proofs.Common.{All, Option, None, Some, Result, Ok, Err, IfOk, IfSome, IsErr, MatchResult, OnOk, is_err, zero, suc, arith}
 use Rattle.std.proofs.lemmas.List.{length_push}
 use Rattle.std.proofs.lemmas.List.Elements.{All-push}
 use Rattle.std.proofs.lemmas.List.Concat.{flat_map-append}
@@ -29,7 +29,7 @@ use Rattle.record_store.proofs.Passing.{leaves-image}
 use Rattle.shard_book.specs.declared.shard.Shard.{Shard}
 use Rattle.shard_book.specs.ShardRows.{ShardRows, AreSame, StandsFor as RowsStandFor}
 use Rattle.shard_book.specs.Grounds.{IsTail, IsImageOf, grounds_now}
-use Rattle.shard_book.specs.Shards.{HoldsHistory, StandsFor, Adds}
+use Rattle.shard_book.specs.Shards.{HasTail, HoldsHistory, StandsFor, Adds}
 
 -- the text of one more record
 pub texts-more : (history : List Entry) (entry : Entry) → texts_of history ++ text_of entry ≡ texts_of (history ++ entry ∷ [])
@@ -51,51 +51,45 @@ module _ {S : Type 0} {G : Ghosts S} (history : List Entry) (entry : Entry) (new
   pub put-tail : {E : Type 0} (tail : List ℕ) (result : Result ℕ E)
       → IfOk result (λ place. (place ≡ length history) × Holds new (length history + 1) (journal_text history ++ piece) [])
       → (IsErr result → Holds new (length history) (journal_text history) tail ⊎ Holds new (length history) (journal_text history) piece)
-      → MatchResult result (λ _. Holds new (length (history ++ entry ∷ [])) (journal_text (history ++ entry ∷ [])) [])
+      → MatchResult result
+      (λ place. (place ≡ length history) × Holds new (length (history ++ entry ∷ [])) (journal_text (history ++ entry ∷ [])) [])
       (λ _. Holds new (length history) (journal_text history) tail ⊎ Holds new (length history) (journal_text history) (text_of entry))
-  put-tail tail (Ok place) done failed = holds-more done.1
+  put-tail tail (Ok place) done failed = (done.0, holds-more done.1)
   put-tail tail (Err error) done failed = ⊎_elim (λ (same : Holds new (length history) (journal_text history) tail). inl same)
       (λ (torn : Holds new (length history) (journal_text history) piece). inr (subst (Holds new (length history) (journal_text history)) its torn))
       (failed refl)
 
-module _ {S : Type 0} {G : Ghosts S} (grounds : Grounds) (number : ℕ) (history : List Entry) (entry : Entry) (old new : Journal S G)
-    (h : HoldsHistory grounds number old history) (piece : List ℕ) (its : piece ≡ text_of entry) (valid : IsRecord entry) where
-  -- an appended record is one of the history's
-  pub put-done : {E : Type 0} (result : Result ℕ E)
-      → IfOk result (λ place. (place ≡ length history) × Holds new (length history + 1) (journal_text history ++ piece) [])
-      → IfOk result (λ place. (place ≡ length history) × HoldsHistory grounds number new (history ++ entry ∷ []))
-  put-done (Err error) done = tt
-  put-done (Ok place) done = (
-    done.0,
-    record {
-      tail = [];
-      tail_is = inl refl;
-      records = All-push IsRecord history entry h.records valid;
-      holds = holds-more history entry new piece its done.1;
-    },
-  )
+-- an appended record is one of the history's
+pub put-done : {S : Type 0} {G : Ghosts S} (grounds : Grounds) (number : ℕ) (history : List Entry) (entry : Entry) (new : Journal S G)
+    → All IsRecord history → IsRecord entry → Holds new (length (history ++ entry ∷ [])) (journal_text (history ++ entry ∷ [])) []
+    → HoldsHistory grounds number new (history ++ entry ∷ [])
+put-done grounds number history entry new records valid holds =
+    record { tail = []; tail_is = inl refl; records = All-push IsRecord history entry records valid; holds = holds }
 
+module _ {S : Type 0} {G : Ghosts S} (grounds : Grounds) (number : ℕ) (history : List Entry) (entry : Entry) (old new : Journal S G)
+    (h : HoldsHistory grounds number old history) (valid : IsRecord entry) where
   -- one that wasn't appended may be in doubt
   pub put-failed : IsLegal grounds number history entry
-      → Holds new (length history) (journal_text history) h.tail ⊎ Holds new (length history) (journal_text history) piece → HoldsHistory grounds number new history
+      → Holds new (length history) (journal_text history) h.tail ⊎ Holds new (length history) (journal_text history) (text_of entry)
+      → HoldsHistory grounds number new history
   put-failed legal = ⊎_elim
       (λ (same : Holds new (length history) (journal_text history) h.tail). record { tail = h.tail; tail_is = h.tail_is; records = h.records; holds = same })
-      (λ (torn : Holds new (length history) (journal_text history) piece). record {
-        tail = piece;
-        tail_is = inr (entry, valid, legal, its);
+      (λ (torn : Holds new (length history) (journal_text history) (text_of entry)). record {
+        tail = text_of entry;
+        tail_is = inr (entry, valid, legal, refl);
         records = h.records;
         holds = torn;
       })
 
   -- and a crash leaves the text of the history, and a torn record after it
   pub put-crash : IsLegal grounds number history entry → (a b : Option Disk)
-      → BothTold (LeavesOnly (IsEitherImage (journal_text history) h.tail piece)) a b → BothTold (LeavesOnly (IsImageOf grounds number history)) a b
+      → BothTold (LeavesOnly (IsEitherImage (journal_text history) h.tail (text_of entry))) a b → BothTold (LeavesOnly (IsImageOf grounds number history)) a b
   put-crash legal a b =
-      BothTold-weaker (LeavesOnly (IsEitherImage (journal_text history) h.tail piece)) (LeavesOnly (IsImageOf grounds number history)) a b
-      (λ x y only. LeavesOnly-weaker (IsEitherImage (journal_text history) h.tail piece) (IsImageOf grounds number history) x y
+      BothTold-weaker (LeavesOnly (IsEitherImage (journal_text history) h.tail (text_of entry))) (LeavesOnly (IsImageOf grounds number history)) a b
+      (λ x y only. LeavesOnly-weaker (IsEitherImage (journal_text history) h.tail (text_of entry)) (IsImageOf grounds number history) x y
       (λ image. ⊎_elim
       (λ (one : IsImage (journal_text history) h.tail image). (h.tail, h.tail_is, one))
-      (λ (one : IsImage (journal_text history) piece image). (piece, inr (entry, valid, legal, its), one))) only)
+      (λ (one : IsImage (journal_text history) (text_of entry) image). (text_of entry, inr (entry, valid, legal, refl), one))) only)
 
 -- no call was made
 no_call : (grounds : Grounds) (number : ℕ) (history : List Entry) (tail : List ℕ) → IsTail grounds number history tail → (disk : Option Disk)
@@ -109,6 +103,25 @@ no_call grounds number history tail tail_is (Some disk) is =
 pub crash-no_call : {S : Type 0} {G : Ghosts S} (grounds : Grounds) (number : ℕ) (journal : Journal S G) (history : List Entry)
     → HoldsHistory grounds number journal history → BothTold (LeavesOnly (IsImageOf grounds number history)) (G.disk journal.store) (G.disk journal.store)
 crash-no_call {S} {G} grounds number journal history h = no_call grounds number history h.tail h.tail_is (G.disk journal.store) h.holds.disk_is
+
+-- a shard with the same rows, to whose journal a record wasn't appended, holds the history
+pub holds-still : {S : Type 0} {G : Ghosts S} (grounds : Grounds) (old new : Shard S G) (history : List Entry) (entry : Entry)
+    → new.rows ≡ old.rows → (h : HoldsHistory grounds old.rows.shard old.journal history) → IsRecord entry
+    → IsLegal grounds old.rows.shard history entry
+    → HasTail new history h.tail ⊎ HasTail new history (text_of entry) → HoldsHistory grounds new.rows.shard new.journal history
+holds-still grounds old new history entry rows h valid legal failed =
+    subst (λ (rows : ShardRows). HoldsHistory grounds rows.shard new.journal history) (sym rows)
+    (put-failed grounds old.rows.shard history entry old.journal new.journal h valid legal failed)
+
+-- and stands for it
+pub stands-still : {S : Type 0} {G : Ghosts S} (issuer : Setup) (old new : Shard S G) (history : List Entry) (entry : Entry)
+    → new.rows ≡ old.rows → (stands : StandsFor issuer old history) → IsRecord entry
+    → IsLegal (grounds_now issuer) old.rows.shard history entry
+    → HasTail new history stands.journal_holds.tail ⊎ HasTail new history (text_of entry) → StandsFor issuer new history
+stands-still issuer old new history entry rows stands valid legal failed = record {
+  rows_stand = subst (λ (rows : ShardRows). RowsStandFor issuer rows history) (sym rows) stands.rows_stand;
+  journal_holds = holds-still (grounds_now issuer) old new history entry rows stands.journal_holds valid legal failed;
+}
 
 -- a shard whose journal has the record, and whose rows stand for it, stands for the history with it
 pub stands-with : {S : Type 0} {G : Ghosts S} (issuer : Setup) (number : ℕ) (journal : Journal S G) (mid rows : ShardRows) (told : ℕ) (history : List Entry)

@@ -31,7 +31,7 @@ tells_change (Refused refusal) = false
 tells_change (Kept at place reply) = false
 tells_change _ = true
 
--- how many answers reported that the store failed, after one more answer; the count saturates at a limit
+-- how many calls reported that the store failed, after one more call; the count saturates at a limit
 abbrev pub told_after : ℕ → Bool → ℕ
 told_after told true = if nat_lt told MAX_FAULTS_TOLD then told + 1 else told
 told_after told false = told

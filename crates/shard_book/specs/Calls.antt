@@ -1,5 +1,5 @@
 -- What a call of a shard answers, and what it leaves.
-use Rattle.std.specs.Prelude.{◌≡◌, ℕ, List}
+use Rattle.std.specs.Prelude.{◌≡◌, ℕ, Bool, List}
 use Rattle.issuer_base.specs.OutsideFaults.{CountsFaults}
 use Rattle.issuer_base.specs.Stores.{BothTold, LeavesOnly}
 use Rattle.issuer_base.specs.declared.answer.Answer.{Answer}
@@ -25,15 +25,19 @@ module _ {S : Type 0} {G : Ghosts S} where
       (history : List Entry) → StandsFor issuer old history
       → BothTold (LeavesOnly (IsImageOf (grounds_now issuer) (number_in old) history)) (disk_in old) (disk_in new)
 
-  -- what every call keeps of a shard, by its answer
-  pub record KeepsShard (issuer : Setup) (old : Shard S G) (answer : Answer) (new : Shard S G) : Type 0 where
-    -- the store's fault count increases just where the answer reports that the store failed
-    pub counts : CountsFaults (faults_in old) (faults_in new) (is_store_fault answer)
-    -- the shard counts such answers
-    pub told_is : told_in new ≡ told_after (told_in old) (is_store_fault answer)
+  -- what every call keeps of a shard, by whether it reports that the store failed
+  pub record KeepsCall (issuer : Setup) (old : Shard S G) (failed : Bool) (new : Shard S G) : Type 0 where
+    -- the store's fault count increases just where the call reports that the store failed
+    pub counts : CountsFaults (faults_in old) (faults_in new) failed
+    -- the shard counts such calls
+    pub told_is : told_in new ≡ told_after (told_in old) failed
     -- nothing is in doubt before the first of them
     pub undoubted : IsUndoubted old → IsUndoubted new
     -- the shard is one of this issuer's
     pub under : IsUnder issuer new
     -- its number is the same
     pub number_is : number_in new ≡ number_in old
+
+  -- the same, by the call's answer
+  abbrev pub KeepsShard : Setup → Shard S G → Answer → Shard S G → Type 0
+  KeepsShard issuer old answer new = KeepsCall issuer old (is_store_fault answer) new

@@ -55,7 +55,7 @@ module _ {S : Type 0} {G : Ghosts S} where
   abbrev pub places_in : Shard S G → ℕ
   places_in shard = shard.journal.records
 
-  -- how many of its answers reported that its store failed
+  -- how many of its calls reported that its store failed
   abbrev pub told_in : Shard S G → ℕ
   told_in shard = shard.told
 
@@ -63,7 +63,7 @@ module _ {S : Type 0} {G : Ghosts S} where
   abbrev pub HasTail : Shard S G → List Entry → List ℕ → Type 0
   HasTail shard history tail = Holds shard.journal (length history) (journal_text history) tail
 
-  -- nothing is in doubt unless one of its answers reported that its store failed
+  -- nothing is in doubt unless one of its calls reported that its store failed
   abbrev pub IsUndoubted : Shard S G → Type 0
   IsUndoubted shard = shard.told ≡ 0 → shard.journal.in_doubt ≡ false
 

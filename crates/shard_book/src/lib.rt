@@ -9,7 +9,9 @@ mod reading;
 mod replay;
 mod rows;
 mod shard;
+mod taking;
 
 pub use law::every_image_loads_again;
 pub use replay::{LoadFault, Version};
 pub use shard::{LoadBack, Shard};
+pub use taking::TakeFault;

@@ -1,5 +1,5 @@
-//! A shard over a store: what it answers, and what it records before that.
-ghost use Rattle.std.specs.Prelude.{◌≡◌, ◌⊎◌, ℕ, ◌^◌, ◌≤◌, ◌/◌, slice_get, Some, min, if◌then◌else◌, List, [], ◌∷◌, ◌++◌, length, ◌<◌, Ok, IfOk, IfErr, IsErr, MatchResult, All, false, true, IsTrue, is_err};
+//! A shard over a store: what it answers or takes, and what it records before that.
+ghost use Rattle.std.specs.Prelude.{◌≡◌, ◌⊎◌, ℕ, ◌^◌, ◌≤◌, ◌/◌, slice_get, Some, min, if◌then◌else◌, List, [], ◌∷◌, ◌++◌, length, ◌<◌, Ok, Err, IfOk, IfErr, MatchResult, All, false, true, IsTrue, is_err};
 ghost use Rattle.issuer_base.specs.OutsideFaults.{CountsFaults};
 ghost use Rattle.issuer_base.specs.Stores.{BothTold, CutsBytes, HasRoom, LeavesOnly};
 ghost use Rattle.issuer_base.specs.declared.entry.Entry.{Entry};
@@ -13,11 +13,11 @@ ghost use Rattle.row_core.specs.Replying.{reply_to};
 ghost use Rattle.line_checks.specs.AtHand.{IsRequestAtHand, IsCommandAtHand, IsStatusAtHand, IsOrderAtHand, order_asked, record_of, number_of_order};
 ghost use Rattle.line_checks.specs.Reading.{checked};
 ghost use Rattle.journal_rec.specs.Record.{is_record, IsRecord};
-ghost use Rattle.journal_rec.specs.RecordText.{text_of};
+ghost use Rattle.journal_rec.specs.RecordText.{journal_text, text_of};
 ghost use Rattle.journal_rec.specs.declared.limits.TheConstants.{LEAST_RECORD_BYTES, MOST_QUEUED_BYTES, MOST_RECORD_BYTES};
 ghost use Rattle.issuer_base.specs.Tells.{Tells};
 ghost use Rattle.record_store.specs.Holding.{Holds};
-ghost use Rattle.record_store.specs.Images.{IsCutImage};
+ghost use Rattle.record_store.specs.Images.{IsCutImage, IsEitherImage};
 ghost use Rattle.shard_book.specs.Loading.{IsOldText, IsWithin, IsOutside, is_store_failure};
 ghost use Rattle.shard_book.specs.Grounds.{grounds_now, IsImageOf};
 ghost use Rattle.shard_book.specs.Steps.{IsCardOf, IsLaunchAt};
@@ -27,10 +27,12 @@ ghost use Rattle.shard_book.specs.Room.{most_of, UsesRoom, LoadsWithin};
 ghost use Rattle.shard_book.specs.Answering.{is_store_fault, tells_change, LeavesTail, told_after, AnswersClaimed, AnswersQueueing, AnswersSetting, AnswersOrder};
 ghost use Rattle.shard_book.specs.Calls.{AnswersBy, LeavesImages, KeepsShard};
 ghost use Rattle.shard_book.specs.Loads.{HaveRoom, IsLoadedFrom, IsNotLoaded, IsOnlyRead};
+ghost use Rattle.shard_book.specs.Taking.{IsReplicaOf, KeepsReplica, LeavesReplicas, LeavesTaken, Takes, is_failed_store};
 
 use crate::loading::take_over;
-use crate::replay::{LoadFault, Taken, TakenOver};
+use crate::replay::{LoadFault, Taken, TakenOver, Version};
 use crate::rows::Rows;
+use crate::taking::TakeFault;
 use arrayvec::ArrayVec;
 use issuer_base::{
     Answer, Entry, MAX_FAULTS_TOLD, NoMemory, Refusal, Reply, Request, Store, StoreFail,
@@ -47,7 +49,7 @@ pub struct Shard<S: Store> {
     journal: Journal<S>,
     rows: Rows,
 
-    /// How many answers since loading reported that the store failed, counted up to [`MAX_FAULTS_TOLD`].
+    /// How many calls since loading reported that the store failed, counted up to [`MAX_FAULTS_TOLD`].
     told: u64,
 }
 
@@ -165,6 +167,32 @@ impl<S: Store> Shard<S> {
         }
     }
 
+    /// Takes the next record of another host's history if it is a valid successor under whatever decision table. The
+    /// result is its index. The record is durable before the row of its card changes.
+    pub fn take(&mut self, issuer: &Issuer, entry: &Entry) -> Result<u64, TakeFault>
+        requires under { IsUnder issuer.now self.old }
+        requires form { IsTrue (is_record entry.now) }
+        ensures taken { (history : List Entry) → IsReplicaOf issuer.now self.old history
+            → Takes issuer.now self.old history entry.now result self.new }
+
+        // As for a request: nothing is in doubt after the record, and after the store's fault this very record may be.
+        ensures tail { (history : List Entry) (tail : List ℕ) → HasTail self.old history tail
+            → LeavesTaken entry.now history tail result self.new }
+        ensures unchanged { result ≡ Err TakeFault.NotLegal → self.new ≡ self.old }
+        ensures crash { LeavesReplicas issuer.now self.old self.new }
+        ensures room { UsesRoom (most_of entry.now) (is_failed_store result) self.old self.new }
+        ensures kept { KeepsReplica issuer.now self.old result self.new }
+    {
+        if !self.rows.accepts(issuer, entry) {
+            return Err(TakeFault::NotLegal);
+        }
+        let Ok(place) = self.put(entry) else {
+            return Err(TakeFault::StoreFault);
+        };
+        let _ = self.rows.adopt(Version::Two, issuer, entry.copy(), place);
+        Ok(place)
+    }
+
     /// The row of a card of this shard.
     pub fn row(&self, card: u32) -> &Row
         requires { HasCard self.now card }
@@ -182,7 +210,7 @@ impl<S: Store> Shard<S> {
         self.journal.records()
     }
 
-    /// How many answers since loading reported that the store failed. The count saturates at 2^62.
+    /// How many calls since loading reported that the store failed. The count saturates at 2^62.
     pub fn faults(&self) -> u64
         ensures { result ≡ told_in self.now }
     {
@@ -304,19 +332,13 @@ impl<S: Store> Shard<S> {
     /// Appends the text of a record to the journal and syncs it. The result is the record's index.
     fn put(&mut self, entry: &Entry) -> Result<u64, StoreFail>
         requires { IsTrue (is_record entry.now) }
-        ensures put { (issuer : Setup) (history : List Entry) → StandsFor issuer self.old history
-            → IfOk result (λ place. (place ≡ length history)
-            × HoldsHistory (grounds_now issuer) (number_in self.old) self.new.journal (history ++ entry.now ∷ [])) }
-        ensures failed { (issuer : Setup) (history : List Entry) → StandsFor issuer self.old history
-            → IsLegal (grounds_now issuer) (number_in self.old) history entry.now
-            → IsErr result → StandsFor issuer self.new history }
-        ensures tail { (history : List Entry) (tail : List ℕ) → HasTail self.old history tail
-            → MatchResult result (λ _. HasTail self.new (history ++ entry.now ∷ []) [])
+        ensures put { (history : List Entry) (tail : List ℕ) → HasTail self.old history tail
+            → MatchResult result (λ place. (place ≡ length history) × HasTail self.new (history ++ entry.now ∷ []) [])
             (λ _. HasTail self.new history tail ⊎ HasTail self.new history (text_of entry.now)) }
+        ensures record { IsRecord entry.now }
         ensures rows { self.new.rows ≡ self.old.rows }
-        ensures crash { (issuer : Setup) (history : List Entry) → StandsFor issuer self.old history
-            → IsLegal (grounds_now issuer) (number_in self.old) history entry.now
-            → BothTold (LeavesOnly (IsImageOf (grounds_now issuer) (number_in self.old) history))
+        ensures crash { (history : List Entry) (tail : List ℕ) → HasTail self.old history tail
+            → BothTold (LeavesOnly (IsEitherImage (journal_text history) tail (text_of entry.now)))
             (disk_in self.old) (disk_in self.new) }
         ensures room { UsesRoom (most_of entry.now) (is_err result) self.old self.new }
         ensures count { CountsFaults (faults_in self.old) (faults_in self.new) (is_err result) }
@@ -329,23 +351,14 @@ impl<S: Store> Shard<S> {
     /// Appends this text of a record to the journal and syncs it. The result is the record's index.
     fn put_text(&mut self, text: &[u8]) -> Result<u64, StoreFail>
         requires { LEAST_RECORD_BYTES ≤ length text.now }
-        ensures put { (issuer : Setup) (history : List Entry) (entry : Entry)
-            → IsRecord entry → text.now ≡ text_of entry → StandsFor issuer self.old history
-            → IfOk result (λ place. (place ≡ length history)
-            × HoldsHistory (grounds_now issuer) (number_in self.old) self.new.journal (history ++ entry ∷ [])) }
-        ensures failed { (issuer : Setup) (history : List Entry) (entry : Entry)
-            → IsRecord entry → text.now ≡ text_of entry → StandsFor issuer self.old history
-            → IsLegal (grounds_now issuer) (number_in self.old) history entry
-            → IsErr result → StandsFor issuer self.new history }
-        ensures tail { (history : List Entry) (tail : List ℕ) (entry : Entry)
+        ensures put { (history : List Entry) (tail : List ℕ) (entry : Entry)
             → text.now ≡ text_of entry → HasTail self.old history tail
-            → MatchResult result (λ _. HasTail self.new (history ++ entry ∷ []) [])
+            → MatchResult result (λ place. (place ≡ length history) × HasTail self.new (history ++ entry ∷ []) [])
             (λ _. HasTail self.new history tail ⊎ HasTail self.new history (text_of entry)) }
         ensures rows { self.new.rows ≡ self.old.rows }
-        ensures crash { (issuer : Setup) (history : List Entry) (entry : Entry)
-            → IsRecord entry → text.now ≡ text_of entry → StandsFor issuer self.old history
-            → IsLegal (grounds_now issuer) (number_in self.old) history entry
-            → BothTold (LeavesOnly (IsImageOf (grounds_now issuer) (number_in self.old) history))
+        ensures crash { (history : List Entry) (tail : List ℕ) (entry : Entry)
+            → text.now ≡ text_of entry → HasTail self.old history tail
+            → BothTold (LeavesOnly (IsEitherImage (journal_text history) tail (text_of entry)))
             (disk_in self.old) (disk_in self.new) }
         ensures room { UsesRoom (length text.now) (is_err result) self.old self.new }
         ensures count { CountsFaults (faults_in self.old) (faults_in self.new) (is_err result) }
@@ -391,7 +404,7 @@ fn open<S: Store>(store: S, rows: Rows, taken: Taken) -> Result<Shard<S>, LoadBa
     }
 }
 
-/// How many answers reported that the store failed, after one more answer.
+/// How many calls reported that the store failed, after one more call.
 fn told_after(told: u64, failed: bool) -> u64
     ensures { result ≡ told_after told failed }
 {

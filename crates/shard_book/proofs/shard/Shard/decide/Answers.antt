@@ -5,10 +5,11 @@ use Rattle.issuer_base.specs.declared.entry.Entry.TheVariants.{Decided}
 use Rattle.journal_rec.specs.RecordText.{text_of}
 use Rattle.journal_rec.specs.declared.limits.TheConstants.{MOST_RECORD_BYTES}
 use Rattle.journal_rec.proofs.TextLaws.{length-text_of}
+use Rattle.shard_book.specs.Grounds.{grounds_now}
 use Rattle.shard_book.specs.ShardRows.{ShardRows, StandsFor as RowsStandFor}
 use Rattle.row_core.specs.Plan.{IsNext}
 use Rattle.shard_book.specs.Steps.{IsLaunchAt}
-use Rattle.shard_book.proofs.ShardSteps.{stands-with}
+use Rattle.shard_book.proofs.ShardSteps.{put-crash, put-done, stands-still, stands-with}
 use Rattle.shard_book.proofs.Rooms.{no-failure, room-less}
 use Rattle.shard_book.proofs.shard.Shard.decide.Goals as goal
 
@@ -28,8 +29,10 @@ returns-clause-added g c issuer card history stands known next legal =
     let number : ℕ = c.args.self.now.rows.shard in
     let request = c.args.found.now.request in
     let reply = c.args.reply in
-    let put = c.in-Ok.ensures.put issuer history (Decided request reply) c.write_decided.ensures.record
-    (c.as_slice.ensures.value ∙ c.write_decided.ensures.text) stands in
+    let h = stands.journal_holds in
+    let put = c.in-Ok.ensures.put history h.tail (Decided request reply) (c.as_slice.ensures.value ∙ c.write_decided.ensures.text) h.holds in
+    let added =
+    put-done (grounds_now issuer) number history (Decided request reply) c.put_text.new.self.journal h.records c.write_decided.ensures.record put.1 in
     let number_is : c.put_text.new.self.rows.shard ≡ number = ap (λ (rows : ShardRows). rows.shard) c.put_text.ensures.rows in
     let before = subst (λ (rows : ShardRows). RowsStandFor issuer rows history) (sym c.put_text.ensures.rows) stands.rows_stand in
     let next_there : IsNext card history (record { request = request; reply = reply; place = c.in-Ok.place }) =
@@ -40,34 +43,42 @@ returns-clause-added g c issuer card history stands known next legal =
       ap (λ shard. Fresh shard c.in-Ok.place reply) shard_is ∙ ap (λ place. Fresh number place reply) put.0,
       stands-with issuer number c.put_text.new.self.journal c.put_text.new.self.rows c.apply.new.self c.put_text.new.self.told
           (history ++ Decided request reply ∷ []) number_is
-          c.apply.ensures.same rows put.1,
+          c.apply.ensures.same rows added,
     )
 
 pub returns-in_default-clause-added : goal.returns-in_default-clause-added
 returns-in_default-clause-added g c issuer card history stands known next legal =
+    let entry = Decided c.args.found.now.request c.args.reply in
+    let h = stands.journal_holds in
+    let failed = c.in_default.ensures.put history h.tail entry (c.as_slice.ensures.value ∙ c.write_decided.ensures.text) h.holds in
     inr (
       refl,
-      c.in_default.ensures.failed issuer history (Decided c.args.found.now.request c.args.reply) c.write_decided.ensures.record
-          (c.as_slice.ensures.value ∙ c.write_decided.ensures.text) stands legal refl,
+      stands-still issuer c.args.self.now c.put_text.new.self history entry c.put_text.ensures.rows stands c.write_decided.ensures.record legal failed,
     )
 
 pub returns-in_default-clause-tail : goal.returns-in_default-clause-tail
 returns-in_default-clause-tail g c history tail holds =
-    c.in_default.ensures.tail history tail (Decided c.args.found.now.request c.args.reply) (c.as_slice.ensures.value ∙ c.write_decided.ensures.text) holds
+    c.in_default.ensures.put history tail (Decided c.args.found.now.request c.args.reply) (c.as_slice.ensures.value ∙ c.write_decided.ensures.text) holds
 
 pub returns-clause-tail : goal.returns-clause-tail
 returns-clause-tail g c history tail holds =
-    c.in-Ok.ensures.tail history tail (Decided c.args.found.now.request c.args.reply) (c.as_slice.ensures.value ∙ c.write_decided.ensures.text) holds
+    (c.in-Ok.ensures.put history tail (Decided c.args.found.now.request c.args.reply) (c.as_slice.ensures.value ∙ c.write_decided.ensures.text) holds).1
 
 pub returns-in_default-clause-crash : goal.returns-in_default-clause-crash
 returns-in_default-clause-crash g c issuer history stands legal =
-    c.put_text.ensures.crash issuer history (Decided c.args.found.now.request c.args.reply) c.write_decided.ensures.record
-    (c.as_slice.ensures.value ∙ c.write_decided.ensures.text) stands legal
+    let entry = Decided c.args.found.now.request c.args.reply in
+    let h = stands.journal_holds in
+    put-crash (grounds_now issuer) c.args.self.now.rows.shard history entry c.args.self.now.journal c.put_text.new.self.journal h
+    c.write_decided.ensures.record legal _ _
+    (c.put_text.ensures.crash history h.tail entry (c.as_slice.ensures.value ∙ c.write_decided.ensures.text) h.holds)
 
 pub returns-clause-crash : goal.returns-clause-crash
 returns-clause-crash g c issuer history stands legal =
-    c.put_text.ensures.crash issuer history (Decided c.args.found.now.request c.args.reply) c.write_decided.ensures.record
-    (c.as_slice.ensures.value ∙ c.write_decided.ensures.text) stands legal
+    let entry = Decided c.args.found.now.request c.args.reply in
+    let h = stands.journal_holds in
+    put-crash (grounds_now issuer) c.args.self.now.rows.shard history entry c.args.self.now.journal c.put_text.new.self.journal h
+    c.write_decided.ensures.record legal _ _
+    (c.put_text.ensures.crash history h.tail entry (c.as_slice.ensures.value ∙ c.write_decided.ensures.text) h.holds)
 
 pub returns-in_default-clause-room : goal.returns-in_default-clause-room
 returns-in_default-clause-room g c spare has =

@@ -13,21 +13,12 @@ put_text-requires g c =
     omega (arith, ap length its, least)
 
 pub returns-clause-put : goal.returns-clause-put
-returns-clause-put g c issuer history stands =
-    c.put_text.ensures.put issuer history c.args.entry.now c.write_entry.ensures.record (c.as_slice.ensures.value ∙ c.write_entry.ensures.text) stands
-
-pub returns-clause-failed : goal.returns-clause-failed
-returns-clause-failed g c issuer history stands legal failed =
-    c.put_text.ensures.failed issuer history c.args.entry.now c.write_entry.ensures.record
-    (c.as_slice.ensures.value ∙ c.write_entry.ensures.text) stands legal failed
-
-pub returns-clause-tail : goal.returns-clause-tail
-returns-clause-tail g c history tail holds =
-    c.put_text.ensures.tail history tail c.args.entry.now (c.as_slice.ensures.value ∙ c.write_entry.ensures.text) holds
+returns-clause-put g c history tail holds =
+    c.put_text.ensures.put history tail c.args.entry.now (c.as_slice.ensures.value ∙ c.write_entry.ensures.text) holds
 
 pub returns-clause-crash : goal.returns-clause-crash
-returns-clause-crash g c issuer history stands legal =
-    c.put_text.ensures.crash issuer history c.args.entry.now c.write_entry.ensures.record (c.as_slice.ensures.value ∙ c.write_entry.ensures.text) stands legal
+returns-clause-crash g c history tail holds =
+    c.put_text.ensures.crash history tail c.args.entry.now (c.as_slice.ensures.value ∙ c.write_entry.ensures.text) holds
 
 pub returns-clause-room : goal.returns-clause-room
 returns-clause-room g c spare has =

@@ -18,7 +18,7 @@ use Rattle.shard_book.specs.Room.{most_of, Spares}
 use Rattle.shard_book.specs.ShardRows.{ShardRows, StandsFor as RowsStandFor}
 use Rattle.shard_book.specs.Shards.{HoldsHistory, HasTail, StandsFor}
 use Rattle.shard_book.proofs.LegalNext.{writable, card-found, legal-command}
-use Rattle.shard_book.proofs.ShardSteps.{crash-no_call, stands-with}
+use Rattle.shard_book.proofs.ShardSteps.{crash-no_call, put-crash, put-done, stands-still, stands-with}
 use Rattle.shard_book.proofs.shard.Shard.queue.Given.{Over}
 use Rattle.shard_book.proofs.shard.Shard.queue.Goals.{After-put}
 use Rattle.shard_book.proofs.Rooms.{no-failure}
@@ -67,21 +67,28 @@ legal g c history stands =
 pub returns-in_default-clause-answer : goal.returns-in_default-clause-answer
 returns-in_default-clause-answer g c history stands =
     let called = (goal.at.returns-in_default-clause-answer g c).After-put in
-    (history, c.in_default.ensures.failed c.args.issuer.now history stands (legal g called history stands) refl, (room g called history stands, refl))
+    let failed = c.in_default.ensures.put history stands.journal_holds.tail stands.journal_holds.holds in (
+      history,
+      stands-still c.args.issuer.now c.args.self.now c.put.new.self history c.to_entry.result c.put.ensures.rows stands c.put.ensures.record
+          (legal g called history stands) failed,
+      (room g called history stands, refl),
+    )
 
 pub returns-in_default-clause-tail : goal.returns-in_default-clause-tail
 returns-in_default-clause-tail g c history tail holds =
     subst (λ (entry : Entry). LeavesTail entry history tail (Refused StoreFault) c.put.new.self)
-    c.to_entry.ensures (c.in_default.ensures.tail history tail holds)
+    c.to_entry.ensures (c.in_default.ensures.put history tail holds)
 
 pub returns-clause-tail : goal.returns-clause-tail
 returns-clause-tail g c history tail holds =
     subst (λ (entry : Entry). HasTail c.put.new.self (history ++ entry ∷ []) []) c.to_entry.ensures
-    (c.in-Ok.ensures.tail history tail holds)
+    (c.in-Ok.ensures.put history tail holds).1
 
 pub returns-in_default-clause-crash : goal.returns-in_default-clause-crash
 returns-in_default-clause-crash g c history stands =
-    c.put.ensures.crash c.args.issuer.now history stands (legal g (goal.at.returns-in_default-clause-crash g c).After-put history stands)
+    let h = stands.journal_holds in
+    put-crash (grounds_now c.args.issuer.now) c.args.self.now.rows.shard history c.to_entry.result c.args.self.now.journal c.put.new.self.journal h
+    c.put.ensures.record (legal g (goal.at.returns-in_default-clause-crash g c).After-put history stands) _ _ (c.put.ensures.crash history h.tail h.holds)
 
 pub returns-clause-answer : goal.returns-clause-answer
 returns-clause-answer g c history stands =
@@ -90,7 +97,9 @@ returns-clause-answer g c history stands =
     let number : ℕ = c.args.self.now.rows.shard in
     let card = card-found _ _ _ c.requires.at_hand.card_is in
     let takes = c.takes_command.ensures issuer card.card history stands.rows_stand card.known in
-    let put = c.in-Ok.ensures.put issuer history stands in
+    let h = stands.journal_holds in
+    let put = c.in-Ok.ensures.put history h.tail h.holds in
+    let added = put-done (grounds_now issuer) number history c.to_entry.result c.put.new.self.journal h.records c.put.ensures.record put.1 in
     let number_is : c.put.new.self.rows.shard ≡ number = ap (λ (rows : ShardRows). rows.shard) c.put.ensures.rows in
     let before = subst (λ (rows : ShardRows). RowsStandFor issuer rows history) (sym c.put.ensures.rows) stands.rows_stand in
     let rows =
@@ -98,7 +107,7 @@ returns-clause-answer g c history stands =
     (subst (λ (name : CardName). RowsStandFor issuer c.push.new.self (history ++ Queued name.pan name.psn c.copy.result ∷ [])) card.named
     (c.push.ensures.queued issuer card.card history before card.known (takes.0 c.if-not-takes_command.false))) in
     let holds =
-    subst (λ (entry : Entry). HoldsHistory (grounds_now issuer) number c.put.new.self.journal (history ++ entry ∷ [])) c.to_entry.ensures put.1 in (
+    subst (λ (entry : Entry). HoldsHistory (grounds_now issuer) number c.put.new.self.journal (history ++ entry ∷ [])) c.to_entry.ensures added in (
       history ++ Queued found.pan found.psn found.command ∷ [],
       stands-with issuer number c.put.new.self.journal c.put.new.self.rows c.push.new.self c.put.new.self.told
           (history ++ Queued found.pan found.psn found.command ∷ [])
@@ -108,7 +117,9 @@ returns-clause-answer g c history stands =
 
 pub returns-clause-crash : goal.returns-clause-crash
 returns-clause-crash g c history stands =
-    c.put.ensures.crash c.args.issuer.now history stands (legal g (goal.at.returns-clause-crash g c).After-put history stands)
+    let h = stands.journal_holds in
+    put-crash (grounds_now c.args.issuer.now) c.args.self.now.rows.shard history c.to_entry.result c.args.self.now.journal c.put.new.self.journal h
+    c.put.ensures.record (legal g (goal.at.returns-clause-crash g c).After-put history stands) _ _ (c.put.ensures.crash history h.tail h.holds)
 
 -- there is room for the longest record of a command
 spared : (g : Over) (c : After-put g) (spare : ℕ)

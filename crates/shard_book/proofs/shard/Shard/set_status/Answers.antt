@@ -14,7 +14,7 @@ use Rattle.shard_book.specs.Room.{most_of, Spares}
 use Rattle.shard_book.specs.ShardRows.{ShardRows, StandsFor as RowsStandFor}
 use Rattle.shard_book.specs.Shards.{HoldsHistory, HasTail}
 use Rattle.shard_book.proofs.LegalNext.{writable, card-found, legal-status}
-use Rattle.shard_book.proofs.ShardSteps.{stands-with}
+use Rattle.shard_book.proofs.ShardSteps.{put-crash, put-done, stands-still, stands-with}
 use Rattle.shard_book.proofs.Rooms.{no-failure}
 use Rattle.shard_book.proofs.shard.Shard.set_status.Given.{Over}
 use Rattle.shard_book.proofs.shard.Shard.set_status.Goals.{After-put}
@@ -37,25 +37,34 @@ legal g c history =
 pub returns-in_default-clause-answer : goal.returns-in_default-clause-answer
 returns-in_default-clause-answer g c history stands =
     let called = (goal.at.returns-in_default-clause-answer g c).After-put in
-    (history, c.in_default.ensures.failed c.args.issuer.now history stands (legal g called history) refl, refl)
+    let failed = c.in_default.ensures.put history stands.journal_holds.tail stands.journal_holds.holds in (
+      history,
+      stands-still c.args.issuer.now c.args.self.now c.put.new.self history c.to_entry.result c.put.ensures.rows stands c.put.ensures.record
+          (legal g called history) failed,
+      refl,
+    )
 
 pub returns-in_default-clause-tail : goal.returns-in_default-clause-tail
 returns-in_default-clause-tail g c history tail holds =
     subst (λ (entry : Entry). LeavesTail entry history tail (Refused StoreFault) c.put.new.self)
-    c.to_entry.ensures (c.in_default.ensures.tail history tail holds)
+    c.to_entry.ensures (c.in_default.ensures.put history tail holds)
 
 pub returns-clause-tail : goal.returns-clause-tail
 returns-clause-tail g c history tail holds =
     subst (λ (entry : Entry). HasTail c.put.new.self (history ++ entry ∷ []) []) c.to_entry.ensures
-    (c.in-Ok.ensures.tail history tail holds)
+    (c.in-Ok.ensures.put history tail holds).1
 
 pub returns-in_default-clause-crash : goal.returns-in_default-clause-crash
 returns-in_default-clause-crash g c history stands =
-    c.put.ensures.crash c.args.issuer.now history stands (legal g (goal.at.returns-in_default-clause-crash g c).After-put history)
+    let h = stands.journal_holds in
+    put-crash (grounds_now c.args.issuer.now) c.args.self.now.rows.shard history c.to_entry.result c.args.self.now.journal c.put.new.self.journal h
+    c.put.ensures.record (legal g (goal.at.returns-in_default-clause-crash g c).After-put history) _ _ (c.put.ensures.crash history h.tail h.holds)
 
 pub returns-clause-crash : goal.returns-clause-crash
 returns-clause-crash g c history stands =
-    c.put.ensures.crash c.args.issuer.now history stands (legal g (goal.at.returns-clause-crash g c).After-put history)
+    let h = stands.journal_holds in
+    put-crash (grounds_now c.args.issuer.now) c.args.self.now.rows.shard history c.to_entry.result c.args.self.now.journal c.put.new.self.journal h
+    c.put.ensures.record (legal g (goal.at.returns-clause-crash g c).After-put history) _ _ (c.put.ensures.crash history h.tail h.holds)
 
 pub returns-clause-answer : goal.returns-clause-answer
 returns-clause-answer g c history stands =
@@ -63,13 +72,15 @@ returns-clause-answer g c history stands =
     let found = c.args.found.now in
     let number : ℕ = c.args.self.now.rows.shard in
     let card = card-found issuer (named found.pan found.psn) found.card c.requires.at_hand.card_is in
-    let put = c.in-Ok.ensures.put issuer history stands in
+    let h = stands.journal_holds in
+    let put = c.in-Ok.ensures.put history h.tail h.holds in
+    let added = put-done (grounds_now issuer) number history c.to_entry.result c.put.new.self.journal h.records c.put.ensures.record put.1 in
     let number_is : c.put.new.self.rows.shard ≡ number = ap (λ (rows : ShardRows). rows.shard) c.put.ensures.rows in
     let before = subst (λ (rows : ShardRows). RowsStandFor issuer rows history) (sym c.put.ensures.rows) stands.rows_stand in
     let rows = subst (λ (name : CardName). RowsStandFor issuer c.set_status.new.self (history ++ Status name.pan name.psn found.status ∷ [])) card.named
     (c.set_status.ensures.set issuer card.card history before card.known) in
     let holds =
-    subst (λ (entry : Entry). HoldsHistory (grounds_now issuer) number c.put.new.self.journal (history ++ entry ∷ [])) c.to_entry.ensures put.1 in (
+    subst (λ (entry : Entry). HoldsHistory (grounds_now issuer) number c.put.new.self.journal (history ++ entry ∷ [])) c.to_entry.ensures added in (
       history ++ Status found.pan found.psn found.status ∷ [],
       stands-with issuer number c.put.new.self.journal c.put.new.self.rows c.set_status.new.self c.put.new.self.told
           (history ++ Status found.pan found.psn found.status ∷ [])

@@ -1,0 +1,27 @@
+-- A command is a valid successor if its card is one of the shard's and the queue accepts it.
+use Rattle.std.proofs.Common.{sym, subst, ◌∙◌}
+use Rattle.card_history.specs.Records.{CardName, named}
+use Rattle.card_history.specs.Scripts.{waiting, scripts_of}
+use Rattle.script_queue.specs.CommandQueue.{TakesOneMore}
+use Rattle.shard_book.proofs.Adopted.{home-found, card-at_home}
+use Rattle.shard_book.proofs.LegalNext.{card-found}
+use Rattle.shard_book.proofs.rows.Rows.accepts_command.Goals as goal
+
+pub takes_command-requires : goal.takes_command-requires
+takes_command-requires c =
+    home-found c.args.issuer.now c.args.self.now c.requires.rows (named c.args.pan.now c.args.psn) c.in-Some.card (sym c.in-Some.ensures.number)
+    (sym c.shard_of.ensures.number ∙ c.if-shard_of-shard.false ∙ c.shard.ensures)
+
+pub returns : goal.returns
+returns c history stands =
+    let name = named c.args.pan.now c.args.psn in
+    let card = card-found _ name c.in-Some.card (record { valid = c.in-Some.ensures.valid; number_is = sym c.in-Some.ensures.number }) in
+    let takes = c.takes_command.ensures c.args.issuer.now card.card history stands card.known in (
+      λ taken. record {
+        of_a_card = card-at_home c.args.issuer.now c.args.self.now c.requires.rows name c.in-Some.card (sym c.in-Some.ensures.number)
+            (sym c.shard_of.ensures.number ∙ c.if-shard_of-shard.false ∙ c.shard.ensures);
+        form = c.requires.form;
+        room = subst (λ (name : CardName). TakesOneMore (waiting (scripts_of name history))) card.named (takes.0 taken);
+      },
+      λ legal. takes.1 (subst (λ (name : CardName). TakesOneMore (waiting (scripts_of name history))) (sym card.named) legal.room),
+    )
