@@ -8,6 +8,8 @@ mod counter_sets;
 #[cfg(test)]
 mod data_objects;
 #[cfg(test)]
+mod feed_lines;
+#[cfg(test)]
 mod filled_lists;
 #[cfg(test)]
 mod input_lines;
