@@ -39,7 +39,8 @@ numbers-push n (first ∷ xs) x =
     ap (λ l. (n, first) ∷ l)
     (numbers-push (n + 1) xs x ∙ ap (λ k. enumerate_from (n + 1) xs ++ (k, x) ∷ []) same)
 
-map-push : {X Y : Type 0} (f : ℕ × X → List Y) (xs : List X) (x : X)
+-- what is made of each element and its number: one element more
+pub map-push : {X Y : Type 0} (f : ℕ × X → List Y) (xs : List X) (x : X)
     → flat_map f (enumerate_from 0 (xs ++ x ∷ [])) ≡ flat_map f (enumerate_from 0 xs) ++ f (length xs, x)
 map-push f xs x =
     ap (flat_map f) (numbers-push 0 xs x)

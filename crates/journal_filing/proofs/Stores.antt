@@ -24,19 +24,19 @@ use Rattle.journal_filing.proofs.Filed.{all-more}
 
 -- ---- lists with one more, and with one changed
 
-get-front : {X : Type 0} (xs ys : List X) (n : ℕ) → n < length xs → slice_get (xs ++ ys) n ≡ slice_get xs n
+pub get-front : {X : Type 0} (xs ys : List X) (n : ℕ) → n < length xs → slice_get (xs ++ ys) n ≡ slice_get xs n
 get-front [] ys n below = absurd (omega arith)
 get-front (x ∷ xs) ys zero below = refl
 get-front (x ∷ xs) ys (suc n) below = get-front xs ys n (omega arith)
 
-get-last : {X : Type 0} (xs : List X) (x : X) → slice_get (xs ++ x ∷ []) (length xs) ≡ Some x
+pub get-last : {X : Type 0} (xs : List X) (x : X) → slice_get (xs ++ x ∷ []) (length xs) ≡ Some x
 get-last [] x = refl
 get-last (first ∷ xs) x = get-last xs x
 
 module _ {S : Type 0} (olds read : List S) (place : ℕ) (old then : S) (count : length read ≡ length olds)
     (old_is : slice_get olds place ≡ Some old) where
   -- what is true of one store, and of each other, is true of each
-  each-set : (P : ℕ → S → S → Type 0) → P place old then
+  pub each-set : (P : ℕ → S → S → Type 0) → P place old then
       → ((number : ℕ) (other other_then : S) → number ≢ place → slice_get olds number ≡ Some other
       → slice_get read number ≡ Some other_then → P number other other_then)
       → (number : ℕ) (other other_then : S) → slice_get olds number ≡ Some other

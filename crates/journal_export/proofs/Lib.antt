@@ -1,0 +1,3 @@
+-- The lemmas of this crate, lowest first.
+pub mod Exported
+pub mod Stores
