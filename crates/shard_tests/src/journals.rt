@@ -100,7 +100,7 @@ pub(crate) fn set_status<S: Store>(shard: &mut Shard<S>, issuer: &Issuer) -> Opt
 }
 
 /// The purchase of a card of this suite on ATC 7.
-fn purchase_in(suite: Suite) -> Option<Request> {
+pub(crate) fn purchase_in(suite: Suite) -> Option<Request> {
     match suite {
         Suite::TripleDes => purchase(7, 0x1A2B_3C4D, CRYPTOGRAM),
         Suite::Aes => aes_purchase(7, 0x1A2B_3C4D, AES_CRYPTOGRAM),
@@ -122,7 +122,7 @@ fn decide<S: Store>(shard: &mut Shard<S>, issuer: &Issuer, request: Request) -> 
 }
 
 /// The answer of the first shard, loaded from this store, to a request of its card, and the store after it.
-fn reloaded_answer(
+pub(crate) fn reloaded_answer(
     alloc: Global,
     issuer: &Issuer,
     store: MemoryStore,

@@ -8,4 +8,6 @@ mod migration;
 #[cfg(test)]
 mod stores;
 #[cfg(test)]
+mod taking;
+#[cfg(test)]
 mod truncation;
