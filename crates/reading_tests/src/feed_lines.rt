@@ -2,12 +2,22 @@
 
 use arrayvec::ArrayVec;
 use feed_text::{FEED_ROOM, read_head, write_feed_line};
-use issuer_base::{Command, Entry, Pan};
+use journal_rec::read_entry;
 use std::test::Fail;
 
-const STATUS: &[u8] = b"0 0 s 4000000000000002ffff 00 3\n";
-
-const QUEUED: &[u8] = b"0 1 q 4000000000000002ffff 00 84160000\n";
+/// The index and the line of a record, and its feed line in the first shard.
+const RECORDS: [(u64, &[u8], &[u8]); 2] = [
+    (
+        0,
+        b"s 4000000000000002ffff 00 3",
+        b"0 0 s 4000000000000002ffff 00 3\n",
+    ),
+    (
+        1,
+        b"q 4000000000000002ffff 00 84160000",
+        b"0 1 q 4000000000000002ffff 00 84160000\n",
+    ),
+];
 
 /// Lines that begin with a shard, an index and a space each, and what follows.
 const HEADS: [(&[u8], u64, u64, &[u8]); 5] = [
@@ -41,30 +51,14 @@ const OTHERS: [(&str, &[u8]); 12] = [
 
 #[test]
 fn writes_the_lines_of_two_records(rt: HostRuntime) -> Result<(), Fail> {
-    let pan = Pan::new(&[4, 0, 0, 0, 0, 0, 0, 0, 0, 0, 0, 0, 0, 0, 0, 2]).ok_or(
-        "an account number",
-    )?;
-    let status = Entry::Status {
-        pan: pan.copy(),
-        psn: 0,
-        status: 3,
-    };
-    let queued = Entry::Queued {
-        pan,
-        psn: 0,
-        command: Command {
-            cla: 0x84,
-            ins: 0x16,
-            p1: 0,
-            p2: 0,
-            body: ArrayVec::new(),
-        },
-    };
     let mut line = ArrayVec::<u8, FEED_ROOM>::new();
-    write_feed_line(0, 0, &status, &mut line);
-    assert_eq!(rt; line.as_slice(), STATUS);
-    write_feed_line(0, 1, &queued, &mut line);
-    assert_eq!(rt; line.as_slice(), QUEUED);
+    for (place, record, text) in RECORDS {
+        let Ok(entry) = read_entry(record) else {
+            return Err(Fail::from("a line of no record"));
+        };
+        write_feed_line(0, place, &entry, &mut line);
+        assert_eq!(rt; line.as_slice(), text);
+    }
     Ok(())
 }
 
