@@ -16,7 +16,7 @@ use Rattle.journal_rec.specs.RecordText.{journal_text}
 use Rattle.record_store.specs.Holding.{Holds}
 use Rattle.shard_book.specs.declared.shard.Shard.{Shard}
 use Rattle.shard_book.specs.Answering.{is_store_fault, told_after}
-use Rattle.shard_book.specs.Calls.{AnswersBy, LeavesImages, KeepsShard}
+use Rattle.shard_book.specs.Calls.{AnswersBy, LeavesImages, KeepsCall}
 use Rattle.shard_book.specs.Grounds.{grounds_now, IsImageOf}
 use Rattle.shard_book.specs.Shards.{number_in, IsUnder, HasCard, disk_in, faults_in, told_in, IsUndoubted, HoldsHistory, StandsFor}
 use Rattle.shard_book.proofs.ShardSteps.{crash-no_call}
@@ -45,7 +45,7 @@ module _ {S : Type 0} {G : Ghosts S} where
     pub old_is : slice_get shards home ≡ Some old
     pub answers : AnswersBy issuer old Changes new
     pub leaves : LeavesImages issuer old new
-    pub keeps : KeepsShard issuer old answer new
+    pub keeps : KeepsCall issuer old (is_store_fault answer) new
 
   -- a card's number is that of a card of its shard
   pub card-at_home : (issuer : Setup) (shards : List (Shard S G)) → AreShards issuer shards → (number home : ℕ) (shard : Shard S G)

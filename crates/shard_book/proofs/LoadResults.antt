@@ -1,6 +1,6 @@
 -- What is stated of a shard that was loaded, or of stores that weren't, as one record.
 use Rattle.std.proofs.Common.{◌≡◌, ◌⊎◌, ◌≤◌, ℕ, List, [], ◌++◌, length, take, true, false, refl, sym, ap, subst, ◌∙◌, inl, inr, ⊎_elim, arith}
-use Rattle.std.proofs.Common.{Option, None, Some, Result, Ok, Err, IfOk, IfErr, IfSome, All, length-take}
+use Rattle.std.proofs.Common.{Option, None, Some, Result, Ok, Err, IfOk, IfErr, IfSome, MatchResult, All, length-take}
 use Rattle.std.specs.Option.{IsSomeAnd}
 use Rattle.std.proofs.lemmas.List.{take_all, take_at}
 use Rattle.issuer_base.specs.OutsideFaults.{CountsFaults}
@@ -103,6 +103,11 @@ module _ (old history : List Entry) (on : GoesOn old history) (old_records : All
     told-left (Some bytes) (Some mid) (Some new) known moves has cuts = left-bytes bytes mid new known moves has cuts
 
 -- ---- the records
+
+-- what holds of a result at `Ok`, and what at `Err`
+pub match-ends : {A B : Type 0} (P : A → Type 0) (Q : B → Type 0) (result : Result A B) → IfOk result P → IfErr result Q → MatchResult result P Q
+match-ends P Q (Ok value) holds fails = holds
+match-ends P Q (Err fault) holds fails = fails
 
 module _ {S : Type 0} (G : Ghosts S) where
   module _ (issuer : Setup) (number : ℕ) (old store old_then mid : S) (rows : ShardRows) (taken : Taken)

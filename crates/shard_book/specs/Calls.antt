@@ -1,17 +1,38 @@
 -- What a call of a shard answers, and what it leaves.
-use Rattle.std.specs.Prelude.{◌≡◌, ℕ, Bool, List}
+use Rattle.std.specs.Prelude.{◌≡◌, ℕ, Bool, false, List, Ok}
 use Rattle.issuer_base.specs.OutsideFaults.{CountsFaults}
 use Rattle.issuer_base.specs.Stores.{BothTold, LeavesOnly}
 use Rattle.issuer_base.specs.declared.answer.Answer.{Answer}
 use Rattle.issuer_base.specs.declared.entry.Entry.{Entry}
 use Rattle.issuer_base.specs.declared.outside.store.Store.{Ghosts}
+use Rattle.card_history.specs.declared.decision.Asked.TheVariants.{Decide}
 use Rattle.issuer_setup.specs.IssuerSetup.{Setup}
+use Rattle.line_checks.specs.declared.checked.CheckedOrder.{CheckedOrder}
+use Rattle.line_checks.specs.declared.checked.CheckedRequest.{CheckedRequest}
+use Rattle.line_checks.specs.AtHand.{IsOrderAtHand, IsRequestAtHand, number_of_order}
+use Rattle.line_checks.specs.Reading.{checked}
 use Rattle.shard_book.specs.declared.shard.Shard.{Shard}
-use Rattle.shard_book.specs.Answering.{is_store_fault, told_after}
+use Rattle.shard_book.specs.Answering.{is_store_fault, tells_change, told_after}
 use Rattle.shard_book.specs.Grounds.{grounds_now, IsImageOf}
-use Rattle.shard_book.specs.Shards.{number_in, IsUnder, disk_in, faults_in, told_in, IsUndoubted, StandsFor}
+use Rattle.shard_book.specs.Shards.{number_in, IsUnder, HasCard, disk_in, faults_in, told_in, IsUndoubted, StandsFor}
 
 module _ {S : Type 0} {G : Ghosts S} where
+  -- a checked request for a shard of this issuer
+  pub record IsRequestFor (issuer : Setup) (shard : Shard S G) (found : CheckedRequest) : Type 0 where
+    pub under : IsUnder issuer shard
+    -- its card is one of the shard's
+    pub home : HasCard shard found.card
+    -- its card's number and keys are this issuer's, and it has passed the checks of a line
+    pub at_hand : IsRequestAtHand issuer found
+    pub checked_is : checked issuer found.request ≡ Ok (Decide found.request)
+
+  -- a checked order for a shard of this issuer
+  pub record IsOrderFor (issuer : Setup) (shard : Shard S G) (found : CheckedOrder) : Type 0 where
+    pub under : IsUnder issuer shard
+    -- its card is one of the shard's, by its number of this issuer
+    pub home : HasCard shard (number_of_order found)
+    pub at_hand : IsOrderAtHand issuer found
+
   -- if the shard stood for a history, it stands for one that the answer makes of it
   abbrev pub AnswersBy : Setup → Shard S G → (ℕ → List Entry → List Entry → Type 0) → Shard S G → Type 0
   AnswersBy issuer old Changes new =
@@ -39,5 +60,7 @@ module _ {S : Type 0} {G : Ghosts S} where
     pub number_is : number_in new ≡ number_in old
 
   -- the same, by the call's answer
-  abbrev pub KeepsShard : Setup → Shard S G → Answer → Shard S G → Type 0
-  KeepsShard issuer old answer new = KeepsCall issuer old (is_store_fault answer) new
+  pub record KeepsShard (issuer : Setup) (old : Shard S G) (answer : Answer) (new : Shard S G) : Type 0 where
+    pub keeps : KeepsCall issuer old (is_store_fault answer) new
+    -- an answer that reports neither a new record nor that the store failed leaves the shard unchanged
+    pub unchanged : tells_change answer ≡ false → new ≡ old

@@ -1,10 +1,11 @@
 -- What a shard takes of the records of another host, under whatever decision table it decided.
-use Rattle.std.specs.Prelude.{◌≡◌, ◌⊎◌, ℕ, Bool, true, false, List, [], ◌∷◌, ◌++◌, length, Result, Ok, Err, IsErr}
+use Rattle.std.specs.Prelude.{◌≡◌, ◌⊎◌, ℕ, Bool, true, false, List, [], ◌∷◌, ◌++◌, length, Result, Ok, Err, IsErr, IsTrue}
 use Rattle.issuer_base.specs.Stores.{BothTold, LeavesOnly}
 use Rattle.issuer_base.specs.declared.entry.Entry.{Entry}
 use Rattle.issuer_base.specs.declared.outside.store.Store.{Ghosts}
 use Rattle.card_history.specs.LegalRecords.{IsLegal}
 use Rattle.issuer_setup.specs.IssuerSetup.{Setup}
+use Rattle.journal_rec.specs.Record.{is_record}
 use Rattle.journal_rec.specs.RecordText.{text_of}
 use Rattle.shard_book.specs.declared.shard.Shard.{Shard}
 use Rattle.shard_book.specs.declared.taking.TakeFault.{TakeFault}
@@ -12,7 +13,7 @@ use Rattle.shard_book.specs.declared.taking.TakeFault.TheVariants.{NotLegal, Sto
 use Rattle.shard_book.specs.Calls.{KeepsCall}
 use Rattle.shard_book.specs.Grounds.{grounds_of, IsImageOf}
 use Rattle.shard_book.specs.ShardRows.{StandsFor as RowsStandFor}
-use Rattle.shard_book.specs.Shards.{number_in, disk_in, HasTail, HoldsHistory, IsSettled}
+use Rattle.shard_book.specs.Shards.{number_in, IsUnder, disk_in, HasTail, HoldsHistory, IsSettled}
 
 -- whether the store failed
 abbrev pub is_failed_store : Result ℕ TakeFault → Bool
@@ -20,6 +21,11 @@ is_failed_store (Err StoreFault) = true
 is_failed_store _ = false
 
 module _ {S : Type 0} {G : Ghosts S} where
+  -- a record of another host, well formed, for a shard of this issuer
+  pub record IsRecordFor (issuer : Setup) (shard : Shard S G) (entry : Entry) : Type 0 where
+    pub under : IsUnder issuer shard
+    pub form : IsTrue (is_record entry)
+
   -- the shard stands for the history, except that what is in doubt may be a record of another host, under another
   -- decision table
   pub record IsReplicaOf (issuer : Setup) (shard : Shard S G) (history : List Entry) : Type 0 where
@@ -49,8 +55,10 @@ module _ {S : Type 0} {G : Ghosts S} where
       (history : List Entry) → IsReplicaOf issuer old history
       → BothTold (LeavesOnly (IsImageOf (grounds_of issuer) (number_in old) history)) (disk_in old) (disk_in new)
 
-  -- as every call of a shard, and after a fault the rows are the same
+  -- as every call of a shard
   pub record KeepsReplica (issuer : Setup) (old : Shard S G) (result : Result ℕ TakeFault) (new : Shard S G)
       : Type 0 where
     pub keeps : KeepsCall issuer old (is_failed_store result) new
+    -- after a fault the rows are the same, and after a record that isn't legal the whole shard
     pub rows_are : IsErr result → new.rows ≡ old.rows
+    pub unchanged : result ≡ Err NotLegal → new ≡ old

@@ -25,9 +25,9 @@ ghost use Rattle.shard_book.specs.Shards.{number_in, IsUnder, HasCard, store_in,
 ghost use Rattle.shard_book.specs.Recorded.{AddsRecorded};
 ghost use Rattle.shard_book.specs.Room.{most_of, UsesRoom, LoadsWithin};
 ghost use Rattle.shard_book.specs.Answering.{is_store_fault, tells_change, LeavesTail, told_after, AnswersClaimed, AnswersQueueing, AnswersSetting, AnswersOrder};
-ghost use Rattle.shard_book.specs.Calls.{AnswersBy, LeavesImages, KeepsShard};
+ghost use Rattle.shard_book.specs.Calls.{AnswersBy, IsOrderFor, IsRequestFor, LeavesImages, KeepsCall, KeepsShard};
 ghost use Rattle.shard_book.specs.Loads.{HaveRoom, IsLoadedFrom, IsNotLoaded, IsOnlyRead};
-ghost use Rattle.shard_book.specs.Taking.{IsReplicaOf, KeepsReplica, LeavesReplicas, LeavesTaken, Takes, is_failed_store};
+ghost use Rattle.shard_book.specs.Taking.{IsRecordFor, IsReplicaOf, KeepsReplica, LeavesReplicas, LeavesTaken, Takes, is_failed_store};
 
 use crate::loading::take_over;
 use crate::replay::{LoadFault, Taken, TakenOver, Version};
@@ -74,7 +74,9 @@ impl<S: Store> Shard<S> {
         issuer: &Issuer,
     ) -> Result<Shard<S>, LoadBack<S>>
         requires { shard < issuer.now.shards }
-        ensures loaded { IfOk result (IsLoadedFrom issuer.now shard old.old old.new store) }
+        ensures loaded { MatchResult result (IsLoadedFrom issuer.now shard old.old old.new store)
+            (λ back. IsNotLoaded S.size S.bytes S.disk S.faults issuer.now shard old.old store back.fault
+            old.new back.store) }
 
         // The text of a legal history, or a part of the old store's, is loaded, and as just this history. Only memory
         // or the stores themselves can stop it.
@@ -88,8 +90,6 @@ impl<S: Store> Shard<S> {
             → IsImageLeft issuer.now shard known (S.bytes store) history
             → MatchResult result (StandsForLeft issuer.now shard (S.bytes store) history)
             (λ back. IsOutside back.fault) }
-        ensures stopped { IfErr result (λ back. IsNotLoaded S.size S.bytes S.disk S.faults issuer.now shard old.old
-            store back.fault old.new back.store) }
         ensures old { IsOnlyRead S.size S.bytes S.disk S.room old.old old.new }
 
         // Stores that work at the sizes that they have or may grow to don't fail.
@@ -108,10 +108,7 @@ impl<S: Store> Shard<S> {
     ///
     /// A new decision is durable before it is answered.
     pub fn answer(&mut self, issuer: &Issuer, found: &CheckedRequest, won: bool) -> Answer
-        requires under { IsUnder issuer.now self.old }
-        requires home { HasCard self.old found.now.card }
-        requires at_hand { IsRequestAtHand issuer.now found.now }
-        requires checked { checked issuer.now found.now.request ≡ Ok (Decide found.now.request) }
+        requires { IsRequestFor issuer.now self.old found.now }
         ensures answer { AnswersBy issuer.now self.old (λ shard history after.
             AnswersClaimed shard (reply_to issuer.now) won history found.now.request result after) self.new }
 
@@ -120,7 +117,6 @@ impl<S: Store> Shard<S> {
             → HasTail self.old history tail
             → LeavesTail (Entry.Decided found.now.request (reply_to issuer.now history found.now.request))
             history tail result self.new }
-        ensures unchanged { tells_change result ≡ false → self.new ≡ self.old }
         ensures crash { LeavesImages issuer.now self.old self.new }
 
         // With room for so many bytes and more the store doesn't fail, and the room for the more is left.
@@ -147,16 +143,13 @@ impl<S: Store> Shard<S> {
 
     /// The answer to a checked order for a card of this shard. Its record is durable before it is answered.
     pub fn order(&mut self, issuer: &Issuer, found: &CheckedOrder) -> Answer
-        requires under { IsUnder issuer.now self.old }
-        requires home { HasCard self.old (number_of_order found.now) }
-        requires at_hand { IsOrderAtHand issuer.now found.now }
+        requires { IsOrderFor issuer.now self.old found.now }
         ensures answer { AnswersBy issuer.now self.old (λ shard history after.
             AnswersOrder shard history (order_asked found.now) result after) self.new }
 
         // As for a request: nothing is in doubt after the record, and after a fault this very record may be.
         ensures tail { (history : List Entry) (tail : List ℕ) → HasTail self.old history tail
             → LeavesTail (record_of found.now) history tail result self.new }
-        ensures unchanged { tells_change result ≡ false → self.new ≡ self.old }
         ensures crash { LeavesImages issuer.now self.old self.new }
         ensures room { UsesRoom (most_of (record_of found.now)) (is_store_fault result) self.old self.new }
         ensures kept { KeepsShard issuer.now self.old result self.new }
@@ -170,15 +163,13 @@ impl<S: Store> Shard<S> {
     /// Takes the next record of another host's history if it is a valid successor under whatever decision table. The
     /// result is its index. The record is durable before the row of its card changes.
     pub fn take(&mut self, issuer: &Issuer, entry: &Entry) -> Result<u64, TakeFault>
-        requires under { IsUnder issuer.now self.old }
-        requires form { IsTrue (is_record entry.now) }
+        requires { IsRecordFor issuer.now self.old entry.now }
         ensures taken { (history : List Entry) → IsReplicaOf issuer.now self.old history
             → Takes issuer.now self.old history entry.now result self.new }
 
         // As for a request: nothing is in doubt after the record, and after the store's fault this very record may be.
         ensures tail { (history : List Entry) (tail : List ℕ) → HasTail self.old history tail
             → LeavesTaken entry.now history tail result self.new }
-        ensures unchanged { result ≡ Err TakeFault.NotLegal → self.new ≡ self.old }
         ensures crash { LeavesReplicas issuer.now self.old self.new }
         ensures room { UsesRoom (most_of entry.now) (is_failed_store result) self.old self.new }
         ensures kept { KeepsReplica issuer.now self.old result self.new }
@@ -253,7 +244,6 @@ impl<S: Store> Shard<S> {
             AnswersQueueing shard history (named found.now.pan found.now.psn) found.now.command result after) self.new }
         ensures tail { (history : List Entry) (tail : List ℕ) → HasTail self.old history tail
             → LeavesTail (Entry.Queued found.now.pan found.now.psn found.now.command) history tail result self.new }
-        ensures unchanged { tells_change result ≡ false → self.new ≡ self.old }
         ensures crash { LeavesImages issuer.now self.old self.new }
         ensures room { UsesRoom MOST_QUEUED_BYTES (is_store_fault result) self.old self.new }
         ensures kept { KeepsShard issuer.now self.old result self.new }
@@ -280,7 +270,6 @@ impl<S: Store> Shard<S> {
             AnswersSetting shard history (named found.now.pan found.now.psn) found.now.status result after) self.new }
         ensures tail { (history : List Entry) (tail : List ℕ) → HasTail self.old history tail
             → LeavesTail (Entry.Status found.now.pan found.now.psn found.now.status) history tail result self.new }
-        ensures unchanged { tells_change result ≡ false → self.new ≡ self.old }
         ensures crash { LeavesImages issuer.now self.old self.new }
         ensures room { UsesRoom MOST_RECORD_BYTES (is_store_fault result) self.old self.new }
         ensures kept { KeepsShard issuer.now self.old result self.new }
@@ -314,7 +303,8 @@ impl<S: Store> Shard<S> {
             → BothTold (LeavesOnly (IsImageOf (grounds_now issuer) (number_in self.old) history))
             (disk_in self.old) (disk_in self.new) }
         ensures room { UsesRoom MOST_RECORD_BYTES (is_store_fault result) self.old self.new }
-        ensures kept { (issuer : Setup) → IsUnder issuer self.old → KeepsShard issuer self.old result self.new }
+        ensures kept { (issuer : Setup) → IsUnder issuer self.old
+            → KeepsCall issuer self.old (is_store_fault result) self.new }
     {
         let mut text = ArrayVec::new();
         write_decided(&mut text, &found.request, &reply);

@@ -29,7 +29,7 @@ use Rattle.line_checks.specs.declared.checked.CheckedOrder.TheVariants.{Command 
 use Rattle.row_core.specs.Replying.{reply_to}
 use Rattle.shard_book.specs.declared.shard.Shard.{Shard}
 use Rattle.shard_book.specs.Answering.{is_store_fault, told_after, AnswersClaimed, AnswersOrder}
-use Rattle.shard_book.specs.Calls.{KeepsShard, LeavesImages}
+use Rattle.shard_book.specs.Calls.{KeepsCall, LeavesImages}
 use Rattle.shard_book.specs.Grounds.{IsCardOfShard, IsImageOf, grounds_of, grounds_now}
 use Rattle.shard_book.specs.Shards.{disk_in, faults_in, told_in, StandsFor}
 use Rattle.shard_book.proofs.LegalDecisions.{legal-own}
@@ -184,7 +184,7 @@ IsLast first now counts = length counts < MAX_FAULTS_TOLD → now ≡ last_count
 
 -- a call of the shard answered so
 pub record IsCalled {S : Type 0} {G : Ghosts S} (issuer : Setup) (old new : Shard S G) (answer : Answer) : Type 0 where
-  pub keeps : KeepsShard issuer old answer new
+  pub keeps : KeepsCall issuer old (is_store_fault answer) new
   pub leaves : LeavesImages issuer old new
 
 module _ {S : Type 0} {G : Ghosts S} (issuer : Setup) (shard first faults : ℕ) (disk : Option Disk)

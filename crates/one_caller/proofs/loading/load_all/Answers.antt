@@ -68,7 +68,7 @@ returns-in-Err-clause-stopped g c =
     let back =
     come-back issuer olds read stores shards c.unwrap-store.result left its.loading old old_then its.old_is fault after
     (subst (λ number. IsNotLoaded g.S.Store.size g.S.Store.bytes g.S.Store.disk g.S.Store.faults issuer number old c.unwrap-store.result fault old_then after)
-    (sym number) c.in-Err.ensures.stopped) in
+    (sym number) c.in-Err.ensures.loaded) in
     subst (λ all. ComeBack g.S.Store.size g.S.Store.bytes g.S.Store.disk g.S.Store.faults issuer olds (set read c.from.result old_then) stores
     c.loop-number.number fault all)
     (sym (c.all_stores.ensures ∙ ap (λ taken. taken ++ after ∷ left) c.take_stores.ensures.stores))

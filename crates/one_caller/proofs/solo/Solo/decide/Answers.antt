@@ -2,12 +2,13 @@
 use Rattle.std.proofs.Common.{ℕ, ◌+◌, ◌≤◌, length-set, vec_capacity, true, refl, sym, subst}
 use Rattle.std.proofs.lemmas.Option.{slice_get_read}
 use Rattle.card_history.specs.Records.{card_of}
+use Rattle.line_checks.proofs.Numbers.{number-within}
 use Rattle.row_core.specs.Replying.{reply_to}
 use Rattle.shard_book.specs.Answering.{AnswersClaimed}
 use Rattle.journal_rec.specs.declared.limits.TheConstants.{MOST_RECORD_BYTES}
 use Rattle.shard_book.specs.Answering.{is_store_fault}
 use Rattle.one_caller.specs.Room.{added_at, HaveRoom}
-use Rattle.one_caller.proofs.OneShard.{IsCalled, shards-after, turn-after, crash-after}
+use Rattle.one_caller.proofs.OneShard.{IsCalled, card-at_home, shards-after, turn-after, crash-after}
 use Rattle.one_caller.proofs.Places.{write-same}
 use Rattle.one_caller.proofs.Rooms.{room-after}
 use Rattle.one_caller.proofs.solo.Solo.decide.Given.{Over}
@@ -25,7 +26,18 @@ call g c =
       old_is = slice_get_read _ _ c.home-shard.result _ refl c.home-shard.ensures.within c.index_mut.ensures.value;
       answers = its.answer;
       leaves = its.crash;
-      keeps = its.kept;
+      keeps = its.kept.keeps;
+    }
+
+pub answer-requires : goal.answer-requires
+answer-requires g c =
+    let host = c.args.self.now in
+    let old_is = slice_get_read _ _ c.home-shard.result _ refl c.home-shard.ensures.within c.index_mut.ensures.value in
+    record {
+      under = host.are_shards.under _ _ old_is;
+      home = card-at_home _ _ host.are_shards _ _ _ (number-within _ _ _ c.requires.at_hand.card_is.number_is) old_is c.home-shard.ensures.number;
+      at_hand = c.requires.at_hand;
+      checked_is = c.requires.checked;
     }
 
 pub invariant_of-self-clause-are_shards : goal.invariant_of-self-clause-are_shards
@@ -44,7 +56,7 @@ returns-clause-crash g c = crash-after c.args.self.now.are_shards (call g (goal.
 
 pub returns-clause-unchanged : goal.returns-clause-unchanged
 returns-clause-unchanged g c idle =
-    write-same _ _ _ _ (call g (goal.at.returns-clause-unchanged g c).After-answer).old_is (c.answer.ensures.unchanged idle)
+    write-same _ _ _ _ (call g (goal.at.returns-clause-unchanged g c).After-answer).old_is (c.answer.ensures.kept.unchanged idle)
 
 pub returns-clause-room : goal.returns-clause-room
 returns-clause-room g c =

@@ -34,14 +34,20 @@ call g c =
           let answered = its.answer history stands in
           (answered.0, answered.1, order-answers issuer order c.order.result _ history answered.0 answered.2);
       leaves = its.crash;
-      keeps = its.kept;
+      keeps = its.kept.keeps;
     }
 
-pub order-requires-clause-home : goal.order-requires-clause-home
-order-requires-clause-home g c =
-    card-at_home _ _ c.args.self.now.are_shards _ _ _ (number-within _ _ _ (order-card c.args.self.now.issuer c.args.found.now c.requires).number_is)
-    (slice_get_read _ _ c.home-shard.result _ refl c.home-shard.ensures.within c.index_mut.ensures.value)
-    (c.home-shard.ensures.number ∙ ap (λ (number : ℕ). number % c.args.self.now.issuer.shards) c.card.ensures)
+pub order-requires : goal.order-requires
+order-requires g c =
+    let host = c.args.self.now in
+    let old_is = slice_get_read _ _ c.home-shard.result _ refl c.home-shard.ensures.within c.index_mut.ensures.value in
+    record {
+      under = host.are_shards.under _ _ old_is;
+      home =
+          card-at_home _ _ host.are_shards _ _ _ (number-within _ _ _ (order-card host.issuer c.args.found.now c.requires).number_is) old_is
+          (c.home-shard.ensures.number ∙ ap (λ (number : ℕ). number % host.issuer.shards) c.card.ensures);
+      at_hand = c.requires;
+    }
 
 pub invariant_of-self-clause-are_shards : goal.invariant_of-self-clause-are_shards
 invariant_of-self-clause-are_shards g c = shards-after c.args.self.now.are_shards (call g (goal.at.invariant_of-self-clause-are_shards g c).After-order)
@@ -59,7 +65,7 @@ returns-clause-crash g c = crash-after c.args.self.now.are_shards (call g (goal.
 
 pub returns-clause-unchanged : goal.returns-clause-unchanged
 returns-clause-unchanged g c idle =
-    write-same _ _ _ _ (call g (goal.at.returns-clause-unchanged g c).After-order).old_is (c.order.ensures.unchanged idle)
+    write-same _ _ _ _ (call g (goal.at.returns-clause-unchanged g c).After-order).old_is (c.order.ensures.kept.unchanged idle)
 
 pub returns-clause-room : goal.returns-clause-room
 returns-clause-room g c =

@@ -41,7 +41,7 @@ legal g c history stands =
     let found = c.args.found.now in
     let plan = c.in-Fresh.ensures.plan history stands.rows_stand in
     legal-decision issuer c.args.self.now.rows c.requires.under (card_of found.request) found.card
-    c.requires.at_hand.card_is c.requires.home history found.request c.in-Fresh.reply refl c.requires.checked plan.0 plan.3
+    c.requires.at_hand.card_is c.requires.home history found.request c.in-Fresh.reply refl c.requires.checked_is plan.0 plan.3
 
 pub returns-else-not-won-clause-answer : goal.returns-else-not-won-clause-answer
 returns-else-not-won-clause-answer g c history stands =

@@ -1,18 +1,25 @@
 -- What is loaded, what a failed load leaves, and what a crash leaves meanwhile.
 use Rattle.std.proofs.Common.{subst, sym, ◌∙◌, Bool}
 use Rattle.shard_book.specs.declared.replay.TakenOver.{TakenOver}
-use Rattle.shard_book.specs.Loads.{CountsBoth}
+use Rattle.shard_book.specs.Loads.{CountsBoth, IsLoadedFrom, IsNotLoaded}
 use Rattle.shard_book.proofs.Exactly.{image-outside, loads-exactly, loads-image, stops-outside}
-use Rattle.shard_book.proofs.LoadResults.{fails-from, loaded-all, loads-from, opens-stopped, room-opened, room-there}
+use Rattle.shard_book.proofs.LoadResults.{fails-from, loaded-all, loads-from, match-ends, opens-stopped, room-opened, room-there}
 use Rattle.shard_book.proofs.LoadStops.{reasons-alike}
 use Rattle.shard_book.proofs.shard.Shard.load.Goals as goal
 
 pub returns-in-Ok-clause-loaded : goal.returns-in-Ok-clause-loaded
 returns-in-Ok-clause-loaded g c =
-    loads-from g.S.Store c.args.issuer.now c.args.shard c.args.old.now c.args.store c.take_over.new.old c.take_over.new.store c.in-Ok.field-0.rows
+    match-ends (IsLoadedFrom c.args.issuer.now c.args.shard c.args.old.now c.take_over.new.old c.args.store)
+    (λ back. IsNotLoaded g.S.Store.size g.S.Store.bytes g.S.Store.disk g.S.Store.faults c.args.issuer.now c.args.shard c.args.old.now c.args.store
+    back.fault c.take_over.new.old back.store) c.open.result
+    (loads-from g.S.Store c.args.issuer.now c.args.shard c.args.old.now c.args.store c.take_over.new.old c.take_over.new.store c.in-Ok.field-0.rows
     c.in-Ok.field-0.taken c.in-Ok.ensures.taken (g.met.S.Store.told_bytes c.take_over.new.store) c.in-Ok.ensures.count c.in-Ok.ensures.size
     c.take_over.ensures.room c.open.result c.in-Ok.ensures.rows.0 c.in-Ok.ensures.rows.1 c.in-Ok.ensures.within c.open.ensures.rows c.open.ensures.holds
-    c.open.ensures.places c.open.ensures.untold c.open.ensures.undoubted c.open.ensures.opened c.open.ensures.count c.open.ensures.room
+    c.open.ensures.places c.open.ensures.untold c.open.ensures.undoubted c.open.ensures.opened c.open.ensures.count c.open.ensures.room)
+    (fails-from g.S.Store c.args.issuer.now c.args.shard c.args.old.now c.args.store c.take_over.new.old c.take_over.new.store c.in-Ok.field-0.rows
+    c.in-Ok.field-0.taken c.in-Ok.ensures.taken (g.met.S.Store.told_bytes c.take_over.new.store) c.in-Ok.ensures.count
+    (g.met.S.Store.told_alike c.args.old.now c.args.store) (g.met.S.Store.told_bytes c.args.store) c.open.result c.open.ensures.fault c.open.ensures.kept
+    c.open.ensures.crash c.open.ensures.failed)
 
 pub returns-in-Ok-clause-exact : goal.returns-in-Ok-clause-exact
 returns-in-Ok-clause-exact g c known history old_text text =
@@ -30,13 +37,6 @@ returns-in-Ok-clause-image g c known history old_text left =
     c.open.ensures.holds)
     (opens-stopped c.args.issuer.now c.args.shard (g.S.Store.bytes c.args.old.now) (g.S.Store.bytes c.args.store) c.open.result c.open.ensures.fault)
 
-pub returns-in-Ok-clause-stopped : goal.returns-in-Ok-clause-stopped
-returns-in-Ok-clause-stopped g c =
-    fails-from g.S.Store c.args.issuer.now c.args.shard c.args.old.now c.args.store c.take_over.new.old c.take_over.new.store c.in-Ok.field-0.rows
-    c.in-Ok.field-0.taken c.in-Ok.ensures.taken (g.met.S.Store.told_bytes c.take_over.new.store) c.in-Ok.ensures.count
-    (g.met.S.Store.told_alike c.args.old.now c.args.store) (g.met.S.Store.told_bytes c.args.store) c.open.result c.open.ensures.fault c.open.ensures.kept
-    c.open.ensures.crash c.open.ensures.failed
-
 pub returns-in-Ok-clause-room : goal.returns-in-Ok-clause-room
 returns-in-Ok-clause-room g c spare has =
     room-opened g.S.Store c.args.issuer.now c.args.shard c.args.old.now c.args.store c.take_over.new.old c.take_over.new.store c.in-Ok.field-0.rows
@@ -53,8 +53,8 @@ returns-in-Err-clause-image g c known history old_text left =
     image-outside c.args.issuer.now c.args.shard known (g.S.Store.bytes c.args.store) history left (g.S.Store.bytes c.args.old.now) old_text
     c.in-Err.fault c.in-Err.ensures.stopped.stops
 
-pub returns-in-Err-clause-stopped : goal.returns-in-Err-clause-stopped
-returns-in-Err-clause-stopped g c = record {
+pub returns-in-Err-clause-loaded : goal.returns-in-Err-clause-loaded
+returns-in-Err-clause-loaded g c = record {
   stops = c.in-Err.ensures.stopped.stops;
   kept = c.in-Err.ensures.stopped.kept;
   still = c.in-Err.ensures.stopped.still;

@@ -28,21 +28,22 @@ call g c =
     let home = card-of_shard issuer (card_of request) c.args.found.now.card number c.requires.at_hand.card_is c.shard_of-number.ensures.number in
     record {
       found = has-found _ _ c.requires.turns _ _ c.enter-shard.result c.enter-shard.ensures.seat.heads c.enter-shard.ensures.value;
-      called = record { keeps = c.answer-answer.ensures.kept; leaves = c.answer-answer.ensures.crash };
+      called = record { keeps = c.answer-answer.ensures.kept.keeps; leaves = c.answer-answer.ensures.crash };
       answers = c.answer-answer.ensures.answer;
       recording = λ history after.
           claimed-answered issuer number history after c.args.won request c.answer-answer.result home c.requires.checked;
       told_is = c.faults-told.ensures;
     }
 
-pub answer-answer-requires-clause-under : goal.answer-answer-requires-clause-under
-answer-answer-requires-clause-under g c =
-    (standing g (goal.at.answer-answer-requires-clause-under g c).After-enter-shard).stands.under
-
-pub answer-answer-requires-clause-home : goal.answer-answer-requires-clause-home
-answer-answer-requires-clause-home g c =
-    has-card _ _ _ _ (standing g (goal.at.answer-answer-requires-clause-home g c).After-enter-shard) _ c.shard_of-number.ensures.number
-    (card-within _ _ _ c.requires.at_hand.card_is)
+pub answer-answer-requires : goal.answer-answer-requires
+answer-answer-requires g c =
+    let its = standing g (goal.at.answer-answer-requires g c).After-enter-shard in
+    record {
+      under = its.stands.under;
+      home = has-card _ _ _ _ its _ c.shard_of-number.ensures.number (card-within _ _ _ c.requires.at_hand.card_is);
+      at_hand = c.requires.at_hand;
+      checked_is = c.requires.checked;
+    }
 
 pub end_turn-requires-clause-stands : goal.end_turn-requires-clause-stands
 end_turn-requires-clause-stands g c = turn-stands (call g (goal.at.end_turn-requires-clause-stands g c).After-answer-answer)

@@ -34,7 +34,7 @@ call g c =
     c.shard_of-number.ensures.number ∙ ap (λ (card : ℕ). card % issuer.shards) c.card.ensures in
     record {
       found = has-found _ _ c.requires.turns _ _ c.enter-shard.result c.enter-shard.ensures.seat.heads c.enter-shard.ensures.value;
-      called = record { keeps = c.order-answer.ensures.kept; leaves = c.order-answer.ensures.crash };
+      called = record { keeps = c.order-answer.ensures.kept.keeps; leaves = c.order-answer.ensures.crash };
       answers = c.order-answer.ensures.answer;
       recording = λ history after.
           order-answered issuer number history after order c.order-answer.result
@@ -42,15 +42,15 @@ call g c =
       told_is = c.faults-told.ensures;
     }
 
-pub order-answer-requires-clause-under : goal.order-answer-requires-clause-under
-order-answer-requires-clause-under g c =
-    (standing g (goal.at.order-answer-requires-clause-under g c).After-enter-shard).stands.under
-
-pub order-answer-requires-clause-home : goal.order-answer-requires-clause-home
-order-answer-requires-clause-home g c =
-    let here = (goal.at.order-answer-requires-clause-home g c).After-enter-shard in
-    has-card _ _ _ _ (standing g here) _ (home g here)
-    (card-within _ _ _ (order-card _ _ c.requires.at_hand))
+pub order-answer-requires : goal.order-answer-requires
+order-answer-requires g c =
+    let here = (goal.at.order-answer-requires g c).After-enter-shard in
+    let its = standing g here in
+    record {
+      under = its.stands.under;
+      home = has-card _ _ _ _ its _ (home g here) (card-within _ _ _ (order-card _ _ c.requires.at_hand));
+      at_hand = c.requires.at_hand;
+    }
 
 pub end_turn-requires-clause-stands : goal.end_turn-requires-clause-stands
 end_turn-requires-clause-stands g c = turn-stands (call g (goal.at.end_turn-requires-clause-stands g c).After-order-answer)
