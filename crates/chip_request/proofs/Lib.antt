@@ -6,6 +6,7 @@ pub mod HexDistance
 pub mod HexTable
 pub mod HexWord
 pub mod PairLoop
+pub mod Spelling
 pub mod Found
 pub mod Meaning
 pub mod Good

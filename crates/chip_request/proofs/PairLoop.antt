@@ -4,8 +4,6 @@ use Rattle.std.proofs.Common.{drop, get_or, set, Option, Some, None, is_some, Ok
 use Rattle.std.proofs.lemmas.Bool.{ne_eqb, eqb-false}
 use Rattle.std.proofs.lemmas.List.{drop_more, take_rest}
 use Rattle.std.proofs.lemmas.Grind.{take-set_at}
-use Rattle.std.specs.List.{list_all}
-use Rattle.issuer_base.proofs.Decimal.{list_all-at}
 use Rattle.hex.specs.Hex.{hex_digit_value}
 use Rattle.chip_request.specs.HexDigits.{value_below, pair_of}
 use Rattle.chip_request.specs.LineParts.{Part, ◌>>=◌, value_in_front, hex_digit_at, pair_at, data_at}
@@ -176,16 +174,13 @@ both_digits None low byte h l spelled = absurd cc
 both_digits (Some high) None byte h l spelled = absurd cc
 both_digits (Some high) (Some low) byte h l spelled = ap Some (sym (spelled (16 * high + low) refl))
 
--- one more pair, where all bytes are digits
+-- one more pair of digits
 pub front_goes_on : (limit place byte : ℕ) (bytes text : List ℕ) → place < limit → place < length bytes → 2 * place + 1 < length text
-    → list_all (λ digit. is_some (hex_digit_value digit)) text ≡ true
+    → is_some (hex_digit_value (get_or text (2 * place) 0)) ≡ true → is_some (hex_digit_value (get_or text (2 * place + 1) 0)) ≡ true
     → ((spelled : ℕ) → pair_of (hex_digit_value (get_or text (2 * place) 0)) (hex_digit_value (get_or text (2 * place + 1) 0)) ≡ Some spelled
     → byte ≡ spelled)
     → HasFront limit place bytes text → HasFront limit (place + 1) (set bytes place byte) text
-front_goes_on limit place byte bytes text room here within digits spelled front =
-    let is_digit : ℕ → Bool = λ digit. is_some (hex_digit_value digit) in
-    let high = list_all-at is_digit text digits (2 * place) (omega (arith, within)) in
-    let low = list_all-at is_digit text digits (2 * place + 1) within in
+front_goes_on limit place byte bytes text room here within high low spelled front =
     let pair = ap pair_at (two_ahead text place 0 0 within)
     ∙ front_pair (get_or text (2 * place) 0) (get_or text (2 * place + 1) 0) byte (drop (2 * (place + 1)) text) (both_digits _ _ byte high low spelled) in
     let before = front.more (omega (arith, within)) in

@@ -65,8 +65,24 @@ pub(crate) fn spelled_byte(high: u8, low: u8) -> u8
     (values % 16 * 16 + values / 256 % 16) as u8
 }
 
-/// Whether all bytes are digits of either case. The loop has no branch per byte, so that the compiler can vectorise it.
+/// How many digits the compiler handles in one step of a loop.
+const STEP: usize = 32;
+
+/// Whether all bytes are digits of either case. Whole steps are tested first, and then the last step of the text, which
+/// may overlap them: so no byte is tested alone.
 pub(crate) fn are_hex_digits(text: &[u8]) -> bool
+    ensures { result ≡ list_all (λ byte. is_some (hex_digit_value byte)) text.now }
+{
+    let count = text.len();
+    if count < STEP {
+        return are_near(text);
+    }
+    are_near(&text[..count / STEP * STEP]) && are_near(&text[count - STEP..])
+}
+
+/// As [`are_hex_digits`]. The loop has no branch per byte, so that the compiler can vectorise it.
+#[inline(always)]
+fn are_near(text: &[u8]) -> bool
     ensures { result ≡ list_all (λ byte. is_some (hex_digit_value byte)) text.now }
 {
     let mut farthest: u8 = 0;

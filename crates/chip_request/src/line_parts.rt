@@ -1,13 +1,19 @@
 //! Parsers for the parts of a line. Each reads a part from the start of a text, and returns its value and the
 //! remainder. Where the part isn't there, it returns the text from the first byte that is wrong.
-ghost use Rattle.std.specs.Prelude.{◌≡◌, ◌<◌, ◌≤◌, IfOk, IfSome, Ok, Err, true, take, is_err};
+ghost use Rattle.std.specs.Prelude.{◌≡◌, ◌<◌, ◌≤◌, ◌*◌, length, IfOk, IfSome, Ok, Err, true, take, is_err, is_some};
+ghost use Rattle.std.specs.List.{list_all};
 ghost use Rattle.std.specs.Result.{result_map_both};
+ghost use Rattle.hex.specs.Hex.{hex_digit_value};
 ghost use Rattle.issuer_base.specs.declared.limits.TheConstants.{MAX_CHIP_BYTES};
+ghost use Rattle.chip_request.specs.HexDigits.{AreSpelled};
 ghost use Rattle.chip_request.specs.LineParts.{byte_at, card_at, account_number_at, digits_at, last_digit_at, digit_at, data_at, pair_at};
 
 use crate::hex_digits::{are_hex_digits, is_hex_digit, pair_value, spelled_byte};
 use arrayvec::ArrayVec;
 use issuer_base::{MAX_CHIP_BYTES, MAX_PAN_DIGITS, Pan};
+
+/// How many pairs the compiler handles in one step of a loop.
+const STEP: usize = 16;
 
 /// Reads this byte.
 #[tactic(auto, unfolding(crate::specs::LineParts::byte_at))]
@@ -114,13 +120,54 @@ fn spelled_data(text: &[u8], limit: usize, bytes: &mut [u8; MAX_CHIP_BYTES]) -> 
     if pairs == 0 || pairs > limit || text.len() % 2 == 1 || !are_hex_digits(text) {
         return None;
     }
-    for place in 0..pairs {
-        bytes[place] = spelled_byte(text[2 * place], text[2 * place + 1]);
-    }
+    spell_all(text, bytes, pairs);
     Some(pairs)
 }
 
-/// As [`read_data`], pair by pair, up to the first pair that is wrong.
+/// Writes the bytes that the first `pairs` pairs of digits spell: whole steps first, and then the last step, which may
+/// overlap them. So no pair is handled alone.
+fn spell_all(text: &[u8], bytes: &mut [u8; MAX_CHIP_BYTES], pairs: usize)
+    requires digits { 2 * pairs ≤ length text.now }
+    requires room { pairs ≤ MAX_CHIP_BYTES }
+    ensures { AreSpelled pairs bytes.new text.now }
+{
+    if pairs < STEP {
+        return spell(text, bytes, 0, pairs);
+    }
+    spell(text, bytes, 0, pairs / STEP * STEP);
+    spell(text, bytes, pairs - STEP, pairs);
+}
+
+/// Writes the bytes that the pairs of digits from one index up to another spell.
+#[inline(always)]
+fn spell(text: &[u8], bytes: &mut [u8; MAX_CHIP_BYTES], from: usize, to: usize)
+    requires order { from ≤ to }
+    requires digits { 2 * to ≤ length text.now }
+    requires room { to ≤ MAX_CHIP_BYTES }
+    ensures { AreSpelled from bytes.old text.now → AreSpelled to bytes.new text.now }
+{
+    for place in from..to {
+        bytes[place] = spelled_byte(text[2 * place], text[2 * place + 1]);
+    }
+}
+
+/// How many pairs before the first one that is wrong are tested in whole steps.
+fn sure_pairs(text: &[u8], pairs: usize) -> usize
+    requires { 2 * pairs ≤ length text.now }
+    ensures digits { list_all (λ byte. is_some (hex_digit_value byte)) (take (2 * result) text.now) ≡ true }
+    ensures within { result ≤ pairs }
+{
+    let steps = pairs / STEP;
+    for step in 0..steps {
+        let from = 2 * STEP * step;
+        if !are_hex_digits(&text[from..from + 2 * STEP]) {
+            return STEP * step;
+        }
+    }
+    STEP * steps
+}
+
+/// As [`read_data`], pair by pair from the step with the first pair that is wrong.
 fn read_pairs<'a>(
     text: &'a [u8],
     limit: usize,
@@ -134,7 +181,9 @@ fn read_pairs<'a>(
         return Err(text);
     }
     let pairs = limit.min(text.len() / 2);
-    for place in 0..pairs {
+    let sure = sure_pairs(text, pairs);
+    spell(text, bytes, 0, sure);
+    for place in sure..pairs {
         let byte = pair_value(text[2 * place], text[2 * place + 1]);
         if byte > 0xFF {
             return Err(wrong_digit(&text[2 * place..]));

@@ -1,7 +1,9 @@
 -- The bytes of pairs of digits.
-use Rattle.std.proofs.Common.{◌*◌, refl, sym, ◌∙◌, eqb-true, length-drop, arith}
+use Rattle.std.proofs.Common.{◌*◌, refl, sym, ◌∙◌, ℕ, eqb-true, length-drop, arith}
+use Rattle.std.proofs.lemmas.Bool.{eqb-false}
 use Rattle.std.proofs.lemmas.List.{take_rest}
 use Rattle.chip_request.proofs.PairLoop.{no_text, pair_ahead, pair_fails, short_fails, goes_on, goes_beyond, ends_here, no_room, no_pair}
+use Rattle.chip_request.proofs.Spelling.{digits-front, spelled-front, spelled-none}
 use Rattle.chip_request.proofs.line_parts.read_pairs.Goals as goal
 
 pub returns-then-is_empty-clause-bytes : goal.returns-then-is_empty-clause-bytes
@@ -11,6 +13,17 @@ pub wrong_digit-requires : goal.wrong_digit-requires
 wrong_digit-requires c =
     rw (take_rest c.args.text.now (2 * c.loop-place.place))
     (pair_fails c.args.text.now c.loop-place.place c.pair_value-byte.result _ _ (omega arith) (omega arith) c.pair_value-byte.ensures)
+
+pub loop-place-init : goal.loop-place-init
+loop-place-init c =
+    let sure : ℕ = c.sure_pairs-sure.result in
+    let text = c.args.text.now in
+    let some = eqb-false _ _ (sym c.is_empty.ensures ∙ c.if-is_empty.false) in
+    let front = spelled-front c.args.limit sure sure c.spell.new.bytes text (omega arith) (omega (arith, c.sure_pairs-sure.ensures.within))
+    (omega (arith, c.sure_pairs-sure.ensures.within)) (omega (arith, c.sure_pairs-sure.ensures.within)) (omega (arith, some))
+    (digits-front sure text (omega (arith, c.sure_pairs-sure.ensures.within)) c.sure_pairs-sure.ensures.digits)
+    (c.spell.ensures (spelled-none c.args.bytes.now text)) in
+    record { more = front.more; end = front.end }
 
 pub returns-then-byte-gt255-clause-bytes : goal.returns-then-byte-gt255-clause-bytes
 returns-then-byte-gt255-clause-bytes c =

@@ -2,7 +2,7 @@
 use Rattle.std.proofs.Common.{◌≡◌, ◌==◌, take, is_some}
 use Rattle.std.specs.List.{list_all}
 use Rattle.hex.specs.Hex.{hex_digit_value}
-use Rattle.chip_request.proofs.hex_digits.are_hex_digits.Given as goal
+use Rattle.chip_request.proofs.hex_digits.are_near.Given as goal
 
 -- no byte so far is at a distance from the digits where all of them are digits
 abbrev pub invariant-loop-byte : goal.invariant-loop-byte
