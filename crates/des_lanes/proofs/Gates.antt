@@ -135,7 +135,7 @@ IsPair-gate pairs (Or g h) all =
 IsPair-gate pairs (Xor g h) all =
     IsPair-zip2 bit_xor (λ x y p q. xor_lt 64 x y p q) (on_pairs pairs g) (on_pairs pairs h) (IsPair-gate pairs g all) (IsPair-gate pairs h all)
 
-lane_bit-zero : (lane : ℕ) → lane_bit lane (0 ∷ 0 ∷ []) ≡ false
+pub lane_bit-zero : (lane : ℕ) → lane_bit lane (0 ∷ 0 ∷ []) ≡ false
 unfolding lane_bit
 lane_bit-zero lane =
     let j : ℕ = 63 - lane % 64 in

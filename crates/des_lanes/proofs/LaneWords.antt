@@ -1,9 +1,15 @@
 -- One word for each lane, written one after another.
-use Rattle.std.proofs.Common.{◌≡◌, ℕ, suc, ◌+◌, ◌<◌, ◌≤◌, ◌≢◌, List, [], ◌∷◌, ◌++◌, set, take, drop, map}
-use Rattle.std.proofs.Common.{length, get_or, refl, sym, ap, ap₂, ◌∙◌, arith, get_or-set_same, get_or-set_other, length-set, below_more}
-use Rattle.std.proofs.lemmas.List.{take_more, map-append}
+use Rattle.std.proofs.Common.{◌≡◌, ℕ, ◌+◌, ◌<◌, ◌≤◌, ◌≢◌, List, [], ◌∷◌, ◌++◌, set, take, drop, map}
+use Rattle.std.proofs.Common.{length, get_or, sym, ap, ap₂, ◌∙◌, arith, get_or-take, get_or-set_same, get_or-set_other, length-set, below_more}
+use Rattle.std.specs.List.{range_with_len}
+use Rattle.std.proofs.lemmas.List.{take_more, map-append, length-take-le, length-map, get_or-map, take_at, drop_at}
+use Rattle.std.proofs.lemmas.List.FromFn.{fill_by_all}
+use Rattle.std.proofs.lemmas.Simd.{length-zip2, get_or-zip2}
 use lib.Lanes.{zip2}
 use Rattle.des_block.specs.Cipher.{word_bytes, des_encipher, des_decipher, tdes_encipher}
+use Rattle.des_block.proofs.Laws.{length-word_bytes}
+use Rattle.des_lanes.specs.declared.keys.LaneKeys.{LaneKeys}
+use Rattle.des_lanes.specs.Lanes.{block_in, key_in}
 
 -- the first i words have these bytes
 pub record Words (f : ℕ → List ℕ) (i : ℕ) (words : List ℕ) : Type 0 where
@@ -21,17 +27,21 @@ Words_more f i word words done h e = record {
       (ap word_bytes (get_or-set_same words i word 0 (omega (arith, done.len))) ∙ e);
 }
 
--- the first words are one for each pair of a key and a block
-pub paired : {K : Type 0} (f : K → List ℕ → List ℕ) (keys : List K) (blocks : List (List ℕ)) (words : List ℕ) (none : K)
-    → length keys ≤ length words → length blocks ≡ length keys
-    → ((lane : ℕ) → lane < length keys → word_bytes (get_or words lane 0) ≡ f (get_or keys lane none) (get_or blocks lane []))
-    → map word_bytes (take (length keys) words) ≡ zip2 f keys blocks
-paired f [] blocks words none room len is = refl
-paired f (key ∷ keys) [] words none room len is = absurd (omega (arith, len))
-paired f (key ∷ keys) (block ∷ blocks) [] none room len is = absurd (omega (arith, room))
-paired f (key ∷ keys) (block ∷ blocks) (word ∷ words) none room len is =
-    ap₂ (λ b bs. b ∷ bs) (is 0 (omega arith))
-    (paired f keys blocks words none (omega (arith, room)) (omega (arith, len)) (λ lane h. is (suc lane) (omega arith)))
+-- the first words' bytes are those of the first lanes
+pub first_is : (g : ℕ → List ℕ) (words : List ℕ) (n : ℕ) → n ≤ length words → ((lane : ℕ) → lane < n → word_bytes (get_or words lane 0) ≡ g lane)
+    → map word_bytes (take n words) ≡ map g (range_with_len 0 n)
+first_is g words n room is =
+    let len : length (take n words) ≡ n = length-take-le n words room in
+    fill_by_all g (map word_bytes (take n words)) n [] (length-map (take n words) word_bytes ∙ len)
+    (λ lane h. get_or-map word_bytes (take n words) lane 0 [] (omega (arith, len)) ∙ ap word_bytes (get_or-take n words lane 0 h) ∙ is lane h)
+
+-- the first lanes are one for each pair of a key and a block
+pub paired : {K : Type 0} (f : K → List ℕ → List ℕ) (keys : List K) (blocks : List (List ℕ)) (g : ℕ → List ℕ) (none : K) → length blocks ≡ length keys
+    → ((lane : ℕ) → lane < length keys → g lane ≡ f (get_or keys lane none) (get_or blocks lane []))
+    → map g (range_with_len 0 (length keys)) ≡ zip2 f keys blocks
+paired f keys blocks g none len is =
+    sym (fill_by_all g (zip2 f keys blocks) (length keys) [] (length-zip2 f keys blocks (sym len))
+    (λ lane h. get_or-zip2 f keys blocks lane none [] [] h (omega (arith, len)) ∙ sym (is lane h)))
 
 -- one word's bytes more
 pub bytes_more : (words : List ℕ) (out new : List (List ℕ)) (i : ℕ) (item : List ℕ) → i < length words → out ≡ map word_bytes (take i words)
@@ -46,3 +56,12 @@ pub tripled_is : (key left right block text : List ℕ) → left ≡ take 8 key 
 unfolding tdes_encipher
 tripled_is key left right block text el er eb =
     ap₂ des_encipher el (ap₂ des_decipher er (ap₂ des_encipher el eb))
+
+-- the halves of a lane's key
+pub left_of : (lane : ℕ) (keys : LaneKeys) → block_in lane keys.left ≡ take 8 (key_in lane keys)
+unfolding key_in block_in
+left_of lane keys = sym (take_at (block_in lane keys.left) (block_in lane keys.right) 8 (length-word_bytes _))
+
+pub right_of : (lane : ℕ) (keys : LaneKeys) → block_in lane keys.right ≡ drop 8 (key_in lane keys)
+unfolding key_in block_in
+right_of lane keys = sym (drop_at (block_in lane keys.left) (block_in lane keys.right) 8 (length-word_bytes _))

@@ -4,7 +4,7 @@ use Rattle.std.proofs.Common.{length, get_or, refl, sym, ap, ap₂, ◌∙◌, a
 use Rattle.std.specs.Int.{from_be_bytes}
 use Rattle.std.proofs.lemmas.Bool.{cases_lt}
 use Rattle.std.proofs.lemmas.List.{take_rest, get_or_past}
-use Rattle.des_block.specs.Cipher.{word_bytes, des_encipher, des_decipher}
+use Rattle.des_block.specs.Cipher.{word_bytes, des_encipher, des_decipher, tdes_encipher}
 use Rattle.des_block.proofs.Laws.{word_bytes-from_be_bytes, length-des_encipher, des_encipher_small}
 use Rattle.retail_mac.specs.Mac.{padded, blocks, padded_blocks, zero_block, chained, retail_mac}
 use Rattle.retail_mac.proofs.Blocks.{last_word_is, end_block, whole_block}
@@ -50,19 +50,20 @@ chain_step key text i chain word mixed next left el so_far is_block em step =
     (step ∙ ap₂ (λ k m. des_encipher k (word_bytes m)) el em)
 
 -- the end of the MAC of a lane
-pub mac_is : (key text : List ℕ) (n chain word mixed out : ℕ) (left right : List ℕ) → n ≡ length text / 8 → left ≡ take 8 key → right ≡ drop 8 key
+pub mac_is : (key text : List ℕ) (n chain word mixed out : ℕ) → n ≡ length text / 8
     → word_bytes chain ≡ fold (chained (take 8 key)) zero_block (blocks n (padded text))
     → word_bytes word ≡ take 8 (drop (8 * n) (padded text)) → mixed ≡ bit_xor chain word
-    → word_bytes out ≡ des_encipher left (des_decipher right (des_encipher left (word_bytes mixed)))
+    → word_bytes out ≡ tdes_encipher key (word_bytes mixed)
     → word_bytes out ≡ retail_mac key text
-unfolding retail_mac padded_blocks
-mac_is key text n chain word mixed out left right en el er so_far is_block em end =
+unfolding retail_mac padded_blocks tdes_encipher
+mac_is key text n chain word mixed out en so_far is_block em end =
+    let left : List ℕ = take 8 key in
     let inner : List ℕ = des_encipher left (word_bytes mixed) in
     let next : ℕ = from_be_bytes w64 inner in
     let is_next : word_bytes next ≡ inner = word_bytes-from_be_bytes inner next (length-des_encipher left (word_bytes mixed))
     (des_encipher_small left (word_bytes mixed)) refl in
-    let last : word_bytes next ≡ fold (chained (take 8 key)) zero_block (blocks (n + 1) (padded text)) =
-    chain_step key text n chain word mixed next left el so_far is_block em is_next in
-    let all : inner ≡ fold (chained (take 8 key)) zero_block (blocks (length text / 8 + 1) (padded text)) =
-    sym is_next ∙ last ∙ ap (λ k. fold (chained (take 8 key)) zero_block (blocks (k + 1) (padded text))) en in
-    end ∙ ap₂ des_encipher el (ap₂ des_decipher er all)
+    let last : word_bytes next ≡ fold (chained left) zero_block (blocks (n + 1) (padded text)) =
+    chain_step key text n chain word mixed next left refl so_far is_block em is_next in
+    let all : inner ≡ fold (chained left) zero_block (blocks (length text / 8 + 1) (padded text)) =
+    sym is_next ∙ last ∙ ap (λ k. fold (chained left) zero_block (blocks (k + 1) (padded text))) en in
+    end ∙ ap (λ b. des_encipher left (des_decipher (drop 8 key) b)) all

@@ -1,5 +1,5 @@
 -- Arrays of pairs, filled one after another, and the bits of a lane in them.
-use Rattle.std.proofs.Common.{◌≡◌, ℕ, zero, suc, ◌+◌, ◌-◌, ◌%◌, ◌<◌, ◌==◌, ◌≢◌, Bool, false, List, [], ◌∷◌, set}
+use Rattle.std.proofs.Common.{◌≡◌, ℕ, zero, suc, ◌+◌, ◌-◌, ◌%◌, ◌<◌, ◌≤◌, ◌==◌, ◌≢◌, Bool, false, List, [], ◌∷◌, set}
 use Rattle.std.proofs.Common.{length, map, get_or, bit_and, refl, sym, ap, ◌∙◌, arith}
 use Rattle.std.proofs.Common.{get_or-set_same, get_or-set_other, length-set, below_more}
 use Rattle.std.specs.List.{range_with_len}
@@ -52,6 +52,23 @@ unfolding lane_bits
 Fills_all f n pairs done lane =
     fill_by_all (f lane) (map (lane_bit lane) pairs) n false (length-map pairs (lane_bit lane) ∙ done.len)
     (λ k h. sym (lane-at lane pairs k) ∙ done.at lane k h)
+
+-- the first i of n pairs have these bits, and the others are as they were
+pub record Changes (f : ℕ → ℕ → Bool) (old : List (List ℕ)) (n i : ℕ) (pairs : List (List ℕ)) : Type 0 where
+  pub fills : Fills f n i pairs
+  pub rest : (k : ℕ) → i ≤ k → get_or pairs k [] ≡ get_or old k []
+
+pub Changes_none : (f : ℕ → ℕ → Bool) (old : List (List ℕ)) (n : ℕ) → length old ≡ n → Changes f old n 0 old
+Changes_none f old n len = record { fills = Fills_none f n old len; rest = λ k h. refl }
+
+pub Changes_more : (f : ℕ → ℕ → Bool) (old : List (List ℕ)) (n i : ℕ) (pairs : List (List ℕ)) (next : List ℕ) → Changes f old n i pairs → i < n
+    → ((lane : ℕ) → lane_bit lane next ≡ f lane i) → Changes f old n (i + 1) (set pairs i next)
+Changes_more f old n i pairs next done h is = record {
+  fills = Fills_more f n i pairs next done.fills h is;
+  rest = λ k above.
+      let other : k ≢ i = omega arith in
+      get_or-set_other pairs i k next [] other ∙ done.rest k (omega arith);
+}
 
 -- the bits at the places of a table
 unfoldable pub bit_at_place : List ℕ → List Bool → ℕ → Bool

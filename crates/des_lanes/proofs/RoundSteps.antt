@@ -1,78 +1,169 @@
 -- The steps of a round, and the rounds of DES, in each lane.
-use Rattle.std.proofs.Common.{◌≡◌, ℕ, ◌+◌, ◌<◌, Bool, false, List, [], ◌∷◌, ◌++◌, fold, take, drop}
-use Rattle.std.proofs.Common.{length, map, get_or, bit_and, refl, sym, ap, ap₂, ◌∙◌, arith}
+use Rattle.std.proofs.Common.{◌≡◌, ℕ, zero, suc, ◌+◌, ◌*◌, ◌%◌, ◌<◌, Bool, false, List, [], ◌∷◌, ◌++◌, fold, take, drop, set}
+use Rattle.std.proofs.Common.{length, map, get_or, bit_and, refl, sym, ap, ap₂, ◌∙◌, arith, subst}
 use Rattle.std.specs.List.{range_with_len}
-use Rattle.std.proofs.lemmas.List.{drop_more, drop_all, length-map, map-append, take-map, drop-map}
+use Rattle.std.proofs.lemmas.List.{drop_more, drop_all, length-map, map-append, take-map, drop-map, map-set, drop-drop}
 use Rattle.des_block.specs.Bits.{picked, xor_bits}
 use Rattle.des_block.specs.Tables.{initial_permutation, inverse_permutation, expansion, box_permutation, s1, s2, s3, s4, s5, s6, s7, s8, s_boxes}
 use Rattle.des_block.specs.Cipher.{Halves, halves, box_output, substituted, cipher_function, round, ciphered}
-use Rattle.des_lanes.specs.Lanes.{lane_bit, lane_bits, bits_at}
+use Rattle.des_lanes.specs.Lanes.{lane_bit, lane_bits, bits_at, with_output, with_outputs}
+use Rattle.des_lanes.specs.declared.rounds.TheConstants.{OUTPUT_PLACES}
 use Rattle.des_lanes.proofs.Pairs.{Fills, Fills_all, tabulated, xor_bits-map, bit_at_place, bits_at_is, lane-at}
 use mathlib.Core.Bool.{xor}
 
+-- what holds of 0 to 7
+below_eight : (P : ℕ → Type 0) → P 0 → P 1 → P 2 → P 3 → P 4 → P 5 → P 6 → P 7 → (i : ℕ) → i < 8 → P i
+below_eight P p0 p1 p2 p3 p4 p5 p6 p7 zero h = p0
+below_eight P p0 p1 p2 p3 p4 p5 p6 p7 (suc zero) h = p1
+below_eight P p0 p1 p2 p3 p4 p5 p6 p7 (suc (suc zero)) h = p2
+below_eight P p0 p1 p2 p3 p4 p5 p6 p7 (suc (suc (suc zero))) h = p3
+below_eight P p0 p1 p2 p3 p4 p5 p6 p7 (suc (suc (suc (suc zero)))) h = p4
+below_eight P p0 p1 p2 p3 p4 p5 p6 p7 (suc (suc (suc (suc (suc zero))))) h = p5
+below_eight P p0 p1 p2 p3 p4 p5 p6 p7 (suc (suc (suc (suc (suc (suc zero)))))) h = p6
+below_eight P p0 p1 p2 p3 p4 p5 p6 p7 (suc (suc (suc (suc (suc (suc (suc zero))))))) h = p7
+below_eight P p0 p1 p2 p3 p4 p5 p6 p7 (suc (suc (suc (suc (suc (suc (suc (suc i)))))))) h = absurd (omega arith)
+
+-- ---- the inputs of a box
+
+-- a bit of the right half, xored with the one at a place of the round key's table
+input_bit : List Bool → List Bool → List ℕ → ℕ → ℕ → Bool
+input_bit right keys places r k = xor (get_or right r false) (get_or keys (bit_and (get_or places k 0) 63) false)
+
+six_bits : List Bool → List Bool → List ℕ → ℕ → List Bool
+six_bits right keys places i =
+    input_bit right keys places ((4 * i + 31) % 32) (6 * i) ∷ input_bit right keys places (4 * i) (6 * i + 1)
+    ∷ input_bit right keys places (4 * i + 1) (6 * i + 2) ∷ input_bit right keys places (4 * i + 2) (6 * i + 3)
+    ∷ input_bit right keys places (4 * i + 3) (6 * i + 4) ∷ input_bit right keys places ((4 * i + 4) % 32) (6 * i + 5) ∷ []
+
+six_bits_are : (right keys : List Bool) (places : List ℕ) (i : ℕ) → i < 8
+    → six_bits right keys places i ≡ take 6 (drop (6 * i) (xor_bits (picked expansion right) (map (bit_at_place places keys) (range_with_len 0 48))))
+unfolding six_bits input_bit bit_at_place picked expansion xor_bits
+six_bits_are right keys places i h =
+    below_eight (λ i. six_bits right keys places i ≡ take 6 (drop (6 * i) (xor_bits (picked expansion right) (map (bit_at_place places keys) (range_with_len 0 48)))))
+    refl refl refl refl refl refl refl refl i h
+
+input_is : (right keys : List (List ℕ)) (places : List ℕ) (lane r k : ℕ) (pair : List ℕ)
+    → lane_bit lane pair ≡ xor (lane_bit lane (get_or right r [])) (lane_bit lane (get_or keys (bit_and (get_or places k 0) 63) []))
+    → lane_bit lane pair ≡ input_bit (lane_bits lane right) (lane_bits lane keys) places r k
+unfolding input_bit
+input_is right keys places lane r k pair e = e ∙ ap₂ xor (lane-at lane right r) (lane-at lane keys _)
+
+pub inputs_are : (right keys : List (List ℕ)) (places : List ℕ) (lane i : ℕ) (a b c d e f : List ℕ) → length places ≡ 48 → i < 8
+    → lane_bit lane a ≡ xor (lane_bit lane (get_or right ((4 * i + 31) % 32) [])) (lane_bit lane (get_or keys (bit_and (get_or places (6 * i) 0) 63) []))
+    → lane_bit lane b ≡ xor (lane_bit lane (get_or right (4 * i) [])) (lane_bit lane (get_or keys (bit_and (get_or places (6 * i + 1) 0) 63) []))
+    → lane_bit lane c ≡ xor (lane_bit lane (get_or right (4 * i + 1) [])) (lane_bit lane (get_or keys (bit_and (get_or places (6 * i + 2) 0) 63) []))
+    → lane_bit lane d ≡ xor (lane_bit lane (get_or right (4 * i + 2) [])) (lane_bit lane (get_or keys (bit_and (get_or places (6 * i + 3) 0) 63) []))
+    → lane_bit lane e ≡ xor (lane_bit lane (get_or right (4 * i + 3) [])) (lane_bit lane (get_or keys (bit_and (get_or places (6 * i + 4) 0) 63) []))
+    → lane_bit lane f ≡ xor (lane_bit lane (get_or right ((4 * i + 4) % 32) [])) (lane_bit lane (get_or keys (bit_and (get_or places (6 * i + 5) 0) 63) []))
+    → lane_bits lane (a ∷ b ∷ c ∷ d ∷ e ∷ f ∷ [])
+    ≡ take 6 (drop (6 * i) (xor_bits (picked expansion (lane_bits lane right)) (bits_at places (lane_bits lane keys))))
+unfolding lane_bits six_bits
+inputs_are right keys places lane i a b c d e f len h ea eb ec ed ee ef =
+    let is : (r k : ℕ) (pair : List ℕ)
+    → lane_bit lane pair ≡ xor (lane_bit lane (get_or right r [])) (lane_bit lane (get_or keys (bit_and (get_or places k 0) 63) []))
+    → lane_bit lane pair ≡ input_bit (lane_bits lane right) (lane_bits lane keys) places r k = input_is right keys places lane in
+    let link : Bool → List Bool → List Bool = λ x xs. x ∷ xs in
+    ap₂ link (is _ _ a ea) (ap₂ link (is _ _ b eb) (ap₂ link (is _ _ c ec) (ap₂ link (is _ _ d ed) (ap₂ link (is _ _ e ee) (ap₂ link (is _ _ f ef) refl)))))
+    ∙ six_bits_are (lane_bits lane right) (lane_bits lane keys) places i h
+    ∙ ap (λ ks. take 6 (drop (6 * i) (xor_bits (picked expansion (lane_bits lane right)) ks))) (bits_at_is places (lane_bits lane keys) 48 len)
+
+-- ---- the boxes
+
 -- the outputs of the eight boxes, one after another
-pub substituted_is : (lane : ℕ) (six : List (List ℕ)) (a b c d e f g h : List Bool) → length six ≡ 48
-    → a ≡ box_output s1 (lane_bits lane (get_or six 0 [] ∷ get_or six 1 [] ∷ get_or six 2 [] ∷ get_or six 3 [] ∷ get_or six 4 [] ∷ get_or six 5 [] ∷ []))
-    → b ≡ box_output s2 (lane_bits lane (get_or six 6 [] ∷ get_or six 7 [] ∷ get_or six 8 [] ∷ get_or six 9 [] ∷ get_or six 10 [] ∷ get_or six 11 [] ∷ []))
-    → c ≡ box_output s3 (lane_bits lane (get_or six 12 [] ∷ get_or six 13 [] ∷ get_or six 14 [] ∷ get_or six 15 [] ∷ get_or six 16 [] ∷ get_or six 17 [] ∷ []))
-    → d ≡ box_output s4 (lane_bits lane (get_or six 18 [] ∷ get_or six 19 [] ∷ get_or six 20 [] ∷ get_or six 21 [] ∷ get_or six 22 [] ∷ get_or six 23 [] ∷ []))
-    → e ≡ box_output s5 (lane_bits lane (get_or six 24 [] ∷ get_or six 25 [] ∷ get_or six 26 [] ∷ get_or six 27 [] ∷ get_or six 28 [] ∷ get_or six 29 [] ∷ []))
-    → f ≡ box_output s6 (lane_bits lane (get_or six 30 [] ∷ get_or six 31 [] ∷ get_or six 32 [] ∷ get_or six 33 [] ∷ get_or six 34 [] ∷ get_or six 35 [] ∷ []))
-    → g ≡ box_output s7 (lane_bits lane (get_or six 36 [] ∷ get_or six 37 [] ∷ get_or six 38 [] ∷ get_or six 39 [] ∷ get_or six 40 [] ∷ get_or six 41 [] ∷ []))
-    → h ≡ box_output s8 (lane_bits lane (get_or six 42 [] ∷ get_or six 43 [] ∷ get_or six 44 [] ∷ get_or six 45 [] ∷ get_or six 46 [] ∷ get_or six 47 [] ∷ []))
-    → a ++ (b ++ (c ++ (d ++ (e ++ (f ++ (g ++ (h ++ []))))))) ≡ substituted s_boxes (lane_bits lane six)
-unfolding substituted s_boxes lane_bits
-substituted_is lane six a b c d e f g h len ea eb ec ed ee ef eg eh =
+pub boxes_are : (mixed a b c d e f g h : List Bool)
+    → a ≡ box_output s1 (take 6 (drop 0 mixed)) → b ≡ box_output s2 (take 6 (drop 6 mixed)) → c ≡ box_output s3 (take 6 (drop 12 mixed))
+    → d ≡ box_output s4 (take 6 (drop 18 mixed)) → e ≡ box_output s5 (take 6 (drop 24 mixed)) → f ≡ box_output s6 (take 6 (drop 30 mixed))
+    → g ≡ box_output s7 (take 6 (drop 36 mixed)) → h ≡ box_output s8 (take 6 (drop 42 mixed))
+    → a ++ (b ++ (c ++ (d ++ (e ++ (f ++ (g ++ (h ++ []))))))) ≡ substituted s_boxes mixed
+unfolding substituted s_boxes
+boxes_are mixed a b c d e f g h ea eb ec ed ee ef eg eh =
     let join : List Bool → List Bool → List Bool = λ x y. x ++ y in
-    ap₂ join ea (ap₂ join eb (ap₂ join ec (ap₂ join ed (ap₂ join ee (ap₂ join ef (ap₂ join eg (ap₂ join eh refl)))))))
-    ∙ sym (ap (λ pairs. substituted s_boxes (lane_bits lane pairs)) (tabulated [] six 48 len))
+    let at_2 : drop 12 mixed ≡ drop 6 (drop 6 mixed) = sym (drop-drop 6 6 mixed) in
+    let at_3 : drop 18 mixed ≡ drop 6 (drop 6 (drop 6 mixed)) = sym (drop-drop 6 12 mixed) ∙ ap (drop 6) at_2 in
+    let at_4 : drop 24 mixed ≡ drop 6 (drop 6 (drop 6 (drop 6 mixed))) = sym (drop-drop 6 18 mixed) ∙ ap (drop 6) at_3 in
+    let at_5 : drop 30 mixed ≡ drop 6 (drop 6 (drop 6 (drop 6 (drop 6 mixed)))) = sym (drop-drop 6 24 mixed) ∙ ap (drop 6) at_4 in
+    let at_6 : drop 36 mixed ≡ drop 6 (drop 6 (drop 6 (drop 6 (drop 6 (drop 6 mixed))))) = sym (drop-drop 6 30 mixed) ∙ ap (drop 6) at_5 in
+    let at_7 : drop 42 mixed ≡ drop 6 (drop 6 (drop 6 (drop 6 (drop 6 (drop 6 (drop 6 mixed)))))) = sym (drop-drop 6 36 mixed) ∙ ap (drop 6) at_6 in
+    ap₂ join ea (ap₂ join eb (ap₂ join (ec ∙ ap (λ r. box_output s3 (take 6 r)) at_2) (ap₂ join (ed ∙ ap (λ r. box_output s4 (take 6 r)) at_3)
+    (ap₂ join (ee ∙ ap (λ r. box_output s5 (take 6 r)) at_4) (ap₂ join (ef ∙ ap (λ r. box_output s6 (take 6 r)) at_5)
+    (ap₂ join (eg ∙ ap (λ r. box_output s7 (take 6 r)) at_6) (ap₂ join (eh ∙ ap (λ r. box_output s8 (take 6 r)) at_7) refl)))))))
 
--- the bits of the right half that a place of E selects, xored with the round key's
-pub expanded_bit : List ℕ → List (List ℕ) → List (List ℕ) → List ℕ → ℕ → ℕ → Bool
-expanded_bit table right keys places lane k =
-    xor (get_or (lane_bits lane right) (bit_and (get_or table k 0) 31) false) (bit_at_place places (lane_bits lane keys) k)
+-- ---- their outputs, where P puts them
 
-pub expanded_step : (table : List ℕ) (right keys : List (List ℕ)) (places : List ℕ) (lane k : ℕ) (next : List ℕ)
-    → lane_bit lane next ≡ xor (lane_bit lane (get_or right (bit_and (get_or table k 0) 31) []))
-    (lane_bit lane (get_or keys (bit_and (get_or places k 0) 63) []))
-    → lane_bit lane next ≡ expanded_bit table right keys places lane k
-unfolding expanded_bit bit_at_place
-expanded_step table right keys places lane k next e = e ∙ ap₂ xor (lane-at lane right _) (lane-at lane keys _)
+-- where the code has output j
+unfoldable pub place : ℕ → ℕ
+place j = bit_and (get_or OUTPUT_PLACES j 0) 31
 
-pub expanded_is : (table : List ℕ) (right keys : List (List ℕ)) (places : List ℕ) (out : List (List ℕ)) → Fills (expanded_bit table right keys places) 48 48 out
-    → length places ≡ 48
-    → ((bs : List Bool) → map (λ k. get_or bs (bit_and (get_or table k 0) 31) false) (range_with_len 0 48) ≡ picked expansion bs)
-    → (lane : ℕ) → lane_bits lane out ≡ xor_bits (picked expansion (lane_bits lane right)) (bits_at places (lane_bits lane keys))
-unfolding expanded_bit
-expanded_is table right keys places out done len is lane =
-    Fills_all (expanded_bit table right keys places) 48 out done lane
-    ∙ xor_bits-map (λ k. get_or (lane_bits lane right) (bit_and (get_or table k 0) 31) false) (bit_at_place places (lane_bits lane keys)) (range_with_len 0 48)
-    ∙ ap₂ xor_bits (is (lane_bits lane right)) (bits_at_is places (lane_bits lane keys) 48 len)
+-- a half where four places have other bits
+with_four : ℕ → Bool → Bool → Bool → Bool → List Bool → List Bool
+with_four i a b c d half = set (set (set (set half (place (4 * i)) a) (place (4 * i + 1)) b) (place (4 * i + 2)) c) (place (4 * i + 3)) d
 
--- a bit of the left half, xored with the output that P selects
-pub next_bit : List ℕ → List (List ℕ) → List (List ℕ) → ℕ → ℕ → Bool
-next_bit table left outputs lane k = xor (get_or (lane_bits lane left) k false) (get_or (lane_bits lane outputs) (bit_and (get_or table k 0) 31) false)
+added_bits : (half : List Bool) (p q r s : Bool) → length half ≡ 32 → (i : ℕ) → i < 8
+    → with_four i (xor (get_or half (place (4 * i)) false) p) (xor (get_or half (place (4 * i + 1)) false) q) (xor (get_or half (place (4 * i + 2)) false) r)
+    (xor (get_or half (place (4 * i + 3)) false) s) half
+    ≡ with_outputs i (p ∷ q ∷ r ∷ s ∷ []) half
+unfolding place with_four with_outputs with_output box_permutation
+added_bits half p q r s len i h =
+    let added : ℕ → List Bool → List Bool = λ i l. with_four i (xor (get_or l (place (4 * i)) false) p) (xor (get_or l (place (4 * i + 1)) false) q)
+    (xor (get_or l (place (4 * i + 2)) false) r) (xor (get_or l (place (4 * i + 3)) false) s) l in
+    below_eight (λ i. (l : List Bool) → length l ≡ 32 → added i l ≡ with_outputs i (p ∷ q ∷ r ∷ s ∷ []) l)
+    (λ l n. subst (λ l. added 0 l ≡ with_outputs 0 (p ∷ q ∷ r ∷ s ∷ []) l) (sym (tabulated false l 32 n)) refl)
+    (λ l n. subst (λ l. added 1 l ≡ with_outputs 1 (p ∷ q ∷ r ∷ s ∷ []) l) (sym (tabulated false l 32 n)) refl)
+    (λ l n. subst (λ l. added 2 l ≡ with_outputs 2 (p ∷ q ∷ r ∷ s ∷ []) l) (sym (tabulated false l 32 n)) refl)
+    (λ l n. subst (λ l. added 3 l ≡ with_outputs 3 (p ∷ q ∷ r ∷ s ∷ []) l) (sym (tabulated false l 32 n)) refl)
+    (λ l n. subst (λ l. added 4 l ≡ with_outputs 4 (p ∷ q ∷ r ∷ s ∷ []) l) (sym (tabulated false l 32 n)) refl)
+    (λ l n. subst (λ l. added 5 l ≡ with_outputs 5 (p ∷ q ∷ r ∷ s ∷ []) l) (sym (tabulated false l 32 n)) refl)
+    (λ l n. subst (λ l. added 6 l ≡ with_outputs 6 (p ∷ q ∷ r ∷ s ∷ []) l) (sym (tabulated false l 32 n)) refl)
+    (λ l n. subst (λ l. added 7 l ≡ with_outputs 7 (p ∷ q ∷ r ∷ s ∷ []) l) (sym (tabulated false l 32 n)) refl)
+    i h half len
 
-pub next_step : (table : List ℕ) (left outputs : List (List ℕ)) (lane k : ℕ) (next : List ℕ)
-    → lane_bit lane next ≡ xor (lane_bit lane (get_or left k [])) (lane_bit lane (get_or outputs (bit_and (get_or table k 0) 31) []))
-    → lane_bit lane next ≡ next_bit table left outputs lane k
-unfolding next_bit
-next_step table left outputs lane k next e = e ∙ ap₂ xor (lane-at lane left _) (lane-at lane outputs _)
+pub added_is : (half : List (List ℕ)) (lane i : ℕ) (a b c d p q r s : List ℕ) → length half ≡ 32 → i < 8
+    → lane_bit lane a ≡ xor (lane_bit lane (get_or half (place (4 * i)) [])) (lane_bit lane p)
+    → lane_bit lane b ≡ xor (lane_bit lane (get_or half (place (4 * i + 1)) [])) (lane_bit lane q)
+    → lane_bit lane c ≡ xor (lane_bit lane (get_or half (place (4 * i + 2)) [])) (lane_bit lane r)
+    → lane_bit lane d ≡ xor (lane_bit lane (get_or half (place (4 * i + 3)) [])) (lane_bit lane s)
+    → lane_bits lane (set (set (set (set half (place (4 * i)) a) (place (4 * i + 1)) b) (place (4 * i + 2)) c) (place (4 * i + 3)) d)
+    ≡ with_outputs i (lane_bits lane (p ∷ q ∷ r ∷ s ∷ [])) (lane_bits lane half)
+unfolding lane_bits with_four
+added_is half lane i a b c d p q r s len h ea eb ec ed =
+    let f : List ℕ → Bool = lane_bit lane in
+    let first : List (List ℕ) = set half (place (4 * i)) a in
+    let second : List (List ℕ) = set first (place (4 * i + 1)) b in
+    let third : List (List ℕ) = set second (place (4 * i + 2)) c in
+    let bit : List ℕ → ℕ → Bool = λ y k. xor (get_or (lane_bits lane half) k false) (f y) in
+    let is : (x y : List ℕ) (k : ℕ) → f x ≡ xor (f (get_or half k [])) (f y) → f x ≡ bit y k =
+    λ x y k e. e ∙ ap (λ b. xor b (f y)) (lane-at lane half k) in
+    map-set f third (place (4 * i + 3)) d
+    ∙ ap (λ l. set l (place (4 * i + 3)) (f d)) (map-set f second (place (4 * i + 2)) c
+    ∙ ap (λ l. set l (place (4 * i + 2)) (f c)) (map-set f first (place (4 * i + 1)) b
+    ∙ ap (λ l. set l (place (4 * i + 1)) (f b)) (map-set f half (place (4 * i)) a)))
+    ∙ ap₂ (λ (x y : Bool). with_four i x y (f c) (f d) (map f half)) (is a p (place (4 * i)) ea) (is b q (place (4 * i + 1)) eb)
+    ∙ ap₂ (λ (x y : Bool). with_four i (bit p (place (4 * i))) (bit q (place (4 * i + 1))) x y (map f half))
+    (is c r (place (4 * i + 2)) ec) (is d s (place (4 * i + 3)) ed)
+    ∙ added_bits (lane_bits lane half) (f p) (f q) (f r) (f s) (length-map half f ∙ len) i h
 
-pub next_is : (table : List ℕ) (left right keys : List (List ℕ)) (places : List ℕ) (mixed outputs out : List (List ℕ))
-    → Fills (next_bit table left outputs) 32 32 out
-    → length left ≡ 32
-    → ((bs : List Bool) → map (λ k. get_or bs (bit_and (get_or table k 0) 31) false) (range_with_len 0 32) ≡ picked box_permutation bs)
-    → ((lane : ℕ) → lane_bits lane mixed ≡ xor_bits (picked expansion (lane_bits lane right)) (bits_at places (lane_bits lane keys)))
-    → ((lane : ℕ) → lane_bits lane outputs ≡ substituted s_boxes (lane_bits lane mixed))
-    → (lane : ℕ) → lane_bits lane out ≡ xor_bits (lane_bits lane left) (cipher_function (lane_bits lane right) (bits_at places (lane_bits lane keys)))
-unfolding next_bit cipher_function lane_bits
-next_is table left right keys places mixed outputs out done len is expands boxes lane =
-    Fills_all (next_bit table left outputs) 32 out done lane
-    ∙ xor_bits-map (λ k. get_or (lane_bits lane left) k false) (λ k. get_or (lane_bits lane outputs) (bit_and (get_or table k 0) 31) false)
-    (range_with_len 0 32)
-    ∙ ap₂ xor_bits (sym (tabulated false (lane_bits lane left) 32 (length-map left (lane_bit lane) ∙ len)))
-    (is (lane_bits lane outputs) ∙ ap (picked box_permutation) (boxes lane ∙ ap (substituted s_boxes) (expands lane)))
+-- after all eight boxes the half is xored with P of their outputs
+pub mixes : (l : List Bool) → length l ≡ 32
+    → (a0 a1 a2 a3 b0 b1 b2 b3 c0 c1 c2 c3 d0 d1 d2 d3 e0 e1 e2 e3 f0 f1 f2 f3 g0 g1 g2 g3 h0 h1 h2 h3 : Bool)
+    → with_outputs 7 (h0 ∷ h1 ∷ h2 ∷ h3 ∷ [])
+    (with_outputs 6 (g0 ∷ g1 ∷ g2 ∷ g3 ∷ []) (with_outputs 5 (f0 ∷ f1 ∷ f2 ∷ f3 ∷ [])
+    (with_outputs 4 (e0 ∷ e1 ∷ e2 ∷ e3 ∷ []) (with_outputs 3 (d0 ∷ d1 ∷ d2 ∷ d3 ∷ [])
+    (with_outputs 2 (c0 ∷ c1 ∷ c2 ∷ c3 ∷ []) (with_outputs 1 (b0 ∷ b1 ∷ b2 ∷ b3 ∷ [])
+    (with_outputs 0 (a0 ∷ a1 ∷ a2 ∷ a3 ∷ []) l)))))))
+    ≡ xor_bits l (picked box_permutation ((a0 ∷ a1 ∷ a2 ∷ a3 ∷ []) ++ ((b0 ∷ b1 ∷ b2 ∷ b3 ∷ []) ++ ((c0 ∷ c1 ∷ c2 ∷ c3 ∷ [])
+    ++ ((d0 ∷ d1 ∷ d2 ∷ d3 ∷ []) ++ ((e0 ∷ e1 ∷ e2 ∷ e3 ∷ []) ++ ((f0 ∷ f1 ∷ f2 ∷ f3 ∷ []) ++ ((g0 ∷ g1 ∷ g2 ∷ g3 ∷ [])
+    ++ ((h0 ∷ h1 ∷ h2 ∷ h3 ∷ []) ++ [])))))))))
+unfolding with_outputs with_output box_permutation picked xor_bits
+mixes l len a0 a1 a2 a3 b0 b1 b2 b3 c0 c1 c2 c3 d0 d1 d2 d3 e0 e1 e2 e3 f0 f1 f2 f3 g0 g1 g2 g3 h0 h1 h2 h3 =
+    subst (λ l. with_outputs 7 (h0 ∷ h1 ∷ h2 ∷ h3 ∷ [])
+    (with_outputs 6 (g0 ∷ g1 ∷ g2 ∷ g3 ∷ []) (with_outputs 5 (f0 ∷ f1 ∷ f2 ∷ f3 ∷ [])
+    (with_outputs 4 (e0 ∷ e1 ∷ e2 ∷ e3 ∷ []) (with_outputs 3 (d0 ∷ d1 ∷ d2 ∷ d3 ∷ [])
+    (with_outputs 2 (c0 ∷ c1 ∷ c2 ∷ c3 ∷ []) (with_outputs 1 (b0 ∷ b1 ∷ b2 ∷ b3 ∷ [])
+    (with_outputs 0 (a0 ∷ a1 ∷ a2 ∷ a3 ∷ []) l)))))))
+    ≡ xor_bits l (picked box_permutation ((a0 ∷ a1 ∷ a2 ∷ a3 ∷ []) ++ ((b0 ∷ b1 ∷ b2 ∷ b3 ∷ []) ++ ((c0 ∷ c1 ∷ c2 ∷ c3 ∷ [])
+    ++ ((d0 ∷ d1 ∷ d2 ∷ d3 ∷ []) ++ ((e0 ∷ e1 ∷ e2 ∷ e3 ∷ []) ++ ((f0 ∷ f1 ∷ f2 ∷ f3 ∷ []) ++ ((g0 ∷ g1 ∷ g2 ∷ g3 ∷ [])
+    ++ ((h0 ∷ h1 ∷ h2 ∷ h3 ∷ []) ++ []))))))))))
+    (sym (tabulated false l 32 len)) refl
 
 -- the halves of a lane
 pub lane_halves : ℕ → List (List ℕ) → List (List ℕ) → Halves
@@ -131,10 +222,10 @@ Rounds_all order keys block mixed left right l r both out i done all is_left is_
 pub xored_bit : List (List ℕ) → List (List ℕ) → ℕ → ℕ → Bool
 xored_bit a b lane k = xor (get_or (lane_bits lane a) k false) (get_or (lane_bits lane b) k false)
 
-pub xored_step : (a b : List (List ℕ)) (lane k : ℕ) (next : List ℕ)
-    → lane_bit lane next ≡ xor (lane_bit lane (get_or a k [])) (lane_bit lane (get_or b k [])) → lane_bit lane next ≡ xored_bit a b lane k
+pub xored_step : (a b now : List (List ℕ)) (lane k : ℕ) (next : List ℕ) → get_or now k [] ≡ get_or a k []
+    → lane_bit lane next ≡ xor (lane_bit lane (get_or now k [])) (lane_bit lane (get_or b k [])) → lane_bit lane next ≡ xored_bit a b lane k
 unfolding xored_bit
-xored_step a b lane k next e = e ∙ ap₂ xor (lane-at lane a k) (lane-at lane b k)
+xored_step a b now lane k next same e = e ∙ ap₂ xor (ap (lane_bit lane) same ∙ lane-at lane a k) (lane-at lane b k)
 
 pub xored_is : (a b out : List (List ℕ)) → Fills (xored_bit a b) 64 64 out → length a ≡ 64 → length b ≡ 64
     → (lane : ℕ) → lane_bits lane out ≡ xor_bits (lane_bits lane a) (lane_bits lane b)

@@ -1,20 +1,21 @@
 -- Rows and columns exchanged, digit by digit of their numbers.
 use Rattle.std.proofs.Common.{◌≡◌, ℕ, zero, suc, ◌+◌, ◌-◌, ◌*◌, ◌/◌, ◌%◌, ◌^◌, ◌<◌, ◌≤◌, ◌==◌, ◌&&◌, ◌||◌, Bool, true, false, List, [], ◌∷◌, if◌then◌else◌}
-use Rattle.std.proofs.Common.{map, get_or, bit_and, bit_or, refl, sym, ap, ap₂, ◌∙◌, arith, mod-lt, w64}
+use Rattle.std.proofs.Common.{map, length, set, get_or, bit_and, bit_or, refl, sym, ap, ap₂, ◌∙◌, arith, mod-lt, w64, ◌≢◌, ⊎_elim}
+use Rattle.std.proofs.Common.{get_or-set_same, get_or-set_other, length-set}
+use Rattle.std.proofs.lemmas.Bool.{cases_eq}
 use Rattle.std.specs.Int.{bit_not}
 use Rattle.std.specs.List.{range_with_len}
 use lib.Lanes.{zip2}
 use Rattle.std.proofs.Common.{pow_pos}
 use Rattle.std.specs.Int.Bits.{and_lt}
 use Rattle.std.proofs.lemmas.Nat.{shr-shr}
-use Rattle.std.proofs.lemmas.Nat.Bits.{bit_at_cat_low, bit_at_cat_high, shr_and_one}
+use Rattle.std.proofs.lemmas.Nat.Bits.{bit_at_cat_low, bit_at_cat_high}
 use Rattle.std.proofs.lemmas.List.FromFn.{get_or-map-range_with_len}
 use Rattle.std.proofs.lemmas.Simd.{get_or-zip2}
 use Rattle.des_block.proofs.Digits.{below_two}
 use Rattle.des_lanes.specs.Lanes.{lane_bit, digit, with_digit}
 use Rattle.des_lanes.specs.declared.turning.TheConstants.{LOW_COLUMNS}
 use Rattle.des_lanes.proofs.Gates.{IsPair, IsPair-zip2, IsPair-not, lane-and, lane-or, lane-not}
-use Rattle.des_lanes.proofs.Pairs.{Fills}
 use mathlib.Core.Bool.{not}
 
 chosen_bit : (m x y : Bool) → (x && m) || (y && not m) ≡ (if m then x else y)
@@ -157,57 +158,149 @@ chosen_high : (k lane : ℕ) (a b : Bool) → k < 6 → digit k lane ≡ 1 → (
 unfolding columns_digit
 chosen_high k lane a b h e = ap (λ (m : Bool). if m then a else b) (mask_is k lane h ∙ ap (λ d. d == 0) e)
 
--- a row whose digit is 0
-pub row_low : (rows : List (List ℕ)) (i k w : ℕ) (moved out : List ℕ) → k < 6 → w ≡ 2 ^ k → bit_and (i / 2 ^ k) 1 ≡ 0
-    → ((lane : ℕ) → w ≤ lane % 64 → lane_bit lane moved ≡ lane_bit (lane - w) (get_or rows (i + w) []))
-    → ((lane : ℕ) → lane_bit lane out
-    ≡ (if lane_bit lane (get_or LOW_COLUMNS k 0 ∷ get_or LOW_COLUMNS k 0 ∷ []) then lane_bit lane (get_or rows i []) else lane_bit lane moved))
-    → (lane : ℕ) → lane_bit lane out ≡ lane_bit (with_digit k lane (digit k i)) (get_or rows (with_digit k i (digit k lane)) [])
-unfolding digit columns_digit
-row_low rows i k w moved out h ew low moves chooses lane =
-    let own : digit k i ≡ 0 = sym (shr_and_one i k) ∙ low in
-    let there : ℕ → ℕ → Bool = λ l r. lane_bit l (get_or rows r []) in
-    by_digit k lane (lane_bit lane out ≡ there (with_digit k lane (digit k i)) (with_digit k i (digit k lane)))
-    (λ e. chooses lane ∙ chosen_low k lane (there lane i) (lane_bit lane moved) h e
-    ∙ ap₂ there (sym (with_own k lane (digit k i) h (e ∙ sym own))) (sym (with_own k i (digit k lane) h (own ∙ sym e))))
-    (λ e. chooses lane ∙ chosen_high k lane (there lane i) (lane_bit lane moved) h e
-    ∙ moves lane (rw ew ((room k lane h).0 e)) ∙ ap (λ v. there (lane - v) (i + v)) ew
-    ∙ ap₂ there (sym (with_lower k lane (digit k i) e own)) (sym (with_higher k i (digit k lane) own e)))
-
--- a row whose digit is 1
-pub row_high : (rows : List (List ℕ)) (i k w : ℕ) (moved out : List ℕ) → k < 6 → w ≡ 2 ^ k → (bit_and (i / 2 ^ k) 1 ≡ 0 → ⊥)
-    → ((lane : ℕ) → lane % 64 + w < 64 → lane_bit lane moved ≡ lane_bit (lane + w) (get_or rows (i - w) []))
-    → ((lane : ℕ) → lane_bit lane out
-    ≡ (if lane_bit lane (get_or LOW_COLUMNS k 0 ∷ get_or LOW_COLUMNS k 0 ∷ []) then lane_bit lane moved else lane_bit lane (get_or rows i [])))
-    → (lane : ℕ) → lane_bit lane out ≡ lane_bit (with_digit k lane (digit k i)) (get_or rows (with_digit k i (digit k lane)) [])
-unfolding digit columns_digit
-row_high rows i k w moved out h ew high moves chooses lane =
-    let own : digit k i ≡ 1 = by_digit k i (digit k i ≡ 1) (λ e. absurd (high (shr_and_one i k ∙ e))) (λ e. e) in
-    let there : ℕ → ℕ → Bool = λ l r. lane_bit l (get_or rows r []) in
-    by_digit k lane (lane_bit lane out ≡ there (with_digit k lane (digit k i)) (with_digit k i (digit k lane)))
-    (λ e. chooses lane ∙ chosen_low k lane (lane_bit lane moved) (there lane i) h e
-    ∙ moves lane (rw ew ((room k lane h).1 e)) ∙ ap (λ v. there (lane + v) (i - v)) ew
-    ∙ ap₂ there (sym (with_higher k lane (digit k i) e own)) (sym (with_lower k i (digit k lane) own e)))
-    (λ e. chooses lane ∙ chosen_high k lane (lane_bit lane moved) (there lane i) h e
-    ∙ ap₂ there (sym (with_own k lane (digit k i) h (e ∙ sym own))) (sym (with_own k i (digit k lane) h (own ∙ sym e))))
-
--- ---- all six digits
-
 -- the bit at a row and a lane where both have exchanged digit k
 pub exchanged_bit : List (List ℕ) → ℕ → ℕ → ℕ → Bool
 exchanged_bit rows k lane row = lane_bit (with_digit k lane (digit k row)) (get_or rows (with_digit k row (digit k lane)) [])
 
-pub exchanged_step : (rows : List (List ℕ)) (k lane row : ℕ) (next : List ℕ)
-    → lane_bit lane next ≡ lane_bit (with_digit k lane (digit k row)) (get_or rows (with_digit k row (digit k lane)) [])
-    → lane_bit lane next ≡ exchanged_bit rows k lane row
-unfolding exchanged_bit
-exchanged_step rows k lane row next e = e
+-- a row whose digit is 0
+pub row_low : (rows : List (List ℕ)) (i k w : ℕ) (low high moved out : List ℕ) → k < 6 → w ≡ 2 ^ k → digit k i ≡ 0
+    → low ≡ get_or rows i [] → high ≡ get_or rows (i + w) []
+    → ((lane : ℕ) → w ≤ lane % 64 → lane_bit lane moved ≡ lane_bit (lane - w) high)
+    → ((lane : ℕ) → lane_bit lane out ≡ (if lane_bit lane (get_or LOW_COLUMNS k 0 ∷ get_or LOW_COLUMNS k 0 ∷ []) then lane_bit lane low else lane_bit lane moved))
+    → (lane : ℕ) → lane_bit lane out ≡ exchanged_bit rows k lane i
+unfolding digit columns_digit exchanged_bit
+row_low rows i k w low high moved out h ew own is_low is_high moves chooses lane =
+    let there : ℕ → ℕ → Bool = λ l r. lane_bit l (get_or rows r []) in
+    by_digit k lane (lane_bit lane out ≡ there (with_digit k lane (digit k i)) (with_digit k i (digit k lane)))
+    (λ e. chooses lane ∙ chosen_low k lane (lane_bit lane low) (lane_bit lane moved) h e ∙ ap (lane_bit lane) is_low
+    ∙ ap₂ there (sym (with_own k lane (digit k i) h (e ∙ sym own))) (sym (with_own k i (digit k lane) h (own ∙ sym e))))
+    (λ e. chooses lane ∙ chosen_high k lane (lane_bit lane low) (lane_bit lane moved) h e
+    ∙ moves lane (rw ew ((room k lane h).0 e)) ∙ ap (lane_bit (lane - w)) is_high ∙ ap (λ v. there (lane - v) (i + v)) ew
+    ∙ ap₂ there (sym (with_lower k lane (digit k i) e own)) (sym (with_higher k i (digit k lane) own e)))
 
-pub exchanged_is : (rows : List (List ℕ)) (k : ℕ) (out : List (List ℕ)) → Fills (exchanged_bit rows k) 64 64 out
-    → (lane row : ℕ) → row < 64 → lane_bit lane (get_or out row [])
-    ≡ lane_bit (with_digit k lane (digit k row)) (get_or rows (with_digit k row (digit k lane)) [])
+-- its partner, whose digit is 1
+pub row_high : (rows : List (List ℕ)) (i k w : ℕ) (low high moved out : List ℕ) → k < 6 → w ≡ 2 ^ k → digit k (i + w) ≡ 1
+    → low ≡ get_or rows i [] → high ≡ get_or rows (i + w) []
+    → ((lane : ℕ) → lane % 64 + w < 64 → lane_bit lane moved ≡ lane_bit (lane + w) low)
+    → ((lane : ℕ) → lane_bit lane out ≡ (if lane_bit lane (get_or LOW_COLUMNS k 0 ∷ get_or LOW_COLUMNS k 0 ∷ []) then lane_bit lane moved else lane_bit lane high))
+    → (lane : ℕ) → lane_bit lane out ≡ exchanged_bit rows k lane (i + w)
+unfolding digit columns_digit exchanged_bit
+row_high rows i k w low high moved out h ew own is_low is_high moves chooses lane =
+    let there : ℕ → ℕ → Bool = λ l r. lane_bit l (get_or rows r []) in
+    let back : i ≡ i + w - w = omega arith in
+    by_digit k lane (lane_bit lane out ≡ there (with_digit k lane (digit k (i + w))) (with_digit k (i + w) (digit k lane)))
+    (λ e. chooses lane ∙ chosen_low k lane (lane_bit lane moved) (lane_bit lane high) h e
+    ∙ moves lane (rw ew ((room k lane h).1 e)) ∙ ap (lane_bit (lane + w)) is_low ∙ ap (there (lane + w)) back ∙ ap (λ v. there (lane + v) (i + w - v)) ew
+    ∙ ap₂ there (sym (with_higher k lane (digit k (i + w)) e own)) (sym (with_lower k (i + w) (digit k lane) own e)))
+    (λ e. chooses lane ∙ chosen_high k lane (lane_bit lane moved) (lane_bit lane high) h e ∙ ap (lane_bit lane) is_high
+    ∙ ap₂ there (sym (with_own k lane (digit k (i + w)) h (e ∙ sym own))) (sym (with_own k (i + w) (digit k lane) h (own ∙ sym e))))
+
+-- ---- all six digits
+
+-- the pair of a row, and its first row
+pub pair_of : ℕ → ℕ → ℕ
+pair_of k row = row / 2 ^ (k + 1) * 2 ^ k + row % 2 ^ k
+
+low_of : ℕ → ℕ → ℕ
+low_of k pair = pair + pair / 2 ^ k * 2 ^ k
+
+pub low_is : (k pair : ℕ) → k < 6 → pair < 32 → pair + pair / 2 ^ k * 2 ^ k % 2 ^ 64 ≡ pair + pair / 2 ^ k * 2 ^ k
+low_is k pair h small =
+    below_six (λ k. pair + pair / 2 ^ k * 2 ^ k % 2 ^ 64 ≡ pair + pair / 2 ^ k * 2 ^ k)
+    (omega arith) (omega arith) (omega arith) (omega arith) (omega arith) (omega arith) k h
+
+pub low_within : (k pair : ℕ) → k < 6 → pair < 32 → pair + pair / 2 ^ k * 2 ^ k + 2 ^ k < 64
+low_within k pair h small =
+    below_six (λ k. pair + pair / 2 ^ k * 2 ^ k + 2 ^ k < 64) (omega arith) (omega arith) (omega arith) (omega arith) (omega arith) (omega arith) k h
+
+pub low_digit : (k pair : ℕ) → k < 6 → pair < 32 → digit k (pair + pair / 2 ^ k * 2 ^ k) ≡ 0
+unfolding digit
+low_digit k pair h small =
+    below_six (λ k. (pair + pair / 2 ^ k * 2 ^ k) / 2 ^ k % 2 ≡ 0) (omega arith) (omega arith) (omega arith) (omega arith) (omega arith) (omega arith) k h
+
+pub high_digit : (k pair : ℕ) → k < 6 → pair < 32 → digit k (pair + pair / 2 ^ k * 2 ^ k + 2 ^ k) ≡ 1
+unfolding digit
+high_digit k pair h small =
+    below_six (λ k. (pair + pair / 2 ^ k * 2 ^ k + 2 ^ k) / 2 ^ k % 2 ≡ 1) (omega arith) (omega arith) (omega arith) (omega arith) (omega arith) (omega arith) k h
+
+pair_low : (k pair : ℕ) → k < 6 → pair < 32 → pair_of k (low_of k pair) ≡ pair
+unfolding pair_of low_of
+pair_low k pair h small =
+    below_six (λ k. pair_of k (low_of k pair) ≡ pair) (omega arith) (omega arith) (omega arith) (omega arith) (omega arith) (omega arith) k h
+
+pair_high : (k pair : ℕ) → k < 6 → pair < 32 → pair_of k (low_of k pair + 2 ^ k) ≡ pair
+unfolding pair_of low_of
+pair_high k pair h small =
+    below_six (λ k. pair_of k (low_of k pair + 2 ^ k) ≡ pair) (omega arith) (omega arith) (omega arith) (omega arith) (omega arith) (omega arith) k h
+
+pair_only : (k pair row : ℕ) → k < 6 → pair < 32 → row < 64 → pair_of k row ≡ pair → row ≢ low_of k pair → row ≢ low_of k pair + 2 ^ k → ⊥
+unfolding pair_of low_of
+pair_only k pair row h small below =
+    below_six (λ k. pair_of k row ≡ pair → row ≢ low_of k pair → row ≢ low_of k pair + 2 ^ k → ⊥)
+    (λ e n m. omega arith) (λ e n m. omega arith) (λ e n m. omega arith) (λ e n m. omega arith) (λ e n m. omega arith) (λ e n m. omega arith) k h
+
+pair-lt : (k row : ℕ) → k < 6 → row < 64 → pair_of k row < 32
+unfolding pair_of
+pair-lt k row h below =
+    below_six (λ k. pair_of k row < 32) (omega arith) (omega arith) (omega arith) (omega arith) (omega arith) (omega arith) k h
+
+-- the rows of the first pairs have exchanged digit k, and the others are as they were
+pub record Exchanges (old : List (List ℕ)) (k pairs : ℕ) (rows : List (List ℕ)) : Type 0 where
+  pub len : length rows ≡ 64
+  pub done : (lane row : ℕ) → row < 64 → pair_of k row < pairs → lane_bit lane (get_or rows row []) ≡ exchanged_bit old k lane row
+  pub rest : (row : ℕ) → row < 64 → pairs ≤ pair_of k row → get_or rows row [] ≡ get_or old row []
+
+pub Exchanges_none : (old : List (List ℕ)) (k : ℕ) → length old ≡ 64 → Exchanges old k 0 old
+Exchanges_none old k len = record { len = len; done = λ lane row below few. absurd (omega arith); rest = λ row below none. refl }
+
+-- a row of the next pair
+pub next_low : (old : List (List ℕ)) (k pairs : ℕ) (rows : List (List ℕ)) → Exchanges old k pairs rows → k < 6 → pairs < 32
+    → get_or rows (pairs + pairs / 2 ^ k * 2 ^ k) [] ≡ get_or old (pairs + pairs / 2 ^ k * 2 ^ k) []
+unfolding low_of
+next_low old k pairs rows so_far h small =
+    so_far.rest (low_of k pairs) (omega (arith, low_within k pairs h small)) (omega (arith, pair_low k pairs h small))
+
+pub next_high : (old : List (List ℕ)) (k pairs : ℕ) (rows : List (List ℕ)) → Exchanges old k pairs rows → k < 6 → pairs < 32
+    → get_or rows (pairs + pairs / 2 ^ k * 2 ^ k + 2 ^ k) [] ≡ get_or old (pairs + pairs / 2 ^ k * 2 ^ k + 2 ^ k) []
+unfolding low_of
+next_high old k pairs rows so_far h small =
+    so_far.rest (low_of k pairs + 2 ^ k) (low_within k pairs h small) (omega (arith, pair_high k pairs h small))
+
+pub Exchanges_more : (old : List (List ℕ)) (k pairs : ℕ) (rows : List (List ℕ)) (i w : ℕ) (low high : List ℕ) → Exchanges old k pairs rows → k < 6
+    → pairs < 32 → i ≡ pairs + pairs / 2 ^ k * 2 ^ k → w ≡ 2 ^ k
+    → ((lane : ℕ) → lane_bit lane low ≡ exchanged_bit old k lane i)
+    → ((lane : ℕ) → lane_bit lane high ≡ exchanged_bit old k lane (i + w))
+    → Exchanges old k (pairs + 1) (set (set rows i low) (i + w) high)
+unfolding low_of
+Exchanges_more old k pairs rows i w low high so_far h small ei ew is_low is_high =
+    let room : i + w < 64 = rw (ei, ew) (low_within k pairs h small) in
+    let wide : length (set rows i low) ≡ 64 = length-set rows i low ∙ so_far.len in
+    let power : 0 < 2 ^ k = pow_pos k in
+    let apart : i ≢ i + w = omega (arith, ew) in
+    let next : List (List ℕ) = set (set rows i low) (i + w) high in
+    let at_low : get_or next i [] ≡ low =
+    get_or-set_other (set rows i low) (i + w) i high [] apart ∙ get_or-set_same rows i low [] (omega (arith, so_far.len)) in
+    let at_high : get_or next (i + w) [] ≡ high = get_or-set_same (set rows i low) (i + w) high [] (omega (arith, wide)) in
+    let others : (row : ℕ) → row ≢ i → row ≢ i + w → get_or next row [] ≡ get_or rows row [] =
+    λ row n m. get_or-set_other (set rows i low) (i + w) row high [] m ∙ get_or-set_other rows i row low [] n in
+    record {
+      len = length-set (set rows i low) (i + w) high ∙ wide;
+      done = λ lane row below few.
+          ⊎_elim (λ e. rw e (ap (lane_bit lane) at_low ∙ is_low lane))
+          (λ n. ⊎_elim (λ e. rw e (ap (lane_bit lane) at_high ∙ is_high lane))
+          (λ m. ap (lane_bit lane) (others row n m) ∙ so_far.done lane row below
+          (let not_this : pair_of k row ≢ pairs = λ e. pair_only k pairs row h small below e (rw ei at n) (rw (ei, ew) at m) in omega arith))
+          (cases_eq row (i + w))) (cases_eq row i);
+      rest = λ row below above.
+          let n : row ≢ i = λ e. (let p : pair_of k row ≡ pairs = ap (pair_of k) (e ∙ ei) ∙ pair_low k pairs h small in omega arith) in
+          let m : row ≢ i + w = λ e. (let p : pair_of k row ≡ pairs = ap (pair_of k) (e ∙ ap₂ (λ a b. a + b) ei ew) ∙ pair_high k pairs h small in omega arith) in
+          others row n m ∙ so_far.rest row below (omega arith);
+    }
+
+pub Exchanges_all : (old : List (List ℕ)) (k : ℕ) (rows : List (List ℕ)) → Exchanges old k 32 rows → k < 6 → (lane row : ℕ) → row < 64
+    → lane_bit lane (get_or rows row []) ≡ lane_bit (with_digit k lane (digit k row)) (get_or old (with_digit k row (digit k lane)) [])
 unfolding exchanged_bit
-exchanged_is rows k out done lane row h = done.at lane row h
+Exchanges_all old k rows all h lane row below = all.done lane row below (pair-lt k row h below)
 
 -- n with the digits below k of m
 unfoldable pub mixed : ℕ → ℕ → ℕ → ℕ

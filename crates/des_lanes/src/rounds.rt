@@ -1,10 +1,10 @@
 //! The rounds of DES (FIPS 46-3) in lanes, under a key for each lane.
 
-ghost use Rattle.std.specs.Prelude.{◌≡◌, ℕ, map, take, drop, ◌++◌, bit_xor};
+ghost use Rattle.std.specs.Prelude.{◌≡◌, ℕ, ◌+◌, ◌*◌, ◌<◌, [], ◌∷◌, map, take, drop, ◌++◌, slice_index_or, bit_and, bit_xor};
 ghost use Rattle.des_block.specs.Bits.{picked, xor_bits};
 ghost use Rattle.des_block.specs.Tables.{expansion, s_boxes};
 ghost use Rattle.des_block.specs.Cipher.{substituted, cipher_function, ciphered, word_bytes, des_encipher, des_decipher};
-ghost use Rattle.des_lanes.specs.Lanes.{lane_bit, lane_bits, lane_word, bits_at};
+ghost use Rattle.des_lanes.specs.Lanes.{lane_bit, lane_bits, lane_word, bits_at, with_outputs};
 ghost use mathlib.Core.Bool.{xor};
 
 use crate::boxes::{box_1, box_2, box_3, box_4, box_5, box_6, box_7, box_8};
@@ -24,16 +24,10 @@ const INVERSE_PERMUTATION: [u8; 64] = [
     33, 1, 41, 9, 49, 17, 57, 25, 32, 0, 40, 8, 48, 16, 56, 24,
 ];
 
-/// E.
-const EXPANSION: [u8; 48] = [
-    31, 0, 1, 2, 3, 4, 3, 4, 5, 6, 7, 8, 7, 8, 9, 10, 11, 12, 11, 12, 13, 14, 15, 16, 15, 16, 17,
-    18, 19, 20, 19, 20, 21, 22, 23, 24, 23, 24, 25, 26, 27, 28, 27, 28, 29, 30, 31, 0,
-];
-
-/// P.
-const BOX_PERMUTATION: [u8; 32] = [
-    15, 6, 19, 20, 28, 11, 27, 16, 0, 14, 22, 25, 4, 17, 30, 9, 1, 7, 23, 13, 31, 26, 2, 8, 18, 12,
-    29, 5, 21, 10, 3, 24,
+/// Where P puts the outputs of the boxes.
+const OUTPUT_PLACES: [u8; 32] = [
+    8, 16, 22, 30, 12, 27, 1, 17, 23, 15, 29, 5, 25, 19, 9, 0, 7, 13, 24, 2, 3, 28, 10, 18, 31, 11,
+    21, 6, 4, 26, 14, 20,
 ];
 
 /// The bits of a key in each round key: by PC-1, the rotations and PC-2.
@@ -131,70 +125,93 @@ fn xored(a: u64x2, b: u64x2) -> u64x2
     a ^ b
 }
 
-/// The xor of the blocks of each lane.
-pub(crate) fn xored_blocks(a: &[u64x2; 64], b: &[u64x2; 64]) -> [u64x2; 64]
-    ensures { (lane : ℕ) → lane_word lane result ≡ bit_xor (lane_word lane a.now) (lane_word lane b.now) }
+/// Xors a block into that of each lane.
+pub(crate) fn xor_into(block: &mut [u64x2; 64], other: &[u64x2; 64])
+    ensures { (lane : ℕ) → lane_word lane block.new ≡ bit_xor (lane_word lane block.old) (lane_word lane other.now) }
 {
-    let mut out = [u64x2::splat(0); 64];
     for i in 0..64 {
-        out[i] = xored(a[i], b[i]);
+        block[i] = xored(block[i], other[i]);
     }
-    out
 }
 
-/// E of the right half, xored with the round key at these places.
-#[inline]
-fn expanded(right: &[u64x2; 32], keys: &[u64x2; 64], places: &[u8; 48]) -> [u64x2; 48]
-    ensures { (lane : ℕ) → lane_bits lane result
-        ≡ xor_bits (picked expansion (lane_bits lane right.now)) (bits_at places.now (lane_bits lane keys.now)) }
+/// A pair xored with that of the key at a place.
+#[inline(always)]
+fn keyed(pair: u64x2, keys: &[u64x2; 64], place: u8) -> u64x2
+    ensures { (lane : ℕ) → lane_bit lane result
+        ≡ xor (lane_bit lane pair) (lane_bit lane (slice_index_or keys.now (bit_and place 63) [])) }
 {
-    let mut out = [u64x2::splat(0); 48];
-    for i in 0..48 {
-        out[i] = xored(
-            right[(EXPANSION[i] & 31) as usize],
-            keys[(places[i] & 63) as usize],
-        );
-    }
-    out
+    xored(pair, keys[(place & 63) as usize])
 }
 
-/// The outputs of the S boxes for six pairs each.
-#[inline]
-fn substituted(six: &[u64x2; 48]) -> [u64x2; 32]
-    ensures { (lane : ℕ) → lane_bits lane result ≡ substituted s_boxes (lane_bits lane six.now) }
-{
-    let a = box_1(six[0], six[1], six[2], six[3], six[4], six[5]);
-    let b = box_2(six[6], six[7], six[8], six[9], six[10], six[11]);
-    let c = box_3(six[12], six[13], six[14], six[15], six[16], six[17]);
-    let d = box_4(six[18], six[19], six[20], six[21], six[22], six[23]);
-    let e = box_5(six[24], six[25], six[26], six[27], six[28], six[29]);
-    let f = box_6(six[30], six[31], six[32], six[33], six[34], six[35]);
-    let g = box_7(six[36], six[37], six[38], six[39], six[40], six[41]);
-    let h = box_8(six[42], six[43], six[44], six[45], six[46], six[47]);
-    [
-        a.0, a.1, a.2, a.3, b.0, b.1, b.2, b.3, c.0, c.1, c.2, c.3, d.0, d.1, d.2, d.3, e.0, e.1,
-        e.2, e.3, f.0, f.1, f.2, f.3, g.0, g.1, g.2, g.3, h.0, h.1, h.2, h.3,
-    ]
-}
-
-/// The left half xored with the cipher function of the right half and the round key at these places.
-#[inline]
-fn next_half(
-    left: &[u64x2; 32],
+/// The inputs of box `i`: six pairs of E of the right half, xored with the round key at these places.
+#[inline(always)]
+fn inputs(
     right: &[u64x2; 32],
     keys: &[u64x2; 64],
     places: &[u8; 48],
-) -> [u64x2; 32]
-    ensures { (lane : ℕ) → lane_bits lane result
-        ≡ xor_bits (lane_bits lane left.now) (cipher_function (lane_bits lane right.now)
+    i: usize,
+) -> (u64x2, u64x2, u64x2, u64x2, u64x2, u64x2)
+    requires { i < 8 }
+    ensures { (lane : ℕ) → lane_bits lane (result.0 ∷ result.1 ∷ result.2 ∷ result.3 ∷ result.4 ∷ result.5 ∷ [])
+        ≡ take 6 (drop (6 * i) (xor_bits (picked expansion (lane_bits lane right.now))
+        (bits_at places.now (lane_bits lane keys.now)))) }
+{
+    let first = 4 * i;
+    let place = 6 * i;
+    (
+        keyed(right[(first + 31) % 32], keys, places[place]),
+        keyed(right[first], keys, places[place + 1]),
+        keyed(right[first + 1], keys, places[place + 2]),
+        keyed(right[first + 2], keys, places[place + 3]),
+        keyed(right[first + 3], keys, places[place + 4]),
+        keyed(right[(first + 4) % 32], keys, places[place + 5]),
+    )
+}
+
+/// Xors the outputs of box `i` into a half, each where P puts it.
+#[inline(always)]
+fn add(half: &mut [u64x2; 32], i: usize, outputs: (u64x2, u64x2, u64x2, u64x2))
+    requires { i < 8 }
+    ensures { (lane : ℕ) → lane_bits lane half.new ≡ with_outputs i
+        (lane_bits lane (outputs.0 ∷ outputs.1 ∷ outputs.2 ∷ outputs.3 ∷ [])) (lane_bits lane half.old) }
+{
+    let first = (OUTPUT_PLACES[4 * i] & 31) as usize;
+    let second = (OUTPUT_PLACES[4 * i + 1] & 31) as usize;
+    let third = (OUTPUT_PLACES[4 * i + 2] & 31) as usize;
+    let fourth = (OUTPUT_PLACES[4 * i + 3] & 31) as usize;
+    let a = xored(half[first], outputs.0);
+    let b = xored(half[second], outputs.1);
+    let c = xored(half[third], outputs.2);
+    let d = xored(half[fourth], outputs.3);
+    half[first] = a;
+    half[second] = b;
+    half[third] = c;
+    half[fourth] = d;
+}
+
+/// A round: xors the cipher function of the right half and the round key at these places into the left half.
+#[inline(never)]
+fn mix(left: &mut [u64x2; 32], right: &[u64x2; 32], keys: &[u64x2; 64], places: &[u8; 48])
+    ensures { (lane : ℕ) → lane_bits lane left.new
+        ≡ xor_bits (lane_bits lane left.old) (cipher_function (lane_bits lane right.now)
         (bits_at places.now (lane_bits lane keys.now))) }
 {
-    let outputs = substituted(&expanded(right, keys, places));
-    let mut out = [u64x2::splat(0); 32];
-    for i in 0..32 {
-        out[i] = xored(left[i], outputs[(BOX_PERMUTATION[i] & 31) as usize]);
-    }
-    out
+    let six = inputs(right, keys, places, 0);
+    add(left, 0, box_1(six.0, six.1, six.2, six.3, six.4, six.5));
+    let six = inputs(right, keys, places, 1);
+    add(left, 1, box_2(six.0, six.1, six.2, six.3, six.4, six.5));
+    let six = inputs(right, keys, places, 2);
+    add(left, 2, box_3(six.0, six.1, six.2, six.3, six.4, six.5));
+    let six = inputs(right, keys, places, 3);
+    add(left, 3, box_4(six.0, six.1, six.2, six.3, six.4, six.5));
+    let six = inputs(right, keys, places, 4);
+    add(left, 4, box_5(six.0, six.1, six.2, six.3, six.4, six.5));
+    let six = inputs(right, keys, places, 5);
+    add(left, 5, box_6(six.0, six.1, six.2, six.3, six.4, six.5));
+    let six = inputs(right, keys, places, 6);
+    add(left, 6, box_7(six.0, six.1, six.2, six.3, six.4, six.5));
+    let six = inputs(right, keys, places, 7);
+    add(left, 7, box_8(six.0, six.1, six.2, six.3, six.4, six.5));
 }
 
 /// The first half of a block.
@@ -225,36 +242,35 @@ fn joined(first: &[u64x2; 32], second: &[u64x2; 32]) -> [u64x2; 64]
     block
 }
 
-/// The blocks through the sixteen rounds, under the round keys at these places of the keys.
-fn ciphered(order: &[[u8; 48]; 16], keys: &[u64x2; 64], block: &[u64x2; 64]) -> [u64x2; 64]
-    ensures { (lane : ℕ) → lane_bits lane result
-        ≡ ciphered (map (λ places. bits_at places (lane_bits lane keys.now)) order.now) (lane_bits lane block.now) }
+/// Puts the block of each lane through the sixteen rounds, under the round keys at these places of the keys.
+fn cipher(order: &[[u8; 48]; 16], keys: &[u64x2; 64], block: &mut [u64x2; 64])
+    ensures { (lane : ℕ) → lane_bits lane block.new
+        ≡ ciphered (map (λ places. bits_at places (lane_bits lane keys.now)) order.now) (lane_bits lane block.old) }
 {
     let mixed = permuted(&INITIAL_PERMUTATION, block);
     let mut left = left_half(&mixed);
     let mut right = right_half(&mixed);
-    for places in order {
-        let next = next_half(&left, &right, keys, places);
-        left = right;
-        right = next;
+    for i in 0..8 {
+        mix(&mut left, &right, keys, &order[2 * i]);
+        mix(&mut right, &left, keys, &order[2 * i + 1]);
     }
-    permuted(&INVERSE_PERMUTATION, &joined(&right, &left))
+    *block = permuted(&INVERSE_PERMUTATION, &joined(&right, &left));
 }
 
 /// Enciphers the block of each lane under the key of the lane.
-pub(crate) fn encipher(keys: &[u64x2; 64], block: &[u64x2; 64]) -> [u64x2; 64]
-    ensures { (lane : ℕ) → word_bytes (lane_word lane result)
-        ≡ des_encipher (word_bytes (lane_word lane keys.now)) (word_bytes (lane_word lane block.now)) }
+pub(crate) fn encipher(keys: &[u64x2; 64], block: &mut [u64x2; 64])
+    ensures { (lane : ℕ) → word_bytes (lane_word lane block.new)
+        ≡ des_encipher (word_bytes (lane_word lane keys.now)) (word_bytes (lane_word lane block.old)) }
 {
-    ciphered(&KEY_PLACES, keys, block)
+    cipher(&KEY_PLACES, keys, block);
 }
 
 /// Deciphers the block of each lane under the key of the lane.
-pub(crate) fn decipher(keys: &[u64x2; 64], block: &[u64x2; 64]) -> [u64x2; 64]
-    ensures { (lane : ℕ) → word_bytes (lane_word lane result)
-        ≡ des_decipher (word_bytes (lane_word lane keys.now)) (word_bytes (lane_word lane block.now)) }
+pub(crate) fn decipher(keys: &[u64x2; 64], block: &mut [u64x2; 64])
+    ensures { (lane : ℕ) → word_bytes (lane_word lane block.new)
+        ≡ des_decipher (word_bytes (lane_word lane keys.now)) (word_bytes (lane_word lane block.old)) }
 {
     let mut order = KEY_PLACES;
     order.reverse();
-    ciphered(&order, keys, block)
+    cipher(&order, keys, block);
 }

@@ -41,45 +41,43 @@ fn moved_left(a: u64x2, n: u64) -> u64x2
     a << u64x2::splat(n)
 }
 
-/// Row `i` where rows and columns have exchanged their digits k.
-#[inline]
-fn exchanged_row(rows: &[u64x2; 64], i: usize, k: usize) -> u64x2
-    requires row { i < 64 }
+/// The first row of a pair of rows that differ in digit k alone. There are 32 pairs.
+#[inline(always)]
+fn low_row(pair: usize, k: usize) -> usize
+    requires pair { pair < 32 }
     requires step { k < 6 }
-    ensures { (lane : ℕ) → lane_bit lane result
-        ≡ lane_bit (with_digit k lane (digit k i)) (slice_index_or rows.now (with_digit k i (digit k lane)) []) }
+    ensures row { result ≡ pair + pair / 2 ^ k * 2 ^ k }
+    ensures within { result + 2 ^ k < 64 }
+{
+    pair + ((pair >> k) << k)
+}
+
+/// Exchanges the digits k of rows and columns.
+#[inline(always)]
+fn exchange(rows: &mut [u64x2; 64], k: usize)
+    requires { k < 6 }
+    ensures { (lane row : ℕ) → row < 64 → lane_bit lane (slice_index_or rows.new row [])
+        ≡ lane_bit (with_digit k lane (digit k row)) (slice_index_or rows.old (with_digit k row (digit k lane)) []) }
 {
     let width = 1 << k;
     let mask = u64x2::splat(LOW_COLUMNS[k]);
-    if (i >> k) & 1 == 0 {
-        return chosen(mask, rows[i], moved_right(rows[i + width], width as u64));
+    for pair in 0..32 {
+        let i = low_row(pair, k);
+        let low = rows[i];
+        let high = rows[i + width];
+        rows[i] = chosen(mask, low, moved_right(high, width as u64));
+        rows[i + width] = chosen(mask, moved_left(low, width as u64), high);
     }
-    chosen(mask, moved_left(rows[i - width], width as u64), rows[i])
 }
 
-/// The rows where rows and columns have exchanged their digits k.
-fn exchanged(rows: &[u64x2; 64], k: usize) -> [u64x2; 64]
-    requires { k < 6 }
-    ensures { (lane row : ℕ) → row < 64 → lane_bit lane (slice_index_or result row [])
-        ≡ lane_bit (with_digit k lane (digit k row)) (slice_index_or rows.now (with_digit k row (digit k lane)) []) }
+/// Turns both squares of 64 rows and 64 columns: row i is column i.
+fn turn(rows: &mut [u64x2; 64])
+    ensures { (lane row : ℕ) → row < 64 → lane_bit lane (slice_index_or rows.new row [])
+        ≡ lane_bit (lane - lane % 64 + row) (slice_index_or rows.old (lane % 64) []) }
 {
-    let mut out = [u64x2::splat(0); 64];
-    for i in 0..64 {
-        out[i] = exchanged_row(rows, i, k);
-    }
-    out
-}
-
-/// Both squares of 64 rows and 64 columns turned: row i is column i.
-fn turned(rows: &[u64x2; 64]) -> [u64x2; 64]
-    ensures { (lane row : ℕ) → row < 64 → lane_bit lane (slice_index_or result row [])
-        ≡ lane_bit (lane - lane % 64 + row) (slice_index_or rows.now (lane % 64) []) }
-{
-    let mut out = *rows;
     for k in 0..6 {
-        out = exchanged(&out, k);
+        exchange(rows, k);
     }
-    out
 }
 
 /// The bits of 128 words, each word in its lane.
@@ -90,7 +88,8 @@ pub(crate) fn into_lanes(words: &[u64; 128]) -> [u64x2; 64]
     for i in 0..64 {
         rows[i] = u64x2::from_array([words[i], words[64 + i]]);
     }
-    turned(&rows)
+    turn(&mut rows);
+    rows
 }
 
 /// Word `i` of a pair.
@@ -106,7 +105,8 @@ fn word_of(pair: u64x2, i: usize) -> u64
 pub(crate) fn from_lanes(pairs: &[u64x2; 64]) -> [u64; 128]
     ensures { (lane : ℕ) → lane < 128 → slice_index result lane ≡ lane_word lane pairs.now }
 {
-    let rows = turned(pairs);
+    let mut rows = *pairs;
+    turn(&mut rows);
     let mut words = [0; 128];
     for i in 0..64 {
         words[i] = word_of(rows[i], 0);

@@ -11,7 +11,7 @@ use Rattle.des_lanes.proofs.rounds.decipher.Goals as goal
 pub returns : goal.returns
 returns c = λ lane.
     let bs : List Bool = lane_bits lane c.args.keys.now in
-    deciphered lane c.args.keys.now c.args.block.now c.ciphered.result (omega arith) (omega arith)
-    (c.ciphered.ensures lane
+    deciphered lane c.args.keys.now c.args.block.now c.cipher.new.block (omega arith) (omega arith)
+    (c.cipher.ensures lane
     ∙ ap (λ ks. ciphered ks (lane_bits lane c.args.block.now))
     (ap (map (λ places. bits_at places bs)) c.reverse.ensures.after ∙ map-reverse (λ places. bits_at places bs) KEY_PLACES ∙ ap reverse (places_are bs)))

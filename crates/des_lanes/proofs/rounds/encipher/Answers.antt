@@ -8,5 +8,5 @@ use Rattle.des_lanes.proofs.rounds.encipher.Goals as goal
 
 pub returns : goal.returns
 returns c = λ lane.
-    enciphered lane c.args.keys.now c.args.block.now c.ciphered.result (omega arith) (omega arith)
-    (c.ciphered.ensures lane ∙ ap (λ ks. ciphered ks (lane_bits lane c.args.block.now)) (places_are (lane_bits lane c.args.keys.now)))
+    enciphered lane c.args.keys.now c.args.block.now c.cipher.new.block (omega arith) (omega arith)
+    (c.cipher.ensures lane ∙ ap (λ ks. ciphered ks (lane_bits lane c.args.block.now)) (places_are (lane_bits lane c.args.keys.now)))

@@ -14,6 +14,6 @@ loop-i-preserved c =
 pub returns : goal.returns
 returns c = λ lane below.
     let all : c.loop-i.i ≡ 64 = omega arith in
-    lane_word-from_bits lane c.turned.result (get_or c.args.words.now lane 0) (c.fits-words lane)
-    (into_is c.args.words.now c.loop-i.rows c.turned.result (subst (λ (i : ℕ). Fills (row_bit c.args.words.now) 64 i c.loop-i.rows) all c.loop-i.invariant)
-    (omega arith) c.turned.ensures lane below)
+    lane_word-from_bits lane c.turn.new.rows (get_or c.args.words.now lane 0) (c.fits-words lane)
+    (into_is c.args.words.now c.loop-i.rows c.turn.new.rows (subst (λ (i : ℕ). Fills (row_bit c.args.words.now) 64 i c.loop-i.rows) all c.loop-i.invariant)
+    (omega arith) c.turn.ensures lane below)

@@ -1,0 +1,7 @@
+-- A block is its lane's word.
+use Rattle.des_lanes.specs.Lanes.{block_in}
+use Rattle.des_lanes.proofs.blocks.LaneBlocks.encipher.Goals as goal
+
+pub returns : goal.returns
+unfolding block_in
+returns c = c.encipher.ensures

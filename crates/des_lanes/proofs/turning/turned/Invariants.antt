@@ -1,6 +1,0 @@
--- Rows and columns have exchanged their digits so far.
-use Rattle.des_lanes.proofs.Turns.{Turns}
-use Rattle.des_lanes.proofs.turning.turned.Given as goal
-
-abbrev pub invariant-loop-k : goal.invariant-loop-k
-invariant-loop-k l = Turns l.rows l.k l.out
