@@ -6,6 +6,7 @@
 mod ciphers;
 mod claims;
 mod counts;
+mod lanes;
 mod records;
 mod replay;
 mod setting;
@@ -46,7 +47,7 @@ fn measure<R: Threads + Wait + Sync>(
         "plan" => replay::measure(alloc, numbers, Deed::Plan),
         "answer" => replay::measure(alloc, numbers, Deed::Answer),
         "world" => world::measure(alloc, numbers),
-        _ => None,
+        _ => lanes::measure(alloc, name, numbers),
     }
 }
 

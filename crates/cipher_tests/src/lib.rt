@@ -10,6 +10,8 @@ mod card_cryptograms;
 #[cfg(test)]
 mod derived_keys;
 #[cfg(test)]
+mod many_cryptograms;
+#[cfg(test)]
 mod many_lanes;
 #[cfg(test)]
 mod pin_changes;
