@@ -1,6 +1,6 @@
 -- Digits in parts that overlap: all are digits where those of both parts are, and bytes that they spell.
-use Rattle.std.proofs.Common.{◌≡◌, ◌≢◌, ℕ, zero, suc, ◌+◌, ◌-◌, ◌*◌, ◌<◌, ◌≤◌, ◌&&◌, Bool, true, false, List, ◌++◌, length, take, drop, set, get_or}
-use Rattle.std.proofs.Common.{Option, Some, is_some, refl, sym, ap, subst, ◌∙◌, take-add, inl, inr, arith}
+use Rattle.std.proofs.Common.{◌≡◌, ℕ, zero, suc, ◌+◌, ◌-◌, ◌*◌, ◌<◌, ◌≤◌, ◌&&◌, Bool, true, false, List, ◌++◌, length, take, drop, set, get_or}
+use Rattle.std.proofs.Common.{Some, is_some, refl, sym, ap, subst, ◌∙◌, take-add, inl, inr, arith}
 use Rattle.issuer_base.proofs.Decimal.{list_all-at}
 use Rattle.std.specs.List.{list_all}
 use Rattle.std.proofs.lemmas.Bool.{cases_eq}

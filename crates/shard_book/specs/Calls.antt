@@ -22,15 +22,17 @@ module _ {S : Type 0} {G : Ghosts S} where
     pub under : IsUnder issuer shard
     -- its card is one of the shard's
     pub home : HasCard shard found.card
-    -- its card's number and keys are this issuer's, and it has passed the checks of a line
+    -- its card's number and keys are this issuer's
     pub at_hand : IsRequestAtHand issuer found
+    -- it passes the checks of a line
     pub checked_is : checked issuer found.request ≡ Ok (Decide found.request)
 
   -- a checked order for a shard of this issuer
   pub record IsOrderFor (issuer : Setup) (shard : Shard S G) (found : CheckedOrder) : Type 0 where
     pub under : IsUnder issuer shard
-    -- its card is one of the shard's, by its number of this issuer
+    -- its card is one of the shard's
     pub home : HasCard shard (number_of_order found)
+    -- its card is known, and what it asks may be recorded
     pub at_hand : IsOrderAtHand issuer found
 
   -- if the shard stood for a history, it stands for one that the answer makes of it

@@ -3,15 +3,13 @@ ghost use Rattle.std.specs.Prelude.{◌≡◌, ◌⊎◌, ℕ, ◌^◌, ◌≤�
 ghost use Rattle.issuer_base.specs.OutsideFaults.{CountsFaults};
 ghost use Rattle.issuer_base.specs.Stores.{BothTold, CutsBytes, HasRoom, LeavesOnly};
 ghost use Rattle.issuer_base.specs.declared.entry.Entry.{Entry};
-ghost use Rattle.card_history.specs.declared.decision.Asked.TheVariants.{Decide};
 ghost use Rattle.card_history.specs.LegalRecords.{IsLegal};
 ghost use Rattle.card_history.specs.Records.{card_of, named};
 ghost use Rattle.issuer_setup.specs.declared.card.CardInfo.{CardInfo};
 ghost use Rattle.issuer_setup.specs.IssuerSetup.{Setup};
 ghost use Rattle.row_core.specs.Plan.{IsNext};
 ghost use Rattle.row_core.specs.Replying.{reply_to};
-ghost use Rattle.line_checks.specs.AtHand.{IsRequestAtHand, IsCommandAtHand, IsStatusAtHand, IsOrderAtHand, order_asked, record_of, number_of_order};
-ghost use Rattle.line_checks.specs.Reading.{checked};
+ghost use Rattle.line_checks.specs.AtHand.{IsCommandAtHand, IsStatusAtHand, order_asked, record_of};
 ghost use Rattle.journal_rec.specs.Record.{is_record, IsRecord};
 ghost use Rattle.journal_rec.specs.RecordText.{journal_text, text_of};
 ghost use Rattle.journal_rec.specs.declared.limits.TheConstants.{LEAST_RECORD_BYTES, MOST_QUEUED_BYTES, MOST_RECORD_BYTES};
