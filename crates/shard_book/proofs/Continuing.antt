@@ -18,7 +18,7 @@ use Rattle.shard_book.specs.declared.replay.Taken.{Taken}
 use Rattle.shard_book.specs.declared.replay.Version.TheVariants.{One, Two}
 use Rattle.shard_book.specs.Loading.{ReadsFront, ReadsText, StopsText}
 use Rattle.shard_book.specs.Migrating.{Agree, Continues, IsTextAfter, Moves, PassesMoving, StopsShort}
-use Rattle.shard_book.specs.ShardRows.{ShardRows, StandsFor}
+use Rattle.shard_book.specs.ShardRows.{ShardRows, RowsStandFor}
 use Rattle.shard_book.specs.Shards.{IsFailedImage, LeavesBytes}
 use Rattle.shard_book.specs.Versions.{HasText, IsPartOf}
 use Rattle.shard_book.proofs.Histories.{goes-none}
@@ -31,7 +31,7 @@ use Rattle.shard_book.proofs.Migration.{agree-front, agree-part, moving-none, mo
 -- ---- before the first read, and after it
 
 -- nothing was replayed
-pub reads-start : (issuer : Setup) (shard : ℕ) (bytes : Option (List ℕ)) (rows : ShardRows) → StandsFor issuer rows []
+pub reads-start : (issuer : Setup) (shard : ℕ) (bytes : Option (List ℕ)) (rows : ShardRows) → RowsStandFor issuer rows []
     → ReadsFront One issuer shard [] bytes rows (record { records = 0; bytes = 0 })
 reads-start issuer shard bytes rows stands = record {
   history = [];

@@ -17,7 +17,7 @@ use Rattle.journal_rec.specs.Record.{IsRecord}
 use Rattle.journal_rec.specs.RecordText.{newline, texts_of, IsUnbroken}
 use Rattle.shard_book.specs.declared.replay.LoadFault.{LoadFault}
 use Rattle.shard_book.specs.declared.replay.Taken.{Taken}
-use Rattle.shard_book.specs.ShardRows.{ShardRows, StandsFor}
+use Rattle.shard_book.specs.ShardRows.{ShardRows, RowsStandFor}
 use Rattle.shard_book.specs.Versions.{grounds_in}
 use Rattle.shard_book.specs.declared.replay.Version.{Version}
 use Rattle.shard_book.specs.LineAhead.{IsLineAhead}
@@ -63,7 +63,7 @@ legal-more grounds shard history entry legal next place other at =
     ]
 
 -- nothing was taken over
-pub takes-none : (version : Version) (issuer : Setup) (shard : ℕ) (history : List Entry) (text : List ℕ) (rows : ShardRows) → StandsFor issuer rows history
+pub takes-none : (version : Version) (issuer : Setup) (shard : ℕ) (history : List Entry) (text : List ℕ) (rows : ShardRows) → RowsStandFor issuer rows history
     → IsLegalHistory (grounds_in version issuer) shard history → TakesLines version issuer shard history text (record { records = 0; bytes = 0 }) rows
 takes-none version issuer shard history text rows stands legal = record {
   entries = [];
@@ -71,7 +71,7 @@ takes-none version issuer shard history text rows stands legal = record {
   text_is = refl;
   records = All-nil IsRecord;
   legal = subst (IsLegalHistory (grounds_in version issuer) shard) (sym (append-nil history)) legal;
-  stands = subst (StandsFor issuer rows) (sym (append-nil history)) stands;
+  stands = subst (RowsStandFor issuer rows) (sym (append-nil history)) stands;
 }
 
 module _ (version : Version) (issuer : Setup) (shard : ℕ) (history : List Entry) (text : List ℕ) (taken : Taken) (mid : ShardRows)
@@ -100,7 +100,7 @@ module _ (version : Version) (issuer : Setup) (shard : ℕ) (history : List Entr
         legal =
             subst (IsLegalHistory (grounds_in version issuer) shard) joined
             (legal-more (grounds_in version issuer) shard (history ++ before.entries) takes.entry before.legal takes.legal);
-        stands = subst (StandsFor issuer new) joined takes.stands;
+        stands = subst (RowsStandFor issuer new) joined takes.stands;
       }
 
   -- or a bad line

@@ -25,7 +25,7 @@ use Rattle.shard_book.specs.Loading.{IsWithin, StopsText, is_store_failure}
 use Rattle.shard_book.specs.Loads.{CountsBoth, HaveRoom, IsLoadedFrom, IsNotLoaded, loaded_size}
 use Rattle.shard_book.specs.Migrating.{Continues, Moves}
 use Rattle.shard_book.specs.Room.{LoadsWithin}
-use Rattle.shard_book.specs.ShardRows.{ShardRows, AreRowsOf, StandsFor as RowsStandFor}
+use Rattle.shard_book.specs.ShardRows.{ShardRows, AreRowsOf, RowsStandFor}
 use Rattle.shard_book.specs.Shards.{disk_in, faults_in, places_in, told_in, IsUndoubted, IsJournalOf, IsLoaded}
 use Rattle.shard_book.specs.Shards.{IsCutToText, IsMigrated, IsTakenFor, LeavesBytes}
 use Rattle.shard_book.specs.Versions.{HasText, IsPartOf}

@@ -11,7 +11,7 @@ use Rattle.counter_bits.specs.CounterSets.{has}
 use Rattle.issuer_setup.specs.declared.card.CardInfo.{CardInfo}
 use Rattle.issuer_setup.specs.IssuerSetup.{Setup}
 use Rattle.row_core.specs.CardRow.{CardRow, StandsFor as RowStandsFor}
-use Rattle.shard_book.specs.ShardRows.{ShardRows, Covers, AreRowsOf, AreEmpty, IsEmptyAt, StandsFor, is_decided}
+use Rattle.shard_book.specs.ShardRows.{ShardRows, Covers, AreRowsOf, AreEmpty, IsEmptyAt, RowsStandFor, is_decided}
 
 -- a number from its index and its shard
 pub number-from : (number shards shard : ℕ) → number % shards ≡ shard → number ≡ shard + (number / shards) * shards
@@ -49,7 +49,7 @@ empty-covers issuer rows inside small of_issuer empty sets = record {
 }
 
 pub empty-stands : (issuer : Setup) (rows : ShardRows) → Covers rows → AreRowsOf issuer rows → AreEmpty issuer rows.shard rows.rows
-    → ((index counter : ℕ) → has rows.bits index counter ≡ false) → StandsFor issuer rows []
+    → ((index counter : ℕ) → has rows.bits index counter ≡ false) → RowsStandFor issuer rows []
 unfolding is_decided
 empty-stands issuer rows covers of_issuer empty none = record {
   of_issuer = of_issuer;

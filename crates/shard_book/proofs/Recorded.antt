@@ -15,7 +15,7 @@ use Rattle.card_history.specs.Records.{decided}
 use Rattle.issuer_setup.specs.declared.card.CardInfo.{CardInfo}
 use Rattle.issuer_setup.specs.CardList.{name_of}
 use Rattle.issuer_setup.specs.IssuerSetup.{Setup}
-use Rattle.shard_book.specs.ShardRows.{ShardRows, Covers, Lists, StandsFor, is_decided}
+use Rattle.shard_book.specs.ShardRows.{ShardRows, Covers, Lists, RowsStandFor, is_decided}
 use Rattle.shard_book.specs.Recorded.{IsRecorded, AddsRecorded}
 use Rattle.shard_book.proofs.Places.{number-from}
 
@@ -95,7 +95,7 @@ lists-more rows covers index number counter =
     omega (arith, step, counted)
 
 -- ---- what is listed is recorded
-module _ (issuer : Setup) (rows : ShardRows) (covers : Covers rows) (history : List Entry) (stands : StandsFor issuer rows history) (number counter : ℕ) where
+module _ (issuer : Setup) (rows : ShardRows) (covers : Covers rows) (history : List Entry) (stands : RowsStandFor issuer rows history) (number counter : ℕ) where
   abbrev is_listed : Bool
   is_listed = eqb (number % rows.shards) rows.shard && (ltb (number / rows.shards) rows.bits.cards && has rows.bits (number / rows.shards) counter)
 
@@ -140,7 +140,7 @@ module _ (issuer : Setup) (rows : ShardRows) (covers : Covers rows) (history : L
       (row.counters_are counter ∙ any))
 
 -- so the recorded ATCs were appended to the list
-pub adds-recorded : (issuer : Setup) (rows : ShardRows) → Covers rows → (history : List Entry) → StandsFor issuer rows history → (list longer : List (ℕ × ℕ))
+pub adds-recorded : (issuer : Setup) (rows : ShardRows) → Covers rows → (history : List Entry) → RowsStandFor issuer rows history → (list longer : List (ℕ × ℕ))
     → take (length list) longer ≡ list → Lists rows list longer → AddsRecorded issuer rows.shard history list longer
 adds-recorded issuer rows covers history stands list longer kept lists =
     let added : List (ℕ × ℕ) = drop (length list) longer in

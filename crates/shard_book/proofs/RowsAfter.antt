@@ -14,7 +14,7 @@ use Rattle.issuer_setup.specs.CardList.{name_of, AreCards}
 use Rattle.issuer_setup.specs.IssuerSetup.{Setup}
 use Rattle.row_core.specs.CardRow.{CardRow, KeptScripts, StandsFor as RowStandsFor}
 use Rattle.row_core.proofs.OtherCards.{stands-other}
-use Rattle.shard_book.specs.ShardRows.{ShardRows, IsHome, Covers, RowStands, StandsFor, is_decided}
+use Rattle.shard_book.specs.ShardRows.{ShardRows, IsHome, Covers, RowStands, RowsStandFor, is_decided}
 use Rattle.shard_book.specs.Steps.{IsCardOf}
 use Rattle.shard_book.proofs.Places.{places-differ}
 use Rattle.shard_book.proofs.Marks.{Marks, is_on, marked-there, marked-elsewhere, decided-its, decided-elsewhere}
@@ -53,7 +53,7 @@ abbrev pub after : ShardRows → ℕ → CardRow → CounterSets → ShardRows
 after rows number row bits =
     record { shard = rows.shard; shards = rows.shards; cards = rows.cards; rows = set rows.rows (number / rows.shards) row; bits = bits }
 
-module _ (issuer : Setup) (rows : ShardRows) (history : List Entry) (stands : StandsFor issuer rows history) (number : ℕ) (home : IsHome rows number)
+module _ (issuer : Setup) (rows : ShardRows) (history : List Entry) (stands : RowsStandFor issuer rows history) (number : ℕ) (home : IsHome rows number)
     (row : CardRow) (row_is : slice_get rows.rows (number / rows.shards) ≡ Some row) where
   -- the row that was found at a card's place stands for the history
   pub row-there : (card : CardInfo) → slice_get issuer.cards number ≡ Some card → RowStandsFor card row history
@@ -68,7 +68,7 @@ module _ (issuer : Setup) (rows : ShardRows) (history : List Entry) (stands : St
   -- where the card's row stands for one record more, the rows do
   pub stands-more : (card : CardInfo) (entry : Entry) (new : CardRow) (bits : CounterSets) → IsCardOf issuer number card → card_in entry ≡ name_of card
       → Marks rows.bits bits (number / rows.shards) entry
-      → (RowStandsFor card row history → RowStandsFor card new (history ++ entry ∷ [])) → StandsFor issuer (after rows number new bits) (history ++ entry ∷ [])
+      → (RowStandsFor card row history → RowStandsFor card new (history ++ entry ∷ [])) → RowsStandFor issuer (after rows number new bits) (history ++ entry ∷ [])
   stands-more card entry new bits known its marks gains = record {
     of_issuer = record { shards_are = stands.of_issuer.shards_are; cards_are = stands.of_issuer.cards_are };
     each = λ other other_card other_home other_is.
@@ -129,9 +129,9 @@ is-read {rows} {now} {number} {place} {row} view covers home place_is row_is =
     }
 
 module _ (issuer : Setup) {rows now : ShardRows} {number place : ℕ} {row : CardRow} (read : IsRead rows now number place row) (card : CardInfo)
-    (history : List Entry) (stands : StandsFor issuer now history) (known : IsCardOf issuer number card) where
-  inside : StandsFor issuer rows history
-  inside = subst (λ (rows : ShardRows). StandsFor issuer rows history) (sym read.view) stands
+    (history : List Entry) (stands : RowsStandFor issuer now history) (known : IsCardOf issuer number card) where
+  inside : RowsStandFor issuer rows history
+  inside = subst (λ (rows : ShardRows). RowsStandFor issuer rows history) (sym read.view) stands
 
   -- it stands for the history
   pub row-inside : RowStandsFor card row history
@@ -144,10 +144,10 @@ module _ (issuer : Setup) {rows now : ShardRows} {number place : ℕ} {row : Car
   -- and it is changed so that it stands for one record more
   pub step-more : (entry : Entry) (new : CardRow) (bits : CounterSets) → card_in entry ≡ name_of card → Marks rows.bits bits place entry
       → (RowStandsFor card row history → RowStandsFor card new (history ++ entry ∷ []))
-      → StandsFor issuer (record { shard = rows.shard; shards = rows.shards; cards = rows.cards; rows = set rows.rows place new; bits = bits })
+      → RowsStandFor issuer (record { shard = rows.shard; shards = rows.shards; cards = rows.cards; rows = set rows.rows place new; bits = bits })
       (history ++ entry ∷ [])
   step-more entry new bits its marks gains =
       let marks_there : Marks rows.bits bits (number / rows.shards) entry = subst (λ place. Marks rows.bits bits place entry) read.place_is marks in
-      subst (λ place. StandsFor issuer (record { shard = rows.shard; shards = rows.shards; cards = rows.cards; rows = set rows.rows place new; bits = bits })
+      subst (λ place. RowsStandFor issuer (record { shard = rows.shard; shards = rows.shards; cards = rows.cards; rows = set rows.rows place new; bits = bits })
       (history ++ entry ∷ []))
       (sym read.place_is) (stands-more issuer rows history inside number read.home row read.row_is card entry new bits known its marks_there gains)

@@ -27,7 +27,7 @@ use Rattle.record_store.specs.Holding.{Holds}
 use Rattle.record_store.specs.Images.{HasSafeText, IsImage, IsEitherImage}
 use Rattle.record_store.proofs.Passing.{leaves-image}
 use Rattle.shard_book.specs.declared.shard.Shard.{Shard}
-use Rattle.shard_book.specs.ShardRows.{ShardRows, AreSame, StandsFor as RowsStandFor}
+use Rattle.shard_book.specs.ShardRows.{ShardRows, AreSame, RowsStandFor}
 use Rattle.shard_book.specs.Grounds.{IsTail, IsImageOf, grounds_now}
 use Rattle.shard_book.specs.Shards.{HasTail, HoldsHistory, StandsFor, Adds}
 

@@ -13,7 +13,7 @@ use Rattle.shard_book.specs.declared.replay.Version.{Version}
 use Rattle.shard_book.specs.declared.replay.Version.TheVariants.{One, Two}
 use Rattle.shard_book.specs.Grounds.{grounds_old}
 use Rattle.shard_book.specs.Histories.{GoesOn}
-use Rattle.shard_book.specs.ShardRows.{ShardRows, StandsFor}
+use Rattle.shard_book.specs.ShardRows.{ShardRows, RowsStandFor}
 use Rattle.shard_book.specs.Versions.{bad_line, bad_record, grounds_in, text_in, HasText}
 
 -- the line after these records is bad: it is that of no record, or of one that is no valid successor
@@ -29,7 +29,7 @@ pub record TakesLine (version : Version) (issuer : Setup) (shard : ℕ) (history
   pub entry : Entry
   pub line_is : IsLineOf entry line
   pub legal : IsLegal (grounds_in version issuer) shard history entry
-  pub stands : StandsFor issuer new (history ++ entry ∷ [])
+  pub stands : RowsStandFor issuer new (history ++ entry ∷ [])
 
 -- the text begins with these records, each a valid successor, and the rows have them
 pub record TakesLines (version : Version) (issuer : Setup) (shard : ℕ) (history : List Entry) (text : List ℕ)
@@ -39,7 +39,7 @@ pub record TakesLines (version : Version) (issuer : Setup) (shard : ℕ) (histor
   pub text_is : take taken.bytes text ≡ texts_of entries
   pub records : All IsRecord entries
   pub legal : IsLegalHistory (grounds_in version issuer) shard (history ++ entries)
-  pub stands : StandsFor issuer new (history ++ entries)
+  pub stands : RowsStandFor issuer new (history ++ entries)
 
 -- the text begins with records, each a valid successor, and then has a bad line
 pub record StopsLines (version : Version) (issuer : Setup) (shard : ℕ) (history : List Entry) (text : List ℕ)
@@ -75,7 +75,7 @@ pub record ReadsFront (version : Version) (issuer : Setup) (shard : ℕ) (first 
   pub front_is : IfSome bytes (λ text. take taken.bytes text ≡ text_in version history)
   pub records : All IsRecord history
   pub legal : IsLegalHistory (grounds_in version issuer) shard history
-  pub stands : StandsFor issuer rows history
+  pub stands : RowsStandFor issuer rows history
   pub count_is : taken.records ≡ length history
   pub sure_is : taken.bytes ≡ length (text_in version history)
 
@@ -88,7 +88,7 @@ pub record ReadsText (version : Version) (issuer : Setup) (shard : ℕ) (first :
   pub text_is : IfSome bytes (HasText version history)
   pub records : All IsRecord history
   pub legal : IsLegalHistory (grounds_in version issuer) shard history
-  pub stands : StandsFor issuer rows history
+  pub stands : RowsStandFor issuer rows history
   pub count_is : taken.records ≡ length history
   pub sure_is : taken.bytes ≡ length (text_in version history)
 

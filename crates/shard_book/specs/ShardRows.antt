@@ -56,7 +56,7 @@ pub record RowStands (rows : ShardRows) (number : ℕ) (card : CardInfo) (histor
       → has rows.bits (number / rows.shards) counter ≡ is_decided counter (decided (name_of card) history)
 
 -- the row of each of the shard's cards stands for the history
-pub record StandsFor (issuer : Setup) (rows : ShardRows) (history : List Entry) : Type 0 where
+pub record RowsStandFor (issuer : Setup) (rows : ShardRows) (history : List Entry) : Type 0 where
   pub of_issuer : AreRowsOf issuer rows
   pub each : (number : ℕ) (card : CardInfo) → IsHome rows number → slice_get issuer.cards number ≡ Some card
       → RowStands rows number card history

@@ -16,7 +16,7 @@ use Rattle.record_store.specs.Holding.{Holds}
 use Rattle.shard_book.specs.declared.replay.LoadFault.{LoadFault}
 use Rattle.shard_book.specs.declared.replay.LoadFault.TheVariants.{StoreFault as StoreFailed}
 use Rattle.shard_book.specs.declared.shard.Shard.{Shard}
-use Rattle.shard_book.specs.ShardRows.{AreRowsOf, IsHome, StandsFor as RowsStandFor}
+use Rattle.shard_book.specs.ShardRows.{AreRowsOf, IsHome, RowsStandFor}
 use Rattle.shard_book.specs.Grounds.{IsTail, IsImageOf, grounds_now, grounds_of}
 use Rattle.shard_book.specs.Histories.{IsLegalSince}
 use Rattle.shard_book.specs.Versions.{HasText, IsPartOf}

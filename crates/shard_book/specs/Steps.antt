@@ -21,7 +21,7 @@ use Rattle.row_core.specs.declared.scripts.Launch.{Launch}
 use Rattle.row_core.specs.declared.row.Outcome.{Outcome}
 use Rattle.row_core.specs.declared.row.Outcome.TheVariants.{Fresh}
 use Rattle.line_checks.specs.declared.checked.CheckedRequest.{CheckedRequest}
-use Rattle.shard_book.specs.ShardRows.{ShardRows, StandsFor}
+use Rattle.shard_book.specs.ShardRows.{ShardRows, RowsStandFor}
 
 -- the issuer's card with this number
 pub record IsCardOf (issuer : Setup) (number : ℕ) (card : CardInfo) : Type 0 where
@@ -31,7 +31,7 @@ pub record IsCardOf (issuer : Setup) (number : ℕ) (card : CardInfo) : Type 0 w
 -- the plan for this request is the shard's answer to it, after each history that the rows stand for
 abbrev pub IsPlanFor : Setup → ShardRows → CheckedRequest → Outcome → Type 0
 IsPlanFor issuer rows found outcome =
-    (history : List Entry) → StandsFor issuer rows history
+    (history : List Entry) → RowsStandFor issuer rows history
     → Answers rows.shard (reply_to issuer) history found.request (answer_of rows.shard (length history) outcome)
     (history_after history found.request outcome)
 
@@ -48,14 +48,14 @@ IsStepFor rows found _ = Unit {0}
 -- the decision of this request, a valid successor, is added
 abbrev pub Applies : ShardRows → CheckedRequest → Decision → ShardRows → Type 0
 Applies old found step new =
-    (issuer : Setup) (card : CardInfo) (history : List Entry) → StandsFor issuer old history
+    (issuer : Setup) (card : CardInfo) (history : List Entry) → RowsStandFor issuer old history
     → IsCardOf issuer found.card card
-    → IsNext card history step → step.request ≡ found.request → StandsFor issuer new (with_record history step)
+    → IsNext card history step → step.request ≡ found.request → RowsStandFor issuer new (with_record history step)
 
 -- whether the decision of this request of a card is a valid successor by this window
 abbrev pub Accepts : ℕ → ShardRows → CheckedRequest → Reply → Bool → Type 0
 Accepts window rows found reply accepted =
-    (issuer : Setup) (card : CardInfo) (history : List Entry) → StandsFor issuer rows history
+    (issuer : Setup) (card : CardInfo) (history : List Entry) → RowsStandFor issuer rows history
     → IsCardOf issuer found.card card
     → card_of found.request ≡ name_of card
     → (IsTrue accepted ↔ IsValidSuccessor window card.method found.keys history found.request reply)
@@ -63,29 +63,29 @@ Accepts window rows found reply accepted =
 -- the decision is replayed
 abbrev pub Adopts : ShardRows → CheckedRequest → Reply → ℕ → ShardRows → Type 0
 Adopts old found reply place new =
-    (issuer : Setup) (card : CardInfo) (history : List Entry) → StandsFor issuer old history
+    (issuer : Setup) (card : CardInfo) (history : List Entry) → RowsStandFor issuer old history
     → IsCardOf issuer found.card card
     → card_of found.request ≡ name_of card → place ≡ length history
-    → StandsFor issuer new (history ++ Decided found.request reply ∷ [])
+    → RowsStandFor issuer new (history ++ Decided found.request reply ∷ [])
 
 -- whether the card's queue accepts one more command
 abbrev pub TakesCommand : ShardRows → ℕ → Bool → Type 0
 TakesCommand rows number takes =
-    (issuer : Setup) (card : CardInfo) (history : List Entry) → StandsFor issuer rows history
+    (issuer : Setup) (card : CardInfo) (history : List Entry) → RowsStandFor issuer rows history
     → IsCardOf issuer number card
     → (IsTrue takes ↔ TakesOneMore (waiting (scripts_of (name_of card) history)))
 
 -- the command is queued for this card, whose queue accepts it
 abbrev pub Queues : ShardRows → ℕ → Command → ShardRows → Type 0
 Queues old number command new =
-    (issuer : Setup) (card : CardInfo) (history : List Entry) → StandsFor issuer old history
+    (issuer : Setup) (card : CardInfo) (history : List Entry) → RowsStandFor issuer old history
     → IsCardOf issuer number card
     → TakesOneMore (waiting (scripts_of (name_of card) history))
-    → StandsFor issuer new (with_command_for history card command)
+    → RowsStandFor issuer new (with_command_for history card command)
 
 -- this card has the status
 abbrev pub SetsStatus : ShardRows → ℕ → ℕ → ShardRows → Type 0
 SetsStatus old number status new =
-    (issuer : Setup) (card : CardInfo) (history : List Entry) → StandsFor issuer old history
+    (issuer : Setup) (card : CardInfo) (history : List Entry) → RowsStandFor issuer old history
     → IsCardOf issuer number card
-    → StandsFor issuer new (with_status_for history card status)
+    → RowsStandFor issuer new (with_status_for history card status)

@@ -12,7 +12,7 @@ use Rattle.shard_book.specs.declared.taking.TakeFault.{TakeFault}
 use Rattle.shard_book.specs.declared.taking.TakeFault.TheVariants.{NotLegal, StoreFault}
 use Rattle.shard_book.specs.Calls.{KeepsCall}
 use Rattle.shard_book.specs.Grounds.{grounds_of, IsImageOf}
-use Rattle.shard_book.specs.ShardRows.{StandsFor as RowsStandFor}
+use Rattle.shard_book.specs.ShardRows.{RowsStandFor}
 use Rattle.shard_book.specs.Shards.{number_in, IsUnder, disk_in, HasTail, HoldsHistory, IsSettled}
 
 -- whether the store failed

@@ -12,7 +12,7 @@ ghost use Rattle.row_core.specs.Accepting.{IsValidSuccessor};
 ghost use Rattle.journal_rec.specs.Record.{is_record};
 ghost use Rattle.shard_book.specs.Grounds.{grounds_by, IsMadeBy};
 ghost use Rattle.shard_book.specs.Versions.{grounds_in};
-ghost use Rattle.shard_book.specs.ShardRows.{AreRowsOf, AreSame, IsHome, StandsFor};
+ghost use Rattle.shard_book.specs.ShardRows.{AreRowsOf, AreSame, IsHome, RowsStandFor};
 ghost use Rattle.shard_book.specs.Steps.{IsCardOf};
 
 use crate::replay::Version;
@@ -32,10 +32,10 @@ impl Rows {
     ) -> bool
         requires rows { AreRowsOf issuer.now self.old }
         requires form { IsTrue (is_record entry) }
-        ensures exact { (history : List Entry) → StandsFor issuer.now self.old history
+        ensures exact { (history : List Entry) → RowsStandFor issuer.now self.old history
             → (IsTrue result ↔ IsLegal (grounds_in version issuer.now) self.old.shard history entry) }
-        ensures adopted { IsTrue result → (history : List Entry) → StandsFor issuer.now self.old history
-            → place ≡ length history → StandsFor issuer.now self.new (history ++ entry ∷ []) }
+        ensures adopted { IsTrue result → (history : List Entry) → RowsStandFor issuer.now self.old history
+            → place ≡ length history → RowsStandFor issuer.now self.new (history ++ entry ∷ []) }
         ensures same { AreSame self.old self.new }
     {
         match entry {
@@ -57,10 +57,10 @@ impl Rows {
         place: u64,
     ) -> bool
         requires { AreRowsOf issuer.now self.old }
-        ensures exact { (history : List Entry) → StandsFor issuer.now self.old history
+        ensures exact { (history : List Entry) → RowsStandFor issuer.now self.old history
             → (IsTrue result ↔ IsLegalDecision (grounds_in version issuer.now) self.old.shard history request reply) }
-        ensures adopted { IsTrue result → (history : List Entry) → StandsFor issuer.now self.old history
-            → place ≡ length history → StandsFor issuer.now self.new (history ++ Entry.Decided request reply ∷ []) }
+        ensures adopted { IsTrue result → (history : List Entry) → RowsStandFor issuer.now self.old history
+            → place ≡ length history → RowsStandFor issuer.now self.new (history ++ Entry.Decided request reply ∷ []) }
         ensures same { AreSame self.old self.new }
     {
         let Ok(found) = check_request(issuer, request) else {
@@ -76,11 +76,11 @@ impl Rows {
     fn adopt_command(&mut self, issuer: &Issuer, pan: Pan, psn: u8, command: Command) -> bool
         requires rows { AreRowsOf issuer.now self.old }
         requires form { IsTrue (is_command command) }
-        ensures exact { (window : ℕ) (history : List Entry) → StandsFor issuer.now self.old history
+        ensures exact { (window : ℕ) (history : List Entry) → RowsStandFor issuer.now self.old history
             → (IsTrue result ↔ IsLegalCommand (grounds_by issuer.now window (IsMadeBy issuer.now)) self.old.shard history
             (named pan psn) command) }
-        ensures adopted { IsTrue result → (history : List Entry) → StandsFor issuer.now self.old history
-            → StandsFor issuer.now self.new (history ++ Entry.Queued pan psn command ∷ []) }
+        ensures adopted { IsTrue result → (history : List Entry) → RowsStandFor issuer.now self.old history
+            → RowsStandFor issuer.now self.new (history ++ Entry.Queued pan psn command ∷ []) }
         ensures same { AreSame self.old self.new }
     {
         let Some(card) = issuer.card(&pan, psn) else {
@@ -100,11 +100,11 @@ impl Rows {
     fn adopt_status(&mut self, issuer: &Issuer, pan: Pan, psn: u8, status: u8) -> bool
         requires rows { AreRowsOf issuer.now self.old }
         requires within { status ≤ MAX_STATUS }
-        ensures exact { (window : ℕ) (history : List Entry) → StandsFor issuer.now self.old history
+        ensures exact { (window : ℕ) (history : List Entry) → RowsStandFor issuer.now self.old history
             → (IsTrue result ↔ IsLegalStatus (grounds_by issuer.now window (IsMadeBy issuer.now)) self.old.shard
             (named pan psn) status) }
-        ensures adopted { IsTrue result → (history : List Entry) → StandsFor issuer.now self.old history
-            → StandsFor issuer.now self.new (history ++ Entry.Status pan psn status ∷ []) }
+        ensures adopted { IsTrue result → (history : List Entry) → RowsStandFor issuer.now self.old history
+            → RowsStandFor issuer.now self.new (history ++ Entry.Status pan psn status ∷ []) }
         ensures same { AreSame self.old self.new }
     {
         let Some(card) = issuer.card(&pan, psn) else {

@@ -8,7 +8,7 @@ ghost use Rattle.shard_book.specs.declared.replay.Version.TheVariants.{One};
 ghost use Rattle.shard_book.specs.Loading.{IsWithin, ReadsText, is_by_store, is_store_failure};
 ghost use Rattle.shard_book.specs.Loads.{CountsBoth, IsOnlyRead, loaded_size};
 ghost use Rattle.shard_book.specs.Migrating.{Agree, Continues, StopsShort};
-ghost use Rattle.shard_book.specs.ShardRows.{AreRowsOf, StandsFor};
+ghost use Rattle.shard_book.specs.ShardRows.{AreRowsOf, RowsStandFor};
 
 use crate::migrating::{append_steps, check_text, text_bytes};
 use crate::reading::take_text;
@@ -80,7 +80,7 @@ fn take_both<S: Store>(
     ours: &mut [u8],
     theirs: &mut [u8],
 ) -> Result<TakenOver, LoadFault>
-    requires rows { StandsFor issuer.now rows [] }
+    requires rows { RowsStandFor issuer.now rows [] }
     requires few { S.size old.old ≤ MAX_STORE_BYTES }
     requires ours { MOST_RECORD_BYTES ≤ length ours.old }
     requires theirs { MOST_RECORD_BYTES ≤ length theirs.old }

@@ -8,7 +8,7 @@ ghost use Rattle.journal_rec.specs.RecordText.{IsUnbroken};
 ghost use Rattle.record_store.specs.Images.{OnlyReads};
 ghost use Rattle.shard_book.specs.LineAhead.{HasLineAhead};
 ghost use Rattle.shard_book.specs.Loading.{IsWithin, ReadsFront, ReadsText, StopsReplay, is_by_store};
-ghost use Rattle.shard_book.specs.ShardRows.{ShardRows, AreRowsOf, AreSame, StandsFor};
+ghost use Rattle.shard_book.specs.ShardRows.{ShardRows, AreRowsOf, AreSame, RowsStandFor};
 
 use crate::replay::{LoadFault, Taken, TakenOver, Version, next_newline};
 use crate::rows::Rows;

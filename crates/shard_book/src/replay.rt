@@ -6,7 +6,7 @@ ghost use Rattle.card_history.specs.LegalRecords.{IsLegalHistory};
 ghost use Rattle.journal_rec.specs.RecordText.{IsUnbroken};
 ghost use Rattle.shard_book.specs.LineAhead.{IsLineAhead};
 ghost use Rattle.shard_book.specs.Versions.{bad_line, bad_record, grounds_in};
-ghost use Rattle.shard_book.specs.ShardRows.{AreRowsOf, AreSame, StandsFor};
+ghost use Rattle.shard_book.specs.ShardRows.{AreRowsOf, AreSame, RowsStandFor};
 
 use crate::rows::Rows;
 use issuer_setup::Issuer;
@@ -98,12 +98,12 @@ impl Rows {
     ) -> Result<Taken, LoadFault>
         requires rows { AreRowsOf issuer.now self.old }
         requires room { place + place + length text.now < 2 ^ 64 }
-        ensures taken { (history : List Entry) → StandsFor issuer.now self.old history → place ≡ length history
+        ensures taken { (history : List Entry) → RowsStandFor issuer.now self.old history → place ≡ length history
             → IsLegalHistory (grounds_in version issuer.now) self.old.shard history
             → IfOk result (λ taken. TakesLines version issuer.now self.old.shard history text.now taken self.new) }
         ensures rest { IfOk result (λ taken. IsUnbroken (drop taken.bytes text.now)) }
         ensures within { IfOk result (λ taken. IsWithin taken (length text.now)) }
-        ensures stopped { (history : List Entry) → StandsFor issuer.now self.old history → place ≡ length history
+        ensures stopped { (history : List Entry) → RowsStandFor issuer.now self.old history → place ≡ length history
             → IsLegalHistory (grounds_in version issuer.now) self.old.shard history
             → IfErr result (StopsLines version issuer.now self.old.shard history text.now) }
         ensures own { IfErr result (λ fault. is_store_failure fault ≡ false) }
@@ -142,10 +142,10 @@ impl Rows {
     ) -> Result<(), LoadFault>
         requires rows { AreRowsOf issuer.now self.old }
         requires room { place + 2 < 2 ^ 64 }
-        ensures taken { (history : List Entry) → StandsFor issuer.now self.old history → place ≡ length history
+        ensures taken { (history : List Entry) → RowsStandFor issuer.now self.old history → place ≡ length history
             → OnOk result (TakesLine version issuer.now self.old.shard history line.now self.new) }
         ensures long { OnOk result (0 < length line.now) }
-        ensures bad { (history : List Entry) → StandsFor issuer.now self.old history → place ≡ length history
+        ensures bad { (history : List Entry) → RowsStandFor issuer.now self.old history → place ≡ length history
             → IfErr result (IsBad version issuer.now self.old.shard history line.now) }
         ensures own { IfErr result (λ fault. is_store_failure fault ≡ false) }
         ensures memory { IfErr result (λ fault. fault ≢ LoadFault.NoMemory) }

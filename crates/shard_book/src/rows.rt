@@ -12,7 +12,7 @@ ghost use Rattle.row_core.specs.Accepting.{IsValidSuccessor};
 ghost use Rattle.row_core.specs.CardRow.{StandsFor as RowStandsFor};
 ghost use Rattle.key_derive.specs.SessionKey.{session_of};
 ghost use Rattle.line_checks.specs.AtHand.{IsRequestAtHand};
-ghost use Rattle.shard_book.specs.ShardRows.{AreRowsOf, AreSame, IsHome, AreEmpty, Covers, Lists, StandsFor};
+ghost use Rattle.shard_book.specs.ShardRows.{AreRowsOf, AreSame, IsHome, AreEmpty, Covers, Lists, RowsStandFor};
 ghost use Rattle.shard_book.specs.Versions.{window_in};
 ghost use Rattle.shard_book.specs.Steps.{IsPlanFor, IsLaunchAt, IsStepFor, Applies, Accepts, Adopts, Queues, TakesCommand, SetsStatus};
 
@@ -58,7 +58,7 @@ impl Rows {
         requires { shard < issuer.now.shards }
         ensures rows { IfOk result (AreRowsOf issuer.now) }
         ensures shard { IfOk result (λ rows. rows.shard ≡ shard) }
-        ensures empty { IfOk result (λ rows. StandsFor issuer.now rows []) }
+        ensures empty { IfOk result (λ rows. RowsStandFor issuer.now rows []) }
     {
         let shards = issuer.shards();
         let cards = issuer.cards();

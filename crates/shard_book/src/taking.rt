@@ -8,7 +8,7 @@ ghost use Rattle.card_history.specs.Records.{named};
 ghost use Rattle.journal_rec.specs.Record.{is_record};
 ghost use Rattle.key_derive.specs.SessionKey.{session_of};
 ghost use Rattle.shard_book.specs.Grounds.{grounds_of};
-ghost use Rattle.shard_book.specs.ShardRows.{AreRowsOf, IsHome, StandsFor};
+ghost use Rattle.shard_book.specs.ShardRows.{AreRowsOf, IsHome, RowsStandFor};
 ghost use Rattle.shard_book.specs.Steps.{Accepts};
 
 use crate::rows::Rows;
@@ -32,7 +32,7 @@ impl Rows {
     pub(crate) fn accepts(&self, issuer: &Issuer, entry: &Entry) -> bool
         requires rows { AreRowsOf issuer.now self.now }
         requires form { IsTrue (is_record entry.now) }
-        ensures { (history : List Entry) → StandsFor issuer.now self.now history
+        ensures { (history : List Entry) → RowsStandFor issuer.now self.now history
             → (IsTrue result ↔ IsLegal (grounds_of issuer.now) self.now.shard history entry.now) }
     {
         match entry {
@@ -45,7 +45,7 @@ impl Rows {
     /// Whether a decision is a valid successor.
     fn accepts_decision(&self, issuer: &Issuer, request: &Request, reply: &Reply) -> bool
         requires { AreRowsOf issuer.now self.now }
-        ensures { (history : List Entry) → StandsFor issuer.now self.now history
+        ensures { (history : List Entry) → RowsStandFor issuer.now self.now history
             → (IsTrue result ↔ IsLegalDecision (grounds_of issuer.now) self.now.shard history request.now reply.now) }
     {
         let Ok(found) = check_request(issuer, request.copy()) else {
@@ -71,7 +71,7 @@ impl Rows {
     fn accepts_command(&self, issuer: &Issuer, pan: &Pan, psn: u8, command: &Command) -> bool
         requires rows { AreRowsOf issuer.now self.now }
         requires form { IsTrue (is_command command.now) }
-        ensures { (history : List Entry) → StandsFor issuer.now self.now history
+        ensures { (history : List Entry) → RowsStandFor issuer.now self.now history
             → (IsTrue result ↔ IsLegalCommand (grounds_of issuer.now) self.now.shard history (named pan.now psn)
             command.now) }
     {

@@ -3,12 +3,12 @@ use Rattle.std.proofs.Common.{◌↔◌, [], ◌∷◌, ◌++◌, sym, subst, Is
 use Rattle.issuer_base.specs.declared.entry.Entry.{Entry}
 use Rattle.card_history.specs.LegalRecords.{IsLegal}
 use Rattle.shard_book.specs.Versions.{grounds_in, window_in}
-use Rattle.shard_book.specs.ShardRows.{StandsFor}
+use Rattle.shard_book.specs.ShardRows.{RowsStandFor}
 use Rattle.shard_book.proofs.rows.Rows.adopt.Goals as goal
 
 pub returns-in-Queued-clause-adopted : goal.returns-in-Queued-clause-adopted
 returns-in-Queued-clause-adopted c taken history stands at_end =
-    subst (λ (entry : Entry). StandsFor c.args.issuer.now c.adopt_command.new.self (history ++ entry ∷ [])) (sym c.in-Queued.is)
+    subst (λ (entry : Entry). RowsStandFor c.args.issuer.now c.adopt_command.new.self (history ++ entry ∷ [])) (sym c.in-Queued.is)
     (c.adopt_command.ensures.adopted taken history stands)
 
 pub returns-in-Status-clause-exact : goal.returns-in-Status-clause-exact
@@ -18,7 +18,7 @@ returns-in-Status-clause-exact c history stands =
 
 pub returns-in-Status-clause-adopted : goal.returns-in-Status-clause-adopted
 returns-in-Status-clause-adopted c taken history stands at_end =
-    subst (λ (entry : Entry). StandsFor c.args.issuer.now c.adopt_status.new.self (history ++ entry ∷ [])) (sym c.in-Status.is)
+    subst (λ (entry : Entry). RowsStandFor c.args.issuer.now c.adopt_status.new.self (history ++ entry ∷ [])) (sym c.in-Status.is)
     (c.adopt_status.ensures.adopted taken history stands)
 
 pub returns-in-Queued-clause-exact : goal.returns-in-Queued-clause-exact

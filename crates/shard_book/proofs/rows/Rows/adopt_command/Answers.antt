@@ -5,7 +5,7 @@ use Rattle.issuer_base.specs.declared.entry.Entry.TheVariants.{Queued}
 use Rattle.card_history.specs.Records.{CardName, named}
 use Rattle.card_history.specs.Scripts.{waiting, scripts_of}
 use Rattle.script_queue.specs.CommandQueue.{TakesOneMore}
-use Rattle.shard_book.specs.ShardRows.{StandsFor}
+use Rattle.shard_book.specs.ShardRows.{RowsStandFor}
 use Rattle.shard_book.proofs.Adopted.{home-found, card-at_home}
 use Rattle.shard_book.proofs.LegalNext.{IsFound, card-found}
 use Rattle.shard_book.proofs.rows.Rows.adopt_command.Goals.{After-takes_command}
@@ -51,5 +51,5 @@ pub returns-clause-adopted : goal.returns-clause-adopted
 returns-clause-adopted c taken history stands =
     let card = found (goal.at.returns-clause-adopted c).After-takes_command in
     let takes = c.takes_command.ensures c.args.issuer.now card.card history stands card.known in
-    subst (λ (name : CardName). StandsFor c.args.issuer.now c.push.new.self (history ++ Queued name.pan name.psn c.args.command ∷ [])) card.named
+    subst (λ (name : CardName). RowsStandFor c.args.issuer.now c.push.new.self (history ++ Queued name.pan name.psn c.args.command ∷ [])) card.named
     (c.push.ensures.queued c.args.issuer.now card.card history stands card.known (takes.0 c.if-not-takes_command.false))

@@ -7,7 +7,7 @@ use Rattle.card_history.specs.LegalRecords.{IsLegalDecision}
 use Rattle.card_history.specs.Records.{card_of}
 use Rattle.line_checks.specs.Reading.{checked}
 use Rattle.shard_book.specs.Versions.{grounds_in}
-use Rattle.shard_book.specs.ShardRows.{StandsFor}
+use Rattle.shard_book.specs.ShardRows.{RowsStandFor}
 use Rattle.shard_book.proofs.Adopted.{checked-own, card-at_home, decision-follows, decision-legal}
 use Rattle.shard_book.proofs.LegalNext.{card-found}
 use Rattle.shard_book.proofs.rows.Rows.adopt_decision.Goals as goal
@@ -42,5 +42,5 @@ returns-clause-adopted c taken history stands at_end =
     let asked : Request = found.request in
     let own : asked ≡ c.args.request = checked-own issuer c.args.request asked (sym c.in-Ok.ensures.request) in
     let card = card-found issuer (card_of asked) found.card c.in-Ok.ensures.at_hand.card_is in
-    subst (λ (r : Request). StandsFor issuer c.adopt_checked.new.self (history ++ Decided r c.args.reply ∷ [])) own
+    subst (λ (r : Request). RowsStandFor issuer c.adopt_checked.new.self (history ++ Decided r c.args.reply ∷ [])) own
     (c.adopt_checked.ensures.adopted taken issuer card.card history stands card.known (sym card.named) at_end)

@@ -3,7 +3,7 @@ use Rattle.std.proofs.Common.{[], ◌∷◌, ◌++◌, sym, subst, ◌∙◌}
 use Rattle.issuer_base.specs.declared.entry.Entry.TheVariants.{Status}
 use Rattle.card_history.specs.Records.{CardName, named}
 use Rattle.line_checks.specs.AtHand.{IsCardAtHand}
-use Rattle.shard_book.specs.ShardRows.{StandsFor}
+use Rattle.shard_book.specs.ShardRows.{RowsStandFor}
 use Rattle.shard_book.proofs.Adopted.{home-found}
 use Rattle.shard_book.proofs.LegalNext.{card-found}
 use Rattle.shard_book.proofs.rows.Rows.adopt_status.Goals as goal
@@ -19,5 +19,5 @@ returns-clause-adopted c taken history stands =
     let at_hand : IsCardAtHand issuer (named c.args.pan c.args.psn) c.in-Some.card =
     record { valid = c.in-Some.ensures.valid; number_is = sym c.in-Some.ensures.number } in
     let card = card-found _ _ _ at_hand in
-    subst (λ (name : CardName). StandsFor issuer c.set_status.new.self (history ++ Status name.pan name.psn c.args.status ∷ [])) card.named
+    subst (λ (name : CardName). RowsStandFor issuer c.set_status.new.self (history ++ Status name.pan name.psn c.args.status ∷ [])) card.named
     (c.set_status.ensures.set issuer card.card history stands card.known)

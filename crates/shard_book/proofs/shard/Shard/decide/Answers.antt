@@ -6,7 +6,7 @@ use Rattle.journal_rec.specs.RecordText.{text_of}
 use Rattle.journal_rec.specs.declared.limits.TheConstants.{MOST_RECORD_BYTES}
 use Rattle.journal_rec.proofs.TextLaws.{length-text_of}
 use Rattle.shard_book.specs.Grounds.{grounds_now}
-use Rattle.shard_book.specs.ShardRows.{ShardRows, StandsFor as RowsStandFor}
+use Rattle.shard_book.specs.ShardRows.{ShardRows, RowsStandFor}
 use Rattle.row_core.specs.Plan.{IsNext}
 use Rattle.shard_book.specs.Steps.{IsLaunchAt}
 use Rattle.shard_book.proofs.ShardSteps.{put-crash, put-done, stands-still, stands-with}

@@ -15,7 +15,7 @@ use Rattle.script_queue.specs.CommandQueue.{TakesOneMore}
 use Rattle.shard_book.specs.Answering.{LeavesTail}
 use Rattle.shard_book.specs.Grounds.{grounds_now}
 use Rattle.shard_book.specs.Room.{most_of, Spares}
-use Rattle.shard_book.specs.ShardRows.{ShardRows, StandsFor as RowsStandFor}
+use Rattle.shard_book.specs.ShardRows.{ShardRows, RowsStandFor}
 use Rattle.shard_book.specs.Shards.{HoldsHistory, HasTail, StandsFor}
 use Rattle.shard_book.proofs.LegalNext.{writable, card-found, legal-command}
 use Rattle.shard_book.proofs.ShardSteps.{crash-no_call, put-crash, put-done, stands-still, stands-with}

@@ -11,7 +11,7 @@ use Rattle.journal_rec.specs.Record.{is_record}
 use Rattle.shard_book.specs.Answering.{LeavesTail}
 use Rattle.shard_book.specs.Grounds.{grounds_now}
 use Rattle.shard_book.specs.Room.{most_of, Spares}
-use Rattle.shard_book.specs.ShardRows.{ShardRows, StandsFor as RowsStandFor}
+use Rattle.shard_book.specs.ShardRows.{ShardRows, RowsStandFor}
 use Rattle.shard_book.specs.Shards.{HoldsHistory, HasTail}
 use Rattle.shard_book.proofs.LegalNext.{writable, card-found, legal-status}
 use Rattle.shard_book.proofs.ShardSteps.{put-crash, put-done, stands-still, stands-with}

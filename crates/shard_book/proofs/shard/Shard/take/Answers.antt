@@ -4,7 +4,7 @@ use Rattle.std.proofs.lemmas.Bool.{false≢true}
 use Rattle.issuer_base.specs.declared.entry.Entry.{Entry}
 use Rattle.card_history.specs.LegalRecords.{IsLegal}
 use Rattle.shard_book.specs.Grounds.{grounds_now, grounds_of}
-use Rattle.shard_book.specs.ShardRows.{ShardRows, StandsFor as RowsStandFor}
+use Rattle.shard_book.specs.ShardRows.{ShardRows, RowsStandFor}
 use Rattle.shard_book.specs.Taking.{IsReplicaOf}
 use Rattle.shard_book.proofs.ShardSteps.{crash-no_call, holds-still, put-crash, put-done, stands-with}
 use Rattle.shard_book.proofs.shard.Shard.take.Given.{Over}
