@@ -8,7 +8,8 @@ use crate::words::LINE_ROOM;
 use arrayvec::ArrayVec;
 use issuer_base::Pan;
 
-/// Appends the account number and the sequence number of a card, with a space between them. The line needs room for them.
+/// Appends the account number and the sequence number of a card, with a space between them. The line needs room for
+/// them.
 pub fn put_card(out: &mut ArrayVec<u8, LINE_ROOM>, pan: &Pan, psn: u8)
     requires { array_vec_len out.old + 22 ≤ LINE_ROOM }
     ensures text { out.new.items ≡ out.old.items ++ digits_text pan.now ++ 32 ∷ digits_text (digits_of psn) }

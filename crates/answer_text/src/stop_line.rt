@@ -21,8 +21,8 @@ pub enum Stop {
     /// The journal of this shard couldn't be opened, or its store failed while it was loaded: status 5.
     StoreFault { shard: u8 },
 
-    /// This line of this shard's journal, counted from 1, isn't the one that stands there in every journal of this shard,
-    /// is no record, or not a valid successor: status 6.
+    /// This line of this shard's journal, counted from 1, isn't the one that stands there in every journal of this
+    /// shard, is no record, or not a valid successor: status 6.
     BadJournal { shard: u8, line: u64 },
 
     /// This line of this shard's old journal, of version 1, counted from 1, is no record, or not a valid successor:

@@ -88,7 +88,8 @@ fn seat_all(words: &ClaimWords, seat: &mut ClaimSeat, count: usize, callers: &mu
     ensures seat { IsOf seat.new words.now }
     ensures callers { All (λ caller. IsOf caller.seat words.now) callers.new.items }
     ensures count { vec_len callers.new ≡ count }
-    ensures whole { IsWhole ((view_of seat.new).names ++ flat_map (λ caller. (view_of caller.seat).names) callers.new.items) }
+    ensures whole { IsWhole ((view_of seat.new).names ++ flat_map
+        (λ caller. (view_of caller.seat).names) callers.new.items) }
 {
     for _ in 0..count {
         callers.push_reserved(Caller {
@@ -103,7 +104,8 @@ fn claim_at_once<R: Threads + Sync>(rt: &R, words: &ClaimWords, callers: &mut [C
     requires cards { (run.now.cards ≤ cards_of words.now) × (0 < length callers.old) }
     requires seats { All (λ caller. IsOf caller.seat words.now) callers.old }
     ensures names { (i : ℕ) (d : _) → i < length callers.old
-        → (view_of (slice_index_or callers.new i d).seat).names ≡ (view_of (slice_index_or callers.old i d).seat).names }
+        → (view_of (slice_index_or callers.new i d).seat).names ≡
+        (view_of (slice_index_or callers.old i d).seat).names }
     ensures seats { All (λ caller. IsOf caller.seat words.now) callers.new }
 {
     let count = callers.len();
@@ -119,7 +121,8 @@ fn claim_at_once<R: Threads + Sync>(rt: &R, words: &ClaimWords, callers: &mut [C
 fn join_all(words: &ClaimWords, seat: &mut ClaimSeat, mut callers: Vec<Caller>) -> u64
     requires seat { IsOf seat.old words.now }
     requires callers { All (λ caller. IsOf caller.seat words.now) callers.items }
-    requires whole { IsWhole ((view_of seat.old).names ++ flat_map (λ caller. (view_of caller.seat).names) callers.items) }
+    requires whole { IsWhole ((view_of seat.old).names ++ flat_map
+        (λ caller. (view_of caller.seat).names) callers.items) }
     ensures seat { IsOf seat.new words.now }
     ensures whole { IsWhole (view_of seat.new).names }
 {

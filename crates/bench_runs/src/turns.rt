@@ -74,10 +74,13 @@ struct Caller {
 /// Appends an item to the log of the shard that the seat is in, if `add` says so and the log isn't full.
 fn count_item(tallies: &Tallies, caller: &mut Caller, mut tally: Tally, add: bool) -> Tally
     requires seat { IsOf caller.old.seat tallies.now × ((view_of caller.old.seat).turn ≡ Inside caller.old.shard) }
-    requires tally { StandsAt ⟦<Tally as Logged<u64, u8>>⟧.stands tally (view_of caller.old.seat).seen caller.old.shard }
+    requires tally { StandsAt ⟦<Tally as Logged<u64, u8>>⟧.stands tally
+        (view_of caller.old.seat).seen caller.old.shard }
     ensures seat { IsOf caller.new.seat tallies.now × ((view_of caller.new.seat).turn ≡ Inside caller.new.shard) }
-    ensures same { (caller.new.shard ≡ caller.old.shard) × ((view_of caller.new.seat).names ≡ (view_of caller.old.seat).names) }
-    ensures tally { StandsAt ⟦<Tally as Logged<u64, u8>>⟧.stands result (view_of caller.new.seat).seen caller.new.shard }
+    ensures same { (caller.new.shard ≡ caller.old.shard)
+        × ((view_of caller.new.seat).names ≡ (view_of caller.old.seat).names) }
+    ensures tally { StandsAt ⟦<Tally as Logged<u64, u8>>⟧.stands result
+        (view_of caller.new.seat).seen caller.new.shard }
 {
     if !add {
         return tally;
@@ -122,7 +125,8 @@ fn seat_all(tallies: &Tallies, seat: &mut TurnSeat<u64, u8>, run: &Run, callers:
     ensures seat { IsReady tallies.now seat.new 0 }
     ensures callers { All (λ caller. IsReady tallies.now caller.seat caller.shard) callers.new.items }
     ensures count { vec_len callers.new ≡ run.now.threads }
-    ensures whole { IsWhole ((view_of seat.new).names ++ flat_map (λ caller. (view_of caller.seat).names) callers.new.items) }
+    ensures whole { IsWhole ((view_of seat.new).names ++ flat_map
+        (λ caller. (view_of caller.seat).names) callers.new.items) }
 {
     for number in 0..run.threads {
         callers.push_reserved(Caller {
@@ -142,7 +146,8 @@ fn take_turns_at_once<R: Threads + Wait + Sync>(
     requires some_caller { 0 < length callers.old }
     requires ready { All (λ caller. IsReady tallies.now caller.seat caller.shard) callers.old }
     ensures names { (i : ℕ) (d : _) → i < length callers.old
-        → (view_of (slice_index_or callers.new i d).seat).names ≡ (view_of (slice_index_or callers.old i d).seat).names }
+        → (view_of (slice_index_or callers.new i d).seat).names ≡
+        (view_of (slice_index_or callers.old i d).seat).names }
     ensures ready { All (λ caller. IsReady tallies.now caller.seat caller.shard) callers.new }
 {
     let count = callers.len();
@@ -158,7 +163,8 @@ fn take_turns_at_once<R: Threads + Wait + Sync>(
 fn join_all(tallies: &Tallies, seat: &mut TurnSeat<u64, u8>, mut callers: Vec<Caller>)
     requires seat { IsReady tallies.now seat.old 0 }
     requires callers { All (λ caller. IsReady tallies.now caller.seat caller.shard) callers.items }
-    requires whole { IsWhole ((view_of seat.old).names ++ flat_map (λ caller. (view_of caller.seat).names) callers.items) }
+    requires whole { IsWhole ((view_of seat.old).names ++ flat_map
+        (λ caller. (view_of caller.seat).names) callers.items) }
     ensures seat { IsReady tallies.now seat.new 0 }
     ensures whole { IsWhole (view_of seat.new).names }
 {

@@ -46,8 +46,8 @@ core_identifier TripleDes = 0xA5
 core_identifier Aes = 0xA6
 
 -- the issuer application data of a card that requests to go online, this project's profile: 0F, the common core
--- identifier of its suite, the derivation key index, the card verification results with an ARQC, eight counters, 0F, the register,
--- and zeros
+-- identifier of its suite, the derivation key index, the card verification results with an ARQC, eight counters, 0F,
+-- the register, and zeros
 unfoldable pub application_data : CardState → List ℕ
 application_data card =
     0x0F ∷ core_identifier card.keys.suite ∷ card.dki ∷ 0xA0 ∷ 0 ∷ 0 ∷ script_results card ∷ 0 ∷ []
@@ -78,10 +78,11 @@ unfoldable pub next_request : CardState → Terminal → Parts
 next_request card terminal =
     let fields = next_fields card terminal in record fields { ac = application_cryptogram card.keys fields }
 
--- the value of tag 91 is the issuer's answer to the card's request, by the card's suite and method: with this response code or, by
--- method 2, with the card status update that the value has after its first four bytes
+-- the value of tag 91 is the issuer's answer to the card's request, by the card's suite and method: with this response
+-- code or, by method 2, with the card status update that the value has after its first four bytes
 unfoldable pub is_answer : CardState → Parts → List ℕ → List ℕ → Bool
 is_answer card request value arc =
     nat_le 8 (length value)
-    && bytes_eq value (value91 card.keys.suite card.method (session_ac card.keys.suite card.keys.ac.0 request.atc) request.ac arc
+    && bytes_eq value (value91 card.keys.suite card.method
+    (session_ac card.keys.suite card.keys.ac.0 request.atc) request.ac arc
     (take 4 (drop 4 value)))

@@ -82,7 +82,8 @@ after_opening card None = (false, with_failure card)
 -- an issuer script command to a card with this open request and this chain: a card without both stays as it is
 unfoldable pub command_at : Option Parts → Option (List ℕ) → CardState → List ℕ → Bool × CardState
 command_at (Some request) (Some chain) card bytes =
-    after_opening card (opened_within card.count card.keys.suite (session_sm card.keys.suite card.keys.smi.0 request.ac) chain bytes)
+    after_opening card (opened_within card.count card.keys.suite
+    (session_sm card.keys.suite card.keys.smi.0 request.ac) chain bytes)
 command_at _ _ card bytes = (false, card)
 
 -- an issuer script command to a card

@@ -260,8 +260,8 @@ fn core_identifier(suite: Suite) -> u8
     }
 }
 
-/// Whether this is the value of tag 91 for a cryptogram under this session key: with this response code or, by method 2, with the card status
-/// update that the value has after its first four bytes.
+/// Whether this is the value of tag 91 for a cryptogram under this session key: with this response code or, by method
+/// 2, with the card status update that the value has after its first four bytes.
 fn is_answer(method: Method, session: &SessionKey, ac: &[u8; 8], value: &[u8], arc: [u8; 2]) -> bool
     ensures { result ≡ (nat_le 8 (length value.now) && bytes_eq value.now
         (value91 session.now.suite method session.now.key ac.now arc (take 4 (drop 4 value.now)))) }

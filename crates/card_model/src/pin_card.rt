@@ -19,8 +19,8 @@ use std::marker::Model;
 
 /// A card with a master key for secure messaging for confidentiality: it sets its PIN by the PIN changes that it runs.
 ///
-/// A contract sees the card and the key. The PIN is that of the last PIN change of the commands that the card ran, at all
-/// times.
+/// A contract sees the card and the key. The PIN is that of the last PIN change of the commands that the card ran, at
+/// all times.
 #[derive(Drop)]
 pub struct PinCard {
     card: Card,
@@ -74,8 +74,8 @@ impl PinCard {
         self.card.authenticate(value91, arc)
     }
 
-    /// Receives a sealed issuer script command, as [`Card::run`], and sets the PIN if it ran a PIN change. If memory runs
-    /// out the card stays as it was.
+    /// Receives a sealed issuer script command, as [`Card::run`], and sets the PIN if it ran a PIN change. If memory
+    /// runs out the card stays as it was.
     pub fn run(&mut self, bytes: &[u8]) -> Result<bool, NoMemory>
         ensures step { IfOk result (λ answer. CardStep self.old.card (Run bytes.now answer) self.new.card) }
         ensures unchanged { OnErr result (self.new ≡ self.old) }

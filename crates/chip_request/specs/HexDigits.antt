@@ -16,5 +16,6 @@ pair_of (Some high) (Some low) = Some (16 * high + low)
 abbrev pub AreSpelled : ℕ → List ℕ → List ℕ → Type 0
 AreSpelled count bytes text =
     (place byte : ℕ) → place < count
-    → pair_of (hex_digit_value (slice_index text (2 * place))) (hex_digit_value (slice_index text (2 * place + 1))) ≡ Some byte
+    → pair_of (hex_digit_value (slice_index text (2 * place)))
+    (hex_digit_value (slice_index text (2 * place + 1))) ≡ Some byte
     → slice_index bytes place ≡ byte

@@ -52,7 +52,8 @@ unless_broken part (Some place) found = Err (At part (place + 1))
 
 -- what all elements of a part are parsed as; its first fault is at an element in conflict with an earlier one, or else
 -- at the first malformed one
-abbrev pub said_by : {A : Type 0} → ℕ → (Data → Option A) → (List A → Option ℕ) → List Data → Result (List A) ConfigFault
+abbrev pub said_by : {A : Type 0} → ℕ → (Data → Option A) → (List A → Option ℕ) → List Data
+    → Result (List A) ConfigFault
 said_by part said conflict elements =
     unless_broken part (option_or (conflict (front said elements)) (silent_at said elements)) (front said elements)
 
@@ -78,4 +79,5 @@ where_last_takes_all rows = if ends_in_all rows then Ok rows else Err (At TABLE 
 
 -- 1 to 64 rows, of which the last matches every request
 abbrev pub table_in : Data → Result (List TableRow) ConfigFault
-table_in value = part_elements TABLE (codes "table") MAX_TABLE_ROWS value >>= said_by TABLE row_in no_conflict >>= where_last_takes_all
+table_in value = part_elements TABLE (codes "table") MAX_TABLE_ROWS value >>= said_by TABLE row_in no_conflict
+    >>= where_last_takes_all

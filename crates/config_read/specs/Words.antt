@@ -25,7 +25,8 @@ pan_of text = if list_all is_ascii_digit text then pan_from (map digit_value tex
 
 -- a sequence number: two digits, a nibble each
 unfoldable pub psn_of : List ℕ → Option ℕ
-psn_of (tens ∷ units ∷ []) = if is_ascii_digit tens && is_ascii_digit units then Some (digit_value tens * 16 + digit_value units) else None
+psn_of (tens ∷ units ∷ []) = if is_ascii_digit tens && is_ascii_digit units
+    then Some (digit_value tens * 16 + digit_value units) else None
 psn_of _ = None
 
 -- the option by which a card's master key is derived, `A` or `B`: EMV 4.3 Book 2, Annex A1.4

@@ -24,4 +24,5 @@ word_choices =
 -- the key's bits in word i of the round keys, of which each has two; 65 where there is none
 unfoldable pub key_choice : ℕ → List ℕ
 key_choice i =
-    map (λ entry. slice_index_or (key_numbers (slice_index turns (i / 2))) (entry - 1) 65) (slice_index_or word_choices (i % 2) [])
+    map (λ entry. slice_index_or (key_numbers (slice_index turns (i / 2))) (entry - 1) 65)
+    (slice_index_or word_choices (i % 2) [])

@@ -1,7 +1,8 @@
 //! The rows of each group of a key's bits: their contribution to the words of the round keys. Parity bits contribute
 //! nothing.
 
-/// For each byte of a key and each value of its high four bits: the two words of each round key of the key with these bits alone.
+/// For each byte of a key and each value of its high four bits: the two words of each round key of the key with these
+/// bits alone.
 pub(crate) static HIGH_ROWS: [[[u32; 32]; 16]; 8] = [
     [
         [

@@ -72,16 +72,20 @@ impl Des {
 
     /// Enciphers a block given as a big-endian number.
     pub fn encipher_word(&self, block: u64) -> u64
-        ensures enciphered { (key : List ℕ) → HasKey self.now key → word_bytes result ≡ des_encipher key (word_bytes block) }
-        ensures undone { (key : List ℕ) → HasKey self.now key → des_decipher key (word_bytes result) ≡ word_bytes block }
+        ensures enciphered { (key : List ℕ) → HasKey self.now key
+            → word_bytes result ≡ des_encipher key (word_bytes block) }
+        ensures undone { (key : List ℕ) → HasKey self.now key
+            → des_decipher key (word_bytes result) ≡ word_bytes block }
     {
         self.encipher_permuted(&PermutedBlock::new(block)).word()
     }
 
     /// Deciphers a block given as a big-endian number.
     pub fn decipher_word(&self, block: u64) -> u64
-        ensures deciphered { (key : List ℕ) → HasKey self.now key → word_bytes result ≡ des_decipher key (word_bytes block) }
-        ensures undone { (key : List ℕ) → HasKey self.now key → des_encipher key (word_bytes result) ≡ word_bytes block }
+        ensures deciphered { (key : List ℕ) → HasKey self.now key
+            → word_bytes result ≡ des_decipher key (word_bytes block) }
+        ensures undone { (key : List ℕ) → HasKey self.now key
+            → des_encipher key (word_bytes result) ≡ word_bytes block }
     {
         self.decipher_permuted(&PermutedBlock::new(block)).word()
     }
@@ -108,8 +112,10 @@ impl Des {
         first: &PermutedBlock,
         second: &PermutedBlock,
     ) -> (PermutedBlock, PermutedBlock)
-        ensures first { (key : List ℕ) → HasKey self.now key → word_bytes result.0 ≡ des_encipher key (word_bytes first.now) }
-        ensures second { (key : List ℕ) → HasKey self.now key → word_bytes result.1 ≡ des_encipher key (word_bytes second.now) }
+        ensures first { (key : List ℕ) → HasKey self.now key
+            → word_bytes result.0 ≡ des_encipher key (word_bytes first.now) }
+        ensures second { (key : List ℕ) → HasKey self.now key
+            → word_bytes result.1 ≡ des_encipher key (word_bytes second.now) }
     {
         let (one, other) = rounds_of_both(
             &self.keys,
@@ -128,8 +134,10 @@ impl Des {
         first: &PermutedBlock,
         second: &PermutedBlock,
     ) -> (PermutedBlock, PermutedBlock)
-        ensures first { (key : List ℕ) → HasKey self.now key → word_bytes result.0 ≡ des_decipher key (word_bytes first.now) }
-        ensures second { (key : List ℕ) → HasKey self.now key → word_bytes result.1 ≡ des_decipher key (word_bytes second.now) }
+        ensures first { (key : List ℕ) → HasKey self.now key
+            → word_bytes result.0 ≡ des_decipher key (word_bytes first.now) }
+        ensures second { (key : List ℕ) → HasKey self.now key
+            → word_bytes result.1 ≡ des_decipher key (word_bytes second.now) }
     {
         let (one, other) = rounds_of_both_back(
             &self.keys,
@@ -186,23 +194,28 @@ impl Tdes {
 
     /// Enciphers a block given as a big-endian number.
     pub fn encipher_word(&self, block: u64) -> u64
-        ensures enciphered { (key : List ℕ) → HasKeyPair self.now key → word_bytes result ≡ tdes_encipher key (word_bytes block) }
-        ensures undone { (key : List ℕ) → HasKeyPair self.now key → tdes_decipher key (word_bytes result) ≡ word_bytes block }
+        ensures enciphered { (key : List ℕ) → HasKeyPair self.now key
+            → word_bytes result ≡ tdes_encipher key (word_bytes block) }
+        ensures undone { (key : List ℕ) → HasKeyPair self.now key
+            → tdes_decipher key (word_bytes result) ≡ word_bytes block }
     {
         self.encipher_permuted(&PermutedBlock::new(block)).word()
     }
 
     /// Deciphers a block given as a big-endian number.
     pub fn decipher_word(&self, block: u64) -> u64
-        ensures deciphered { (key : List ℕ) → HasKeyPair self.now key → word_bytes result ≡ tdes_decipher key (word_bytes block) }
-        ensures undone { (key : List ℕ) → HasKeyPair self.now key → tdes_encipher key (word_bytes result) ≡ word_bytes block }
+        ensures deciphered { (key : List ℕ) → HasKeyPair self.now key
+            → word_bytes result ≡ tdes_decipher key (word_bytes block) }
+        ensures undone { (key : List ℕ) → HasKeyPair self.now key
+            → tdes_encipher key (word_bytes result) ≡ word_bytes block }
     {
         self.decipher_permuted(&PermutedBlock::new(block)).word()
     }
 
     /// Enciphers a block given by its halves after IP.
     pub fn encipher_permuted(&self, block: &PermutedBlock) -> PermutedBlock
-        ensures { (key : List ℕ) → HasKeyPair self.now key → word_bytes result ≡ tdes_encipher key (word_bytes block.now) }
+        ensures { (key : List ℕ) → HasKeyPair self.now key
+            → word_bytes result ≡ tdes_encipher key (word_bytes block.now) }
     {
         let first = self.left.encipher_permuted(block);
         let second = self.right.decipher_permuted(&first);
@@ -211,7 +224,8 @@ impl Tdes {
 
     /// Deciphers a block given by its halves after IP.
     pub fn decipher_permuted(&self, block: &PermutedBlock) -> PermutedBlock
-        ensures { (key : List ℕ) → HasKeyPair self.now key → word_bytes result ≡ tdes_decipher key (word_bytes block.now) }
+        ensures { (key : List ℕ) → HasKeyPair self.now key
+            → word_bytes result ≡ tdes_decipher key (word_bytes block.now) }
     {
         let first = self.left.decipher_permuted(block);
         let second = self.right.encipher_permuted(&first);

@@ -74,7 +74,8 @@ pub(crate) fn joined(left: u32, right: u32) -> u64
 /// Two rounds, the second of which exchanges the halves back.
 #[inline(always)]
 fn two_rounds(first: &RoundKey, second: &RoundKey, halves: (u32, u32)) -> (u32, u32)
-    ensures { turned_halves result.0 result.1 ≡ round (round (turned_halves halves.0 halves.1) (key_bits first.now)) (key_bits second.now) }
+    ensures { turned_halves result.0 result.1 ≡ round (round (turned_halves halves.0 halves.1) (key_bits first.now))
+        (key_bits second.now) }
 {
     let left = halves.0 ^ mixed(halves.1, first);
     let right = halves.1 ^ mixed(left, second);
@@ -89,8 +90,10 @@ fn two_rounds_of_both(
     halves: (u32, u32),
     beside: (u32, u32),
 ) -> ((u32, u32), (u32, u32))
-    ensures first { turned_halves result.0.0 result.0.1 ≡ round (round (turned_halves halves.0 halves.1) (key_bits first.now)) (key_bits second.now) }
-    ensures second { turned_halves result.1.0 result.1.1 ≡ round (round (turned_halves beside.0 beside.1) (key_bits first.now)) (key_bits second.now) }
+    ensures first { turned_halves result.0.0 result.0.1 ≡ round
+        (round (turned_halves halves.0 halves.1) (key_bits first.now)) (key_bits second.now) }
+    ensures second { turned_halves result.1.0 result.1.1 ≡ round
+        (round (turned_halves beside.0 beside.1) (key_bits first.now)) (key_bits second.now) }
 {
     let left = halves.0 ^ mixed(halves.1, first);
     let left_beside = beside.0 ^ mixed(beside.1, first);
@@ -115,7 +118,8 @@ pub(crate) fn rounds(keys: &[RoundKey; 16], halves: (u32, u32)) -> (u32, u32)
 /// The sixteen rounds with the keys in reverse order.
 #[inline]
 pub(crate) fn rounds_back(keys: &[RoundKey; 16], halves: (u32, u32)) -> (u32, u32)
-    ensures { turned_halves result.0 result.1 ≡ fold round (turned_halves halves.0 halves.1) (reverse (map key_bits keys.now)) }
+    ensures { turned_halves result.0 result.1 ≡ fold round (turned_halves halves.0 halves.1)
+        (reverse (map key_bits keys.now)) }
 {
     let mut ready = halves;
     for i in 0..4 {
@@ -132,8 +136,10 @@ pub(crate) fn rounds_of_both(
     first: (u32, u32),
     second: (u32, u32),
 ) -> ((u32, u32), (u32, u32))
-    ensures first { turned_halves result.0.0 result.0.1 ≡ fold round (turned_halves first.0 first.1) (map key_bits keys.now) }
-    ensures second { turned_halves result.1.0 result.1.1 ≡ fold round (turned_halves second.0 second.1) (map key_bits keys.now) }
+    ensures first { turned_halves result.0.0 result.0.1 ≡ fold round (turned_halves first.0 first.1)
+        (map key_bits keys.now) }
+    ensures second { turned_halves result.1.0 result.1.1 ≡ fold round (turned_halves second.0 second.1)
+        (map key_bits keys.now) }
 {
     let mut ready = (first, second);
     for i in 0..4 {
@@ -150,8 +156,10 @@ pub(crate) fn rounds_of_both_back(
     first: (u32, u32),
     second: (u32, u32),
 ) -> ((u32, u32), (u32, u32))
-    ensures first { turned_halves result.0.0 result.0.1 ≡ fold round (turned_halves first.0 first.1) (reverse (map key_bits keys.now)) }
-    ensures second { turned_halves result.1.0 result.1.1 ≡ fold round (turned_halves second.0 second.1) (reverse (map key_bits keys.now)) }
+    ensures first { turned_halves result.0.0 result.0.1 ≡ fold round (turned_halves first.0 first.1)
+        (reverse (map key_bits keys.now)) }
+    ensures second { turned_halves result.1.0 result.1.1 ≡ fold round (turned_halves second.0 second.1)
+        (reverse (map key_bits keys.now)) }
 {
     let mut ready = (first, second);
     for i in 0..4 {

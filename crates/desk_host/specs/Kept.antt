@@ -13,7 +13,8 @@ use Rattle.desk_host.specs.Journals.{old_name, journal_name}
 use Rattle.desk_host.specs.Left.{CrashSince, StaysAsOpened}
 
 -- the old journal was the text of this old history, and the journal that of the book's history, or a prefix of the text
--- that the old one is migrated to; a torn last line may have followed in each. No fault of its store was counted or told
+-- that the old one is migrated to; a torn last line may have followed in each. No fault of its store was counted or
+-- told
 pub record WasJournal (issuer : Setup) (shard : ℕ) (old_held held : Option (List ℕ)) (old : List Entry) (book : Book)
     : Type 0 where
   pub journal_is : IsJournalOf issuer shard old_held held old book.history

@@ -42,13 +42,13 @@ AreCounted logs =
     (shard : ℕ) (log : Log LogItem LogHead) → slice_get logs shard ≡ Some log
     → log.head.records ≡ length (records_of log.items)
 
--- by the stores' observable bytes and disks, and their fault counts; `olds` are the old stores before the call, and `read`
--- the same stores after it
+-- by the stores' observable bytes and disks, and their fault counts; `olds` are the old stores before the call, and
+-- `read` the same stores after it
 module _ {S : Type 0} (bytes : S → Option (List ℕ)) (disk : S → Option Disk) (faults : S → ℕ) where
   -- the log has just the records of a history, which is legal since that of the old store. If the stores expose their
-  -- bytes, these were taken for the history, and the store was migrated or truncated to its text. The log's head has the
-  -- issuer, the shard's number, and, as of the end of loading, the store's fault count, the number of records and the
-  -- store's disk. Meanwhile a crash leaves what it might leave before, a prefix of the old history's text, or the
+  -- bytes, these were taken for the history, and the store was migrated or truncated to its text. The log's head has
+  -- the issuer, the shard's number, and, as of the end of loading, the store's fault count, the number of records and
+  -- the store's disk. Meanwhile a crash leaves what it might leave before, a prefix of the old history's text, or the
   -- history's text
   pub record IsOpenedFrom (issuer : Setup) (number : ℕ) (old old_then store : S) (log : Log LogItem LogHead)
       : Type 0 where
@@ -73,7 +73,8 @@ module _ {S : Type 0} (bytes : S → Option (List ℕ)) (disk : S → Option Dis
         → slice_get stores number ≡ Some store → slice_get logs number ≡ Some log
         → IsOpenedFrom issuer number old old_then store log
 
-  -- the stores of a host that wasn't loaded come back, all of them as they were loaded: the host's own allocation failed
+  -- the stores of a host that wasn't loaded come back, all of them as they were loaded: the host's own allocation
+  -- failed
   pub record AllComeBack (issuer : Setup) (olds read stores : List S) (failed : ℕ) (fault : LoadFault)
       (back : List S) : Type 0 where
     pub olds_are : length olds ≡ length stores

@@ -25,7 +25,8 @@ asked_of (Order found) = order_asked found
 -- what was checked passed every check of this issuer, and comes with the number of its card, and a request with its
 -- keys
 abbrev pub HasPassed : Setup → Checked → Type 0
-HasPassed issuer (Decide found claim) = IsRequestAtHand issuer found × (checked issuer found.request ≡ Ok (AsksDecision found.request))
+HasPassed issuer (Decide found claim) = IsRequestAtHand issuer found
+    × (checked issuer found.request ≡ Ok (AsksDecision found.request))
 HasPassed issuer (Order found) = IsOrderAtHand issuer found
 
 -- what was checked is what the line asks, and passed every check
@@ -39,11 +40,13 @@ abbrev pub Claims : ℕ → ℕ → Option ℕ → ClaimView → Result Checked 
 Claims card counter top seen (Err refusal) after =
     (told : ℕ) × (top ≡ Some told) × (told < COUNTERS) × IsBelow top counter × (refusal ≡ Below told) × (after ≡ seen)
 Claims card counter top seen (Ok (Decide found claim)) after =
-    (IsBelow top counter → ⊥) × (found.card ≡ card) × (after ≡ after_claim claim card counter seen) × (claim ≡ Won → IsNew card counter seen)
+    (IsBelow top counter → ⊥) × (found.card ≡ card) × (after ≡ after_claim claim card counter seen)
+    × (claim ≡ Won → IsNew card counter seen)
 Claims card counter top seen (Ok _) after = ⊥
 
 -- a request of the card with this number
-pub record ChecksRequest (card counter : ℕ) (before : ClaimView) (result : Result Checked Refusal) (after : ClaimView) : Type 0 where
+pub record ChecksRequest (card counter : ℕ) (before : ClaimView) (result : Result Checked Refusal) (after : ClaimView)
+    : Type 0 where
   pub top : Option ℕ
   pub top_is : IsTopFor before card top
   pub claims : Claims card counter top (after_top card top before) result after
@@ -53,5 +56,6 @@ pub record ChecksRequest (card counter : ℕ) (before : ClaimView) (result : Res
 abbrev pub PreChecks : Setup → Result Asked Refusal → ClaimView → Result Checked Refusal → ClaimView → Type 0
 PreChecks issuer (Err refusal) before result after = (result ≡ Err refusal) × (after ≡ before)
 PreChecks issuer (Ok (AsksDecision request)) before result after =
-    (card : ℕ) × (number_of (card_of request) issuer.cards ≡ Some card) × ChecksRequest card request.atc before result after
+    (card : ℕ) × (number_of (card_of request) issuer.cards ≡ Some card)
+    × ChecksRequest card request.atc before result after
 PreChecks issuer (Ok asked) before result after = IsOk result × (after ≡ before)

@@ -85,8 +85,8 @@ impl<S: Store> Host<S> {
     }
 }
 
-/// Lets callers share shards that were loaded from these old stores, as they are now in `read`, and these stores. Only if
-/// an allocation fails, the shards come back in order.
+/// Lets callers share shards that were loaded from these old stores, as they are now in `read`, and these stores. Only
+/// if an allocation fails, the shards come back in order.
 fn share<S: Store>(
     alloc: Global,
     issuer: &Issuer,

@@ -10,7 +10,8 @@ use Rattle.issuer_setup.specs.KeptKeys.{kept_keys}
 
 -- the master keys in this slot, or none
 abbrev pub keys_at : Setup → KeySlot → Option CardKeys
-keys_at issuer slot = option_and_then (keys_in slot.suite) (slice_get (kept_keys issuer.keys issuer.cards).pairs slot.index)
+keys_at issuer slot = option_and_then (keys_in slot.suite)
+    (slice_get (kept_keys issuer.keys issuer.cards).pairs slot.index)
 
 -- the slot has the master keys of this card in the request's suite, from the key set that the request's derivation key
 -- index names

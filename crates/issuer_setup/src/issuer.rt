@@ -107,7 +107,8 @@ impl Issuer {
         cards: Cards,
         table: Table,
     ) -> Result<Issuer, NoMemory>
-        ensures parts { IfOk result (λ issuer. issuer ≡ record { shards = shards; keys = keys; cards = cards; table = table }) }
+        ensures parts { IfOk result (λ issuer. issuer ≡
+            record { shards = shards; keys = keys; cards = cards; table = table }) }
         ensures keys { IfOk result (λ issuer. AreKeys issuer.keys) }
         ensures cards { IfOk result (λ issuer. AreCards issuer.cards) }
     {
@@ -130,8 +131,10 @@ impl Issuer {
         cards: Vec<CardInfo>,
         table: Table,
     ) -> Result<Issuer, IssuerFault>
-        ensures ok { IfOk result (λ issuer. (are_shards shards ≡ true) × (bad_key keys.items ≡ None) × (bad_card cards.items ≡ None)) }
-        ensures parts { IfOk result (λ issuer. issuer ≡ record { shards = shards; keys = keys.items; cards = cards.items; table = table }) }
+        ensures ok { IfOk result (λ issuer. (are_shards shards ≡ true) × (bad_key keys.items ≡ None)
+            × (bad_card cards.items ≡ None)) }
+        ensures parts { IfOk result (λ issuer. issuer ≡
+            record { shards = shards; keys = keys.items; cards = cards.items; table = table }) }
         ensures refused { IfErr result (IsFaultOf shards keys.items cards.items) }
     {
         let shards = ShardCount::new(shards).ok_or(IssuerFault::Shards)?;
@@ -152,7 +155,8 @@ impl Issuer {
     pub fn shard_of(&self, card: u32) -> u8
         ensures number { result ≡ card % self.now.shards }
         ensures below { result < self.now.shards }
-        ensures shard { (name : CardName) → number_of name self.now.cards ≡ Some card → result ≡ shard_of self.now name }
+        ensures shard { (name : CardName) → number_of name self.now.cards ≡ Some card
+            → result ≡ shard_of self.now name }
     {
         (card % u32::from(self.shards())) as u8
     }
@@ -228,8 +232,8 @@ impl Issuer {
         self.secrets(slot).session(slot.suite, atc)
     }
 
-    /// Caches the key schedule of the master key for cryptograms in this slot. If it isn't cached yet, this computes two
-    /// key schedules and enciphers two blocks.
+    /// Caches the key schedule of the master key for cryptograms in this slot. If it isn't cached yet, this computes
+    /// two key schedules and enciphers two blocks.
     pub fn keep(&mut self, slot: KeySlot)
         requires { IsSome (keys_at self.old slot) }
         ensures { self.new ≡ self.old }

@@ -372,9 +372,9 @@ pub record Ends (status : ℕ) (seen : Seen) : Type 0 where
 
 -- ---- all in order
 
--- the bytes of a shard's old journal and of its journal are known, and can be loaded: the old one is the text of a legal
--- history and a torn last line; the journal is a prefix of the text that the old one is migrated to, or the text of a
--- history that is legal since the old one and a torn last line
+-- the bytes of a shard's old journal and of its journal are known, and can be loaded: the old one is the text of a
+-- legal history and a torn last line; the journal is a prefix of the text that the old one is migrated to, or the text
+-- of a history that is legal since the old one and a torn last line
 pub record CanBeLoaded (issuer : Setup) (shard : ℕ) (old_held held : Option (List ℕ)) : Type 0 where
   pub old : List Entry
   pub history : List Entry

@@ -31,8 +31,8 @@ pub record HasFirstRecords (bytes : Option (List ℕ)) (history : List Entry) : 
   pub records : All IsRecord history
   pub front : IfSome bytes (λ text. (history ≡ []) ⊎ ((ahead : List ℕ) × (text ≡ journal_text history ++ ahead)))
 
--- the first stores have the records of these histories, and the store of this shard, which is next, begins with those of
--- one more history
+-- the first stores have the records of these histories, and the store of this shard, which is next, begins with those
+-- of one more history
 pub record HaveFirstRecords {S : Type 0} (bytes : S → Option (List ℕ)) (stores : List S) (shard : ℕ)
     (histories : List (List Entry)) (history : List Entry) : Type 0 where
   pub count_is : length histories ≡ shard

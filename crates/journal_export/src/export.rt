@@ -47,8 +47,8 @@ impl Exporter {
         })
     }
 
-    /// Writes the feed lines of all records of an issuer's journals, by shard and index. The stores are only read. Where
-    /// a journal can't be read on, it writes the lines of the records before.
+    /// Writes the feed lines of all records of an issuer's journals, by shard and index. The stores are only read.
+    /// Where a journal can't be read on, it writes the lines of the records before.
     pub fn export<S: Store, W: Sink>(
         &mut self,
         issuer: &Issuer,

@@ -27,7 +27,8 @@ use Rattle.journal_filing.specs.declared.filing.NotFiled.{NotFiled}
 
 -- what is filed of a shard's history
 abbrev pub filed_in : Setup → ℕ → List Entry → List Filed
-filed_in issuer shard history = flat_map (λ numbered. filed_of issuer shard numbered.0 numbered.1) (enumerate_from 0 history)
+filed_in issuer shard history = flat_map (λ numbered. filed_of issuer shard numbered.0 numbered.1)
+    (enumerate_from 0 history)
 
 -- what is filed of the histories of all shards, in order
 abbrev pub filed_records : Setup → List (List Entry) → List Filed

@@ -6,8 +6,8 @@ use Rattle.desk_host.specs.Kept.{KeepJournals}
 use Rattle.desk_host.specs.Lawful.{IsLawful}
 use Rattle.desk_host.specs.SeenStores.{Logged, SeenJournals}
 
--- the journals are those that the desk had under their names, as loading left them: they are kept by the books that they
--- were loaded to, and no record was added
+-- the journals are those that the desk had under their names, as loading left them: they are kept by the books that
+-- they were loaded to, and no record was added
 pub record AreLoadedFrom (issuer : Setup) (prefix : List ℕ) (logs : Logged) (journals : SeenJournals) : Type 0 where
   pub books : List Book
   pub kept : KeepJournals issuer prefix logs journals books books

@@ -11,9 +11,9 @@ use issuer_setup::Issuer;
 use one_caller::{HostBack, Lists, LoadFault, load_all, take_lists, take_stores};
 use std::alloc::Global;
 
-/// The journals of an issuer under these names, opened at the desk and loaded: each old journal is migrated, a torn last
-/// line is truncated, and each record is checked. No host takes the issuer. It is faster where the issuer's keys are
-/// cached ([`Issuer::keep_all`]).
+/// The journals of an issuer under these names, opened at the desk and loaded: each old journal is migrated, a torn
+/// last line is truncated, and each record is checked. No host takes the issuer. It is faster where the issuer's keys
+/// are cached ([`Issuer::keep_all`]).
 ///
 /// The first journal that can't be opened or loaded stops it: its fault comes back with the journals that were opened.
 pub fn load_journals<D: Desk>(

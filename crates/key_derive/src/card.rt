@@ -36,7 +36,8 @@ pub struct KeySet {
     /// The issuer's AES master keys, if it has cards with AES under this index.
     pub aes: Option<AesPair>,
 
-    /// The issuer's triple DES master key for secure messaging for confidentiality, if it changes PINs under this index.
+    /// The issuer's triple DES master key for secure messaging for confidentiality, if it changes PINs under this
+    /// index.
     pub smc: Option<Key16>,
 }
 

@@ -45,8 +45,8 @@ impl SessionKey {
         SessionKey::new(keys.suite, session_ac(keys.suite, &keys.ac, atc))
     }
 
-    /// A session key of this suite with its key schedules. Each suite has a path of its own, on which the compiler copies
-    /// the key schedules once.
+    /// A session key of this suite with its key schedules. Each suite has a path of its own, on which the compiler
+    /// copies the key schedules once.
     #[inline(always)]
     pub(crate) fn new(suite: Suite, key: Key16) -> SessionKey
         ensures { result ≡ record { suite = suite; key = key.0 } }

@@ -30,7 +30,8 @@ refusal_of (Lacks tag) = Missing tag
 refusal_of (HasBadField tag) = BadField tag
 refusal_of (Repeats tag) = Repeated tag
 
--- whether the cryptogram is the one that a card with these master keys makes over the request: EMV 4.3 Book 2, section 8.1
+-- whether the cryptogram is the one that a card with these master keys makes over the request: EMV 4.3 Book 2, section
+-- 8.1
 abbrev pub is_right : CardKeys → Request → Bool
 is_right keys request = bytes_eq request.ac (application_cryptogram keys request)
 

@@ -36,7 +36,8 @@ pub fn look_up(
     data: &mut [u8; MAX_CHIP_BYTES],
 ) -> Result<Sought, Refusal>
     ensures sought { IfOk result (IsSought issuer.now line.now) }
-    ensures refused { IfErr result (λ refusal. (reading issuer.now line.now ≡ Err refusal) × (refusal ≢ BadCryptogram)) }
+    ensures refused { IfErr result (λ refusal. (reading issuer.now line.now ≡ Err refusal)
+        × (refusal ≢ BadCryptogram)) }
 {
     match read_line_into(line, data).map_err(Refusal::BadLine)? {
         LineForm::Ask { count } => {

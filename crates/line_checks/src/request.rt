@@ -44,7 +44,8 @@ pub fn refusal_of(fault: RequestFault) -> Refusal
 /// is known, and its cryptogram is right.
 #[inline(always)]
 pub fn check_request(issuer: &Issuer, request: Request) -> Result<CheckedRequest, Refusal>
-    ensures request { result_map_both (λ found. Decide found.request) (λ refusal. refusal) result ≡ checked issuer.now request }
+    ensures request { result_map_both (λ found. Decide found.request) (λ refusal. refusal) result
+        ≡ checked issuer.now request }
     ensures at_hand { IfOk result (IsRequestAtHand issuer.now) }
 {
     look_up_request(issuer, request)?.check(issuer)

@@ -67,7 +67,8 @@ WritesDue HasServed lines text waiting due left held_before held_after result =
 
 -- all lines are answered, and the answers that were left were written, and serving ended so; or the sink took a front
 -- of them and failed
-pub record Finishes (HasServed : List (List ℕ) → List ℕ → List (List ℕ) → Type 0) (lines : List (List ℕ)) (text : List ℕ)
+pub record Finishes (HasServed : List (List ℕ) → List ℕ → List (List ℕ) → Type 0) (lines : List (List ℕ))
+    (text : List ℕ)
     (waiting : List (List ℕ)) (due : List ℕ) (held_before held_after : Option (List ℕ))
     (how ended : Served) : Type 0 where
   pub more : List ℕ

@@ -54,7 +54,8 @@ pub(crate) fn chained(cipher: &Des, chain: &mut PermutedBlock, text: &[u8])
 pub(crate) fn ended(cipher: &Tdes, chain: &PermutedBlock, rest: &[u8]) -> [u8; 8]
     requires { length rest.now < 8 }
     ensures { (key : List ℕ) → HasKeyPair cipher.now key
-        → result ≡ tdes_encipher key (xor_bytes (word_bytes chain.now) (rest.now ++ 0x80 ∷ replicate (7 - length rest.now) 0)) }
+        → result ≡ tdes_encipher key (xor_bytes (word_bytes chain.now)
+        (rest.now ++ 0x80 ∷ replicate (7 - length rest.now) 0)) }
 {
     // The last step of the chain and the two ciphers after it are triple DES.
     let last = PermutedBlock::new(last_word(rest));

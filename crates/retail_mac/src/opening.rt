@@ -15,12 +15,13 @@ use des_block::{Key16, Tdes};
 /// The byte that ends a text before its zeros.
 const MARK: u8 = 0x80;
 
-/// Opens a text that [`cbc_encipher`](crate::cbc_encipher) made: appends the message that was enciphered. Returns whether
-/// there is one; if there is none, the output stays as it was.
+/// Opens a text that [`cbc_encipher`](crate::cbc_encipher) made: appends the message that was enciphered. Returns
+/// whether there is one; if there is none, the output stays as it was.
 pub fn cbc_open(key: &Key16, text: &[u8], out: &mut ArrayVec<u8, 160>) -> bool
     requires { array_vec_len out.old + length text.now ≤ 160 }
     ensures exact { IsTrue result ↔ ((message : List ℕ) × IsEnciphered key.now.0 message text.now) }
-    ensures appended { (message : List ℕ) → IsEnciphered key.now.0 message text.now → out.new.items ≡ out.old.items ++ message }
+    ensures appended { (message : List ℕ) → IsEnciphered key.now.0 message text.now
+        → out.new.items ≡ out.old.items ++ message }
     ensures unchanged { OnFalse result (out.new ≡ out.old) }
 {
     if text.len() % 8 != 0 {

@@ -20,8 +20,8 @@ told_update bytes = slice_index bytes 10 ∷ slice_index bytes 11 ∷ slice_inde
 abbrev pub says_approval : List ℕ → Bool
 says_approval update = bit_and (slice_index update 1) 0x80 == 0x80
 
--- the reply's bytes are those for its response code and, by method 2, for the status update that they hold, which agrees
--- with its approval
+-- the reply's bytes are those for its response code and, by method 2, for the status update that they hold, which
+-- agrees with its approval
 pub record IsMade (method : Method) (keys : CardKeys) (scripts : Scripts) (request : Request) (reply : Reply)
     : Type 0 where
   pub bytes_are : reply.bytes.items ≡ reply_bytes method keys scripts request reply.arc (told_update reply.bytes.items)

@@ -22,7 +22,8 @@ pub record KeptScripts : Type 0 where
 
 -- what a row holds of these scripts
 abbrev pub kept_of : Scripts → KeptScripts
-kept_of scripts = record { commands = waiting scripts; done = scripts.done; flight = scripts.flight; halted = scripts.halted }
+kept_of scripts =
+    record { commands = waiting scripts; done = scripts.done; flight = scripts.flight; halted = scripts.halted }
 
 -- what a row holds: the card's ARPC method, the greatest decided ATC, the card's status, its decisions with their
 -- replies in one slot for each residue of the ATC modulo 256, and its issuer script commands
@@ -43,7 +44,8 @@ pub record KeepsScripts (row : CardRow) (scripts : Scripts) : Type 0 where
 -- below the window is in its ATC's slot; and what is in a slot is one of the decisions, in its ATC's slot
 pub record KeepsWindow (slots : List (Option Decision)) (decisions : List Decision) : Type 0 where
   pub one_each : length slots ≡ WINDOW
-  pub kept : (decision : Decision) → Contains decisions decision → (IsBelow (greatest decisions) decision.request.atc → ⊥)
+  pub kept : (decision : Decision) → Contains decisions decision
+      → (IsBelow (greatest decisions) decision.request.atc → ⊥)
       → in_slot (slot_of decision.request.atc) slots ≡ Some decision
   pub decided : (slot : ℕ) (decision : Decision) → in_slot slot slots ≡ Some decision
       → Contains decisions decision × (slot_of decision.request.atc ≡ slot)

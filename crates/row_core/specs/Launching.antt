@@ -41,4 +41,5 @@ pub record TakesOff (before after : CardRow) (request : Request) : Type 0 where
   pub status_is : after.status ≡ before.status
   pub slots_are : after.slots ≡ before.slots
   pub hi_is : (scripts : Scripts) → KeepsScripts before scripts → after.hi ≡ (with_decision request scripts).hi
-  pub scripts_are : (scripts : Scripts) → KeepsScripts before scripts → after.scripts ≡ kept_of (with_decision request scripts)
+  pub scripts_are : (scripts : Scripts) → KeepsScripts before scripts
+      → after.scripts ≡ kept_of (with_decision request scripts)

@@ -46,8 +46,8 @@ abbrev pub history_after : List Entry → Request → Outcome → List Entry
 history_after history request (Fresh reply launch) = history ++ Decided request reply ∷ []
 history_after history request _ = history
 
--- a plan for a request of the row's card is one turn's answer to it: by the decisions on its ATC, and for a fresh one by
--- the first row of the table that matches
+-- a plan for a request of the row's card is one turn's answer to it: by the decisions on its ATC, and for a fresh one
+-- by the first row of the table that matches
 abbrev pub IsPlan : CardRow → CardKeys → List TableRow → Request → Outcome → Type 0
 IsPlan row keys table request outcome =
     (shard : ℕ) (card : CardInfo) (history : List Entry)
@@ -55,8 +55,8 @@ IsPlan row keys table request outcome =
     → Answers shard (reply_after card.method keys table) history request (answer_of shard (length history) outcome)
     (history_after history request outcome)
 
--- a reply is whole, with a response code of two bytes and at least a byte for the card, and comes with the launch of the
--- row for this request
+-- a reply is whole, with a response code of two bytes and at least a byte for the card, and comes with the launch of
+-- the row for this request
 pub record IsStep (row : CardRow) (request : Request) (reply : Reply) (launch : Option Launch) : Type 0 where
   pub some : 1 ≤ length reply.bytes.items
   pub code : length reply.arc ≡ 2

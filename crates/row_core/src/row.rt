@@ -36,8 +36,8 @@ use std::marker::Model;
 /// The plan for a request of the row's card.
 #[derive(Drop)]
 pub enum Outcome<'a> {
-    /// Its ATC is in the window and unused: the reply that the table decides, and the launch of the reply's batch if the
-    /// ATC is the newest.
+    /// Its ATC is in the window and unused: the reply that the table decides, and the launch of the reply's batch if
+    /// the ATC is the newest.
     Fresh(Reply, Option<Launch>),
 
     /// The request was decided before: its reply, borrowed from the row, and the index of its record.
@@ -191,7 +191,8 @@ impl Row {
         requires { IsLaunchFor self.old request.now launch }
         ensures { (card : CardInfo) (history : List Entry) → StandsFor card self.old history
             → IsNext card history (record { request = request.now; reply = reply.now; place = place })
-            → StandsFor card self.new (with_record history (record { request = request.now; reply = reply.now; place = place })) }
+            → StandsFor card self.new (with_record history
+            (record { request = request.now; reply = reply.now; place = place })) }
     {
         self.take_off(request, launch);
         self.kept.keep(KeptEntry {
@@ -207,7 +208,8 @@ impl Row {
         requires { IsTrue (is_command command) }
         ensures taken { IsOk result ↔ TakesOneMore self.old.scripts.commands }
         ensures number { IfOk result (λ number. number ≡ self.old.scripts.commands.queued) }
-        ensures queued { IfOk result (λ number. (card : CardInfo) (history : List Entry) → StandsFor card self.old history
+        ensures queued { IfOk result (λ number. (card : CardInfo) (history : List Entry)
+            → StandsFor card self.old history
             → StandsFor card self.new (with_command_for history card command)) }
         ensures unchanged { OnErr result (self.new ≡ self.old) }
     {
@@ -329,7 +331,8 @@ impl Row {
         requires launch { IsLaunch self.now.scripts request.now launch }
         ensures batch { (scripts : Scripts) → KeepsScripts self.now scripts
             → let batch = in_flight (with_newest request.now scripts) in
-            bytes.new.items ≡ bytes.old.items ++ script_bytes keys.now.suite keys.now.smi.0 request.now.ac (first_of request.now scripts) batch }
+            bytes.new.items ≡ bytes.old.items ++ script_bytes keys.now.suite keys.now.smi.0 request.now.ac
+            (first_of request.now scripts) batch }
         ensures longer { length bytes.old.items ≤ length bytes.new.items }
     {
         let first = self.scripts.first_number(launch);
@@ -347,7 +350,8 @@ impl Row {
     /// The plan for a request whose ATC is used or below the window, by the window's decisions; else `None`.
     #[inline(always)]
     pub(crate) fn known(&self, request: &Request) -> Option<Outcome<'_>>
-        ensures known { (decisions : List Decision) → self.now.hi ≡ greatest decisions → KeepsWindow self.now.slots decisions
+        ensures known { (decisions : List Decision) → self.now.hi ≡ greatest decisions
+            → KeepsWindow self.now.slots decisions
             → MatchOption result (IsUnused decisions request.now) (IsKnown decisions request.now) }
         ensures not_fresh { IfSome result (IsStepped self.now request.now) }
     {

@@ -1,4 +1,5 @@
-//! Sample values that tests and benches share: an issuer with its keys, cards and decision table, and purchases of its first card.
+//! Sample values that tests and benches share: an issuer with its keys, cards and decision table, and purchases of its
+//! first card.
 #![tactic(auto)]
 
 mod purchases;

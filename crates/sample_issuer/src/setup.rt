@@ -58,8 +58,8 @@ pub fn card(last: [u8; 2], method: Method) -> Option<CardInfo> {
     })
 }
 
-/// The table of three rows: it declines a card of status 1 with 06, approves amounts up to 5,000.00 with 00, and declines all else
-/// with 05.
+/// The table of three rows: it declines a card of status 1 with 06, approves amounts up to 5,000.00 with 00, and
+/// declines all else with 05.
 pub fn deciding_table() -> Option<Table> {
     let mut rows = ArrayVec::new();
     rows.push(TableRow {

@@ -1,5 +1,5 @@
--- The script command that changes a card's PIN: EMV 4.3 Book 3, section 6.5.10. That its data begin with R, from which the
--- session key is derived, is this project's profile.
+-- The script command that changes a card's PIN: EMV 4.3 Book 3, section 6.5.10. That its data begin with R, from which
+-- the session key is derived, is this project's profile.
 use Rattle.std.specs.Prelude.{◌≡◌, ℕ, Bool, ◌==◌, ◌&&◌, List, ◌∷◌, ◌++◌, length, Option, Some, None, All, IsTrue}
 use Rattle.issuer_base.specs.declared.command.Command.{Command}
 use Rattle.issuer_base.specs.declared.request.Suite.TheVariants.{TripleDes}
@@ -13,7 +13,14 @@ pin_body smc r pin = r ++ cbc (session_sm TripleDes smc r) (pin_block pin)
 
 -- the PIN change for a card with this master key for confidentiality
 abbrev pub pin_command : List ℕ → List ℕ → List ℕ → Command
-pin_command smc r pin = record { cla = 0x84; ins = 0x24; p1 = 0x00; p2 = 0x02; body = record { items = pin_body smc r pin } }
+pin_command smc r pin = record {
+  cla = 0x84;
+  ins = 0x24;
+  p1 = 0x00;
+  p2 = 0x02;
+  body =
+      record { items = pin_body smc r pin };
+}
 
 -- the command has the header and the length of a PIN change
 abbrev pub is_pin_change : Command → Bool

@@ -24,4 +24,5 @@ pin_block pin = packed (pin_nibbles pin)
 
 -- the nibble at an index of some bytes, of which that at 0 is the high one of the first byte
 abbrev pub nibble_at : List ℕ → ℕ → ℕ
-nibble_at bytes index = if index % 2 == 0 then slice_index bytes (index / 2) / 16 else slice_index bytes (index / 2) % 16
+nibble_at bytes index = if index % 2 == 0 then slice_index bytes (index / 2) / 16
+    else slice_index bytes (index / 2) % 16

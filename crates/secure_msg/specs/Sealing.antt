@@ -9,8 +9,8 @@ use Rattle.issuer_base.specs.ScriptCommand.{is_command}
 use Rattle.suite_mac.specs.SuiteMac.{mac_of}
 use Rattle.secure_msg.specs.Commands.{command_of}
 
--- a command as it is sent, up to its MAC: class, instruction, two parameters, Lc, which counts the data and the MAC, and
--- the data
+-- a command as it is sent, up to its MAC: class, instruction, two parameters, Lc, which counts the data and the MAC,
+-- and the data
 abbrev pub sent_bytes : Command → List ℕ
 sent_bytes command =
     command.cla ∷ command.ins ∷ command.p1 ∷ command.p2 ∷ (length command.body.items + 8) ∷ command.body.items

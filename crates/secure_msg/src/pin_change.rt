@@ -89,8 +89,8 @@ fn is_pin_change(command: &Command) -> bool
         && command.body.len() == PIN_BODY_BYTES
 }
 
-/// The PIN that the last PIN change of these commands sets on a card with this master key for confidentiality; `None` if
-/// no command sets one.
+/// The PIN that the last PIN change of these commands sets on a card with this master key for confidentiality; `None`
+/// if no command sets one.
 pub fn last_pin(smc: &Key16, commands: &[Command]) -> Option<Pin>
     ensures { IsLastPin smc.now.0 commands.now result }
 {
@@ -109,6 +109,7 @@ pub fn last_pin(smc: &Key16, commands: &[Command]) -> Option<Pin>
 /// The contract is a theorem; the function does nothing.
 pub fn pin_changes_set_their_pin()
     ensures sets { (smc r pin : List ℕ) → length r ≡ 8 → IsTrue (is_pin pin) → SetsPin smc (pin_command smc r pin) pin }
-    ensures one { (smc first second : List ℕ) (command : Command) → SetsPin smc command first → SetsPin smc command second
+    ensures one { (smc first second : List ℕ) (command : Command) → SetsPin smc command first
+        → SetsPin smc command second
         → first ≡ second }
 {}

@@ -26,8 +26,8 @@ pub const MAX_SEALED_BYTES: usize = HEADER_BYTES + MAX_BODY_BYTES + MAC_BYTES;
 /// The bytes of a sealed command.
 pub type SealedCommand = ArrayVec<u8, MAX_SEALED_BYTES>;
 
-/// Seals a command at a chain, with the MAC of the suite. Returns it and the next chain: the MAC that the sealed command
-/// ends with.
+/// Seals a command at a chain, with the MAC of the suite. Returns it and the next chain: the MAC that the sealed
+/// command ends with.
 pub fn seal(
     suite: Suite,
     key: &Key16,

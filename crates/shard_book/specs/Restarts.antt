@@ -12,8 +12,8 @@ use Rattle.shard_book.specs.Shards.{IsImageLeft, IsTextOf}
 abbrev pub with_table : Setup → List TableRow → Setup
 with_table issuer table = record { shards = issuer.shards; keys = issuer.keys; cards = issuer.cards; table = table }
 
--- the history is one that a shard holds since this old one: each entry is a record, and each record is legal after those
--- before it
+-- the history is one that a shard holds since this old one: each entry is a record, and each record is legal after
+-- those before it
 pub record IsHeld (issuer : Setup) (shard : ℕ) (old history : List Entry) : Type 0 where
   pub records : All IsRecord history
   pub since : IsLegalSince issuer shard old history

@@ -77,7 +77,8 @@ impl Rows {
         requires rows { AreRowsOf issuer.now self.old }
         requires form { IsTrue (is_command command) }
         ensures exact { (window : ℕ) (history : List Entry) → RowsStandFor issuer.now self.old history
-            → (IsTrue result ↔ IsLegalCommand (grounds_by issuer.now window (IsMadeBy issuer.now)) self.old.shard history
+            → (IsTrue result ↔ IsLegalCommand (grounds_by issuer.now window (IsMadeBy issuer.now))
+            self.old.shard history
             (named pan psn) command) }
         ensures adopted { IsTrue result → (history : List Entry) → RowsStandFor issuer.now self.old history
             → RowsStandFor issuer.now self.new (history ++ Entry.Queued pan psn command ∷ []) }

@@ -47,9 +47,11 @@ impl Model for Rows {
 
     ghost Value = { ShardRows };
 
-    ghost view = { λ r. record { shard = r.shard; shards = r.shards; cards = r.cards; rows = r.rows.items; bits = r.bits } };
+    ghost view = { λ r.
+        record { shard = r.shard; shards = r.shards; cards = r.cards; rows = r.rows.items; bits = r.bits } };
 
-    ghost invariant = { λ r. Covers (record { shard = r.shard; shards = r.shards; cards = r.cards; rows = r.rows.items; bits = r.bits }) };
+    ghost invariant = { λ r. Covers
+        (record { shard = r.shard; shards = r.shards; cards = r.cards; rows = r.rows.items; bits = r.bits }) };
 }
 
 impl Rows {
@@ -100,8 +102,8 @@ impl Rows {
         self.row(found.card).plan(&found.session, &found.keys, issuer.table(), &found.request)
     }
 
-    /// Adds the record of the decision that a plan gave for this request to the row of its card, and its ATC to the card's
-    /// recorded ones. The rows are unchanged since the plan.
+    /// Adds the record of the decision that a plan gave for this request to the row of its card, and its ATC to the
+    /// card's recorded ones. The rows are unchanged since the plan.
     pub(crate) fn apply(
         &mut self,
         found: &CheckedRequest,
@@ -111,7 +113,8 @@ impl Rows {
     )
         requires home { IsHome self.old found.now.card }
         requires launch { IsLaunchAt self.old found.now launch }
-        ensures applied { Applies self.old found.now (record { request = found.now.request; reply = reply.now; place = place }) self.new }
+        ensures applied { Applies self.old found.now (record
+            { request = found.now.request; reply = reply.now; place = place }) self.new }
         ensures same { AreSame self.old self.new }
     {
         let index = index_of(found.card, self.shards);

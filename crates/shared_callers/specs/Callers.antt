@@ -38,4 +38,5 @@ pub record IsCaller (issuer : Setup) (opening : List (Log LogItem LogHead)) (cal
   pub no_tops : caller.claims.tops ≡ []
   pub no_places : caller.logs.mine ≡ []
   pub opened : caller.logs.seen ≡ opening
-  pub calls : AuthorisesAll issuer caller.lines caller.answers caller.claims caller.logs caller.claims_now caller.logs_now
+  pub calls : AuthorisesAll issuer caller.lines caller.answers caller.claims caller.logs caller.claims_now
+      caller.logs_now

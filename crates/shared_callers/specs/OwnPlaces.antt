@@ -50,7 +50,8 @@ is_for_shard issuer shard (Err refusal) = false
 -- how many of these answers to these lines report that the store of this shard failed
 abbrev pub faults_told : Setup → ℕ → List (List ℕ) → List Answer → ℕ
 faults_told issuer shard (line ∷ lines) (answer ∷ answers) =
-    one_if (is_for_shard issuer shard (reading issuer line) && is_store_fault answer) + faults_told issuer shard lines answers
+    one_if (is_for_shard issuer shard (reading issuer line)
+    && is_store_fault answer) + faults_told issuer shard lines answers
 faults_told issuer shard _ _ = 0
 
 -- how many answers in the shares report that the store of this shard failed

@@ -38,7 +38,8 @@ split_from path k names = how_many (λ name. is_path path name.path && nat_le k 
 -- no path is held twice by the seats, and a path is held only if its parent is held and was split that often
 pub record AreNamed (seats : List (List SeatName)) : Type 0 where
   pub once : (path : List ℕ) → total (held path) seats ≤ 1
-  pub split : (k : ℕ) (path : List ℕ) → 0 < total (held (k ∷ path)) seats → (0 < k) × (0 < total (split_from path k) seats)
+  pub split : (k : ℕ) (path : List ℕ) → 0 < total (held (k ∷ path)) seats → (0 < k)
+      × (0 < total (split_from path k) seats)
 
 -- the empty path is held, and with each path all that were split from it
 pub record IsWhole (names : List SeatName) : Type 0 where

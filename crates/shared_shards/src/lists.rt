@@ -71,7 +71,8 @@ pub(crate) fn hold_all<S: Store>(
     shards: Vec<Shard<S>>,
     lists: &mut Lists<S>,
 )
-    requires opening { AreOpeningLogs issuer.now olds.now.value.items stores.now.value.items shards.items logs.now.view }
+    requires opening { AreOpeningLogs issuer.now olds.now.value.items stores.now.value.items shards.items
+        logs.now.view }
     requires empty { (lists.old.held.items ≡ []) × (lists.old.counts.items ≡ []) }
     requires room { (vec_len shards ≤ vec_capacity lists.old.held) × (vec_len shards ≤ vec_capacity lists.old.counts) }
     ensures shards { map (λ held. held.shard) lists.new.held.items ≡ shards.items }

@@ -41,8 +41,8 @@ impl<S: Store> ShardTurns<S> {
     ghost use Rattle.shared_shards.specs.ShardSeats.{StandForLogs};
 
     /// The turns at the shards of this issuer, which were loaded from these old stores and stores, in order, and the
-    /// first seat. Each shard's log opens with the records of the history that it was loaded with. Only if an allocation
-    /// fails, the shards come back in order.
+    /// first seat. Each shard's log opens with the records of the history that it was loaded with. Only if an
+    /// allocation fails, the shards come back in order.
     pub fn load(
         alloc: Global,
         issuer: &Issuer,

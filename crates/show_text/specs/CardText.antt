@@ -12,7 +12,8 @@ abbrev pub counter_word : Option ℕ → List ℕ
 counter_word None = codes "-"
 counter_word (Some counter) = decimal counter
 
--- the flight of a card's last reply: its transaction counter and the number of its commands, or a dash where there is none
+-- the flight of a card's last reply: its transaction counter and the number of its commands, or a dash where there is
+-- none
 abbrev pub flight_words : Option Flight → List (List ℕ)
 flight_words None = codes "-" ∷ []
 flight_words (Some flight) = decimal flight.counter ∷ decimal flight.size ∷ []
@@ -21,10 +22,12 @@ flight_words (Some flight) = decimal flight.counter ∷ decimal flight.size ∷ 
 abbrev pub ok_or_halt : Bool → List ℕ
 ok_or_halt halted = if halted then codes "halt" else codes "ok"
 
--- a card: its account number and its sequence number, as in a line that names the card, and then each part of its view behind its name
+-- a card: its account number and its sequence number, as in a line that names the card, and then each part of its view
+-- behind its name
 unfoldable pub card_words : List ℕ → ℕ → CardView → List (List ℕ)
 card_words pan psn view =
-    digits_text pan ∷ digits_text (digits_of psn) ∷ codes "hi" ∷ counter_word view.hi ∷ codes "status" ∷ decimal view.status
+    digits_text pan ∷ digits_text (digits_of psn) ∷ codes "hi" ∷ counter_word view.hi ∷ codes "status" ∷
+    decimal view.status
     ∷ codes "queued" ∷ decimal view.queued ∷ codes "done" ∷ decimal view.done
     ∷ codes "flight" ∷ flight_words view.flight ++ ok_or_halt view.halted ∷ []
 

@@ -15,7 +15,8 @@ use issuer_base::Pan;
 /// The most bytes that the line of a card has room for; the longest has 99.
 pub const CARD_ROOM: usize = LINE_ROOM;
 
-/// Writes the line of a card with this account number, this sequence number of two decimal digits and this view, in place of what
+/// Writes the line of a card with this account number, this sequence number of two decimal digits and this view, in
+/// place of what
 /// `out` held.
 #[tactic(auto, using(crate::proofs::Joined::line_joined), unfolding(crate::specs::CardText::card_text, crate::specs::CardText::card_words))]
 pub fn write_card(pan: &Pan, psn: u8, view: &CardView, out: &mut ArrayVec<u8, CARD_ROOM>)

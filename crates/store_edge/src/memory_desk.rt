@@ -86,7 +86,8 @@ impl Model for NamedJournal {
 
     ghost Value = { HeldJournal };
 
-    ghost view = { λ j. record { name = string_bytes j.name; bytes = j.bytes.items; room = j.room; fails = j.fails.items } };
+    ghost view = { λ j.
+        record { name = string_bytes j.name; bytes = j.bytes.items; room = j.room; fails = j.fails.items } };
 }
 
 impl NamedJournal {

@@ -33,11 +33,14 @@ abbrev pub between : ℕ → ℕ → ℕ → ℕ
 between first count place = one_if (nat_le first place && nat_lt place count)
 
 -- the slot has a value, which stands for the shard's log
-abbrev pub IsHome : {V I B : Type 0} → (V → B → List I → Type 0) → List (Log I B) → List (maybe.Option (Option V)) → ℕ → Type 0
-IsHome {V} stands logs homes shard = (value : V) × (get_elem? homes shard ≡ some (some (Some value))) × StandsAt stands value logs shard
+abbrev pub IsHome : {V I B : Type 0} → (V → B → List I → Type 0) → List (Log I B) → List (maybe.Option (Option V))
+    → ℕ → Type 0
+IsHome {V} stands logs homes shard = (value : V) × (get_elem? homes shard ≡ some (some (Some value)))
+    × StandsAt stands value logs shard
 
 -- the invariant of a shard, if these are the current logs
-pub record IsShard {V I B : Type 0} (stands : V → B → List I → Type 0) (opening logs : List (Log I B)) (table : State (Option V) (TurnView I B))
+pub record IsShard {V I B : Type 0} (stands : V → B → List I → Type 0) (opening logs : List (Log I B))
+    (table : State (Option V) (TurnView I B))
     (shard : ℕ) : Type 0 where
   pub front : IsFront (items_at opening shard) (items_at logs shard)
   pub count : count_in table.words shard ≡ length (items_at logs shard)
@@ -49,22 +52,26 @@ pub record IsShard {V I B : Type 0} (stands : V → B → List I → Type 0) (op
   pub out : 0 < insides_of shard table.views → get_elem? table.homes shard ≡ some (some None)
   -- some view has seen the whole log, and each index after the opening log is one view's own, once
   pub known : 0 < seers_of shard (length (items_at logs shard)) table.views
-  pub places : (place : ℕ) → owners_of shard place table.views ≡ between (length (items_at opening shard)) (length (items_at logs shard)) place
+  pub places : (place : ℕ) → owners_of shard place table.views ≡ between (length (items_at opening shard))
+      (length (items_at logs shard)) place
 
 -- what a view knows, if these are the current logs
 pub record Knows {I B : Type 0} (opening logs : List (Log I B)) (view : TurnView I B) : Type 0 where
   -- it has seen a prefix of each log, and the whole log if it has the turn
   pub fronts : (shard : ℕ) → IsFront (items_at view.seen shard) (items_at logs shard)
-  pub whole : (shard : ℕ) → has_turn shard view.turn ≡ true → length (items_at view.seen shard) ≡ length (items_at logs shard)
+  pub whole : (shard : ℕ) → has_turn shard view.turn ≡ true
+      → length (items_at view.seen shard) ≡ length (items_at logs shard)
   -- if it has a name, it has seen the opening logs, and else it knows nothing
   pub heads : 0 < length view.names → heads_of view.seen ≡ heads_of opening
   pub opened : 0 < length view.names → (shard : ℕ) → IsFront (items_at opening shard) (items_at view.seen shard)
   pub idle : length view.names ≡ 0 → view ≡ spent
   -- the logs that it has heard are prefixes of the logs
-  pub heard : (k : ℕ) (seen : List (Log I B)) → get_elem? view.heard k ≡ some seen → (shard : ℕ) → IsFront (items_at seen shard) (items_at logs shard)
+  pub heard : (k : ℕ) (seen : List (Log I B)) → get_elem? view.heard k ≡ some seen → (shard : ℕ)
+      → IsFront (items_at seen shard) (items_at logs shard)
 
 -- there are current logs, with the opening logs' heads, that the words, the slots and the views agree with
-pub record AreTurns {V I B : Type 0} (stands : V → B → List I → Type 0) (opening : List (Log I B)) (table : State (Option V) (TurnView I B)) : Type 0 where
+pub record AreTurns {V I B : Type 0} (stands : V → B → List I → Type 0) (opening : List (Log I B))
+    (table : State (Option V) (TurnView I B)) : Type 0 where
   pub logs : List (Log I B)
   pub heads : heads_of logs ≡ heads_of opening
   pub wide : length table.words ≡ SHARD_WORDS * length opening

@@ -118,7 +118,8 @@ impl<V: Logged<I, B>, I, B> Turns<V, I, B> {
         requires room { length (items_at (view_of seat.old).seen shard) < MAX_ITEMS }
         ensures seat { IsOf seat.new self.now }
         ensures view { view_of seat.new ≡ counted shard (E.item item.now) (view_of seat.old) }
-        ensures log { items_at (view_of seat.new).seen shard ≡ items_at (view_of seat.old).seen shard ++ E.item item.now ∷ [] }
+        ensures log { items_at (view_of seat.new).seen shard ≡ items_at (view_of seat.old).seen shard
+            ++ E.item item.now ∷ [] }
     {
         self.count_next::<Brand, E>(seat, shard, item);
     }
@@ -168,7 +169,8 @@ impl<V: Logged<I, B>, I, B> Turns<V, I, B> {
         ensures view { view_of seat.new ≡ joined (view_of seat.old) (view_of other) }
 
         // What either had seen of a log is a prefix of what the seat has now seen of it.
-        ensures fronts { (shard : ℕ) → IsFront (items_at (view_of seat.old).seen shard) (items_at (view_of seat.new).seen shard)
+        ensures fronts { (shard : ℕ) → IsFront (items_at (view_of seat.old).seen shard)
+            (items_at (view_of seat.new).seen shard)
             × IsFront (items_at (view_of other).seen shard) (items_at (view_of seat.new).seen shard) }
     {
         let mut stepper = seat.take::<V>();
@@ -213,7 +215,8 @@ impl<V: Logged<I, B>, I, B> Turns<V, I, B> {
         requires free { (view_of seat.old).turn ≡ Free }
         requires shard { shard < shards_of self.now }
         ensures seat { IsOf seat.new self.now }
-        ensures entered { IfSome result (λ value. (view_of seat.new ≡ entered shard (items_at (view_of seat.new).seen shard) (view_of seat.old))
+        ensures entered { IfSome result (λ value. (view_of seat.new ≡ entered shard
+            (items_at (view_of seat.new).seen shard) (view_of seat.old))
             × IsFront (items_at (view_of seat.old).seen shard) (items_at (view_of seat.new).seen shard)
             × StandsAt V.stands value (view_of seat.new).seen shard) }
         ensures same { IfNone result (view_of seat.new ≡ view_of seat.old) }
@@ -236,7 +239,8 @@ impl<V: Logged<I, B>, I, B> Turns<V, I, B> {
         requires free { (view_of seat.old).turn ≡ Free }
         requires shard { shard < shards_of self.now }
         ensures seat { IsOf seat.new self.now }
-        ensures entered { IfSome result (λ value. (view_of seat.new ≡ entered shard (items_at (view_of seat.new).seen shard) (view_of seat.old))
+        ensures entered { IfSome result (λ value. (view_of seat.new ≡ entered shard
+            (items_at (view_of seat.new).seen shard) (view_of seat.old))
             × IsFront (items_at (view_of seat.old).seen shard) (items_at (view_of seat.new).seen shard)
             × StandsAt V.stands value (view_of seat.new).seen shard) }
         ensures same { IfNone result (view_of seat.new ≡ view_of seat.old) }

@@ -77,7 +77,8 @@ pub(crate) fn take_values<V>(closed: &mut Closed<Option<V>, Global>, values: &mu
     requires empty { values.old.items ≡ [] }
     requires room { slots_len closed.old.slots ≤ vec_capacity values.old }
     ensures values { map Some values.new.items ≡ slots_items closed.old.slots }
-    ensures taken { (k : ℕ) → k < slots_len closed.new.slots → slice_index_or (slots_filled closed.new.slots) k false ≡ false }
+    ensures taken { (k : ℕ) → k < slots_len closed.new.slots
+        → slice_index_or (slots_filled closed.new.slots) k false ≡ false }
 {
     for shard in 0..closed.slot_count() {
         values.push_reserved(closed.take(shard).unwrap());
@@ -101,7 +102,8 @@ pub(crate) fn take_ground<V, J: OpeningLogs<I, B>, I, B>(
     ensures values { values.new.items ≡ values.old.items }
     ensures words { IfOk result (λ ground. AreOpeningWords counts.now ground.words.items) }
     ensures key { IfOk result (λ ground. ground.key.view ≡ J.opening) }
-    ensures slots { IfOk result (λ ground. (ground.slots.items ≡ []) × (vec_len values.new ≤ vec_capacity ground.slots) × (MAX_SHARDS ≤ vec_capacity values.new)) }
+    ensures slots { IfOk result (λ ground. (ground.slots.items ≡ []) × (vec_len values.new ≤ vec_capacity ground.slots)
+        × (MAX_SHARDS ≤ vec_capacity values.new)) }
 {
     let count = values.len();
     values.reserve(MAX_SHARDS as usize - count)?;

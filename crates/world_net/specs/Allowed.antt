@@ -32,7 +32,8 @@ pub record CanTap (world : WorldState) (number : ℕ) (terminal : Terminal) : Ty
 
 -- the card and counter of the request are neither recorded nor claimed
 pub record IsFree (world : WorldState) (request : Request) : Type 0 where
-  pub unrecorded : All (λ decision. decision.request.atc ≢ request.atc) (decided_for request (history_for world request))
+  pub unrecorded : All (λ decision. decision.request.atc ≢ request.atc)
+      (decided_for request (history_for world request))
   pub unclaimed : All (λ claim. card_of claim.request ≡ card_of request → claim.request.atc ≢ request.atc) world.claims
 
 -- a caller without a claim may claim the counter of the request in these bytes, if the issuer would decide the request

@@ -1,4 +1,5 @@
--- A fall-back of a world: each shard loses its last records, as when a standby node takes over that hadn't received them.
+-- A fall-back of a world: each shard loses its last records, as when a standby node takes over that hadn't received
+-- them.
 use Rattle.std.specs.Prelude.{◌≡◌, ◌≤◌, ◌<◌, ℕ, List, [], length, take, map, slice_get, Some, None, Contains}
 use Rattle.std.specs.List.{zip}
 use Rattle.issuer_base.specs.declared.answer.Reply.{Reply}
@@ -9,7 +10,8 @@ use Rattle.world_net.specs.WorldState.{WorldState, ShardState, shard_at}
 use Rattle.world_net.specs.WorldRuns.{IsIssuer, IsGenuineRun}
 use Rattle.world_net.specs.Safety.{IsSafe, RunsInOrder}
 
--- a shard may be truncated to this number of records: it has so many, and no reply was sent to the request of a record that is lost
+-- a shard may be truncated to this number of records: it has so many, and no reply was sent to the request of a record
+-- that is lost
 pub record CanTruncate (sent : List Exchange) (shard : ShardState) (count : ℕ) : Type 0 where
   pub within : count ≤ length shard.history
   pub unsent : (exchange : Exchange) (place : ℕ) (reply : Reply) → Contains sent exchange

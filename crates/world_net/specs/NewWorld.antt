@@ -14,7 +14,8 @@ abbrev pub HasFirstKeys : Setup → Suite → Type 0
 HasFirstKeys issuer suite = IfSome (slice_get issuer.keys 0) (λ set. IsTrue (has_suite suite set))
 
 -- a new card of this suite under this key set for each of the first cards
-pub record AreUnder (set : KeySet) (suite : Suite) (infos : List CardInfo) (count : ℕ) (cards : List CardState) : Type 0 where
+pub record AreUnder (set : KeySet) (suite : Suite) (infos : List CardInfo) (count : ℕ) (cards : List CardState)
+    : Type 0 where
   pub count_is : length cards ≡ count
   pub each : (number : ℕ) (info : CardInfo) → number < count → slice_get infos number ≡ Some info
       → (card : CardState) × (slice_get cards number ≡ Some card) × IsCardUnder set suite info card

@@ -20,7 +20,8 @@ pub record HasOneReply (world : WorldState) : Type 0 where
       → (shard : ℕ) × (place : ℕ) × (record_in world shard place ≡ Some (Decided exchange.request exchange.reply))
   pub of_record : (exchange : Exchange) (shard place : ℕ) (reply : Reply) → Contains world.sent exchange
       → record_in world shard place ≡ Some (Decided exchange.request reply) → exchange.reply ≡ reply
-  pub same : (first second : Exchange) → Contains world.sent first → Contains world.sent second → first.request ≡ second.request
+  pub same : (first second : Exchange) → Contains world.sent first → Contains world.sent second
+      → first.request ≡ second.request
       → first.reply ≡ second.reply
 
 -- what holds in each run: no two decided records name the same card and counter, and each request has one reply
@@ -34,11 +35,13 @@ pub record RanInOrder (name : CardName) (history : List Entry) (ran : List Comma
   pub rest : List Command
   pub front : queue name history ≡ ran ++ rest
   pub at_least : (scripts_of name history).done ≤ length ran
-  pub at_most : length ran ≤ (scripts_of name history).done + option_map_or (λ flight. flight.size) (scripts_of name history).flight 0
+  pub at_most : length ran ≤ (scripts_of name history).done + option_map_or (λ flight. flight.size)
+      (scripts_of name history).flight 0
   pub goes_on : (scripts_of name history).halted ≡ false
 
 -- what also holds in a genuine run: each card ran its commands in order
 abbrev pub RunsInOrder : WorldState → Type 0
 RunsInOrder world =
-    (number : ℕ) (info : CardInfo) (card : CardState) → slice_get world.issuer.cards number ≡ Some info → slice_get world.cards number ≡ Some card
+    (number : ℕ) (info : CardInfo) (card : CardState) → slice_get world.issuer.cards number ≡ Some info
+    → slice_get world.cards number ≡ Some card
     → RanInOrder (name_of info) (shard_at world (number % world.issuer.shards)).history card.ran

@@ -54,7 +54,11 @@ IsTaken Allowed Done before after (Err fault) = after ≡ before
 
 -- the issuer's own decision of a request, by its table, after the history of its card's shard
 abbrev pub own_decision : WorldState → Request → Exchange
-own_decision world request = record { request = request; reply = reply_to world.issuer (history_for world request) request }
+own_decision world request = record {
+  request = request;
+  reply = reply_to world.issuer
+      (history_for world request) request;
+}
 
 -- the decision that was written for the caller is the issuer's own, of the request that the caller claimed
 pub record WritesOwn (world : WorldState) (caller : ℕ) (stored : Bool) (after : WorldState) : Type 0 where

@@ -56,7 +56,8 @@ pub record IsNewWorld (issuer : Setup) (world : WorldState) : Type 0 where
 -- these events, one after another, turn a world into another
 abbrev pub IsRunFrom : WorldState → List Event → WorldState → Type 0
 IsRunFrom before [] after = after ≡ before
-IsRunFrom before (event ∷ events) after = (between : WorldState) × IsStep before event between × IsRunFrom between events after
+IsRunFrom before (event ∷ events) after = (between : WorldState) × IsStep before event between
+    × IsRunFrom between events after
 
 -- a run: these events turn a new world of the issuer into this world
 abbrev pub IsRun : Setup → List Event → WorldState → Type 0
@@ -71,7 +72,8 @@ pub record IsMade (world : WorldState) (request : Request) : Type 0 where
 -- each request that a record decides was made by its card before the record was appended
 abbrev pub DecidesMade : WorldState → WorldState → Type 0
 DecidesMade before after =
-    (shard place : ℕ) (request : Request) (reply : Reply) → record_in after shard place ≡ Some (Decided request reply) → IsMade before request
+    (shard place : ℕ) (request : Request) (reply : Reply) → record_in after shard place ≡ Some (Decided request reply)
+    → IsMade before request
 
 -- the bytes of the reply have this value of tag 91, after tag 8A with the response code: EMV 4.3 Book 3, Annex A
 pub record HasValue (reply : Reply) (value : List ℕ) : Type 0 where
@@ -100,7 +102,8 @@ pub record IsOfBatch (world : WorldState) (card moved : CardState) : Type 0 wher
   pub ran : moved.ran ≡ card.ran ++ command ∷ []
 
 -- a cryptogram that a card accepts in this step is genuine
-abbrev pub IsAcceptedRight : (world : WorldState) (event : Event) (after : WorldState) → IsStep world event after → Type 0
+abbrev pub IsAcceptedRight : (world : WorldState) (event : Event) (after : WorldState)
+    → IsStep world event after → Type 0
 IsAcceptedRight world (Authenticate number value arc) after step =
     step.right ≡ true → IsAnswered world step.card value.items arc
 IsAcceptedRight world (Run number bytes) after step = step.right ≡ true → IsOfBatch world step.card step.moved
@@ -115,7 +118,8 @@ pub record IsGenuineStep (world : WorldState) (event : Event) (after : WorldStat
 -- these events turn a world into another by genuine steps alone
 abbrev pub IsGenuineFrom : WorldState → List Event → WorldState → Type 0
 IsGenuineFrom before [] after = after ≡ before
-IsGenuineFrom before (event ∷ events) after = (between : WorldState) × IsGenuineStep before event between × IsGenuineFrom between events after
+IsGenuineFrom before (event ∷ events) after = (between : WorldState) × IsGenuineStep before event between
+    × IsGenuineFrom between events after
 
 -- a genuine run
 abbrev pub IsGenuineRun : Setup → List Event → WorldState → Type 0

@@ -15,8 +15,8 @@ pub record ShardState : Type 0 where
   pub history : List Entry
   pub doubt : Option Exchange
 
--- a world: the issuer, its cards in the order of their numbers, the requests that they made, the shards, the callers' open claims, and
--- the replies that were ever sent, each with its request
+-- a world: the issuer, its cards in the order of their numbers, the requests that they made, the shards, the callers'
+-- open claims, and the replies that were ever sent, each with its request
 pub record WorldState : Type 0 where
   pub issuer : Setup
   pub cards : List CardState
@@ -72,7 +72,8 @@ with_record world number entry =
 
 -- the world with this decision in doubt, or none, in a shard
 abbrev pub with_doubt : WorldState → ℕ → Option Exchange → WorldState
-with_doubt world number doubt = with_shard world number (record { history = (shard_at world number).history; doubt = doubt })
+with_doubt world number doubt = with_shard world number
+    (record { history = (shard_at world number).history; doubt = doubt })
 
 -- the world with this card instead of the one with this number
 abbrev pub with_card : WorldState → ℕ → CardState → WorldState

@@ -26,12 +26,16 @@ pub record Taps (world : WorldState) (number : ℕ) (terminal : Terminal) (after
   pub card_is : slice_get world.cards number ≡ Some card
   pub decimal : IsTrue (list_all is_bcd terminal.amount)
   pub step : CardStep card (IsTap terminal (Some request)) moved
-  pub after_is : after ≡ record (with_card world number moved) { made = world.made ++ record { card = number; request = request } ∷ [] }
+  pub after_is : after ≡ record (with_card world number moved)
+      { made = world.made ++ record { card = number; request = request } ∷ [] }
 
 -- a caller claims the counter of a request
 pub record Claims (world : WorldState) (caller : ℕ) (bytes : List ℕ) (after : WorldState) : Type 0 where
   pub can : CanClaim world caller bytes
-  pub after_is : after ≡ record world { claims = world.claims ++ record { caller = caller; request = can.request } ∷ [] }
+  pub after_is : after ≡ record world {
+    claims = world.claims
+        ++ record { caller = caller; request = can.request } ∷ [];
+  }
 
 -- a caller releases its claim
 pub record Releases (world : WorldState) (caller : ℕ) (after : WorldState) : Type 0 where
@@ -45,13 +49,16 @@ written true world caller shard exchange =
     record (with_record world shard (Decided exchange.request exchange.reply)) { claims = without caller world.claims }
 written false world caller shard exchange = with_doubt world shard (Some exchange)
 
--- a caller writes a decision of the request that it claimed; its response code, approval and status update are any that make it legal
+-- a caller writes a decision of the request that it claimed; its response code, approval and status update are any that
+-- make it legal
 pub record Writes (world : WorldState) (caller : ℕ) (stored : Bool) (after : WorldState) : Type 0 where
   pub claim : OpenClaim
   pub reply : Reply
   pub claim_is : claim_of caller world.claims ≡ Some claim
-  pub legal : IsLegalDecision (grounds_of world.issuer) (home_of world claim.request) (history_for world claim.request) claim.request reply
-  pub after_is : after ≡ written stored world caller (home_of world claim.request) (record { request = claim.request; reply = reply })
+  pub legal : IsLegalDecision (grounds_of world.issuer) (home_of world claim.request)
+      (history_for world claim.request) claim.request reply
+  pub after_is : after ≡ written stored world caller (home_of world claim.request)
+      (record { request = claim.request; reply = reply })
 
 -- the reply of a decided record is sent
 pub record Sends (world : WorldState) (shard place : ℕ) (after : WorldState) : Type 0 where

@@ -21,7 +21,8 @@ impl World {
     /// key for confidentiality; `None` if it ran none. It doesn't allocate.
     pub fn last_pin(&self, card: u32, smc: &Key16) -> Option<Pin>
         requires { card < length self.now.cards }
-        ensures last { (state : CardState) → slice_get self.now.cards card ≡ Some state → IsLastPin smc.now.0 state.ran result }
+        ensures last { (state : CardState) → slice_get self.now.cards card ≡ Some state
+            → IsLastPin smc.now.0 state.ran result }
 
         // In a genuine run it is that of the first commands of the card's queue, as many as the card ran.
         ensures genuine { IsGenuinelyReached self.now → IsLastQueued self.now card smc.now.0 result }

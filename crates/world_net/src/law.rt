@@ -13,7 +13,8 @@ ghost use Rattle.world_net.specs.Safety.{IsSafe, RunsInOrder};
 ///
 /// The contract is a theorem on every run of every issuer; the function does nothing.
 pub fn every_world_is_safe()
-    ensures { (issuer : Setup) (events : List Event) (world : WorldState) → IsIssuer issuer → IsRun issuer events world → IsSafe world }
+    ensures { (issuer : Setup) (events : List Event) (world : WorldState) → IsIssuer issuer → IsRun issuer events world
+        → IsSafe world }
 {}
 
 /// If the accepted cryptograms are genuine, the commands that a card ran are a prefix of its queue, in order, each
@@ -21,7 +22,8 @@ pub fn every_world_is_safe()
 ///
 /// The contract is a theorem on every genuine run of every issuer; the function does nothing.
 pub fn every_card_runs_its_commands_in_order()
-    ensures { (issuer : Setup) (events : List Event) (world : WorldState) → IsIssuer issuer → IsGenuineRun issuer events world → RunsInOrder world }
+    ensures { (issuer : Setup) (events : List Event) (world : WorldState) → IsIssuer issuer
+        → IsGenuineRun issuer events world → RunsInOrder world }
 {}
 
 /// All legal histories are those of some run. Each decided record is a claim and a write of the request's own bytes,
@@ -30,6 +32,7 @@ pub fn every_card_runs_its_commands_in_order()
 /// The contract is a theorem on every issuer; the function does nothing. It requires that the histories are legal, and
 /// that their records are values of their types.
 pub fn every_legal_history_has_a_run()
-    ensures { (issuer : Setup) (histories : List (List Entry)) → IsIssuer issuer → AreKeys issuer.keys → AreLegal issuer histories
+    ensures { (issuer : Setup) (histories : List (List Entry)) → IsIssuer issuer → AreKeys issuer.keys
+        → AreLegal issuer histories
         → AreHeld histories → HasRun issuer histories }
 {}

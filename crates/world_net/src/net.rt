@@ -81,7 +81,8 @@ impl Net {
         requires reached { IsReached (world_of self.old) }
         requires shards { length self.old.shards.items ≡ self.old.issuer.shards }
         requires rows { Stands self.old }
-        ensures taken { IsTaken (IsAllowed (world_of self.old) event.now) (IsStep (world_of self.old) event.now (world_of self.new))
+        ensures taken { IsTaken (IsAllowed (world_of self.old) event.now)
+            (IsStep (world_of self.old) event.now (world_of self.new))
             (world_of self.old) (world_of self.new) result }
         ensures own { IfDone (IsOwn (world_of self.old) event.now (world_of self.new)) result }
         ensures rows { Stands self.new }
@@ -104,7 +105,8 @@ impl Net {
 
     /// Taps the card with this number.
     pub(crate) fn tap(&mut self, number: u32, terminal: &Terminal) -> Result<bool, NoMemory>
-        ensures taken { IsTaken (CanTap (world_of self.old) number terminal.now) (Taps (world_of self.old) number terminal.now (world_of self.new))
+        ensures taken { IsTaken (CanTap (world_of self.old) number terminal.now)
+            (Taps (world_of self.old) number terminal.now (world_of self.new))
             (world_of self.old) (world_of self.new) result }
         ensures rows { Stands self.old → Stands self.new }
     {
@@ -131,7 +133,8 @@ impl Net {
         requires issuer { IsIssuer self.old.issuer }
         requires short { length bytes.now ≤ MAX_CHIP_BYTES }
         requires shards { length self.old.shards.items ≡ self.old.issuer.shards }
-        ensures taken { IsTaken (CanClaim (world_of self.old) caller bytes.now) (Claims (world_of self.old) caller bytes.now (world_of self.new))
+        ensures taken { IsTaken (CanClaim (world_of self.old) caller bytes.now)
+            (Claims (world_of self.old) caller bytes.now (world_of self.new))
             (world_of self.old) (world_of self.new) result }
         ensures rows { Stands self.old → Stands self.new }
     {
@@ -150,7 +153,8 @@ impl Net {
 
     /// Releases a claim.
     pub(crate) fn release(&mut self, caller: u8) -> Result<bool, NoMemory>
-        ensures taken { IsTaken (CanRelease (world_of self.old) caller) (Releases (world_of self.old) caller (world_of self.new))
+        ensures taken { IsTaken (CanRelease (world_of self.old) caller)
+            (Releases (world_of self.old) caller (world_of self.new))
             (world_of self.old) (world_of self.new) result }
         ensures rows { Stands self.old → Stands self.new }
     {
@@ -163,7 +167,8 @@ impl Net {
 
     /// Sends the reply of a decided record.
     pub(crate) fn send(&mut self, shard: u8, place: u64) -> Result<bool, NoMemory>
-        ensures taken { IsTaken (CanSend (world_of self.old) shard place) (Sends (world_of self.old) shard place (world_of self.new))
+        ensures taken { IsTaken (CanSend (world_of self.old) shard place)
+            (Sends (world_of self.old) shard place (world_of self.new))
             (world_of self.old) (world_of self.new) result }
         ensures rows { Stands self.old → Stands self.new }
     {
@@ -181,7 +186,8 @@ impl Net {
         value91: &[u8],
         arc: [u8; 2],
     ) -> Result<bool, NoMemory>
-        ensures taken { IsTaken (number < length (world_of self.old).cards) (Authenticates (world_of self.old) number value91.now arc (world_of self.new))
+        ensures taken { IsTaken (number < length (world_of self.old).cards)
+            (Authenticates (world_of self.old) number value91.now arc (world_of self.new))
             (world_of self.old) (world_of self.new) result }
         ensures rows { Stands self.old → Stands self.new }
     {
@@ -195,7 +201,8 @@ impl Net {
 
     /// Passes a script command to the card with this number.
     pub(crate) fn run(&mut self, number: u32, bytes: &[u8]) -> Result<bool, NoMemory>
-        ensures taken { IsTaken (number < length (world_of self.old).cards) (Runs (world_of self.old) number bytes.now (world_of self.new))
+        ensures taken { IsTaken (number < length (world_of self.old).cards)
+            (Runs (world_of self.old) number bytes.now (world_of self.new))
             (world_of self.old) (world_of self.new) result }
         ensures rows { Stands self.old → Stands self.new }
     {
@@ -211,7 +218,8 @@ impl Net {
     pub(crate) fn queue(&mut self, number: u32, command: &Command) -> Result<bool, NoMemory>
         requires shards { length self.old.shards.items ≡ self.old.issuer.shards }
         requires rows { Stands self.old }
-        ensures taken { IsTaken (CanQueue (world_of self.old) number command.now) (Queues (world_of self.old) number command.now (world_of self.new))
+        ensures taken { IsTaken (CanQueue (world_of self.old) number command.now)
+            (Queues (world_of self.old) number command.now (world_of self.new))
             (world_of self.old) (world_of self.new) result }
         ensures rows { Stands self.new }
     {
@@ -236,7 +244,8 @@ impl Net {
     pub(crate) fn set_status(&mut self, number: u32, status: u8) -> Result<bool, NoMemory>
         requires shards { length self.old.shards.items ≡ self.old.issuer.shards }
         requires rows { Stands self.old }
-        ensures taken { IsTaken (CanSet (world_of self.old) number status) (Sets (world_of self.old) number status (world_of self.new))
+        ensures taken { IsTaken (CanSet (world_of self.old) number status)
+            (Sets (world_of self.old) number status (world_of self.new))
             (world_of self.old) (world_of self.new) result }
         ensures rows { Stands self.new }
     {
@@ -259,7 +268,8 @@ impl Net {
         requires reached { IsReached (world_of self.old) }
         requires shards { length self.old.shards.items ≡ self.old.issuer.shards }
         requires rows { Stands self.old }
-        ensures taken { IsTaken (CanWrite (world_of self.old) caller) (Writes (world_of self.old) caller stored (world_of self.new))
+        ensures taken { IsTaken (CanWrite (world_of self.old) caller)
+            (Writes (world_of self.old) caller stored (world_of self.new))
             (world_of self.old) (world_of self.new) result }
         ensures own { IfDone (WritesOwn (world_of self.old) caller stored (world_of self.new)) result }
         ensures rows { Stands self.new }
@@ -303,7 +313,8 @@ impl Net {
         requires home { home < length self.old.shards.items }
         requires shards { length self.old.shards.items ≡ self.old.issuer.shards }
         requires rows { Stands self.old }
-        ensures done { OnOk result (world_of self.new ≡ settled_at kept (world_of self.old) home (shard_at (world_of self.old) home).doubt) }
+        ensures done { OnOk result (world_of self.new ≡ settled_at kept (world_of self.old) home
+            (shard_at (world_of self.old) home).doubt) }
         ensures unchanged { OnErr result (world_of self.new ≡ world_of self.old) }
         ensures rows { Stands self.new }
     {
@@ -319,7 +330,8 @@ impl Net {
 
     /// The request that this caller claimed.
     fn claimed(&self, caller: u8) -> Option<Request>
-        ensures { option_map (λ request. request) result ≡ option_map (λ claim. claim.request) (claim_of caller self.now.claims.items) }
+        ensures { option_map (λ request. request) result ≡ option_map (λ claim. claim.request)
+            (claim_of caller self.now.claims.items) }
     {
         let claim = claim_of(self.claims.as_slice(), caller)?;
         Some(claim.request.copy())
@@ -356,7 +368,8 @@ impl Net {
         requires rows { Stands self.old }
         requires legal { IsLegalDecision (grounds_of self.old.issuer) (home_of (world_of self.old) exchange.now.request)
             (history_for (world_of self.old) exchange.now.request) exchange.now.request exchange.now.reply }
-        ensures done { OnOk result (world_of self.new ≡ with_record (world_of self.old) (home_of (world_of self.old) exchange.now.request)
+        ensures done { OnOk result (world_of self.new ≡ with_record (world_of self.old)
+            (home_of (world_of self.old) exchange.now.request)
             (Entry.Decided exchange.now.request exchange.now.reply)) }
         ensures unchanged { OnErr result (world_of self.new ≡ world_of self.old) }
         ensures rows { Stands self.new }
@@ -386,7 +399,8 @@ impl Net {
         requires card { number < length self.now.issuer.cards }
         requires rows { Stands self.now }
         ensures { (info : CardInfo) → slice_get self.now.issuer.cards number ≡ Some info
-            → (IsTrue result ↔ TakesOneMore (waiting (scripts_of (name_of info) (history_at (world_of self.now) number)))) }
+            → (IsTrue result ↔ TakesOneMore (waiting (scripts_of (name_of info)
+            (history_at (world_of self.now) number)))) }
     {
         self.rows[number as usize].queue().takes_one_more()
     }
@@ -395,7 +409,8 @@ impl Net {
     fn read(&self, bytes: &[u8]) -> Option<Request>
         requires { length bytes.now ≤ MAX_CHIP_BYTES }
         ensures { MatchOption result
-            ((request : Request) → request_of bytes.now ≡ Ok request → checked self.now.issuer request ≡ Ok (Decide request) → ⊥)
+            ((request : Request) → request_of bytes.now ≡ Ok request
+            → checked self.now.issuer request ≡ Ok (Decide request) → ⊥)
             (λ request. (request_of bytes.now ≡ Ok request) × (checked self.now.issuer request ≡ Ok (Decide request))) }
     {
         let request = read_request(bytes).ok()?;
@@ -430,8 +445,10 @@ impl Net {
     /// The decision in the record at this index of this shard.
     fn decision_at(&self, shard: u8, place: u64) -> Option<Exchange>
         ensures { MatchOption result
-            ((request : Request) (reply : Reply) → record_in (world_of self.now) shard place ≡ Some (Entry.Decided request reply) → ⊥)
-            (λ exchange. record_in (world_of self.now) shard place ≡ Some (Entry.Decided exchange.request exchange.reply)) }
+            ((request : Request) (reply : Reply) → record_in (world_of self.now) shard place ≡ Some
+            (Entry.Decided request reply) → ⊥)
+            (λ exchange. record_in (world_of self.now) shard place ≡ Some
+            (Entry.Decided exchange.request exchange.reply)) }
     {
         let shard = self.shards.get(usize::from(shard))?;
         decision_in(shard.history().get(place as usize)?)

@@ -34,8 +34,8 @@ impl Model for World {
 }
 
 impl World {
-    /// The world of this issuer before any event: its cards are new and of this suite, under the issuer's first key set,
-    /// which has keys of it.
+    /// The world of this issuer before any event: its cards are new and of this suite, under the issuer's first key
+    /// set, which has keys of it.
     pub fn new(alloc: Global, issuer: Issuer, suite: Suite) -> Result<World, NoMemory>
         requires { HasFirstKeys issuer suite }
         ensures new { IfOk result (IsNewWorld issuer) }
@@ -50,7 +50,8 @@ impl World {
     /// Performs the event if the world allows it, and returns whether it does. If it doesn't, or if memory runs out,
     /// nothing changes.
     pub fn step(&mut self, event: &Event) -> Result<bool, NoMemory>
-        ensures taken { IsTaken (IsAllowed self.old event.now) (IsStep self.old event.now self.new) self.old self.new result }
+        ensures taken { IsTaken (IsAllowed self.old event.now)
+            (IsStep self.old event.now self.new) self.old self.new result }
 
         // A write records the reply of the issuer's own table.
         ensures own { IfDone (IsOwn self.old event.now self.new) result }
