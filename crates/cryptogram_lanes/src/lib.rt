@@ -58,8 +58,8 @@ fn one_by_one(requests: &[KeyedRequest]) -> ArrayVec<[u8; 8], 128>
 /// Whether the cryptogram of each request is the expected one, in all eight bytes.
 pub fn holds(requests: &[KeyedRequest]) -> ArrayVec<bool, 128>
     requires { length requests.now ≤ 128 }
-    ensures { AllZip (λ entry right. IsTrue right ↔ (entry.request.ac ≡ cryptogram_of entry)) requests.now
-        result.items }
+    ensures { AllZip (λ entry right. IsTrue right ↔ (entry.request.ac ≡ cryptogram_of entry))
+        requests.now result.items }
 {
     let cryptograms = expected(requests);
     let mut right = ArrayVec::new();

@@ -4,7 +4,7 @@ use Rattle.std.proofs.Common.{length, map, get_or, bit_and, refl, sym, ap, ◌�
 use Rattle.std.proofs.Common.{get_or-set_same, get_or-set_other, length-set, below_more}
 use Rattle.std.specs.List.{range_with_len}
 use Rattle.std.proofs.lemmas.List.{length-map, get_or-map}
-use Rattle.std.proofs.lemmas.List.FromFn.{fill_by_all}
+use Rattle.std.proofs.lemmas.List.FromFn.{fill_by_all, get_or-map-range_with_len}
 use Rattle.std.proofs.lemmas.Nat.Bits.{bit_at-zero}
 use Rattle.des_block.specs.Bits.{xor_bits}
 use Rattle.des_lanes.specs.Lanes.{lane_bit, lane_bits, bits_at}
@@ -20,6 +20,15 @@ unfolding lane_bits
 lane-at lane [] i = lane_bit-none lane
 lane-at lane (p ∷ pairs) zero = refl
 lane-at lane (p ∷ pairs) (suc i) = lane-at lane pairs i
+
+-- functions with the same table
+pub agree_below : (f g : ℕ → Bool) (n : ℕ) → map f (range_with_len 0 n) ≡ map g (range_with_len 0 n) → (x : ℕ) → x < n → f x ≡ g x
+agree_below f g n e x h =
+    sym (get_or-map-range_with_len f 0 n x x false h (omega arith)) ∙ ap (λ xs. get_or xs x false) e ∙ get_or-map-range_with_len g 0 n x x false h (omega arith)
+
+pub lane-length : (lane : ℕ) (pairs : List (List ℕ)) → length (lane_bits lane pairs) ≡ length pairs
+unfolding lane_bits
+lane-length lane pairs = length-map pairs (lane_bit lane)
 
 -- a list as the table of its entries
 pub tabulated : {A : Type 0} (d : A) (xs : List A) (n : ℕ) → length xs ≡ n → xs ≡ map (λ i. get_or xs i d) (range_with_len 0 n)

@@ -2,13 +2,13 @@
 use Rattle.std.proofs.Common.{◌≡◌, ℕ, zero, suc, ◌+◌, ◌*◌, ◌%◌, ◌<◌, Bool, false, List, [], ◌∷◌, ◌++◌, fold, take, drop, set}
 use Rattle.std.proofs.Common.{length, map, get_or, bit_and, refl, sym, ap, ap₂, ◌∙◌, arith, subst}
 use Rattle.std.specs.List.{range_with_len}
-use Rattle.std.proofs.lemmas.List.{drop_more, drop_all, length-map, map-append, take-map, drop-map, map-set, drop-drop}
+use Rattle.std.proofs.lemmas.List.{drop_more, drop_all, length-map, map-set, drop-drop}
 use Rattle.des_block.specs.Bits.{picked, xor_bits}
 use Rattle.des_block.specs.Tables.{initial_permutation, inverse_permutation, expansion, box_permutation, s1, s2, s3, s4, s5, s6, s7, s8, s_boxes}
 use Rattle.des_block.specs.Cipher.{Halves, halves, box_output, substituted, cipher_function, round, ciphered}
 use Rattle.des_lanes.specs.Lanes.{lane_bit, lane_bits, bits_at, with_output, with_outputs}
-use Rattle.des_lanes.specs.declared.rounds.TheConstants.{OUTPUT_PLACES}
-use Rattle.des_lanes.proofs.Pairs.{Fills, Fills_all, tabulated, xor_bits-map, bit_at_place, bits_at_is, lane-at}
+use Rattle.des_lanes.specs.declared.rounds.TheConstants.{OUTPUT_PLACES, HALF_PLACES}
+use Rattle.des_lanes.proofs.Pairs.{Fills, Fills_more, Fills_all, agree_below, lane-length, tabulated, xor_bits-map, bit_at_place, bits_at_is, lane-at}
 use mathlib.Core.Bool.{xor}
 
 -- what holds of 0 to 7
@@ -199,23 +199,84 @@ Rounds_more order keys left right i l r next done h len step = record {
 }
 
 -- sixteen rounds between IP and its inverse are the cipher
-pub Rounds_all : (order keys block mixed left right l r both out : List (List ℕ)) (i : ℕ) → Rounds order keys left right i l r → i ≡ length order
-    → left ≡ take 32 mixed → right ≡ drop 32 mixed → both ≡ r ++ l
-    → ((lane : ℕ) → lane_bits lane mixed ≡ picked initial_permutation (lane_bits lane block))
-    → ((lane : ℕ) → lane_bits lane out ≡ picked inverse_permutation (lane_bits lane both))
+pub Rounds_all : (order keys block left right l r out : List (List ℕ)) (i : ℕ) → Rounds order keys left right i l r → i ≡ length order
+    → ((lane : ℕ) → lane_bits lane left ≡ take 32 (picked initial_permutation (lane_bits lane block)))
+    → ((lane : ℕ) → lane_bits lane right ≡ drop 32 (picked initial_permutation (lane_bits lane block)))
+    → ((lane : ℕ) → lane_bits lane out ≡ picked inverse_permutation (lane_bits lane r ++ lane_bits lane l))
     → (lane : ℕ) → lane_bits lane out ≡ ciphered (map (λ places. bits_at places (lane_bits lane keys)) order) (lane_bits lane block)
-unfolding lane_halves lane_keys ciphered halves lane_bits
-Rounds_all order keys block mixed left right l r both out i done all is_left is_right is_both starts ends lane =
+unfolding lane_halves lane_keys ciphered halves
+Rounds_all order keys block left right l r out i done all is_left is_right ends lane =
     let none : drop i order ≡ [] = drop_all i order (omega arith) in
     let end : lane_halves lane l r ≡ fold round (lane_halves lane left right) (lane_keys lane keys order) =
     ap (λ ks. fold round (lane_halves lane l r) (lane_keys lane keys ks)) (sym none) ∙ done.joined lane in
     let start : lane_halves lane left right ≡ halves (picked initial_permutation (lane_bits lane block)) =
-    ap₂ (lane_halves lane) is_left is_right
-    ∙ ap₂ (λ (a b : List Bool). let h : Halves = record { left = a; right = b } in h)
-    (sym (take-map (lane_bit lane) 32 mixed)) (sym (drop-map (lane_bit lane) 32 mixed)) ∙ ap halves (starts lane) in
-    let whole : lane_bits lane both ≡ lane_bits lane r ++ lane_bits lane l = ap (lane_bits lane) is_both ∙ map-append (lane_bit lane) r l in
-    ends lane ∙ ap (picked inverse_permutation) whole
+    ap₂ (λ (a b : List Bool). let h : Halves = record { left = a; right = b } in h) (is_left lane) (is_right lane) in
+    ends lane
     ∙ ap (λ (h : Halves). picked inverse_permutation (h.right ++ h.left)) (end ∙ ap (λ h. fold round h (lane_keys lane keys order)) start)
+
+-- ---- the inverse of IP
+
+-- a bit of the block of two halves
+pub back_bit : List (List ℕ) → List (List ℕ) → ℕ → ℕ → Bool
+back_bit first second lane k = get_or (picked inverse_permutation (lane_bits lane first ++ lane_bits lane second)) k false
+
+half_place : ℕ → ℕ
+half_place i = bit_and (get_or HALF_PLACES i 0) 31
+
+evens : (f s : List Bool) → length f ≡ 32 → length s ≡ 32
+    → map (λ i. get_or s (half_place i) false) (range_with_len 0 32)
+    ≡ map (λ i. get_or (picked inverse_permutation (f ++ s)) (2 * i) false) (range_with_len 0 32)
+unfolding half_place picked inverse_permutation
+evens f s lf ls =
+    let Same : List Bool → List Bool → Type 0 = λ f s. map (λ i. get_or s (half_place i) false) (range_with_len 0 32)
+    ≡ map (λ i. get_or (picked inverse_permutation (f ++ s)) (2 * i) false) (range_with_len 0 32) in
+    subst (λ f. Same f s) (sym (tabulated false f 32 lf))
+    (subst (λ s. Same (map (λ i. get_or f i false) (range_with_len 0 32)) s) (sym (tabulated false s 32 ls)) refl)
+
+odds : (f s : List Bool) → length f ≡ 32 → length s ≡ 32
+    → map (λ i. get_or f (half_place i) false) (range_with_len 0 32)
+    ≡ map (λ i. get_or (picked inverse_permutation (f ++ s)) (2 * i + 1) false) (range_with_len 0 32)
+unfolding half_place picked inverse_permutation
+odds f s lf ls =
+    let Same : List Bool → List Bool → Type 0 = λ f s. map (λ i. get_or f (half_place i) false) (range_with_len 0 32)
+    ≡ map (λ i. get_or (picked inverse_permutation (f ++ s)) (2 * i + 1) false) (range_with_len 0 32) in
+    subst (λ f. Same f s) (sym (tabulated false f 32 lf))
+    (subst (λ s. Same (map (λ i. get_or f i false) (range_with_len 0 32)) s) (sym (tabulated false s 32 ls)) refl)
+
+pub back_even : (first second : List (List ℕ)) (lane i : ℕ) → length first ≡ 32 → length second ≡ 32 → i < 32
+    → lane_bit lane (get_or second (bit_and (get_or HALF_PLACES i 0) 31) []) ≡ back_bit first second lane (2 * i)
+unfolding back_bit half_place
+back_even first second lane i lf ls h =
+    let f : List Bool = lane_bits lane first in
+    let s : List Bool = lane_bits lane second in
+    lane-at lane second (half_place i)
+    ∙ agree_below (λ i. get_or s (half_place i) false) (λ i. get_or (picked inverse_permutation (f ++ s)) (2 * i) false) 32
+    (evens f s (lane-length lane first ∙ lf) (lane-length lane second ∙ ls)) i h
+
+pub back_odd : (first second : List (List ℕ)) (lane i : ℕ) → length first ≡ 32 → length second ≡ 32 → i < 32
+    → lane_bit lane (get_or first (bit_and (get_or HALF_PLACES i 0) 31) []) ≡ back_bit first second lane (2 * i + 1)
+unfolding back_bit half_place
+back_odd first second lane i lf ls h =
+    let f : List Bool = lane_bits lane first in
+    let s : List Bool = lane_bits lane second in
+    lane-at lane first (half_place i)
+    ∙ agree_below (λ i. get_or f (half_place i) false) (λ i. get_or (picked inverse_permutation (f ++ s)) (2 * i + 1) false) 32
+    (odds f s (lane-length lane first ∙ lf) (lane-length lane second ∙ ls)) i h
+
+pub back_more : (f : ℕ → ℕ → Bool) (i : ℕ) (pairs : List (List ℕ)) (a b : List ℕ) → Fills f 64 (2 * i) pairs → i < 32
+    → ((lane : ℕ) → lane_bit lane a ≡ f lane (2 * i)) → ((lane : ℕ) → lane_bit lane b ≡ f lane (2 * i + 1))
+    → Fills f 64 (2 * (i + 1)) (set (set pairs (2 * i) a) (2 * i + 1) b)
+back_more f i pairs a b done h even odd =
+    let two_more : 2 * i + 1 + 1 ≡ 2 * (i + 1) = omega arith in
+    subst (λ (n : ℕ). Fills f 64 n (set (set pairs (2 * i) a) (2 * i + 1) b)) two_more
+    (Fills_more f 64 (2 * i + 1) (set pairs (2 * i) a) b (Fills_more f 64 (2 * i) pairs a done (omega arith) even) (omega arith) odd)
+
+pub back_is : (first second out : List (List ℕ)) → Fills (back_bit first second) 64 64 out
+    → (lane : ℕ) → lane_bits lane out ≡ picked inverse_permutation (lane_bits lane first ++ lane_bits lane second)
+unfolding back_bit picked inverse_permutation
+back_is first second out done lane =
+    Fills_all (back_bit first second) 64 out done lane
+    ∙ sym (tabulated false (picked inverse_permutation (lane_bits lane first ++ lane_bits lane second)) 64 refl)
 
 -- ---- the xor of two blocks
 

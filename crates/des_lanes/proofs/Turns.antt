@@ -4,17 +4,16 @@ use Rattle.std.proofs.Common.{map, length, set, get_or, bit_and, bit_or, refl, s
 use Rattle.std.proofs.Common.{get_or-set_same, get_or-set_other, length-set}
 use Rattle.std.proofs.lemmas.Bool.{cases_eq}
 use Rattle.std.specs.Int.{bit_not}
-use Rattle.std.specs.List.{range_with_len}
 use lib.Lanes.{zip2}
 use Rattle.std.proofs.Common.{pow_pos}
 use Rattle.std.specs.Int.Bits.{and_lt}
 use Rattle.std.proofs.lemmas.Nat.{shr-shr}
 use Rattle.std.proofs.lemmas.Nat.Bits.{bit_at_cat_low, bit_at_cat_high}
-use Rattle.std.proofs.lemmas.List.FromFn.{get_or-map-range_with_len}
 use Rattle.std.proofs.lemmas.Simd.{get_or-zip2}
 use Rattle.des_block.proofs.Digits.{below_two}
 use Rattle.des_lanes.specs.Lanes.{lane_bit, digit, with_digit}
 use Rattle.des_lanes.specs.declared.turning.TheConstants.{LOW_COLUMNS}
+use Rattle.des_lanes.proofs.Pairs.{agree_below}
 use Rattle.des_lanes.proofs.Gates.{IsPair, IsPair-zip2, IsPair-not, lane-and, lane-or, lane-not}
 use mathlib.Core.Bool.{not}
 
@@ -83,10 +82,6 @@ below_six P p0 p1 p2 p3 p4 p5 (suc (suc (suc zero))) h = p3
 below_six P p0 p1 p2 p3 p4 p5 (suc (suc (suc (suc zero)))) h = p4
 below_six P p0 p1 p2 p3 p4 p5 (suc (suc (suc (suc (suc zero))))) h = p5
 below_six P p0 p1 p2 p3 p4 p5 (suc (suc (suc (suc (suc (suc k)))))) h = absurd (omega arith)
-
-agree_below : (f g : ℕ → Bool) (n : ℕ) → map f (range_with_len 0 n) ≡ map g (range_with_len 0 n) → (x : ℕ) → x < n → f x ≡ g x
-agree_below f g n e x h =
-    sym (get_or-map-range_with_len f 0 n x x false h (omega arith)) ∙ ap (λ xs. get_or xs x false) e ∙ get_or-map-range_with_len g 0 n x x false h (omega arith)
 
 mask_column : (k column : ℕ) → k < 6 → column < 64 → (get_or LOW_COLUMNS k 0 / 2 ^ (63 - column) % 2 == 1) ≡ (column / 2 ^ k % 2 == 0)
 mask_column k column hk hc =

@@ -25,8 +25,8 @@ lane_word lane pairs = number (lane_bits lane pairs)
 unfoldable pub bits_at : List ℕ → List Bool → List Bool
 bits_at places bs = map (λ place. slice_index_or bs (bit_and place 63) false) places
 
--- a bit of a half, xored with the output of box i that this entry of P selects, if it selects one; P numbers all
--- outputs from 1
+-- a bit of a half, xored with the output of box i that this entry of P selects, if it selects one of that box; entries
+-- number the outputs of all boxes from 1
 unfoldable pub with_output : ℕ → List Bool → ℕ → Bool → Bool
 with_output i outputs entry bit =
     if (entry - 1) / 4 == i then xor bit (slice_index_or outputs ((entry - 1) % 4) false) else bit

@@ -2,7 +2,7 @@
 
 ghost use Rattle.std.specs.Prelude.{◌≡◌, ℕ, ◌+◌, ◌*◌, ◌<◌, [], ◌∷◌, map, take, drop, ◌++◌, slice_index_or, bit_and, bit_xor};
 ghost use Rattle.des_block.specs.Bits.{picked, xor_bits};
-ghost use Rattle.des_block.specs.Tables.{expansion, s_boxes};
+ghost use Rattle.des_block.specs.Tables.{expansion, inverse_permutation};
 ghost use Rattle.des_block.specs.Cipher.{substituted, cipher_function, ciphered, word_bytes, des_encipher, des_decipher};
 ghost use Rattle.des_lanes.specs.Lanes.{lane_bit, lane_bits, lane_word, bits_at, with_outputs};
 ghost use mathlib.Core.Bool.{xor};
@@ -10,18 +10,22 @@ ghost use mathlib.Core.Bool.{xor};
 use crate::boxes::{box_1, box_2, box_3, box_4, box_5, box_6, box_7, box_8};
 use std::simd::prelude::*;
 
-/// IP. This table and those below number bits from 0.
-const INITIAL_PERMUTATION: [u8; 64] = [
+/// The bits of a block that IP puts into the left half. This table and those below number bits from 0.
+const LEFT_PLACES: [u8; 32] = [
     57, 49, 41, 33, 25, 17, 9, 1, 59, 51, 43, 35, 27, 19, 11, 3, 61, 53, 45, 37, 29, 21, 13, 5, 63,
-    55, 47, 39, 31, 23, 15, 7, 56, 48, 40, 32, 24, 16, 8, 0, 58, 50, 42, 34, 26, 18, 10, 2, 60, 52,
-    44, 36, 28, 20, 12, 4, 62, 54, 46, 38, 30, 22, 14, 6,
+    55, 47, 39, 31, 23, 15, 7,
 ];
 
-/// The inverse of IP.
-const INVERSE_PERMUTATION: [u8; 64] = [
-    39, 7, 47, 15, 55, 23, 63, 31, 38, 6, 46, 14, 54, 22, 62, 30, 37, 5, 45, 13, 53, 21, 61, 29,
-    36, 4, 44, 12, 52, 20, 60, 28, 35, 3, 43, 11, 51, 19, 59, 27, 34, 2, 42, 10, 50, 18, 58, 26,
-    33, 1, 41, 9, 49, 17, 57, 25, 32, 0, 40, 8, 48, 16, 56, 24,
+/// The bits of a block that IP puts into the right half.
+const RIGHT_PLACES: [u8; 32] = [
+    56, 48, 40, 32, 24, 16, 8, 0, 58, 50, 42, 34, 26, 18, 10, 2, 60, 52, 44, 36, 28, 20, 12, 4, 62,
+    54, 46, 38, 30, 22, 14, 6,
+];
+
+/// The inverse of IP: its bits are of the second half and of the first by turns, at these places.
+const HALF_PLACES: [u8; 32] = [
+    7, 15, 23, 31, 6, 14, 22, 30, 5, 13, 21, 29, 4, 12, 20, 28, 3, 11, 19, 27, 2, 10, 18, 26, 1, 9,
+    17, 25, 0, 8, 16, 24,
 ];
 
 /// Where P puts the outputs of the boxes.
@@ -107,14 +111,26 @@ const KEY_PLACES: [[u8; 48]; 16] = [
 ];
 
 /// The pairs at these places.
-fn permuted(places: &[u8; 64], pairs: &[u64x2; 64]) -> [u64x2; 64]
-    ensures { (lane : ℕ) → lane_bits lane result ≡ bits_at places.now (lane_bits lane pairs.now) }
+fn half(places: &[u8; 32], block: &[u64x2; 64]) -> [u64x2; 32]
+    ensures { (lane : ℕ) → lane_bits lane result ≡ bits_at places.now (lane_bits lane block.now) }
 {
-    let mut out = [u64x2::splat(0); 64];
+    let mut out = [u64x2::splat(0); 32];
     for (i, place) in places.iter().enumerate() {
-        out[i] = pairs[(place & 63) as usize];
+        out[i] = block[(place & 63) as usize];
     }
     out
+}
+
+/// Makes a block of two halves by the inverse of IP.
+fn put_back(block: &mut [u64x2; 64], first: &[u64x2; 32], second: &[u64x2; 32])
+    ensures { (lane : ℕ) → lane_bits lane block.new
+        ≡ picked inverse_permutation (lane_bits lane first.now ++ lane_bits lane second.now) }
+{
+    for i in 0..32 {
+        let place = (HALF_PLACES[i] & 31) as usize;
+        block[2 * i] = second[place];
+        block[2 * i + 1] = first[place];
+    }
 }
 
 /// The xor of two pairs.
@@ -214,47 +230,18 @@ fn mix(left: &mut [u64x2; 32], right: &[u64x2; 32], keys: &[u64x2; 64], places: 
     add(left, 7, box_8(six.0, six.1, six.2, six.3, six.4, six.5));
 }
 
-/// The first half of a block.
-fn left_half(block: &[u64x2; 64]) -> [u64x2; 32]
-    ensures { result ≡ take 32 block.now }
-{
-    let mut half = [u64x2::splat(0); 32];
-    half.copy_from_slice(&block[..32]);
-    half
-}
-
-/// The second half of a block.
-fn right_half(block: &[u64x2; 64]) -> [u64x2; 32]
-    ensures { result ≡ drop 32 block.now }
-{
-    let mut half = [u64x2::splat(0); 32];
-    half.copy_from_slice(&block[32..]);
-    half
-}
-
-/// The block of two halves.
-fn joined(first: &[u64x2; 32], second: &[u64x2; 32]) -> [u64x2; 64]
-    ensures { result ≡ first.now ++ second.now }
-{
-    let mut block = [u64x2::splat(0); 64];
-    block[..32].copy_from_slice(first);
-    block[32..].copy_from_slice(second);
-    block
-}
-
 /// Puts the block of each lane through the sixteen rounds, under the round keys at these places of the keys.
 fn cipher(order: &[[u8; 48]; 16], keys: &[u64x2; 64], block: &mut [u64x2; 64])
     ensures { (lane : ℕ) → lane_bits lane block.new
         ≡ ciphered (map (λ places. bits_at places (lane_bits lane keys.now)) order.now) (lane_bits lane block.old) }
 {
-    let mixed = permuted(&INITIAL_PERMUTATION, block);
-    let mut left = left_half(&mixed);
-    let mut right = right_half(&mixed);
+    let mut left = half(&LEFT_PLACES, block);
+    let mut right = half(&RIGHT_PLACES, block);
     for i in 0..8 {
         mix(&mut left, &right, keys, &order[2 * i]);
         mix(&mut right, &left, keys, &order[2 * i + 1]);
     }
-    *block = permuted(&INVERSE_PERMUTATION, &joined(&right, &left));
+    put_back(block, &right, &left);
 }
 
 /// Enciphers the block of each lane under the key of the lane.
