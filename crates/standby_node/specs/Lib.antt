@@ -1,0 +1,6 @@
+-- The definitions that the contracts of this crate cite.
+pub mod FeedLines
+pub mod Streams
+pub mod Standing
+pub mod Primary
+pub mod OneLine
