@@ -8,6 +8,8 @@ mod journals;
 #[cfg(test)]
 mod migration;
 #[cfg(test)]
+mod standbys;
+#[cfg(test)]
 mod stores;
 #[cfg(test)]
 mod taking;
