@@ -20,10 +20,10 @@ use Rattle.hex.proofs.HexLemmas.{decode_of-ok}
 use Rattle.issuer_base.specs.ChipData.{digits_of}
 use Rattle.chip_request.specs.Lines.{digits_text}
 use Rattle.command_line.specs.declared.words.Command.{Command}
-use Rattle.command_line.specs.declared.words.Command.TheVariants.{Serve, Show, World, Fill, Pin, Clear}
+use Rattle.command_line.specs.declared.words.Command.TheVariants.{Serve, Show, World, Fill, Pin, Clear, Export}
 use Rattle.command_line.specs.Command.{IsValue, Pair, words_of, values_of, is_one_of, IsCall, IsSize, serve_options}
 use Rattle.command_line.specs.Command.{callers_option, show_options, world_options, fill_options, pin_options}
-use Rattle.command_line.specs.Command.{clear_options, IsClear}
+use Rattle.command_line.specs.Command.{clear_options, export_options, IsClear, IsExport}
 use Rattle.command_line.specs.Command.{SpellsBytes}
 use Rattle.command_line.specs.Command.{RequestFile, IsGroup, IsServe, IsShow, IsWorld, IsFill, IsCommand}
 use Rattle.command_line.specs.Command.{PinOrder, IsPin, IsNoCommand}
@@ -374,6 +374,13 @@ clear-from words config clearing journal are a b c =
     call-from (codes "clear") clear_options words (config ∷ clearing ∷ journal ∷ []) are
     (three-values words (codes "--config") (codes "--clearing") (codes "--journal") config clearing journal a b c)
 
+pub export-from : (words : List (List ℕ)) (config journal : List ℕ) → AreWordsOf Export words
+    → value_in words (codes "--config") ≡ Some config → value_in words (codes "--journal") ≡ Some journal
+    → IsExport words config journal
+export-from words config journal are a b =
+    call-from (codes "export") export_options words (config ∷ journal ∷ []) are
+    (two-values words (codes "--config") (codes "--journal") config journal a b)
+
 -- the numbers are within the limits where the test says so
 size-true : (cards steps : ℕ) → is_within cards steps ≡ true → IsSize cards steps
 size-true cards steps is = grind (arith, is)
@@ -494,6 +501,21 @@ clear-gives words config clearing journal call =
     let c : values_of (codes "--clearing") pairs ≡ clearing ∷ [] = cc in
     let j : values_of (codes "--journal") pairs ≡ journal ∷ [] = cc in
     record { config_is = ap only f; clearing_is = ap only c; journal_is = ap only j }
+
+pub record ExportGives (words : List (List ℕ)) (config journal : List ℕ) : Type 0 where
+  pub config_is : value_in words (codes "--config") ≡ Some config
+  pub journal_is : value_in words (codes "--journal") ≡ Some journal
+
+pub export-gives : (words : List (List ℕ)) (config journal : List ℕ) → IsExport words config journal
+    → ExportGives words config journal
+export-gives words config journal call =
+    let parts = parted (codes "export") export_options words (config ∷ journal ∷ []) call in
+    let pairs = pairs_of (drop 1 words) in
+    let lists : values_of (codes "--config") pairs ∷ values_of (codes "--journal") pairs ∷ []
+    ≡ (config ∷ []) ∷ (journal ∷ []) ∷ [] = parts.once in
+    let c : values_of (codes "--config") pairs ≡ config ∷ [] = cc in
+    let j : values_of (codes "--journal") pairs ≡ journal ∷ [] = cc in
+    record { config_is = ap only c; journal_is = ap only j }
 
 pub record WorldGives (words : List (List ℕ)) (cards steps seed : ℕ) : Type 0 where
   pub cards_are : value_in words (codes "--cards") ≡ Some (decimal cards)
@@ -647,53 +669,34 @@ asks-words words Pin asks =
     ∷ digits_text order.pin ∷ []) asks.1.call).are
 asks-words words Clear asks =
     (parted (codes "clear") clear_options words (asks.0 ∷ asks.1 ∷ asks.2 ∷ []) asks.3).are
+asks-words words Export asks = (parted (codes "export") export_options words (asks.0 ∷ asks.1 ∷ []) asks.2).are
+
+-- the command that begins with a word
+command_in : List ℕ → Option Command
+command_in word =
+    if bytes_eq word (codes "serve") then Some Serve
+    else if bytes_eq word (codes "show") then Some Show
+    else if bytes_eq word (codes "world") then Some World
+    else if bytes_eq word (codes "fill") then Some Fill
+    else if bytes_eq word (codes "pin") then Some Pin
+    else if bytes_eq word (codes "clear") then Some Clear
+    else if bytes_eq word (codes "export") then Some Export
+    else None
+
+begins : (command : Command) → command_in (first_word command) ≡ Some command
+unfolding command_in
+begins Serve = refl
+begins Show = refl
+begins World = refl
+begins Fill = refl
+begins Pin = refl
+begins Clear = refl
+begins Export = refl
 
 -- no two commands begin alike
 same-command : (command other : Command) → first_word command ≡ first_word other → command ≡ other
-same-command Serve Serve same = refl
-same-command Serve Show same = let long : 5 ≡ 4 = ap length same in absurd (omega (arith, long))
-same-command Serve World same =
-    let first : ◌≡◌ {A = ℕ} 115 119 = ap (λ (word : List ℕ). get_or word 0 0) same in absurd (omega (arith, first))
-same-command Show Serve same = let long : 4 ≡ 5 = ap length same in absurd (omega (arith, long))
-same-command Show Show same = refl
-same-command Show World same = let long : 4 ≡ 5 = ap length same in absurd (omega (arith, long))
-same-command World Serve same =
-    let first : ◌≡◌ {A = ℕ} 119 115 = ap (λ (word : List ℕ). get_or word 0 0) same in absurd (omega (arith, first))
-same-command World Show same = let long : 5 ≡ 4 = ap length same in absurd (omega (arith, long))
-same-command World World same = refl
-same-command Fill Fill same = refl
-same-command Serve Fill same = let long : 5 ≡ 4 = ap length same in absurd (omega (arith, long))
-same-command Fill Serve same = let long : 4 ≡ 5 = ap length same in absurd (omega (arith, long))
-same-command World Fill same = let long : 5 ≡ 4 = ap length same in absurd (omega (arith, long))
-same-command Fill World same = let long : 4 ≡ 5 = ap length same in absurd (omega (arith, long))
-same-command Show Fill same =
-    let first : ◌≡◌ {A = ℕ} 115 102 = ap (λ (word : List ℕ). get_or word 0 0) same in absurd (omega (arith, first))
-same-command Fill Show same =
-    let first : ◌≡◌ {A = ℕ} 102 115 = ap (λ (word : List ℕ). get_or word 0 0) same in absurd (omega (arith, first))
-same-command Pin Pin same = refl
-same-command Serve Pin same = let long : 5 ≡ 3 = ap length same in absurd (omega (arith, long))
-same-command Pin Serve same = let long : 3 ≡ 5 = ap length same in absurd (omega (arith, long))
-same-command Show Pin same = let long : 4 ≡ 3 = ap length same in absurd (omega (arith, long))
-same-command Pin Show same = let long : 3 ≡ 4 = ap length same in absurd (omega (arith, long))
-same-command World Pin same = let long : 5 ≡ 3 = ap length same in absurd (omega (arith, long))
-same-command Pin World same = let long : 3 ≡ 5 = ap length same in absurd (omega (arith, long))
-same-command Fill Pin same = let long : 4 ≡ 3 = ap length same in absurd (omega (arith, long))
-same-command Pin Fill same = let long : 3 ≡ 4 = ap length same in absurd (omega (arith, long))
-same-command Clear Clear same = refl
-same-command Clear Serve same =
-    let first : ◌≡◌ {A = ℕ} 99 115 = ap (λ (word : List ℕ). get_or word 0 0) same in absurd (omega (arith, first))
-same-command Serve Clear same =
-    let first : ◌≡◌ {A = ℕ} 115 99 = ap (λ (word : List ℕ). get_or word 0 0) same in absurd (omega (arith, first))
-same-command Clear Show same = let long : 5 ≡ 4 = ap length same in absurd (omega (arith, long))
-same-command Show Clear same = let long : 4 ≡ 5 = ap length same in absurd (omega (arith, long))
-same-command Clear World same =
-    let first : ◌≡◌ {A = ℕ} 99 119 = ap (λ (word : List ℕ). get_or word 0 0) same in absurd (omega (arith, first))
-same-command World Clear same =
-    let first : ◌≡◌ {A = ℕ} 119 99 = ap (λ (word : List ℕ). get_or word 0 0) same in absurd (omega (arith, first))
-same-command Clear Fill same = let long : 5 ≡ 4 = ap length same in absurd (omega (arith, long))
-same-command Fill Clear same = let long : 4 ≡ 5 = ap length same in absurd (omega (arith, long))
-same-command Clear Pin same = let long : 5 ≡ 3 = ap length same in absurd (omega (arith, long))
-same-command Pin Clear same = let long : 3 ≡ 5 = ap length same in absurd (omega (arith, long))
+same-command command other same =
+    let both : Some command ≡ Some other = sym (begins command) ∙ ap command_in same ∙ begins other in cc
 
 -- words are those of one command
 pub one-command : (words : List (List ℕ)) (command other : Command) → AreWordsOf command words → AreWordsOf other words
@@ -701,6 +704,12 @@ pub one-command : (words : List (List ℕ)) (command other : Command) → AreWor
 one-command words command other are others =
     let begins : Some (first_word command) ≡ Some (first_word other) = sym are.first ∙ others.first in
     same-command command other (cc)
+
+-- words ask for one command
+pub one-asked : (words : List (List ℕ)) (command other : Command) → Asks command words → Asks other words
+    → command ≡ other
+one-asked words command other asks others =
+    one-command words command other (asks-words words command asks) (asks-words words other others)
 
 -- words that are none of the commands are no command
 none-asked : (words : List (List ℕ)) → ((command : Command) → Asks command words → ⊥) → IsNoCommand words
@@ -713,6 +722,7 @@ none-asked words none = record {
   no_fill = λ dol given fill. none Fill (dol, given, fill);
   no_pin = λ order pin. none Pin (order, pin);
   no_clear = λ config clearing journal clear. none Clear (config, clearing, journal, clear);
+  no_export = λ config journal export. none Export (config, journal, export);
 }
 
 pub no-words : (words : List (List ℕ)) → ((command : Command) → AreWordsOf command words → ⊥) → IsNoCommand words

@@ -5,16 +5,17 @@ use Rattle.std.specs.Fmt.{decimal}
 use Rattle.std.specs.Option.{option_map}
 use Rattle.issuer_base.specs.declared.limits.TheConstants.{MAX_CARDS, MAX_CARD_REQUESTS, MAX_STEPS}
 use Rattle.command_line.specs.declared.words.Command.{Command}
-use Rattle.command_line.specs.declared.words.Command.TheVariants.{Serve, Show, World, Fill, Pin, Clear}
+use Rattle.command_line.specs.declared.words.Command.TheVariants.{Serve, Show, World, Fill, Pin, Clear, Export}
 use Rattle.command_line.specs.declared.pin_words.PinWords.{PinWords}
 use Rattle.command_line.specs.declared.words.Requests.{Requests}
 use Rattle.command_line.specs.declared.words.Task.{Task}
 use Rattle.command_line.specs.declared.words.Task.TheVariants.{Host, Play, Fill as FillTask, Pin as PinTask}
 use Rattle.command_line.specs.declared.words.Task.TheVariants.{Clear as ClearTask}
+use Rattle.command_line.specs.declared.words.Task.TheVariants.{Export as ExportTask}
 use Rattle.command_line.specs.Command.{Pair, values_of, is_one_of, serve_options, callers_option, show_options}
 use Rattle.command_line.specs.Command.{world_options, fill_options, pin_options, clear_options, PinOrder, IsPin}
 use Rattle.command_line.specs.Command.{RequestFile, IsGroup, IsServe, IsShow, IsWorld, IsFill, IsClear}
-use Rattle.command_line.specs.Command.{IsCommand}
+use Rattle.command_line.specs.Command.{export_options, IsExport, IsCommand}
 
 -- whether a word is a value
 abbrev pub is_value : List ℕ → Bool
@@ -29,6 +30,7 @@ first_word World = codes "world"
 first_word Fill = codes "fill"
 first_word Pin = codes "pin"
 first_word Clear = codes "clear"
+first_word Export = codes "export"
 
 abbrev pub options_of : Command → List (List ℕ)
 options_of Serve = callers_option ∷ serve_options
@@ -37,6 +39,7 @@ options_of World = world_options
 options_of Fill = fill_options
 options_of Pin = pin_options
 options_of Clear = clear_options
+options_of Export = export_options
 
 -- the pairs of words, two by two
 abbrev pub pairs_of : List (List ℕ) → List Pair
@@ -91,6 +94,7 @@ Asks World words = (cards steps seed : ℕ) × IsWorld words cards steps seed
 Asks Fill words = (dol given : List ℕ) × IsFill words dol given
 Asks Pin words = (order : PinOrder) × IsPin words order
 Asks Clear words = (config clearing journal : List ℕ) × IsClear words config clearing journal
+Asks Export words = (config journal : List ℕ) × IsExport words config journal
 
 -- the request file that the code names
 abbrev pub request_file : Requests → RequestFile
@@ -114,6 +118,7 @@ IsTask words (Play size) = IsWorld words size.cards size.steps size.seed
 IsTask words (FillTask texts) = IsFill words texts.dol.items texts.data.items
 IsTask words (PinTask named) = IsPin words (order_of named)
 IsTask words (ClearTask names) = IsClear words names.config.now names.clearing.now names.journal.now
+IsTask words (ExportTask names) = IsExport words names.config.now names.journal.now
 
 -- whether a world may have so many cards and steps
 abbrev pub is_within : ℕ → ℕ → Bool

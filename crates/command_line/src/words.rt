@@ -8,8 +8,10 @@ ghost use Rattle.command_line.specs.Pairs.{is_value, first_word, options_of, is_
 ghost use Rattle.command_line.specs.Pairs.{value_in, is_within, AreWordsOf, GivesCallers, Asks, IsTask};
 ghost use Rattle.command_line.specs.declared.words.Command.{Command};
 ghost use Rattle.command_line.specs.declared.words.Command.TheVariants.{Serve, Show, World, Fill, Clear};
+ghost use Rattle.command_line.specs.declared.words.Command.TheVariants.{Export};
 ghost use Rattle.command_line.specs.declared.words.Task.TheVariants.{Host, Play, Fill as FillTask};
 ghost use Rattle.command_line.specs.declared.words.Task.TheVariants.{Clear as ClearTask};
+ghost use Rattle.command_line.specs.declared.words.Task.TheVariants.{Export as ExportTask};
 
 use crate::pin_words::{PinWords, pin_words};
 use arrayvec::ArrayVec;
@@ -31,6 +33,8 @@ pub(crate) enum Command {
     Pin,
     /// It checks clearing lines.
     Clear,
+    /// It exports journals.
+    Export,
 }
 
 /// What the program does.
@@ -46,6 +50,8 @@ pub enum Task<'a> {
     Pin(PinWords<'a>),
     /// It checks clearing lines against the journals of a configuration.
     Clear(ClearWords<'a>),
+    /// It writes the records of the journals of a configuration as the lines of a feed.
+    Export(ExportWords<'a>),
 }
 
 /// The names in the words of a command over journals.
@@ -99,6 +105,15 @@ pub struct ClearWords<'a> {
     pub journal: &'a str,
 }
 
+/// The names in the words of the command to export journals.
+#[derive(Clone, Copy)]
+pub struct ExportWords<'a> {
+    /// The name of the configuration.
+    pub config: &'a str,
+    /// The prefix of the journals' names.
+    pub journal: &'a str,
+}
+
 /// What the words ask for, and `None` where they are no command.
 pub fn read_words(words: &Words) -> Option<Task<'_>>
     ensures task { IfSome result (IsTask words.now) }
@@ -111,6 +126,7 @@ pub fn read_words(words: &Words) -> Option<Task<'_>>
         Command::Fill => Some(Task::Fill(dol_texts(words)?)),
         Command::Pin => Some(Task::Pin(pin_words(words)?)),
         Command::Clear => Some(Task::Clear(clear_words(words)?)),
+        Command::Export => Some(Task::Export(export_words(words)?)),
     }
 }
 
@@ -203,6 +219,17 @@ fn clear_words(words: &Words) -> Option<ClearWords<'_>>
     })
 }
 
+/// The names in the words of the command to export journals.
+fn export_words(words: &Words) -> Option<ExportWords<'_>>
+    requires { AreWordsOf Export words.now }
+    ensures names { IfSome result (λ names. IsTask words.now (ExportTask names)) }
+    ensures none { IfNone result (Asks Export words.now → ⊥) }
+{
+    let config = value_of(words, "--config")?;
+    let journal = value_of(words, "--journal")?;
+    Some(ExportWords { config, journal })
+}
+
 /// The numbers in the words of the command to play a world.
 fn world_size(words: &Words) -> Option<WorldSize>
     requires { AreWordsOf World words.now }
@@ -293,6 +320,8 @@ fn command_of(word: &str) -> Option<Command>
         Some(Command::Pin)
     } else if word == "clear" {
         Some(Command::Clear)
+    } else if word == "export" {
+        Some(Command::Export)
     } else {
         None
     }
@@ -327,7 +356,7 @@ fn is_option(word: &str, command: Command) -> bool
         Command::Serve => {
             word == "--callers" || word == "--config" || word == "--requests" || word == "--journal"
         }
-        Command::Show => word == "--config" || word == "--journal",
+        Command::Show | Command::Export => word == "--config" || word == "--journal",
         Command::World => word == "--cards" || word == "--steps" || word == "--seed",
         Command::Fill => word == "--dol" || word == "--data",
         Command::Pin => is_pin_option(word),

@@ -1,18 +1,12 @@
 -- How a run ends that checks clearing lines.
-use Rattle.std.proofs.Common.{◌≡◌, ℕ, ◌<◌, ◌&&◌, true, false, List, [], ◌++◌, length, take, map, Option, None, Some}
-use Rattle.std.proofs.Common.{Err, IfSome, inl, inr, ⊎_elim, refl, sym, ap, subst, ◌∙◌, arith, append-nil, ⊎_elim}
-use Rattle.std.specs.List.{slice_get}
-use Rattle.std.specs.Option.{option_map}
-use Rattle.std.proofs.lemmas.Bool.{eq-eqb, true≢false}
+use Rattle.std.proofs.Common.{◌≡◌, ℕ, ◌<◌, ◌&&◌, true, false, List, map, Option, Some, Err}
+use Rattle.std.proofs.Common.{inl, inr, ⊎_elim, refl, sym, subst, ◌∙◌}
+use Rattle.std.proofs.lemmas.Bool.{eq-eqb}
 use Rattle.std.specs.Prelude.{is_some}
-use Rattle.std.proofs.lemmas.Option.{slice_get-map, slice_get_within}
-use Rattle.std.proofs.Math.Seq.{take-nil}
-use Rattle.std.proofs.lemmas.List.Elements.{All-nil}
 use Rattle.std.specs.Io.KnownBytes.{Appends}
 use Rattle.issuer_base.specs.OutsideFaults.{Rose, CountsFaults}
 use Rattle.issuer_base.specs.Sink.{AppendsFront}
 use Rattle.issuer_base.specs.Desk.{FailedCall, is_fault, last_after}
-use Rattle.issuer_base.specs.declared.entry.Entry.{Entry}
 use Rattle.issuer_base.specs.declared.outside.DeskFault.{DeskFault}
 use Rattle.issuer_base.specs.declared.outside.DeskFault.TheVariants.{Fault, NoMemory as NoDeskRoom}
 use Rattle.issuer_base.specs.declared.outside.DeskCall.TheVariants.{Read}
@@ -20,24 +14,15 @@ use Rattle.issuer_base.specs.declared.outside.store.Store.{Ghosts}
 use Rattle.issuer_base.proofs.ManyCalls.{Rose-from_none}
 use Rattle.answer_text.specs.declared.stop_line.Stop.TheVariants.{ReadFault, StoreFault, BadJournal, NoMemory, TooLong}
 use Rattle.issuer_setup.specs.IssuerSetup.{Setup}
-use Rattle.journal_rec.specs.RecordText.{journal_text}
-use Rattle.record_store.specs.Images.{IsImage}
-use Rattle.shard_book.specs.declared.replay.Version.TheVariants.{Two}
-use Rattle.shard_book.proofs.Exactly.{same-text}
-use Rattle.one_caller.specs.Books.{Book}
 use Rattle.one_caller.specs.Loading.{AreOnlyRead}
 use Rattle.filed_records.specs.declared.filed.Filed.{Filed}
 use Rattle.clearing_text.specs.ClearText.{clear_text, verdicts_text}
-use Rattle.journal_filing.specs.Filing.{FilesAll, HasRecords, IsSpared, CountAt, fails_at, is_bad}
+use Rattle.journal_filing.specs.Filing.{FilesAll, IsSpared, CountAt, fails_at, is_store_fault}
 use Rattle.journal_filing.specs.declared.filing.FilingFault.{FilingFault}
 use Rattle.journal_filing.specs.declared.filing.FilingFault.TheVariants.{StoreFault as StoreFails, BadLine}
 use Rattle.journal_filing.specs.declared.filing.FilingFault.TheVariants.{NoMemory as NoRoom}
 use Rattle.journal_loading.specs.Loaded.{AreLoadedFrom}
-use Rattle.journal_loading.proofs.ReadAgain.{keep-again, recounted_all, recounted-histories}
-use Rattle.desk_host.specs.SeenStores.{Logged, SeenJournals, SeenStore, journals_seen, store_seen}
-use Rattle.desk_host.specs.Journals.{old_name, journal_name}
-use Rattle.desk_host.specs.Kept.{KeepsJournal}
-use Rattle.desk_host.proofs.SeenSteps.{at-place, mapped, seen-store}
+use Rattle.desk_host.specs.SeenStores.{Logged, SeenJournals, journals_seen, store_seen}
 use Rattle.line_serving.specs.Answered.{AreAllLines, AreWholeLines, AreLinesBefore, AreFirstLines}
 use Rattle.line_serving.specs.Serving.{ServesLines, read_failed, write_failed}
 use Rattle.line_serving.specs.declared.serve.Served.{Served}
@@ -51,178 +36,35 @@ use Rattle.issuer_top.specs.Opened.{OpenedConfigOnly, OpenedBothInputs}
 use Rattle.issuer_top.specs.Stopping.{EndsServing}
 use Rattle.command_line.specs.Command.{IsClear}
 use Rattle.issuer_top.specs.PinChanges.{SaysIssuer}
-use Rattle.issuer_top.specs.Clearing.{IsClearing, StayLoaded, LoadsToClear, FilesBooks, StopsFiling, stop_of_filing}
-use Rattle.issuer_top.specs.Clearing.{ChecksLines}
+use Rattle.issuer_top.specs.ReadAgain.{StayLoaded, StopsReading, stop_of_reading}
+use Rattle.issuer_top.specs.Clearing.{IsClearing, LoadsToClear, FilesBooks, ChecksLines}
 use Rattle.issuer_top.specs.Endings.{HasIssuer, EndsBy}
 use Rattle.issuer_top.proofs.EndingSteps.{told-given, ends_by_stop, ends_at_once, StopsAtOnce}
+use Rattle.issuer_top.proofs.ReadingSteps.{are-read, stops-reading}
 
--- ---- journals that were loaded, and read again
+-- ---- journals that were loaded, and filed
 
 module _ {S : Type 0} (G : Ghosts S) (issuer : Setup) (prefix : List ℕ) (logs : Logged) (olds stores : List S)
-    (loaded : AreLoadedFrom issuer prefix logs (journals_seen G olds stores)) where
-  pub stay-loaded : StayLoaded issuer prefix logs (journals_seen G olds stores)
-  stay-loaded = record {
-    first = loaded.books;
-    last = loaded.books;
-    kept = loaded.kept;
-    same = refl;
-    lawful = loaded.lawful;
+    (loaded : AreLoadedFrom issuer prefix logs (journals_seen G olds stores)) (read : List S)
+    (only : AreOnlyRead G.size G.bytes G.disk G.room stores read) where
+  pub files-books : (records : List Filed) → FilesAll G.bytes issuer stores records
+      → FilesBooks issuer (journals_seen G olds read) loaded.books records
+  files-books records filed = record {
+    histories = filed.histories;
+    read = are-read G issuer prefix logs olds stores loaded read only filed.histories filed.have;
+    records_are = filed.filed_are;
   }
 
-  pub stores-count : length stores ≡ issuer.shards
-  stores-count = sym (mapped (store_seen G) stores) ∙ loaded.kept.stores_are
-
-  seen-there : (shard : ℕ) (store : S) → slice_get stores shard ≡ Some store
-      → slice_get (map (store_seen G) stores) shard ≡ Some (store_seen G store)
-  seen-there shard store at = slice_get-map (store_seen G) stores shard ∙ ap (option_map (store_seen G)) at
-
-  -- a store and its book
-  record IsAt (shard : ℕ) (store : S) (book : Book) : Type 0 where
-    old : SeenStore
-    keeps : KeepsJournal issuer shard (logs (old_name prefix shard)) (logs (journal_name prefix shard)) book book old
-        (store_seen G store)
-
-  is-at : (shard : ℕ) (store : S) (book : Book) → shard < issuer.shards → slice_get stores shard ≡ Some store
-      → slice_get loaded.books shard ≡ Some book → IsAt shard store book
-  is-at shard store book within store_at book_at =
-      let count = loaded.kept.olds_are in
-      let old = at-place (map (store_seen G) olds) shard (omega (arith, within, count)) in
-      record {
-        old = old.0;
-        keeps =
-            loaded.kept.each shard book book old.0 (store_seen G store) book_at book_at old.1
-            (seen-there shard store store_at);
-      }
-
-  -- the text of its book's history is all that a store holds
-  holds-text : (shard : ℕ) (store : S) (book : Book) (at : IsAt shard store book) (bytes : List ℕ)
-      → G.bytes store ≡ Some bytes → bytes ≡ journal_text book.history
-  holds-text shard store book at bytes told =
-      let holds = at.keeps.holds in
-      let none = holds.none at.keeps.was.none_told in
-      let image = subst (λ (b : Option (List ℕ)). IfSome b (IsImage (journal_text book.history) holds.tail)) told
-      holds.bytes_are in
-      image.1 ∙ ap (λ (t : List ℕ). journal_text book.history ++ take image.0 t) none
-      ∙ ap (λ (t : List ℕ). journal_text book.history ++ t) (take-nil image.0)
-      ∙ append-nil (journal_text book.history)
-
-  module _ (read : List S) (only : AreOnlyRead G.size G.bytes G.disk G.room stores read) where
-    pub read-count : length loaded.books ≡ length read
-    read-count = loaded.kept.first_are ∙ sym stores-count ∙ sym only.count_is
-
-    unfoldable pub stay-again : StayLoaded issuer prefix logs (journals_seen G olds read)
-    stay-again = record {
-      first = loaded.books;
-      last = recounted_all G loaded.books read;
-      kept = keep-again G issuer prefix logs olds stores read loaded.books loaded.books loaded.kept only;
-      same = recounted-histories G loaded.books read read-count;
-      lawful = loaded.lawful;
-    }
-
-    -- a store that was read again
-    record IsRead (shard : ℕ) (store : S) : Type 0 where
-      before : S
-      before_at : slice_get stores shard ≡ Some before
-      bytes_are : G.bytes store ≡ G.bytes before
-
-    is-read : (shard : ℕ) (store : S) → slice_get read shard ≡ Some store → IsRead shard store
-    is-read shard store at =
-        let within = slice_get_within read shard store at in
-        let count = only.count_is in
-        let before = at-place stores shard (omega (arith, within, count)) in
-        record {
-          before = before.0;
-          before_at = before.1;
-          bytes_are = (only.each shard before.0 store before.1 at).bytes_are;
-        }
-
-    -- the history that was filed is that of the book
-    one-history : (shard : ℕ) (store : S) (book : Book) (history : List Entry) (bytes : Option (List ℕ))
-        → IsAt shard store book → G.bytes store ≡ bytes → HasRecords bytes history
-        → IfSome bytes (λ told. history ≡ book.history)
-    one-history shard store book history None at told has = tt
-    one-history shard store book history (Some bytes) at told has =
-        same-text Two history book.history bytes has.records at.keeps.was.journal_is.records has.text_is
-        (record {
-          rest = [];
-          text_is = holds-text shard store book at bytes told ∙ sym (append-nil (journal_text book.history));
-          unbroken = All-nil _;
-        })
-
-    pub files-books : (records : List Filed) → FilesAll G.bytes issuer stores records
-        → FilesBooks issuer (journals_seen G olds read) loaded.books records
-    files-books records filed = record {
-      histories = filed.histories;
-      count_is = filed.have.count_is ∙ stores-count ∙ sym loaded.kept.first_are;
-      each = λ shard seen book history seen_at book_at history_at.
-          let there = seen-store G read shard seen seen_at in
-          let its = is-read shard there.0 there.1 in
-          let within = slice_get_within stores shard its.before its.before_at in
-          let count = stores-count in
-          let at = is-at shard its.before book (omega (arith, within, count)) its.before_at book_at in
-          subst (λ (s : SeenStore). IfSome s.bytes (λ told. history ≡ book.history)) there.2
-          (subst (λ (b : Option (List ℕ)). IfSome b (λ told. history ≡ book.history)) (sym its.bytes_are)
-          (one-history shard its.before book history (G.bytes its.before) at refl
-          (filed.have.each shard its.before history its.before_at history_at)));
-      records_are = filed.filed_are;
-    }
-
-    -- the journals couldn't be filed
-    module _ (shard : ℕ) (within : shard < issuer.shards) where
-      bytes-unknown : (store : S) (book : Book) (bytes : Option (List ℕ)) (fault : FilingFault) → is_bad fault ≡ true
-          → slice_get stores shard ≡ Some store → IsAt shard store book → G.bytes store ≡ bytes
-          → IsSpared G.bytes issuer stores shard fault → bytes ≡ None
-      bytes-unknown store book None fault bad store_at at told spared = refl
-      bytes-unknown store book (Some bytes) fault bad store_at at told spared =
-          let journal = at.keeps.was.journal_is in
-          let good : is_bad fault ≡ false =
-          spared store book.history store_at
-          (record {
-            bytes_are = told ∙ ap Some (holds-text shard store book at bytes told);
-            records = journal.records;
-            legal = journal.since.legal;
-          }) in
-          absurd (true≢false (sym bad ∙ good))
-
-      pub stops-filing : (fault : FilingFault) → IsSpared G.bytes issuer stores shard fault
-          → CountAt G.faults stores read (fails_at {X = Unit {0}} (Err (record { fault = fault; shard = shard })))
-          → StopsFiling (map (store_seen G) read) shard fault
-      stops-filing fault spared count =
-          let many = stores-count in
-          let again = only.count_is in
-          let books = loaded.kept.first_are in
-          let before = at-place stores shard (omega (arith, within, many)) in
-          let after = at-place read shard (omega (arith, within, many, again)) in
-          let book = at-place loaded.books shard (omega (arith, within, books)) in
-          let at = is-at shard before.0 book.0 within before.1 book.1 in
-          let seen : slice_get (map (store_seen G) read) shard ≡ Some (store_seen G after.0) =
-          slice_get-map (store_seen G) read shard ∙ ap (option_map (store_seen G)) after.1 in
-          by-fault fault spared before.0 after.0 book.0 before.1 at seen
-          (only.each shard before.0 after.0 before.1 after.1).bytes_are
-          (count shard before.0 after.0 before.1 after.1)
-        where
-          by-fault : (fault : FilingFault) → IsSpared G.bytes issuer stores shard fault
-              → (before after : S) (book : Book)
-              → slice_get stores shard ≡ Some before → IsAt shard before book
-              → slice_get (map (store_seen G) read) shard ≡ Some (store_seen G after) → G.bytes after ≡ G.bytes before
-              → CountsFaults (G.faults before) (G.faults after)
-              (fails_at {X = Unit {0}} (Err (record { fault = fault; shard = shard })) shard)
-              → StopsFiling (map (store_seen G) read) shard fault
-          by-fault StoreFails spared before after book before_at at seen same counts =
-              let failed : CountsFaults (G.faults before) (G.faults after) true =
-              subst (λ b. CountsFaults (G.faults before) (G.faults after) (b && true)) (eq-eqb shard shard refl)
-              counts in
-              let none : G.faults before ≡ 0 = at.keeps.faults_are ∙ at.keeps.was.no_fault in (
-                store_seen G after,
-                seen,
-                Rose-from_none (G.faults after) (subst (λ n. Rose n (G.faults after)) none failed.counted),
-              )
-          by-fault (BadLine line) spared before after book before_at at seen same counts = (
-            store_seen G after,
-            seen,
-            same ∙ bytes-unknown before book (G.bytes before) (BadLine line) refl before_at at refl spared,
-          )
-          by-fault NoRoom spared before after book before_at at seen same counts = tt
+  -- they couldn't be filed
+  pub stops-filing : (shard : ℕ) → shard < issuer.shards → (fault : FilingFault)
+      → IsSpared G.bytes issuer stores shard fault
+      → CountAt G.faults stores read (fails_at {X = Unit {0}} (Err (record { fault = fault; shard = shard })))
+      → StopsReading (map (store_seen G) read) shard fault
+  stops-filing shard within fault spared count =
+      stops-reading G issuer prefix logs olds stores loaded read only shard within fault spared
+      (λ before after before_at after_at.
+      subst (λ b. CountsFaults (G.faults before) (G.faults after) (b && is_store_fault {X = Unit {0}} (Err fault)))
+      (eq-eqb shard shard refl) (count shard before after before_at after_at))
 
 -- ---- the ways that a clearing check ends
 
@@ -250,7 +92,7 @@ pub clear-issuer : (seen : Seen) (clearing journal : List ℕ) (issuer : Setup) 
     → HasIssuer seen journal issuer
 clear-issuer seen clearing journal issuer set_up = record {
   config = set_up.config;
-  command = inr (clearing, set_up.command);
+  command = inr (inl (clearing, set_up.command));
   said = set_up.said;
 }
 
@@ -264,16 +106,16 @@ module _ (seen : Seen) (clearing journal : List ℕ) (issuer : Setup) (set_up : 
   unfolding loads
   ends_unchecked ending opened stopping =
       ends_at_once seen NoMemory ending
-      (inr (inr (inr (inr (record { loaded = loads; opened = opened; told = refl }))))) stopping
+      (inr (inr (inr (inr (inl (record { loaded = loads; opened = opened; told = refl })))))) stopping
 
   -- the journals couldn't be filed
   pub ends_unfiled : (fault : FilingFault) (shard : ℕ) (ending : Ending) → OpenedConfigOnly seen
-      → StopsFiling seen.journals.stores shard fault → StopsAtOnce seen (stop_of_filing fault shard) ending
+      → StopsReading seen.journals.stores shard fault → StopsAtOnce seen (stop_of_reading fault shard) ending
       → EndsBy seen ending
   unfolding loads
   ends_unfiled StoreFails shard ending opened cause stopping =
       ends_at_once seen (StoreFault shard) ending
-      (inr (record {
+      (inr (inl (record {
         loaded = loads;
         opened = opened;
         fault = StoreFails;
@@ -281,10 +123,10 @@ module _ (seen : Seen) (clearing journal : List ℕ) (issuer : Setup) (set_up : 
         cause = cause;
         stop_is = refl;
         last = refl;
-      })) stopping
+      }))) stopping
   ends_unfiled (BadLine line) shard ending opened cause stopping =
       ends_at_once seen (BadJournal shard line) ending
-      (inr (record {
+      (inr (inl (record {
         loaded = loads;
         opened = opened;
         fault = BadLine line;
@@ -292,7 +134,7 @@ module _ (seen : Seen) (clearing journal : List ℕ) (issuer : Setup) (set_up : 
         cause = cause;
         stop_is = refl;
         last = refl;
-      })) stopping
+      }))) stopping
   ends_unfiled NoRoom shard ending opened cause stopping = ends_unchecked ending opened stopping
 
   -- the desk gave no clearing file
@@ -358,10 +200,10 @@ module _ (seen : Seen) (clearing journal : List ℕ) (issuer : Setup) (set_up : 
         subst (λ (h : Option (List ℕ)). Appends seen.sink.held_before h serves.text) (sym ends.same) serves.written in
         subst (EndsBy seen) (sym ends.ending_is) (
           serves.text,
-          inr (inr (inr (inr (inr (record {
+          inr (inr (inr (inr (inr (inl (record {
             lines = lines-checked clear_text AreAllLines (Appends seen.sink.held_before held) serves;
             which = serves.which;
-          }))))),
+          })))))),
           written,
         )
     ends_clearing SinkFault ending held faults fresh serves counts none failed ends =
@@ -381,10 +223,10 @@ module _ (seen : Seen) (clearing journal : List ℕ) (issuer : Setup) (set_up : 
         (λ whole. record {
           rose = subst (Rose seen.sink.faults_before) (sym ends.stood) counts.counted;
           text = whole.text;
-          due = inr (inr (inr (inr (inr (inr (inr (record {
+          due = inr (inr (inr (inr (inr (inr (inr (inl (record {
             lines = lines-checked clear_text AreAllLines (AppendsFront seen.sink.held_before held) whole;
             which = whole.which;
-          })))))));
+          }))))))));
           front =
               subst (λ (h : Option (List ℕ)). AppendsFront seen.sink.held_before h whole.text) (sym ends.same)
               whole.written;

@@ -18,6 +18,7 @@ use Rattle.terminal_kernel.specs.Filling.{filled}
 use Rattle.command_line.specs.Command.{RequestFile, IsFill, IsCommand}
 use Rattle.command_line.proofs.CommandWords.{fill-no_command, fill-no_world, one-fill}
 use Rattle.command_line.proofs.ClearNames.{clear-no_fill}
+use Rattle.command_line.proofs.FeedNames.{export-no_fill}
 use Rattle.command_line.proofs.PinOrders.{pin-no_fill}
 use Rattle.issuer_top.specs.declared.ending.Ending.{Ending}
 use Rattle.issuer_top.specs.declared.ending.Ending.TheVariants.{Done, Stopped, WriteFault}
@@ -29,6 +30,7 @@ use Rattle.issuer_top.specs.Opened.{OpenedNoInput}
 use Rattle.issuer_top.specs.Endings.{IsDone, IsFilled, CannotFill, IsReadFault, HasNoHost, IsNoMemory}
 use Rattle.issuer_top.specs.Endings.{ReadsConfig}
 use Rattle.issuer_top.specs.Clearing.{LoadsToClear}
+use Rattle.issuer_top.specs.Exporting.{LoadsToExport}
 use Rattle.issuer_top.specs.Endings.{EndsBy}
 use Rattle.issuer_top.proofs.EndingSteps.{ends_at_once, ends_by_text}
 use Rattle.issuer_top.proofs.OverJournals.{over-no_fill}
@@ -94,6 +96,10 @@ module _ (seen : Seen) (dol given : List ℕ) (fill : IsFill seen.words dol give
   no_check loaded =
       clear-no_fill seen.words loaded.set_up.config loaded.clearing loaded.journal loaded.set_up.command dol given fill
 
+  no_export : LoadsToExport seen → ⊥
+  no_export loaded =
+      export-no_fill seen.words loaded.set_up.config loaded.journal loaded.set_up.command dol given fill
+
   not-unread : (text : List ℕ) → IsReadFault seen text → ⊥
   not-unread text cannot =
       ⊎_elim (λ a. no_config a.config a.command)
@@ -112,7 +118,8 @@ module _ (seen : Seen) (dol given : List ℕ) (fill : IsFill seen.words dol give
       ⊎_elim (λ a. over-no_fill seen.words a.config a.journal a.command dol given fill)
       (λ more. ⊎_elim (λ b. let l = b.loaded in no_host l.set_up.config (Some l.requests) l.journal l.set_up.command)
       (λ more. ⊎_elim (λ c. fill-no_world seen.words dol given c.cards c.steps c.seed fill c.world)
-      (λ more. ⊎_elim (λ d. pin-no_fill seen.words d.order dol given d.pin fill) (λ e. no_check e.loaded) more) more)
+      (λ more. ⊎_elim (λ d. pin-no_fill seen.words d.order dol given d.pin fill)
+      (λ more. ⊎_elim (λ e. no_check e.loaded) (λ f. no_export f.loaded) more) more) more)
       more)
       short
 
@@ -136,7 +143,8 @@ module _ (seen : Seen) (dol given : List ℕ) (fill : IsFill seen.words dol give
       (λ more. ⊎_elim (λ c. absurd (fill-no_world seen.words dol given c.cards c.steps c.seed fill c.world))
       (λ more. ⊎_elim (λ d. is ∙ ap fill_status (sym d.filled_is ∙ same d.dol d.given d.fill))
       (λ more. ⊎_elim (λ e. absurd (pin-no_fill seen.words e.order dol given e.ordered.pin fill))
-      (λ f. absurd (no_check f.lines.loaded)) more) more) more) more)
+      (λ more. ⊎_elim (λ f. absurd (no_check f.lines.loaded)) (λ g. absurd (no_export g.loaded)) more) more) more)
+      more) more)
       ends
 
   pub status-of : (status : ℕ) (ending : Ending) → status ≡ status_of ending → EndsBy seen ending
@@ -148,11 +156,11 @@ module _ (seen : Seen) (dol given : List ℕ) (fill : IsFill seen.words dol give
       let c = ends.1 in absurd (no_config c.config c.command)
   status-of status (Stopped ReadFault) is ends = absurd (not-unread ends.0 ends.1)
   status-of status (Stopped (StoreFault shard)) is ends =
-      ⊎_elim (λ none. absurd (not-unloaded (StoreFault shard) ends.0 none)) (λ again. absurd (no_check again.loaded))
-      ends.1
+      ⊎_elim (λ none. absurd (not-unloaded (StoreFault shard) ends.0 none))
+      (λ more. ⊎_elim (λ again. absurd (no_check again.loaded)) (λ on. absurd (no_export on.loaded)) more) ends.1
   status-of status (Stopped (BadJournal shard line)) is ends =
       ⊎_elim (λ none. absurd (not-unloaded (BadJournal shard line) ends.0 none))
-      (λ again. absurd (no_check again.loaded)) ends.1
+      (λ more. ⊎_elim (λ again. absurd (no_check again.loaded)) (λ on. absurd (no_export on.loaded)) more) ends.1
   status-of status (Stopped (BadOldJournal shard line)) is ends =
       absurd (not-unloaded (BadOldJournal shard line) ends.0 ends.1)
   status-of status (Stopped NoMemory) is ends = absurd (not-short ends.0 ends.1)

@@ -3,7 +3,7 @@ use Rattle.std.proofs.Common.{◌≡◌, ℕ, ◌-◌, ◌<◌, ◌≤◌, ◌�
 use Rattle.std.proofs.Common.{inr, ⊎_elim}
 use Rattle.std.proofs.Common.{refl, sym, subst, ap, ◌∙◌, arith}
 use Rattle.std.proofs.lemmas.List.{length-append, take-append-le}
-use Rattle.std.specs.List.{flat_map, slice_get}
+use Rattle.std.specs.List.{flat_map}
 use Rattle.std.specs.Option.{option_map}
 use Rattle.std.specs.Prelude.{IsSomeAnd, codes}
 use Rattle.issuer_base.specs.Tells.{Tells}
@@ -31,21 +31,25 @@ use Rattle.line_serving.specs.Answered.{AreLinesBefore, WasRead}
 use Rattle.journal_filing.specs.declared.filing.FilingFault.{FilingFault}
 use Rattle.journal_filing.specs.declared.filing.FilingFault.TheVariants.{StoreFault as StoreFails, BadLine as FileLine}
 use Rattle.journal_filing.specs.declared.filing.FilingFault.TheVariants.{NoMemory as NoRoom}
-use Rattle.desk_host.specs.SeenStores.{SeenStore}
 use Rattle.desk_host.specs.Journals.{old_name, journal_name}
 use Rattle.desk_host.specs.Loading.{DeskFaults, IsBadAt, IsBadLine, IsBadOldLine}
 use Rattle.issuer_top.specs.Status.{status_of}
 use Rattle.issuer_top.specs.Endings.{EndsBy, IsReadFault, HasNoHost, IsInOrder, ServesInOrder, ShowsInOrder}
 use Rattle.issuer_top.specs.Endings.{PlaysInOrder, ChangesInOrder, ClearsInOrder, Completes, ReadsConfig, HasNoKey}
 use Rattle.issuer_top.specs.Endings.{IsOverJournals}
-use Rattle.issuer_top.specs.Clearing.{LoadsToClear, StopsFiling, stop_of_filing}
+use Rattle.issuer_top.specs.Endings.{AreObservable, ExportsInOrder}
+use Rattle.issuer_top.specs.Clearing.{CannotReadAgain, LoadsToClear}
+use Rattle.issuer_top.specs.Exporting.{CannotReadOn, LoadsToExport}
+use Rattle.journal_filing.specs.Filing.{fault_of}
+use Rattle.issuer_top.specs.ReadAgain.{StopsReading, stop_of_reading}
 use Rattle.command_line.proofs.ClearNames.{clear-no_command, clear-no_pin, clear-no_world, one-clear}
 use Rattle.command_line.proofs.CommandWords.{serve-gives, show-gives, serve-no_show, command-no_world}
 use Rattle.command_line.proofs.CommandWords.{fill-no_world}
+use Rattle.command_line.proofs.FeedNames.{export-no_clear, export-no_command, export-no_pin, export-no_world}
 use Rattle.command_line.proofs.PinOrders.{one-order, pin-no_command, pin-no_world, pin-no_fill}
 use Rattle.command_line.specs.Command.{PinOrder}
 use Rattle.issuer_top.specs.PinChanges.{changing}
-use Rattle.issuer_top.proofs.OverJournals.{over-known, over-no_fill, over-no_pin, over-no_world}
+use Rattle.issuer_top.proofs.OverJournals.{over-known, over-no_fill, over-no_pin, over-no_world, same-over}
 
 -- ---- what is said once
 
@@ -158,37 +162,9 @@ counted : (input : Option SeenInput) (seen : SeenInput) → input ≡ Some seen 
     → IsSomeAnd input (λ i. 0 < i.faults)
 counted input seen is failed = subst (λ o. IsSomeAnd o (λ (i : SeenInput). 0 < i.faults)) (sym is) failed
 
--- words are a command over journals in one way: with the same names
-record AreSameOver (config other_config journal other_journal : List ℕ) : Type 0 where
-  config_is : config ≡ other_config
-  journal_is : journal ≡ other_journal
-
-same-over : (words : List (List ℕ)) (config other_config journal other_journal : List ℕ)
-    → IsOverJournals words config journal → IsOverJournals words other_config other_journal
-    → AreSameOver config other_config journal other_journal
-same-over words config other_config journal other_journal over other =
-    ⊎_elim
-    (λ host. ⊎_elim
-    (λ another.
-    let same = same-names words config other_config host.0 another.0 journal other_journal host.1 another.1 in
-    record { config_is = same.config_is; journal_is = same.journal_is })
-    (λ clear.
-    absurd (clear-no_command words other_config clear.0 other_journal clear.1 config host.0 journal host.1))
-    other)
-    (λ clear. ⊎_elim
-    (λ host.
-    absurd (clear-no_command words config clear.0 journal clear.1 other_config host.0 other_journal host.1))
-    (λ another.
-    let same =
-    one-clear words config clear.0 journal other_config another.0 other_journal clear.1 another.1 in
-    record { config_is = same.config_is; journal_is = same.journal_is })
-    other)
-    over
-
 module _ (seen : Seen) (config journal : List ℕ) (command : IsOverJournals seen.words config journal)
     (order : IsInOrder seen config journal)
-    (told : LoadsToClear seen → (shard : ℕ) (store : SeenStore) → slice_get seen.journals.stores shard ≡ Some store
-    → store.bytes ≡ None → ⊥) where
+    (told : LoadsToClear seen ⊎ LoadsToExport seen → AreObservable seen.journals.stores) where
   -- nothing could not be read
   not-unread : (text : List ℕ) → IsReadFault seen text → ⊥
   not-unread text cannot =
@@ -241,11 +217,17 @@ module _ (seen : Seen) (config journal : List ℕ) (command : IsOverJournals see
       none.cause
 
   -- and none fails when it is read again
-  not-again : (loaded : LoadsToClear seen) (fault : FilingFault) (shard : ℕ) (stop : Stop)
-      → StopsFiling seen.journals.stores shard fault → stop ≡ stop_of_filing fault shard → (stop ≡ NoMemory → ⊥) → ⊥
+  not-again : (loaded : LoadsToClear seen ⊎ LoadsToExport seen) (fault : FilingFault) (shard : ℕ) (stop : Stop)
+      → StopsReading seen.journals.stores shard fault → stop ≡ stop_of_reading fault shard → (stop ≡ NoMemory → ⊥) → ⊥
   not-again loaded StoreFails shard stop cause is other = order.stores_stood shard cause.0 cause.1 cause.2
   not-again loaded (FileLine line) shard stop cause is other = told loaded shard cause.0 cause.1 cause.2
   not-again loaded NoRoom shard stop cause is other = other is
+
+  not-read : (stop : Stop) (text : List ℕ) → (stop ≡ NoMemory → ⊥)
+      → CannotReadAgain stop seen text ⊎ CannotReadOn stop seen text → ⊥
+  not-read stop text other cannot =
+      ⊎_elim (λ again. not-again (inl again.loaded) again.fault again.shard stop again.cause again.stop_is other)
+      (λ on. not-again (inr on.loaded) (fault_of on.fault) on.shard stop on.cause on.stop_is other) cannot
 
   -- the configuration that was read is that of the words
   same-config : (other : List ℕ) → ReadsConfig seen.words other → other ≡ config
@@ -268,16 +250,12 @@ module _ (seen : Seen) (config journal : List ℕ) (command : IsOverJournals see
   in-order status (Stopped ReadFault) is ends short = absurd (not-unread ends.0 ends.1)
   in-order status (Stopped (StoreFault shard)) is ends short =
       ⊎_elim (λ none. absurd (not-unstored shard ends.0 none))
-      (λ again. absurd (not-again again.loaded again.fault again.shard (StoreFault shard) again.cause again.stop_is
-      (λ e. absurd (cc))))
-      ends.1
+      (λ more. absurd (not-read (StoreFault shard) ends.0 (λ e. absurd (cc)) more)) ends.1
   in-order status (Stopped (BadJournal shard line)) is ends short =
       ⊎_elim
       (λ none. absurd (not-bad_journal (BadJournal shard line) shard (IsBadLine line) ends.0 none none.cause
       (λ fault. not-bad_line fault line)))
-      (λ again. absurd (not-again again.loaded again.fault again.shard (BadJournal shard line) again.cause again.stop_is
-      (λ e. absurd (cc))))
-      ends.1
+      (λ more. absurd (not-read (BadJournal shard line) ends.0 (λ e. absurd (cc)) more)) ends.1
   in-order status (Stopped (BadOldJournal shard line)) is ends short =
       absurd (not-bad_journal (BadOldJournal shard line) shard (IsBadOldLine line) ends.0 ends.1 ends.1.cause
       (λ fault. not-bad_old_line fault line))
@@ -293,19 +271,26 @@ module _ (seen : Seen) (config journal : List ℕ) (command : IsOverJournals see
 
 -- ---- the commands
 
--- words that serve or show don't check clearing lines
+-- words that serve or show don't check clearing lines, and don't export
 not-to-clear : (seen : Seen) (config : List ℕ) (requests : Option RequestFile) (journal : List ℕ)
     → IsCommand seen.words config requests journal → LoadsToClear seen → ⊥
 not-to-clear seen config requests journal command loaded =
     clear-no_command seen.words loaded.set_up.config loaded.clearing loaded.journal loaded.set_up.command config
     requests journal command
 
+not-to-read : (seen : Seen) (config : List ℕ) (requests : Option RequestFile) (journal : List ℕ)
+    → IsCommand seen.words config requests journal → LoadsToClear seen ⊎ LoadsToExport seen → ⊥
+not-to-read seen config requests journal command loads =
+    ⊎_elim (not-to-clear seen config requests journal command)
+    (λ loaded. export-no_command seen.words loaded.set_up.config loaded.journal loaded.set_up.command config requests
+    journal command) loads
+
 serves-in_order : (seen : Seen) (status : ℕ) (ending : Ending) → status ≡ status_of ending → EndsBy seen ending
     → ServesInOrder seen
     → (status ≡ 0) ⊎ (status ≡ 7)
 serves-in_order seen status ending is ends order =
     in-order seen order.config order.journal (inl (Some order.requests, order.serve)) order.in_order
-    (λ loaded. absurd (not-to-clear seen order.config (Some order.requests) order.journal order.serve loaded))
+    (λ loads. absurd (not-to-read seen order.config (Some order.requests) order.journal order.serve loads))
     status ending is ends
     (λ line long.
     let passed = subst (EndsBy seen) long ends in
@@ -327,7 +312,7 @@ shows-in_order : (seen : Seen) (status : ℕ) (ending : Ending) → status ≡ s
     → (status ≡ 0) ⊎ (status ≡ 7)
 shows-in_order seen status ending is ends order =
     in-order seen order.config order.journal (inl (None, order.show)) order.in_order
-    (λ loaded. absurd (not-to-clear seen order.config None order.journal order.show loaded)) status ending is ends
+    (λ loads. absurd (not-to-read seen order.config None order.journal order.show loads)) status ending is ends
     (λ line long.
     let passed = subst (EndsBy seen) long ends in
     ⊎_elim (λ past.
@@ -341,8 +326,8 @@ clears-in_order : (seen : Seen) (status : ℕ) (ending : Ending) → status ≡ 
     → ClearsInOrder seen
     → (status ≡ 0) ⊎ (status ≡ 7)
 clears-in_order seen status ending is ends order =
-    in-order seen order.config order.journal (inr (order.clearing, order.clear)) order.in_order
-    (λ loaded. order.stores_told) status ending is ends
+    in-order seen order.config order.journal (inr (inl (order.clearing, order.clear))) order.in_order
+    (λ loads. order.stores_told) status ending is ends
     (λ line long.
     let passed = subst (EndsBy seen) long ends in
     ⊎_elim (λ past.
@@ -357,6 +342,25 @@ clears-in_order seen status ending is ends order =
     let content = same-content seen.desk.tells order.clearing l.loaded.clearing l.file order.file
     (sym same.clearing_is) order.clearing_held l.held in
     not-past l.file order.file l.read l.asked line l.input.left content order.within l.was_read past.which)
+    passed.1)
+
+exports-in_order : (seen : Seen) (status : ℕ) (ending : Ending) → status ≡ status_of ending → EndsBy seen ending
+    → ExportsInOrder seen
+    → (status ≡ 0) ⊎ (status ≡ 7)
+exports-in_order seen status ending is ends order =
+    let export = order.export in
+    in-order seen order.config order.journal (inr (inr export)) order.in_order
+    (λ loads. order.stores_told) status ending is ends
+    (λ line long.
+    let passed = subst (EndsBy seen) long ends in
+    ⊎_elim (λ past.
+    let l = past.lines in
+    export-no_command seen.words order.config order.journal export l.set_up.config (Some l.requests) l.journal
+    l.set_up.command)
+    (λ past.
+    let l = past.lines.loaded in
+    export-no_clear seen.words order.config order.journal export l.set_up.config l.clearing l.journal
+    l.set_up.command)
     passed.1)
 
 module _ (seen : Seen) (order : PlaysInOrder seen) where
@@ -376,6 +380,11 @@ module _ (seen : Seen) (order : PlaysInOrder seen) where
   no_check loaded =
       clear-no_world seen.words loaded.set_up.config loaded.clearing loaded.journal loaded.set_up.command order.cards
       order.steps order.seed order.world
+
+  no_export : LoadsToExport seen → ⊥
+  no_export loaded =
+      export-no_world seen.words loaded.set_up.config loaded.journal loaded.set_up.command order.cards order.steps
+      order.seed order.world
 
   none-unread : (text : List ℕ) → IsReadFault seen text → ⊥
   none-unread text cannot =
@@ -400,11 +409,11 @@ module _ (seen : Seen) (order : PlaysInOrder seen) where
       let c = ends.1 in absurd (no_config c.config c.command)
   plays-in_order status (Stopped ReadFault) is ends = absurd (none-unread ends.0 ends.1)
   plays-in_order status (Stopped (StoreFault shard)) is ends =
-      ⊎_elim (λ none. absurd (none-unloaded (StoreFault shard) ends.0 none)) (λ again. absurd (no_check again.loaded))
-      ends.1
+      ⊎_elim (λ none. absurd (none-unloaded (StoreFault shard) ends.0 none))
+      (λ more. ⊎_elim (λ again. absurd (no_check again.loaded)) (λ on. absurd (no_export on.loaded)) more) ends.1
   plays-in_order status (Stopped (BadJournal shard line)) is ends =
       ⊎_elim (λ none. absurd (none-unloaded (BadJournal shard line) ends.0 none))
-      (λ again. absurd (no_check again.loaded)) ends.1
+      (λ more. ⊎_elim (λ again. absurd (no_check again.loaded)) (λ on. absurd (no_export on.loaded)) more) ends.1
   plays-in_order status (Stopped (BadOldJournal shard line)) is ends =
       absurd (none-unloaded (BadOldJournal shard line) ends.0 ends.1)
   plays-in_order status (Stopped NoMemory) is ends = inr is
@@ -434,6 +443,10 @@ module _ (seen : Seen) (order : ChangesInOrder seen) where
   not-checked loaded =
       clear-no_pin seen.words loaded.set_up.config loaded.clearing loaded.journal loaded.set_up.command order.order
       order.pin
+
+  not-exported : LoadsToExport seen → ⊥
+  not-exported loaded =
+      export-no_pin seen.words loaded.set_up.config loaded.journal loaded.set_up.command order.order order.pin
 
   none-failed : (text : List ℕ) → IsReadFault seen text → ⊥
   none-failed text cannot =
@@ -482,11 +495,11 @@ module _ (seen : Seen) (order : ChangesInOrder seen) where
       absurd (not-both ends.1.content order.content order.issuer ends.1.fault content order.says ends.1.broken)
   changes-in_order status (Stopped ReadFault) is ends = absurd (none-failed ends.0 ends.1)
   changes-in_order status (Stopped (StoreFault shard)) is ends =
-      ⊎_elim (λ none. absurd (none-loaded (StoreFault shard) ends.0 none)) (λ again. absurd (not-checked again.loaded))
-      ends.1
+      ⊎_elim (λ none. absurd (none-loaded (StoreFault shard) ends.0 none))
+      (λ more. ⊎_elim (λ again. absurd (not-checked again.loaded)) (λ on. absurd (not-exported on.loaded)) more) ends.1
   changes-in_order status (Stopped (BadJournal shard line)) is ends =
       ⊎_elim (λ none. absurd (none-loaded (BadJournal shard line) ends.0 none))
-      (λ again. absurd (not-checked again.loaded)) ends.1
+      (λ more. ⊎_elim (λ again. absurd (not-checked again.loaded)) (λ on. absurd (not-exported on.loaded)) more) ends.1
   changes-in_order status (Stopped (BadOldJournal shard line)) is ends =
       absurd (none-loaded (BadOldJournal shard line) ends.0 ends.1)
   changes-in_order status (Stopped NoMemory) is ends = inr is
@@ -509,5 +522,5 @@ completes seen status ending is ends order =
     (⊎_elim (shows-in_order seen status ending is ends)
     (⊎_elim (λ plays. plays-in_order seen plays status ending is ends)
     (⊎_elim (λ changes. changes-in_order seen changes status ending is ends)
-    (clears-in_order seen status ending is ends))))
+    (⊎_elim (clears-in_order seen status ending is ends) (exports-in_order seen status ending is ends)))))
     order

@@ -2,7 +2,9 @@
 pub mod EndingSteps
 pub mod Statuses
 pub mod InOrder
+mod ReadingSteps
 mod ClearingSteps
+mod ExportingSteps
 mod FillingSteps
 mod OverJournals
 mod PinSteps

@@ -10,6 +10,7 @@ use Rattle.des_block.specs.declared.Key16.{Key16}
 use Rattle.issuer_setup.specs.IssuerSetup.{Setup}
 use Rattle.command_line.specs.Command.{RequestFile, PinOrder, IsPin, IsCommand}
 use Rattle.command_line.proofs.ClearNames.{clear-no_pin}
+use Rattle.command_line.proofs.FeedNames.{export-no_pin}
 use Rattle.command_line.proofs.PinOrders.{one-order, pin-no_command, pin-no_world, pin-no_fill}
 use Rattle.desk_host.specs.Configuration.{Says}
 use Rattle.desk_host.specs.SeenStores.{no_journals}
@@ -23,6 +24,7 @@ use Rattle.issuer_top.specs.PinChanges.{IsUnread, IsAnswered, Pins}
 use Rattle.issuer_top.specs.Opened.{OpenedNoInput, OpenedConfigOnly}
 use Rattle.issuer_top.specs.Endings.{IsOrdered, IsChanged, IsDone, HasNoHost}
 use Rattle.issuer_top.specs.Clearing.{LoadsToClear}
+use Rattle.issuer_top.specs.Exporting.{LoadsToExport}
 use Rattle.issuer_top.specs.Endings.{IsNoMemory, EndsBy}
 use Rattle.issuer_top.proofs.OverJournals.{over-no_pin}
 use Rattle.issuer_top.proofs.EndingSteps.{told-given, ends_at_once, ends_by_text}
@@ -80,6 +82,10 @@ module _ (seen : Seen) (order : PinOrder) (pin : IsPin seen.words order) where
   no_check loaded =
       clear-no_pin seen.words loaded.set_up.config loaded.clearing loaded.journal loaded.set_up.command order pin
 
+  no_export : LoadsToExport seen → ⊥
+  no_export loaded =
+      export-no_pin seen.words loaded.set_up.config loaded.journal loaded.set_up.command order pin
+
   -- the issuer of another order is that of this one
   answered : (status : ℕ) (other : PinOrder) (issuer : Setup) → IsOrdered seen other issuer
       → status ≡ change_status (changing issuer other) → IsAnswered status seen order
@@ -96,7 +102,8 @@ module _ (seen : Seen) (order : PinOrder) (pin : IsPin seen.words order) where
       (λ more. ⊎_elim (λ c. absurd (pin-no_world seen.words order c.cards c.steps c.seed pin c.world))
       (λ more. ⊎_elim (λ d. absurd (pin-no_fill seen.words order d.dol d.given pin d.fill))
       (λ more. ⊎_elim (λ e. answered status e.order e.issuer e.ordered (is ∙ sym (ap change_status e.text_is)))
-      (λ f. absurd (no_check f.lines.loaded)) more) more) more) more)
+      (λ more. ⊎_elim (λ f. absurd (no_check f.lines.loaded)) (λ g. absurd (no_export g.loaded)) more) more) more)
+      more) more)
       ends
 
   pub status-of : (status : ℕ) (ending : Ending) → status ≡ status_of ending → EndsBy seen ending
@@ -107,11 +114,11 @@ module _ (seen : Seen) (order : PinOrder) (pin : IsPin seen.words order) where
   status-of status (Stopped (Config part index)) is ends = inl (inl is)
   status-of status (Stopped ReadFault) is ends = inl (inr (inl is))
   status-of status (Stopped (StoreFault shard)) is ends =
-      ⊎_elim (λ none. absurd (not-unloaded (StoreFault shard) ends.0 none)) (λ again. absurd (no_check again.loaded))
-      ends.1
+      ⊎_elim (λ none. absurd (not-unloaded (StoreFault shard) ends.0 none))
+      (λ more. ⊎_elim (λ again. absurd (no_check again.loaded)) (λ on. absurd (no_export on.loaded)) more) ends.1
   status-of status (Stopped (BadJournal shard line)) is ends =
       ⊎_elim (λ none. absurd (not-unloaded (BadJournal shard line) ends.0 none))
-      (λ again. absurd (no_check again.loaded)) ends.1
+      (λ more. ⊎_elim (λ again. absurd (no_check again.loaded)) (λ on. absurd (no_export on.loaded)) more) ends.1
   status-of status (Stopped (BadOldJournal shard line)) is ends =
       absurd (not-unloaded (BadOldJournal shard line) ends.0 ends.1)
   status-of status (Stopped NoMemory) is ends = inl (inr (inr is))

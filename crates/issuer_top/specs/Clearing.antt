@@ -1,25 +1,22 @@
 -- How a run ends that checks clearing lines against the records of the journals.
-use Rattle.std.specs.Prelude.{◌≡◌, ℕ, ◌<◌, true, List, ◌++◌, length, slice_get, Some, None, IfSome}
+use Rattle.std.specs.Prelude.{◌≡◌, ℕ, ◌<◌, true, List, ◌++◌, Some}
 use Rattle.issuer_base.specs.Tells.{Tells}
 use Rattle.issuer_base.specs.declared.entry.Entry.{Entry}
 use Rattle.answer_text.specs.StopText.{stop_text}
 use Rattle.answer_text.specs.declared.stop_line.Stop.{Stop}
-use Rattle.answer_text.specs.declared.stop_line.Stop.TheVariants.{ReadFault, StoreFault, BadJournal, NoMemory, TooLong}
+use Rattle.answer_text.specs.declared.stop_line.Stop.TheVariants.{ReadFault, NoMemory, TooLong}
 use Rattle.issuer_setup.specs.IssuerSetup.{Setup}
-use Rattle.one_caller.specs.Books.{Book, histories_of}
+use Rattle.one_caller.specs.Books.{Book}
 use Rattle.command_line.specs.Command.{IsClear}
 use Rattle.line_serving.specs.Answered.{WasRead, AreAllLines, AreWholeLines, AreLinesBefore, AreFirstLines}
 use Rattle.filed_records.specs.declared.filed.Filed.{Filed}
 use Rattle.clearing_text.specs.ClearText.{clear_text, verdicts_text}
 use Rattle.journal_filing.specs.Filing.{filed_records}
 use Rattle.journal_filing.specs.declared.filing.FilingFault.{FilingFault}
-use Rattle.journal_filing.specs.declared.filing.FilingFault.TheVariants.{StoreFault as StoreFails, BadLine}
-use Rattle.journal_filing.specs.declared.filing.FilingFault.TheVariants.{NoMemory as NoRoom}
-use Rattle.desk_host.specs.Kept.{KeepJournals}
-use Rattle.desk_host.specs.Lawful.{IsLawful}
-use Rattle.desk_host.specs.SeenStores.{Logged, SeenStore, SeenJournals}
+use Rattle.desk_host.specs.SeenStores.{SeenJournals}
 use Rattle.issuer_top.specs.Opened.{OpenedConfigOnly, OpenedBothInputs, FailsToOpen}
 use Rattle.issuer_top.specs.PinChanges.{SaysIssuer}
+use Rattle.issuer_top.specs.ReadAgain.{StayLoaded, AreRead, StopsReading, stop_of_reading}
 use Rattle.issuer_top.specs.Seen.{Seen, SeenInput}
 
 -- the words are the command to check clearing lines, with this clearing file and this name of journals, and the
@@ -31,15 +28,6 @@ pub record IsClearing (seen : Seen) (clearing journal : List ℕ) (issuer : Setu
 
 -- ---- the journals
 
--- the journals are as loading left them: no record was added, and the run is lawful. A store may have failed while it
--- was read again
-pub record StayLoaded (issuer : Setup) (journal : List ℕ) (logs : Logged) (journals : SeenJournals) : Type 0 where
-  pub first : List Book
-  pub last : List Book
-  pub kept : KeepJournals issuer journal logs journals first last
-  pub same : histories_of last ≡ histories_of first
-  pub lawful : IsLawful issuer first first
-
 -- the journals were loaded to check clearing lines, and are as loading left them
 pub record LoadsToClear (seen : Seen) : Type 0 where
   pub clearing : List ℕ
@@ -48,30 +36,12 @@ pub record LoadsToClear (seen : Seen) : Type 0 where
   pub set_up : IsClearing seen clearing journal issuer
   pub stay : StayLoaded issuer journal seen.desk.logs seen.journals
 
--- these are the filed records of the journals: of the histories of the books, where the stores' bytes are observable
+-- these are the filed records of the journals
 pub record FilesBooks (issuer : Setup) (journals : SeenJournals) (books : List Book) (records : List Filed)
     : Type 0 where
   pub histories : List (List Entry)
-  pub count_is : length histories ≡ length books
-  pub each : (shard : ℕ) (store : SeenStore) (book : Book) (history : List Entry)
-      → slice_get journals.stores shard ≡ Some store → slice_get books shard ≡ Some book
-      → slice_get histories shard ≡ Some history → IfSome store.bytes (λ bytes. history ≡ book.history)
+  pub read : AreRead journals books histories
   pub records_are : records ≡ filed_records issuer histories
-
--- why loaded journals weren't filed: this shard's store failed while it was read again; or this line of its journal is
--- bad, and then the store's bytes aren't observable; or no memory was left
-abbrev pub StopsFiling : List SeenStore → ℕ → FilingFault → Type 0
-StopsFiling stores shard StoreFails =
-    (store : SeenStore) × (slice_get stores shard ≡ Some store) × (0 < store.faults)
-StopsFiling stores shard (BadLine line) =
-    (store : SeenStore) × (slice_get stores shard ≡ Some store) × (store.bytes ≡ None)
-StopsFiling stores shard NoRoom = Unit {0}
-
--- how a run stops whose journals weren't filed
-abbrev pub stop_of_filing : FilingFault → ℕ → Stop
-stop_of_filing StoreFails shard = StoreFault shard
-stop_of_filing (BadLine line) shard = BadJournal shard line
-stop_of_filing NoRoom shard = NoMemory
 
 -- ---- the clearing lines
 
@@ -122,8 +92,8 @@ pub record CannotReadAgain (stop : Stop) (seen : Seen) (text : List ℕ) : Type 
   pub opened : OpenedConfigOnly seen
   pub fault : FilingFault
   pub shard : ℕ
-  pub cause : StopsFiling seen.journals.stores shard fault
-  pub stop_is : stop ≡ stop_of_filing fault shard
+  pub cause : StopsReading seen.journals.stores shard fault
+  pub stop_is : stop ≡ stop_of_reading fault shard
   pub last : text ≡ stop_text stop
 
 -- status 7: no memory was left to check clearing lines with, once the journals were loaded and before the clearing file

@@ -23,6 +23,7 @@ use Rattle.shard_book.specs.Loading.{IsOldText}
 use Rattle.shard_book.specs.Shards.{IsTextOf}
 use Rattle.one_caller.specs.Books.{Book}
 use Rattle.command_line.specs.Command.{RequestFile, PinOrder, IsServe, IsShow, IsWorld, IsFill, IsPin, IsClear}
+use Rattle.command_line.specs.Command.{IsExport}
 use Rattle.command_line.specs.Command.{IsCommand, IsNoCommand}
 use Rattle.line_serving.specs.Answers.{AreAnsweredBy, AnswersNone}
 use Rattle.desk_host.specs.SeenStores.{SeenStore, no_journals}
@@ -30,6 +31,7 @@ use Rattle.issuer_top.specs.Seen.{Seen, SeenInput}
 use Rattle.issuer_top.specs.Opened.{OpenedNoInput, OpenedConfigOnly, OpenedBothInputs, FailsToOpen}
 use Rattle.issuer_top.specs.Clearing.{IsCleared, IsCheckBegun, CannotReadAgain, CannotOpenClearing, CannotReadClearing}
 use Rattle.issuer_top.specs.Clearing.{CannotCheck, IsClearingTooLong}
+use Rattle.issuer_top.specs.Exporting.{IsExported, IsExportBegun, CannotReadOn, CannotExport}
 use Rattle.desk_host.specs.Configuration.{config_stop}
 use Rattle.desk_host.specs.Journals.{old_name, journal_name}
 use Rattle.desk_host.specs.Loading.{GivesNoHost}
@@ -47,12 +49,13 @@ use Rattle.issuer_top.specs.declared.ending.Ending.TheVariants.{Done, Stopped, W
 
 -- ---- what endings have in common
 
--- the words are a command over the journals of this name, with this configuration: to serve, to show, or to check
--- clearing lines
+-- the words are a command over the journals of this name, with this configuration: to serve, to show, to check clearing
+-- lines, or to export them
 abbrev pub IsOverJournals : List (List ℕ) → List ℕ → List ℕ → Type 0
 IsOverJournals words config journal =
     ((requests : Option RequestFile) × IsCommand words config requests journal)
-    ⊎ ((clearing : List ℕ) × IsClear words config clearing journal)
+    ⊎ (((clearing : List ℕ) × IsClear words config clearing journal)
+    ⊎ IsExport words config journal)
 
 -- the words are a command that reads the configuration of this name: one over journals, or the one to change a PIN
 abbrev pub ReadsConfig : List (List ℕ) → List ℕ → Type 0
@@ -163,11 +166,11 @@ pub record IsChanged (seen : Seen) (text : List ℕ) : Type 0 where
   pub text_is : changing issuer order ≡ Ok text
 
 -- status 0: all lines of the request file were answered, all cards were shown, a world was played, a DOL was filled, a
--- change of a PIN was written, or all lines of a clearing file were checked
+-- change of a PIN was written, all lines of a clearing file were checked, or the feed of all records was written
 abbrev pub IsDone : Seen → List ℕ → Type 0
 IsDone seen text =
     IsServed seen text ⊎ (IsShown seen text ⊎ (IsPlayed seen text
-    ⊎ (IsFilled seen text ⊎ (IsChanged seen text ⊎ IsCleared seen text))))
+    ⊎ (IsFilled seen text ⊎ (IsChanged seen text ⊎ (IsCleared seen text ⊎ IsExported seen text)))))
 
 -- ---- the other statuses
 
@@ -289,7 +292,7 @@ pub record CannotConfigure (seen : Seen) (text : List ℕ) : Type 0 where
 abbrev pub IsNoMemory : Seen → List ℕ → Type 0
 IsNoMemory seen text =
     LacksMemory seen text ⊎ (CannotServe seen text ⊎ (CannotPlay seen text
-    ⊎ (CannotConfigure seen text ⊎ CannotCheck seen text)))
+    ⊎ (CannotConfigure seen text ⊎ (CannotCheck seen text ⊎ CannotExport seen text))))
 
 -- status 8: a byte of the request file past a limit was read, in the line of this number, and the lines before were
 -- answered
@@ -323,9 +326,11 @@ Stops Usage seen text = IsUsage seen text
 Stops (Config part index) seen text = IsConfig (Config part index) seen text
 Stops ReadFault seen text = IsReadFault seen text
 Stops (StoreFault shard) seen text =
-    HasNoHost (StoreFault shard) seen text ⊎ CannotReadAgain (StoreFault shard) seen text
+    HasNoHost (StoreFault shard) seen text
+    ⊎ (CannotReadAgain (StoreFault shard) seen text ⊎ CannotReadOn (StoreFault shard) seen text)
 Stops (BadJournal shard line) seen text =
-    HasNoHost (BadJournal shard line) seen text ⊎ CannotReadAgain (BadJournal shard line) seen text
+    HasNoHost (BadJournal shard line) seen text
+    ⊎ (CannotReadAgain (BadJournal shard line) seen text ⊎ CannotReadOn (BadJournal shard line) seen text)
 Stops (BadOldJournal shard line) seen text = HasNoHost (BadOldJournal shard line) seen text
 Stops NoMemory seen text = IsNoMemory seen text
 Stops (TooLong number) seen text = IsTooLong number seen text ⊎ IsClearingTooLong number seen text
@@ -343,13 +348,15 @@ pub record IsBegun (seen : Seen) (text : List ℕ) : Type 0 where
   pub which : AreFirstLines lines.file lines.read lines.asked
 
 -- status 4: the texts of which the sink may have taken a prefix alone: that of a run that stops, the answers so far,
--- the cards, what a world came to, a filled DOL, a change of a PIN, the verdicts so far, or a clearing check
+-- the cards, what a world came to, a filled DOL, a change of a PIN, the verdicts so far, a clearing check, or the feed
+-- of the first records or of all
 abbrev pub IsDue : Seen → List ℕ → Type 0
 IsDue seen text =
     ((stop : Stop) × Stops stop seen text)
     ⊎ (IsBegun seen text
     ⊎ (IsShown seen text ⊎ (IsPlayed seen text ⊎ (IsFilled seen text
-    ⊎ (IsChanged seen text ⊎ (IsCheckBegun seen text ⊎ IsCleared seen text))))))
+    ⊎ (IsChanged seen text ⊎ (IsCheckBegun seen text ⊎ (IsCleared seen text
+    ⊎ (IsExportBegun seen text ⊎ IsExported seen text))))))))
 
 -- status 4: the sink failed, and took a prefix of a text that was due, but not all of it
 pub record IsWriteFault (seen : Seen) : Type 0 where
@@ -384,6 +391,10 @@ pub record CanBeLoaded (issuer : Setup) (shard : ℕ) (old_held held : Option (L
 -- the stores counted no fault
 abbrev pub HaveStood : List SeenStore → Type 0
 HaveStood stores = (shard : ℕ) (store : SeenStore) → slice_get stores shard ≡ Some store → 0 < store.faults → ⊥
+
+-- the stores' bytes are observable
+abbrev pub AreObservable : List SeenStore → Type 0
+AreObservable stores = (shard : ℕ) (store : SeenStore) → slice_get stores shard ≡ Some store → store.bytes ≡ None → ⊥
 
 -- the desk tells of an issuer by this name and of its journals, old and new, by that one; each shard's can be loaded,
 -- and no count rose
@@ -451,13 +462,21 @@ pub record ClearsInOrder (seen : Seen) : Type 0 where
   pub file : List ℕ
   pub clear : IsClear seen.words config clearing journal
   pub in_order : IsInOrder seen config journal
-  pub stores_told : (shard : ℕ) (store : SeenStore) → slice_get seen.journals.stores shard ≡ Some store
-      → store.bytes ≡ None → ⊥
+  pub stores_told : AreObservable seen.journals.stores
   pub clearing_held : seen.desk.tells clearing ≡ Some (Some file)
   pub within : IsWithinLimits (length (lines file)) (length file)
+
+-- the words are the command to export journals, all is in order, and the stores' bytes are observable
+pub record ExportsInOrder (seen : Seen) : Type 0 where
+  pub config : List ℕ
+  pub journal : List ℕ
+  pub export : IsExport seen.words config journal
+  pub in_order : IsInOrder seen config journal
+  pub stores_told : AreObservable seen.journals.stores
 
 -- where all is in order and no count rose, all is done, or memory was wanting
 abbrev pub Completes : ℕ → Seen → Type 0
 Completes status seen =
-    (ServesInOrder seen ⊎ (ShowsInOrder seen ⊎ (PlaysInOrder seen ⊎ (ChangesInOrder seen ⊎ ClearsInOrder seen))))
+    (ServesInOrder seen ⊎ (ShowsInOrder seen ⊎ (PlaysInOrder seen
+    ⊎ (ChangesInOrder seen ⊎ (ClearsInOrder seen ⊎ ExportsInOrder seen)))))
     → (status ≡ 0) ⊎ (status ≡ 7)

@@ -3,7 +3,9 @@ pub mod Seen
 pub mod Opening
 pub mod Status
 pub mod Opened
+pub mod ReadAgain
 pub mod Clearing
+pub mod Exporting
 pub mod Endings
 pub mod Stopping
 pub mod Played

@@ -9,6 +9,10 @@ use Rattle.answer_text.specs.declared.stop_line.Stop.{Stop}
 use Rattle.answer_text.specs.declared.stop_line.Stop.TheVariants.{ReadFault as ReadStop, TooLong as LongStop}
 use Rattle.line_serving.specs.declared.serve.Served.{Served}
 use Rattle.line_serving.specs.declared.serve.Served.TheVariants.{All, ReadFault, WriteFault as SinkFault, TooLong}
+use Rattle.journal_filing.specs.Filing.{fault_of}
+use Rattle.journal_export.specs.declared.export.ExportFault.{ExportFault}
+use Rattle.journal_export.specs.declared.export.ExportFault.TheVariants.{WriteFault as SinkBreaks, Unread}
+use Rattle.issuer_top.specs.ReadAgain.{stop_of_reading}
 use Rattle.issuer_top.specs.declared.ending.Ending.{Ending}
 use Rattle.issuer_top.specs.declared.ending.Ending.TheVariants.{Done, Stopped, WriteFault}
 
@@ -52,3 +56,12 @@ EndsServing held_before held_after faults_before faults_after ReadFault ending =
     GivesStop held_before held_after faults_before faults_after ReadStop ending
 EndsServing held_before held_after faults_before faults_after (TooLong line) ending =
     GivesStop held_before held_after faults_before faults_after (LongStop line) ending
+
+-- how a run ends whose export ended so
+abbrev pub EndsExporting : Option (List ℕ) → Option (List ℕ) → ℕ → ℕ → Result (Unit {0}) ExportFault → Ending → Type 0
+EndsExporting held_before held_after faults_before faults_after (Ok done) ending =
+    GivesNothing held_before held_after faults_before faults_after Done ending
+EndsExporting held_before held_after faults_before faults_after (Err SinkBreaks) ending =
+    GivesNothing held_before held_after faults_before faults_after WriteFault ending
+EndsExporting held_before held_after faults_before faults_after (Err (Unread fault shard)) ending =
+    GivesStop held_before held_after faults_before faults_after (stop_of_reading (fault_of fault) shard) ending

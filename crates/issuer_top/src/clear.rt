@@ -6,8 +6,9 @@ ghost use Rattle.clearing_serving.specs.Clearing.{IsNew};
 ghost use Rattle.desk_host.specs.Configuration.{HasSoundParts};
 ghost use Rattle.desk_host.specs.SeenStores.{journals_seen};
 ghost use Rattle.journal_loading.specs.Loaded.{AreLoadedFrom};
-ghost use Rattle.issuer_top.specs.Clearing.{FilesBooks, IsClearing, StayLoaded, stop_of_filing};
+ghost use Rattle.issuer_top.specs.Clearing.{FilesBooks, IsClearing};
 ghost use Rattle.issuer_top.specs.Endings.{Ends};
+ghost use Rattle.issuer_top.specs.ReadAgain.{StayLoaded, stop_of_reading};
 ghost use Rattle.issuer_top.specs.Seen.{IsSameDesk, seen_by};
 
 use crate::top_call::{Ended, Run, end_serving, stop_of};
@@ -157,7 +158,7 @@ impl<R: AllocGlobal, D: Desk, G> Run<'_, R, D, G> {
 
 /// How a run stops whose journals weren't filed.
 fn stop_of_filing(none: NotFiled) -> Stop
-    ensures { result ≡ stop_of_filing none.fault none.shard }
+    ensures { result ≡ stop_of_reading none.fault none.shard }
 {
     let NotFiled { fault, shard } = none;
     match fault {

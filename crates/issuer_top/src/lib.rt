@@ -3,6 +3,7 @@
 
 mod clear;
 mod ending;
+mod export;
 mod filling;
 mod pin;
 mod play;

@@ -1,6 +1,6 @@
 -- The journals of the first shards are put, and one more.
 use Rattle.std.proofs.Common.{◌≡◌, ◌≢◌, ℕ, ◌+◌, ◌<◌, ◌≤◌, Bool, false, ◌&&◌, List, [], ◌∷◌, ◌++◌, length, set, length-set}
-use Rattle.std.proofs.Common.{None, Some, Option, Err, Ok, refl, sym, ap, subst, ◌∙◌, arith, inl, inr, eq-eqb, append-nil}
+use Rattle.std.proofs.Common.{None, Some, Option, Err, Ok, refl, sym, ap, subst, ◌∙◌, arith, inl, inr, eq-eqb, true}
 use Rattle.std.specs.List.{slice_get}
 use Rattle.std.specs.Prelude.{Result}
 use Rattle.std.proofs.lemmas.Bool.{cases_eq, ne_eqb, false≢true}
@@ -137,6 +137,7 @@ module _ {S : Type 0} (G : Ghosts S) where
       histories = so_far.histories;
       history = history;
       have = record {
+        within = slice_get_within olds shard old first_is;
         count_is = so_far.count_is;
         each = so_far.each;
         next = λ store store_is.
@@ -223,26 +224,21 @@ module _ {S : Type 0} (bytes : S → Option (List ℕ)) (stores : List S) (befor
   pub exports-front : (result : Result (Unit {0}) ExportFault) → write_failed result ≡ false
       → Puts bytes stores left before mid result → AppendsFront mid now left
       → Exports bytes stores before now (Err SinkFault)
-  exports-front (Ok done) none puts front = (
-    length puts.histories,
-    record {
-      histories = puts.histories;
-      history = [];
-      have = record {
-        count_is = refl;
-        each = puts.have.each;
-        next = λ store store_is.
-            let within = slice_get_within stores (length puts.histories) store store_is in
-            let count = puts.have.count_is in
-            absurd (omega (arith, within, count));
-      };
-      written = subst (AppendsFront before now)
-          (sym (append-nil (feed_text puts.histories)) ∙ sym (feed-all-more puts.histories []))
-          (front-written _ puts.written front);
-    },
-  )
-  exports-front (Err (Unread fault shard)) none puts front = (
+  exports-front (Ok done) none puts front = inl (record {
+    histories = puts.histories;
+    have = puts.have;
+    written = front-written _ puts.written front;
+  })
+  exports-front (Err (Unread fault shard)) none puts front = inr (
     shard,
     first-with shard (IsPut before mid [] left) (AppendsFront before now) (λ text put. front-written text put front) puts,
   )
   exports-front (Err SinkFault) none puts front = absurd (false≢true (sym none))
+
+-- the sink failed before the end
+pub exports-short : {S : Type 0} (bytes : S → Option (List ℕ)) (stores : List S) (left : List ℕ)
+    (before now : Option (List ℕ)) (result : Result (Unit {0}) ExportFault) → write_failed result ≡ true
+    → Puts bytes stores left before now result → Exports bytes stores before now result
+exports-short bytes stores left before now (Ok done) failed puts = absurd (false≢true failed)
+exports-short bytes stores left before now (Err (Unread fault shard)) failed puts = absurd (false≢true failed)
+exports-short bytes stores left before now (Err SinkFault) failed puts = inr puts

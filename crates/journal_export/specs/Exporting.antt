@@ -35,6 +35,7 @@ pub record HasFirstRecords (bytes : Option (List ℕ)) (history : List Entry) : 
 -- of one more history
 pub record HaveFirstRecords {S : Type 0} (bytes : S → Option (List ℕ)) (stores : List S) (shard : ℕ)
     (histories : List (List Entry)) (history : List Entry) : Type 0 where
+  pub within : shard < length stores
   pub count_is : length histories ≡ shard
   pub each : (number : ℕ) (store : S) (other : List Entry)
       → slice_get stores number ≡ Some store → slice_get histories number ≡ Some other
@@ -57,14 +58,15 @@ pub record ExportsAll {S : Type 0} (bytes : S → Option (List ℕ)) (stores : L
   pub written : Written (feed_text histories)
 
 -- what an export did, by how it ended: the sink has the feed of all records; or that of the records before the one that
--- can't be read; or a proper prefix of the feed of some first records
+-- can't be read; or a proper prefix of the feed of all records, or of some first ones
 abbrev pub Exports : {S : Type 0} → (S → Option (List ℕ)) → List S → Option (List ℕ) → Option (List ℕ)
     → Result (Unit {0}) ExportFault → Type 0
 Exports bytes stores held_before held_after (Ok done) = ExportsAll bytes stores (Appends held_before held_after)
 Exports bytes stores held_before held_after (Err (Unread fault shard)) =
     ExportsFirst bytes stores shard (Appends held_before held_after)
 Exports bytes stores held_before held_after (Err SinkFault) =
-    (shard : ℕ) × ExportsFirst bytes stores shard (AppendsFront held_before held_after)
+    ExportsAll bytes stores (AppendsFront held_before held_after)
+    ⊎ ((shard : ℕ) × ExportsFirst bytes stores shard (AppendsFront held_before held_after))
 
 -- ---- blocks
 

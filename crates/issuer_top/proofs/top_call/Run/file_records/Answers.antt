@@ -1,7 +1,7 @@
 -- How a run ends whose journals are read again, and filed or not.
 use Rattle.std.proofs.Common.{refl}
-use Rattle.issuer_top.proofs.ClearingSteps.{stay-loaded, stay-again, files-books, stops-filing, ends_unchecked}
-use Rattle.issuer_top.proofs.ClearingSteps.{ends_unfiled}
+use Rattle.issuer_top.proofs.ClearingSteps.{files-books, stops-filing, ends_unchecked, ends_unfiled}
+use Rattle.issuer_top.proofs.ReadingSteps.{stay-loaded, stay-again}
 use Rattle.issuer_top.proofs.Statuses.{ends-as}
 use Rattle.issuer_top.proofs.top_call.Run.file_records.Goals as goal
 
