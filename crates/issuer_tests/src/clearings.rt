@@ -1,5 +1,6 @@
 //! Clearing checks: runs with their clearing lines and journal, and the expected outcome of each.
 
+use crate::feeds::EXPORTED;
 use crate::running::{Run, SHOW, Texts, one_shard, run_at};
 use crate::samples::{
     CERTIFICATE_7, CERTIFICATE_7_MORE, CERTIFICATE_8, DECISION_7, REPLY_7, REQUEST_7, VERSION,
@@ -84,9 +85,15 @@ static FAULTS: [Run; 4] = [
     },
 ];
 
-/// A check without clearing lines, and the cards of the same journal, shown: either reads the journal while it is loaded.
-static READERS: [Run; 2] = [
+/// A check without clearing lines, the cards of the same journal, shown, and its feed: each reads the journal while it is
+/// loaded.
+static READERS: [Run; 3] = [
     CHECKED,
+    Run {
+        before: Some(JOURNAL),
+        after: Some(JOURNAL),
+        ..EXPORTED
+    },
     Run {
         words: SHOW,
         ..CHECKED
@@ -134,7 +141,9 @@ fn calls_of<R: AllocGlobal + Threads + Wait + Sync>(rt: &R, run: &Run) -> Result
 
 #[test]
 fn stops_at_a_fault_of_the_second_reading(rt: HostRuntime) -> Result<(), Fail> {
-    let [check, show] = &READERS;
-    assert!(rt; calls_of(&rt, show)? < calls_of(&rt, check)?);
+    let [check, export, show] = &READERS;
+    let shown = calls_of(&rt, show)?;
+    assert!(rt; shown < calls_of(&rt, check)?);
+    assert!(rt; shown < calls_of(&rt, export)?);
     Ok(())
 }

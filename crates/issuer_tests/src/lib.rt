@@ -8,6 +8,8 @@ mod clearings;
 #[cfg(test)]
 mod failing_devices;
 #[cfg(test)]
+mod feeds;
+#[cfg(test)]
 mod loading_order;
 #[cfg(test)]
 mod migrations;

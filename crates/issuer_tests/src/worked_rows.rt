@@ -636,9 +636,9 @@ fn journals_found() -> &'static [Run] {
     &JOURNALS
 }
 
-const STATUS_3: &str = "s 4000000000000002ffff 00 3\n";
+pub(crate) const STATUS_3: &str = "s 4000000000000002ffff 00 3\n";
 
-const COMMAND: &str = "q 4000000000000002ffff 00 84160000\n";
+pub(crate) const COMMAND: &str = "q 4000000000000002ffff 00 84160000\n";
 
 /// Journals of version 1, and what stands beside them.
 static OLD_JOURNALS: [Run; 8] = [
