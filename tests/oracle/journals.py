@@ -151,7 +151,15 @@ class Journals:
         file.seek(whole)
 
     def append(self, shard, record):
-        self.files[shard].write(record_line(record))
+        self.append_line(shard, record_line(record))
+
+    def append_line(self, shard, line):
+        self.files[shard].write(line)
+
+    def record_lines(self, shard):
+        """The lines of a loaded shard's records, each with its newline."""
+        self.files[shard].seek(len(VERSION_LINE))
+        return [line + b"\n" for line in whole_lines(self.files[shard].read())]
 
     def close(self):
         for file in self.olds + self.files:

@@ -4,6 +4,7 @@ import re
 from clearing import Book
 from configuration import LIMIT, Fault, read_configuration
 from dol import BadData, BadDol, fill_dol
+from feed import BadFeed, Standby, feed_lines
 from host import Host
 from journals import BadLine, BadOldLine, Journals
 from pin import pin_line
@@ -16,6 +17,8 @@ COMMANDS = {
     "serve": ({"--config", "--requests", "--journal"}, {"--callers"}),
     "show": ({"--config", "--journal"}, set()),
     "clear": ({"--config", "--clearing", "--journal"}, set()),
+    "export": ({"--config", "--journal"}, set()),
+    "standby": ({"--config", "--feed", "--journal"}, set()),
     "world": ({"--cards", "--steps", "--seed"}, set()),
     "fill": ({"--dol", "--data"}, set()),
     "pin": ({"--config", "--pan", "--psn", "--dki", "--salt", "--pin"}, set()),
@@ -116,8 +119,8 @@ def load(options, journals):
     return host
 
 
-def answer_all(answer, name, out):
-    """Writes the answer to each line of a file. Several callers would give the same answers where no two of them ask of one shard."""
+def lines_of(name):
+    """The lines of a file within the limits, each with its number, and its newline where it has one."""
     try:
         with open(name, "rb") as file:
             taken = 0
@@ -125,9 +128,25 @@ def answer_all(answer, name, out):
                 taken += len(line)
                 if line_number > LINES or taken > BYTES:
                     raise Stop(8, line_number)
-                out.write(answer(line.removesuffix(b"\n")).encode() + b"\n")
+                yield line_number, line
     except OSError as fault:
         raise Stop(3) from fault
+
+
+def answer_all(answer, name, out):
+    """Writes the answer to each line of a file. Several callers would give the same answers where no two of them ask of one shard."""
+    for _, line in lines_of(name):
+        out.write(answer(line.removesuffix(b"\n")).encode() + b"\n")
+
+
+def take_all(standby, name):
+    """Takes the whole lines of a feed; bytes behind the last newline are no line."""
+    try:
+        for line_number, line in lines_of(name):
+            if line.endswith(b"\n"):
+                standby.take(line_number, line)
+    except BadFeed as fault:
+        raise Stop(11, *fault.args) from fault
 
 
 def run_command(words, out):
@@ -153,6 +172,13 @@ def run_command(words, out):
             book = Book(host)
             answer_all(book.judge, options["--clearing"], out)
             out.write(book.rest().encode())
+        elif command == "export":
+            for shard in range(host.issuer.shards):
+                out.writelines(feed_lines(shard, journals.record_lines(shard)))
+        elif command == "standby":
+            standby = Standby(host, journals)
+            take_all(standby, options["--feed"])
+            out.write(standby.counts().encode())
         else:
             answer_all(host.answer, options["--requests"], out)
     finally:

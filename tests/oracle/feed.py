@@ -1,0 +1,44 @@
+"""Feeds: the records of journals as lines with shard and index, and the standby that takes them (docs/FORMATS.md, feed lines)."""
+import re
+
+from host import WINDOW
+from journals import is_taken
+
+# A feed line with its newline has so many bytes at most, and an index is below this.
+LONGEST = 524
+INDEX_END = 2**63
+HEAD = re.compile(rb"(?P<shard>0|[1-9][0-9]*) (?P<index>0|[1-9][0-9]*) (?P<record>.*)", re.DOTALL)
+
+
+class BadFeed(Exception):
+    """The number, from 1, of the first line that is no feed line, names no shard, or has a record that may not come next."""
+
+
+def feed_lines(shard, record_lines):
+    """The feed lines of a shard's records, each of which is given as its line with the newline."""
+    return [b"%d %d %s" % (shard, index, line) for index, line in enumerate(record_lines)]
+
+
+class Standby:
+    """Takes feed lines into the journals that a host was loaded from."""
+
+    def __init__(self, host, journals):
+        self.host, self.journals = host, journals
+
+    def take(self, number, line):
+        """Takes a line of this number, with its newline; one whose index isn't the number of its shard's records changes nothing."""
+        head = HEAD.fullmatch(line[:-1]) if len(line) <= LONGEST else None
+        if head is None:
+            raise BadFeed(number)
+        shard, index = int(head["shard"]), int(head["index"])
+        if shard >= self.host.issuer.shards or index >= INDEX_END:
+            raise BadFeed(number)
+        if index != self.host.places[shard]:
+            return
+        if not is_taken(self.host, shard, head["record"], WINDOW):
+            raise BadFeed(number)
+        self.journals.append_line(shard, head["record"] + b"\n")
+
+    def counts(self):
+        """A line for each shard: its number, and how many records it has."""
+        return "".join(f"{shard} {count}\n" for shard, count in enumerate(self.host.places))
