@@ -13,7 +13,7 @@ PROGRAM = os.path.join(HOME, ".build/issuer")
 RECORD = os.path.join(HOME, ".build/issuer.proved")
 
 # The commands that open journals. Others go to the program as they are.
-OVER_JOURNALS = ("serve", "show", "clear")
+OVER_JOURNALS = ("serve", "show", "clear", "export", "standby")
 # A journal's name ends so: a dot, the shard's number in two digits, and the version. That of an old journal, of version 1, has no version.
 SHARD = re.compile(r"\.(\d{2})(\.v2)?")
 # The first line of a journal.
@@ -23,12 +23,14 @@ MAX_SHARDS = 16
 MAX_CARDS = 4096
 MAX_KEY_SETS = 16
 MAX_LINE = 2051
+# A record's line in a journal, with its newline.
+MAX_RECORD_LINE = 501
 # A run ends past these; the bridge begins the next one before.
 RUN_LINES = 1_048_576
 RUN_BYTES = 2_147_483_648
 
 OK, WORDS, CONFIGURATION, UNREADABLE, OUTPUT, JOURNAL_CLOSED, JOURNAL_WRONG, MEMORY, TOO_LONG = range(9)
-BAD_DOL, BAD_DATA, NO_KEY = 9, 10, 12
+BAD_DOL, BAD_DATA, BAD_FEED, NO_KEY = 9, 10, 11, 12
 NO_PROGRAM = 70
 # issuer-run's own refusal, and the bridge's.
 REFUSED = 78
@@ -36,7 +38,7 @@ MEANINGS = {
     OK: "the run ended",
     WORDS: "the words are no command: compare the unit with issuer(1)",
     CONFIGURATION: "the configuration is invalid: run deploy/partition again, or restore the file",
-    UNREADABLE: "the configuration or the requests can't be read",
+    UNREADABLE: "the configuration, the requests or the feed can't be read",
     OUTPUT: "the output failed",
     JOURNAL_CLOSED: "a journal can't be opened or locked, or its device failed",
     JOURNAL_WRONG: "a line of a journal is no valid record under this configuration: see `A journal that doesn't load` in docs/FORMATS.md",
@@ -44,6 +46,7 @@ MEANINGS = {
     TOO_LONG: "the run reached its limit of lines or bytes",
     BAD_DOL: "the DOL is invalid",
     BAD_DATA: "the data that the DOL is filled from are invalid",
+    BAD_FEED: "a line of the feed is no feed line, or has a record that may not come next: see `A standby` in docs/OPERATIONS.md",
     NO_KEY: "the card, the key set or its `smc` is missing for a PIN change",
     NO_PROGRAM: "there is no proved program to run",
     REFUSED: "the start was refused",
@@ -53,6 +56,8 @@ NOT_AGAIN = (WORDS, CONFIGURATION, JOURNAL_WRONG, NO_PROGRAM, REFUSED)
 
 ANSWERS = ("fresh", "kept", "refused", "queued", "set")
 DECISIONS = ("fresh", "kept")
+# Answers that name a record, which is durable then, by its shard and index.
+RECORDED = ("fresh", "kept", "queued", "set")
 REFUSALS = tuple(str(it) for it in range(1, 16))
 # Nothing was recorded, and the same line gets an answer by the history a moment later.
 BUSY, NO_DISK = "12", "15"
