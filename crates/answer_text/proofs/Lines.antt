@@ -16,11 +16,12 @@ use Rattle.issuer_base.specs.ChipData.{digits_of}
 use Rattle.issuer_base.specs.ScriptCommand.{command_bytes}
 use Rattle.issuer_base.specs.declared.command.Command.{Command}
 use Rattle.chip_request.specs.Lines.{digits_text}
+use Rattle.answer_text.specs.CountText.{count_text}
 use Rattle.answer_text.specs.QueueText.{queue_text}
 use Rattle.answer_text.specs.StopText.{stop_words, stop_text}
 use Rattle.answer_text.specs.declared.stop_line.Stop.{Stop}
 use Rattle.answer_text.specs.declared.stop_line.Stop.TheVariants.{Usage, Config, ReadFault, BadJournal, BadOldJournal, NoMemory}
-use Rattle.answer_text.specs.declared.stop_line.Stop.TheVariants.{TooLong, BadDol, BadData, NoKey}
+use Rattle.answer_text.specs.declared.stop_line.Stop.TheVariants.{TooLong, BadDol, BadData, BadFeed, NoKey}
 use Rattle.answer_text.specs.declared.stop_line.Stop.TheVariants.{StoreFault as JournalFault}
 
 -- a byte is no newline
@@ -121,12 +122,18 @@ stop_words-inner NoMemory = simp decimal-inner
 stop_words-inner (TooLong line) = simp decimal-inner
 stop_words-inner (BadDol at) = simp decimal-inner
 stop_words-inner (BadData at) = simp decimal-inner
+stop_words-inner (BadFeed line) = simp decimal-inner
 stop_words-inner NoKey = simp decimal-inner
 
 -- the text of a stop is one line
 pub stop_text-IsLine : (stop : Stop) → IsLine (stop_text stop)
 unfolding stop_text
 stop_text-IsLine stop = line_of-IsLine (codes "stop" ∷ stop_words stop) (stop_words-inner stop)
+
+-- the text of a shard's number of records is one line
+pub count_text-IsLine : (shard count : ℕ) → IsLine (count_text shard count)
+unfolding count_text
+count_text-IsLine shard count = line_of-IsLine (decimal shard ∷ decimal count ∷ []) (simp decimal-inner)
 
 -- the text of bytes is one line
 pub bytes_text-IsLine : (bytes : List ℕ) → IsLine (bytes_text bytes)

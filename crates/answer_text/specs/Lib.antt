@@ -1,4 +1,5 @@
 -- The definitions that the contracts of this crate cite.
 pub mod AnswerText
+pub mod CountText
 pub mod StopText
 pub mod QueueText

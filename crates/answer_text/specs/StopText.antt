@@ -5,6 +5,7 @@ use Rattle.answer_text.specs.AnswerText.{line_of}
 use Rattle.answer_text.specs.declared.stop_line.Stop.{Stop}
 use Rattle.answer_text.specs.declared.stop_line.Stop.TheVariants.{Usage, Config, ReadFault, StoreFault, BadJournal}
 use Rattle.answer_text.specs.declared.stop_line.Stop.TheVariants.{BadOldJournal, NoMemory, TooLong, BadDol, BadData, NoKey}
+use Rattle.answer_text.specs.declared.stop_line.Stop.TheVariants.{BadFeed}
 
 -- the exit status of a run that stops with this error
 abbrev pub status_of_stop : Stop → ℕ
@@ -18,10 +19,11 @@ status_of_stop NoMemory = 7
 status_of_stop (TooLong line) = 8
 status_of_stop (BadDol at) = 9
 status_of_stop (BadData at) = 10
+status_of_stop (BadFeed line) = 11
 status_of_stop NoKey = 12
 
 -- the details of a stop: the part and index in the configuration, the shard, the line in its journal or in its old one,
--- the line of the input, or the offset in the DOL or in the data
+-- the line of the input or of the feed, or the offset in the DOL or in the data
 abbrev pub place_words : Stop → List (List ℕ)
 place_words Usage = []
 place_words (Config part index) = decimal part ∷ decimal index ∷ []
@@ -33,6 +35,7 @@ place_words NoMemory = []
 place_words (TooLong line) = decimal line ∷ []
 place_words (BadDol at) = decimal at ∷ []
 place_words (BadData at) = decimal at ∷ []
+place_words (BadFeed line) = decimal line ∷ []
 place_words NoKey = []
 
 -- a stop: the status of the run, and its details

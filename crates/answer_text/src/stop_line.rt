@@ -42,6 +42,10 @@ pub enum Stop {
     /// The data object at this offset isn't whole, repeats a tag or is past a limit: status 10.
     BadData { at: usize },
 
+    /// This line of the feed, counted from 1, has more than 524 bytes, doesn't begin with a shard of the issuer and an
+    /// index below 2^63, or has no record or no valid successor where the shard's next one is due: status 11.
+    BadFeed { line: u64 },
+
     /// No card has the account number and the sequence number, no key set has the derivation key index, or that set has
     /// no master key for confidentiality: status 12.
     NoKey,
@@ -62,6 +66,7 @@ impl Stop {
             Stop::TooLong { .. } => 8,
             Stop::BadDol { .. } => 9,
             Stop::BadData { .. } => 10,
+            Stop::BadFeed { .. } => 11,
             Stop::NoKey => 12,
         }
     }
@@ -92,7 +97,7 @@ pub fn write_stop(stop: &Stop, out: &mut ArrayVec<u8, LINE_ROOM>)
             put(out, b" old");
             put_number(out, line);
         }
-        Stop::TooLong { line } => put_number(out, line),
+        Stop::TooLong { line } | Stop::BadFeed { line } => put_number(out, line),
         Stop::BadDol { at } | Stop::BadData { at } => put_number(out, at as u64),
     }
     out.push(b'\n');

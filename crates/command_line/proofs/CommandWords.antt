@@ -20,10 +20,10 @@ use Rattle.hex.proofs.HexLemmas.{decode_of-ok}
 use Rattle.issuer_base.specs.ChipData.{digits_of}
 use Rattle.chip_request.specs.Lines.{digits_text}
 use Rattle.command_line.specs.declared.words.Command.{Command}
-use Rattle.command_line.specs.declared.words.Command.TheVariants.{Serve, Show, World, Fill, Pin, Clear, Export}
+use Rattle.command_line.specs.declared.words.Command.TheVariants.{Serve, Show, World, Fill, Pin, Clear, Export, Standby}
 use Rattle.command_line.specs.Command.{IsValue, Pair, words_of, values_of, is_one_of, IsCall, IsSize, serve_options}
 use Rattle.command_line.specs.Command.{callers_option, show_options, world_options, fill_options, pin_options}
-use Rattle.command_line.specs.Command.{clear_options, export_options, IsClear, IsExport}
+use Rattle.command_line.specs.Command.{clear_options, export_options, standby_options, IsClear, IsExport, IsStandby}
 use Rattle.command_line.specs.Command.{SpellsBytes}
 use Rattle.command_line.specs.Command.{RequestFile, IsGroup, IsServe, IsShow, IsWorld, IsFill, IsCommand}
 use Rattle.command_line.specs.Command.{PinOrder, IsPin, IsNoCommand}
@@ -381,6 +381,13 @@ export-from words config journal are a b =
     call-from (codes "export") export_options words (config ∷ journal ∷ []) are
     (two-values words (codes "--config") (codes "--journal") config journal a b)
 
+pub standby-from : (words : List (List ℕ)) (config feed journal : List ℕ) → AreWordsOf Standby words
+    → value_in words (codes "--config") ≡ Some config → value_in words (codes "--feed") ≡ Some feed
+    → value_in words (codes "--journal") ≡ Some journal → IsStandby words config feed journal
+standby-from words config feed journal are a b c =
+    call-from (codes "standby") standby_options words (config ∷ feed ∷ journal ∷ []) are
+    (three-values words (codes "--config") (codes "--feed") (codes "--journal") config feed journal a b c)
+
 -- the numbers are within the limits where the test says so
 size-true : (cards steps : ℕ) → is_within cards steps ≡ true → IsSize cards steps
 size-true cards steps is = grind (arith, is)
@@ -516,6 +523,24 @@ export-gives words config journal call =
     let c : values_of (codes "--config") pairs ≡ config ∷ [] = cc in
     let j : values_of (codes "--journal") pairs ≡ journal ∷ [] = cc in
     record { config_is = ap only c; journal_is = ap only j }
+
+pub record StandbyGives (words : List (List ℕ)) (config feed journal : List ℕ) : Type 0 where
+  pub config_is : value_in words (codes "--config") ≡ Some config
+  pub feed_is : value_in words (codes "--feed") ≡ Some feed
+  pub journal_is : value_in words (codes "--journal") ≡ Some journal
+
+pub standby-gives : (words : List (List ℕ)) (config feed journal : List ℕ) → IsStandby words config feed journal
+    → StandbyGives words config feed journal
+standby-gives words config feed journal call =
+    let parts = parted (codes "standby") standby_options words (config ∷ feed ∷ journal ∷ []) call in
+    let pairs = pairs_of (drop 1 words) in
+    let lists : values_of (codes "--config") pairs ∷ values_of (codes "--feed") pairs
+    ∷ values_of (codes "--journal") pairs ∷ []
+    ≡ (config ∷ []) ∷ (feed ∷ []) ∷ (journal ∷ []) ∷ [] = parts.once in
+    let c : values_of (codes "--config") pairs ≡ config ∷ [] = cc in
+    let f : values_of (codes "--feed") pairs ≡ feed ∷ [] = cc in
+    let j : values_of (codes "--journal") pairs ≡ journal ∷ [] = cc in
+    record { config_is = ap only c; feed_is = ap only f; journal_is = ap only j }
 
 pub record WorldGives (words : List (List ℕ)) (cards steps seed : ℕ) : Type 0 where
   pub cards_are : value_in words (codes "--cards") ≡ Some (decimal cards)
@@ -670,6 +695,8 @@ asks-words words Pin asks =
 asks-words words Clear asks =
     (parted (codes "clear") clear_options words (asks.0 ∷ asks.1 ∷ asks.2 ∷ []) asks.3).are
 asks-words words Export asks = (parted (codes "export") export_options words (asks.0 ∷ asks.1 ∷ []) asks.2).are
+asks-words words Standby asks =
+    (parted (codes "standby") standby_options words (asks.0 ∷ asks.1 ∷ asks.2 ∷ []) asks.3).are
 
 -- the command that begins with a word
 command_in : List ℕ → Option Command
@@ -681,6 +708,7 @@ command_in word =
     else if bytes_eq word (codes "pin") then Some Pin
     else if bytes_eq word (codes "clear") then Some Clear
     else if bytes_eq word (codes "export") then Some Export
+    else if bytes_eq word (codes "standby") then Some Standby
     else None
 
 begins : (command : Command) → command_in (first_word command) ≡ Some command
@@ -692,6 +720,7 @@ begins Fill = refl
 begins Pin = refl
 begins Clear = refl
 begins Export = refl
+begins Standby = refl
 
 -- no two commands begin alike
 same-command : (command other : Command) → first_word command ≡ first_word other → command ≡ other
@@ -723,6 +752,7 @@ none-asked words none = record {
   no_pin = λ order pin. none Pin (order, pin);
   no_clear = λ config clearing journal clear. none Clear (config, clearing, journal, clear);
   no_export = λ config journal export. none Export (config, journal, export);
+  no_standby = λ config feed journal standby. none Standby (config, feed, journal, standby);
 }
 
 pub no-words : (words : List (List ℕ)) → ((command : Command) → AreWordsOf command words → ⊥) → IsNoCommand words

@@ -1,4 +1,4 @@
--- The words of the seven commands that the program knows.
+-- The words of the eight commands that the program knows.
 use Rattle.std.specs.Prelude.{◌≡◌, ◌≢◌, ◌⊎◌, ℕ, ◌*◌, ◌^◌, ◌<◌, ◌≤◌, Bool, false, ◌||◌, if◌then◌else◌}
 use Rattle.std.specs.Prelude.{List, [], ◌∷◌, length, map, Option, None, Some, Ok, codes, IsTrue, All}
 use Rattle.std.specs.Fmt.{decimal}
@@ -47,8 +47,8 @@ pub record IsCall (command : List ℕ) (options words values : List (List ℕ)) 
   pub named : All (λ pair. IsValue pair.value) pairs
 
 -- the options that the command to serve needs and the one that it may have besides, those of the command to show, of
--- the one to play a world, of the one to fill a DOL, of the one to change a PIN, of the clearing check, and of the one
--- to export journals
+-- the one to play a world, of the one to fill a DOL, of the one to change a PIN, of the clearing check, and of the ones
+-- to export journals and to take a feed into journals
 abbrev pub serve_options : List (List ℕ)
 serve_options = codes "--config" ∷ codes "--requests" ∷ codes "--journal" ∷ []
 
@@ -73,6 +73,9 @@ clear_options = codes "--config" ∷ codes "--clearing" ∷ codes "--journal" �
 
 abbrev pub export_options : List (List ℕ)
 export_options = codes "--config" ∷ codes "--journal" ∷ []
+
+abbrev pub standby_options : List (List ℕ)
+standby_options = codes "--config" ∷ codes "--feed" ∷ codes "--journal" ∷ []
 
 -- a request file, by its name and by how many callers answer its lines
 pub record RequestFile : Type 0 where
@@ -164,12 +167,18 @@ IsClear words config clearing journal =
 abbrev pub IsExport : List (List ℕ) → List ℕ → List ℕ → Type 0
 IsExport words config journal = IsCall (codes "export") export_options words (config ∷ journal ∷ [])
 
+-- the words are the command to take a feed into journals, with the names of the configuration, of the feed and of the
+-- journals
+abbrev pub IsStandby : List (List ℕ) → List ℕ → List ℕ → List ℕ → Type 0
+IsStandby words config feed journal =
+    IsCall (codes "standby") standby_options words (config ∷ feed ∷ journal ∷ [])
+
 -- the words are a command over journals, with these names, and it is to serve where there is a request file
 abbrev pub IsCommand : List (List ℕ) → List ℕ → Option RequestFile → List ℕ → Type 0
 IsCommand words config (Some requests) journal = IsServe words config requests journal
 IsCommand words config None journal = IsShow words config journal
 
--- the words are none of the seven
+-- the words are none of the eight
 pub record IsNoCommand (words : List (List ℕ)) : Type 0 where
   pub no_host : (config : List ℕ) (requests : Option RequestFile) (journal : List ℕ)
       → IsCommand words config requests journal → ⊥
@@ -178,3 +187,4 @@ pub record IsNoCommand (words : List (List ℕ)) : Type 0 where
   pub no_pin : (order : PinOrder) → IsPin words order → ⊥
   pub no_clear : (config clearing journal : List ℕ) → IsClear words config clearing journal → ⊥
   pub no_export : (config journal : List ℕ) → IsExport words config journal → ⊥
+  pub no_standby : (config feed journal : List ℕ) → IsStandby words config feed journal → ⊥

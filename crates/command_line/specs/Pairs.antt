@@ -5,17 +5,17 @@ use Rattle.std.specs.Fmt.{decimal}
 use Rattle.std.specs.Option.{option_map}
 use Rattle.issuer_base.specs.declared.limits.TheConstants.{MAX_CARDS, MAX_CARD_REQUESTS, MAX_STEPS}
 use Rattle.command_line.specs.declared.words.Command.{Command}
-use Rattle.command_line.specs.declared.words.Command.TheVariants.{Serve, Show, World, Fill, Pin, Clear, Export}
+use Rattle.command_line.specs.declared.words.Command.TheVariants.{Serve, Show, World, Fill, Pin, Clear, Export, Standby}
 use Rattle.command_line.specs.declared.pin_words.PinWords.{PinWords}
 use Rattle.command_line.specs.declared.words.Requests.{Requests}
 use Rattle.command_line.specs.declared.words.Task.{Task}
 use Rattle.command_line.specs.declared.words.Task.TheVariants.{Host, Play, Fill as FillTask, Pin as PinTask}
 use Rattle.command_line.specs.declared.words.Task.TheVariants.{Clear as ClearTask}
-use Rattle.command_line.specs.declared.words.Task.TheVariants.{Export as ExportTask}
+use Rattle.command_line.specs.declared.words.Task.TheVariants.{Export as ExportTask, Standby as StandbyTask}
 use Rattle.command_line.specs.Command.{Pair, values_of, is_one_of, serve_options, callers_option, show_options}
 use Rattle.command_line.specs.Command.{world_options, fill_options, pin_options, clear_options, PinOrder, IsPin}
 use Rattle.command_line.specs.Command.{RequestFile, IsGroup, IsServe, IsShow, IsWorld, IsFill, IsClear}
-use Rattle.command_line.specs.Command.{export_options, IsExport, IsCommand}
+use Rattle.command_line.specs.Command.{export_options, standby_options, IsExport, IsStandby, IsCommand}
 
 -- whether a word is a value
 abbrev pub is_value : List ℕ → Bool
@@ -31,6 +31,7 @@ first_word Fill = codes "fill"
 first_word Pin = codes "pin"
 first_word Clear = codes "clear"
 first_word Export = codes "export"
+first_word Standby = codes "standby"
 
 abbrev pub options_of : Command → List (List ℕ)
 options_of Serve = callers_option ∷ serve_options
@@ -40,6 +41,7 @@ options_of Fill = fill_options
 options_of Pin = pin_options
 options_of Clear = clear_options
 options_of Export = export_options
+options_of Standby = standby_options
 
 -- the pairs of words, two by two
 abbrev pub pairs_of : List (List ℕ) → List Pair
@@ -95,6 +97,7 @@ Asks Fill words = (dol given : List ℕ) × IsFill words dol given
 Asks Pin words = (order : PinOrder) × IsPin words order
 Asks Clear words = (config clearing journal : List ℕ) × IsClear words config clearing journal
 Asks Export words = (config journal : List ℕ) × IsExport words config journal
+Asks Standby words = (config feed journal : List ℕ) × IsStandby words config feed journal
 
 -- the request file that the code names
 abbrev pub request_file : Requests → RequestFile
@@ -119,6 +122,7 @@ IsTask words (FillTask texts) = IsFill words texts.dol.items texts.data.items
 IsTask words (PinTask named) = IsPin words (order_of named)
 IsTask words (ClearTask names) = IsClear words names.config.now names.clearing.now names.journal.now
 IsTask words (ExportTask names) = IsExport words names.config.now names.journal.now
+IsTask words (StandbyTask names) = IsStandby words names.config.now names.feed.now names.journal.now
 
 -- whether a world may have so many cards and steps
 abbrev pub is_within : ℕ → ℕ → Bool

@@ -8,10 +8,10 @@ ghost use Rattle.command_line.specs.Pairs.{is_value, first_word, options_of, is_
 ghost use Rattle.command_line.specs.Pairs.{value_in, is_within, AreWordsOf, GivesCallers, Asks, IsTask};
 ghost use Rattle.command_line.specs.declared.words.Command.{Command};
 ghost use Rattle.command_line.specs.declared.words.Command.TheVariants.{Serve, Show, World, Fill, Clear};
-ghost use Rattle.command_line.specs.declared.words.Command.TheVariants.{Export};
+ghost use Rattle.command_line.specs.declared.words.Command.TheVariants.{Export, Standby};
 ghost use Rattle.command_line.specs.declared.words.Task.TheVariants.{Host, Play, Fill as FillTask};
 ghost use Rattle.command_line.specs.declared.words.Task.TheVariants.{Clear as ClearTask};
-ghost use Rattle.command_line.specs.declared.words.Task.TheVariants.{Export as ExportTask};
+ghost use Rattle.command_line.specs.declared.words.Task.TheVariants.{Export as ExportTask, Standby as StandbyTask};
 
 use crate::pin_words::{PinWords, pin_words};
 use arrayvec::ArrayVec;
@@ -35,6 +35,8 @@ pub(crate) enum Command {
     Clear,
     /// It exports journals.
     Export,
+    /// It takes a feed into journals.
+    Standby,
 }
 
 /// What the program does.
@@ -52,6 +54,8 @@ pub enum Task<'a> {
     Clear(ClearWords<'a>),
     /// It writes the records of the journals of a configuration as the lines of a feed.
     Export(ExportWords<'a>),
+    /// It takes the records of a feed into the journals of a configuration.
+    Standby(StandbyWords<'a>),
 }
 
 /// The names in the words of a command over journals.
@@ -114,6 +118,17 @@ pub struct ExportWords<'a> {
     pub journal: &'a str,
 }
 
+/// The names in the words of the command to take a feed into journals.
+#[derive(Clone, Copy)]
+pub struct StandbyWords<'a> {
+    /// The name of the configuration.
+    pub config: &'a str,
+    /// The name of the feed.
+    pub feed: &'a str,
+    /// The prefix of the journals' names.
+    pub journal: &'a str,
+}
+
 /// What the words ask for, and `None` where they are no command.
 pub fn read_words(words: &Words) -> Option<Task<'_>>
     ensures task { IfSome result (IsTask words.now) }
@@ -127,6 +142,7 @@ pub fn read_words(words: &Words) -> Option<Task<'_>>
         Command::Pin => Some(Task::Pin(pin_words(words)?)),
         Command::Clear => Some(Task::Clear(clear_words(words)?)),
         Command::Export => Some(Task::Export(export_words(words)?)),
+        Command::Standby => Some(Task::Standby(standby_words(words)?)),
     }
 }
 
@@ -230,6 +246,22 @@ fn export_words(words: &Words) -> Option<ExportWords<'_>>
     Some(ExportWords { config, journal })
 }
 
+/// The names in the words of the command to take a feed into journals.
+fn standby_words(words: &Words) -> Option<StandbyWords<'_>>
+    requires { AreWordsOf Standby words.now }
+    ensures names { IfSome result (λ names. IsTask words.now (StandbyTask names)) }
+    ensures none { IfNone result (Asks Standby words.now → ⊥) }
+{
+    let config = value_of(words, "--config")?;
+    let feed = value_of(words, "--feed")?;
+    let journal = value_of(words, "--journal")?;
+    Some(StandbyWords {
+        config,
+        feed,
+        journal,
+    })
+}
+
 /// The numbers in the words of the command to play a world.
 fn world_size(words: &Words) -> Option<WorldSize>
     requires { AreWordsOf World words.now }
@@ -322,6 +354,8 @@ fn command_of(word: &str) -> Option<Command>
         Some(Command::Clear)
     } else if word == "export" {
         Some(Command::Export)
+    } else if word == "standby" {
+        Some(Command::Standby)
     } else {
         None
     }
@@ -361,6 +395,7 @@ fn is_option(word: &str, command: Command) -> bool
         Command::Fill => word == "--dol" || word == "--data",
         Command::Pin => is_pin_option(word),
         Command::Clear => word == "--config" || word == "--clearing" || word == "--journal",
+        Command::Standby => word == "--config" || word == "--feed" || word == "--journal",
     }
 }
 

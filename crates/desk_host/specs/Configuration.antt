@@ -4,6 +4,7 @@ use Rattle.std.specs.Io.KnownBytes.{Consumes, IsAtEnd}
 use Rattle.answer_text.specs.declared.stop_line.Stop.{Stop}
 use Rattle.answer_text.specs.declared.stop_line.Stop.TheVariants.{Usage, Config, ReadFault, StoreFault, BadJournal}
 use Rattle.answer_text.specs.declared.stop_line.Stop.TheVariants.{BadOldJournal, NoMemory as Memory, TooLong, BadDol, BadData, NoKey}
+use Rattle.answer_text.specs.declared.stop_line.Stop.TheVariants.{BadFeed}
 use Rattle.issuer_setup.specs.IssuerSetup.{Setup}
 use Rattle.issuer_setup.specs.KeyList.{AreKeys}
 use Rattle.world_net.specs.WorldRuns.{IsIssuer}
@@ -64,6 +65,7 @@ GivesNoIssuer left (BadOldJournal shard line) = ⊥
 GivesNoIssuer left (TooLong line) = ⊥
 GivesNoIssuer left (BadDol at) = ⊥
 GivesNoIssuer left (BadData at) = ⊥
+GivesNoIssuer left (BadFeed line) = ⊥
 GivesNoIssuer left NoKey = ⊥
 
 -- the run stops since the input failed
@@ -78,6 +80,7 @@ is_read_cause (BadOldJournal shard line) = false
 is_read_cause (TooLong line) = false
 is_read_cause (BadDol at) = false
 is_read_cause (BadData at) = false
+is_read_cause (BadFeed line) = false
 is_read_cause NoKey = false
 
 -- the input failed

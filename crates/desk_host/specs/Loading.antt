@@ -10,6 +10,7 @@ use Rattle.issuer_base.specs.declared.outside.store.Store.{Ghosts as Store}
 use Rattle.answer_text.specs.declared.stop_line.Stop.{Stop}
 use Rattle.answer_text.specs.declared.stop_line.Stop.TheVariants.{Usage, Config, ReadFault, StoreFault, BadJournal}
 use Rattle.answer_text.specs.declared.stop_line.Stop.TheVariants.{BadOldJournal, NoMemory, TooLong, BadDol, BadData, NoKey}
+use Rattle.answer_text.specs.declared.stop_line.Stop.TheVariants.{BadFeed}
 use Rattle.issuer_setup.specs.IssuerSetup.{Setup}
 use Rattle.shard_book.specs.declared.replay.LoadFault.{LoadFault}
 use Rattle.shard_book.specs.declared.replay.LoadFault.TheVariants.{OldLine, OldRecord, BadLine, BadRecord}
@@ -128,6 +129,7 @@ GivesNoHost issuer prefix logs desk journals ReadFault = ⊥
 GivesNoHost issuer prefix logs desk journals (TooLong line) = ⊥
 GivesNoHost issuer prefix logs desk journals (BadDol at) = ⊥
 GivesNoHost issuer prefix logs desk journals (BadData at) = ⊥
+GivesNoHost issuer prefix logs desk journals (BadFeed line) = ⊥
 GivesNoHost issuer prefix logs desk journals NoKey = ⊥
 
 -- how a run stops where this shard can't be opened or loaded

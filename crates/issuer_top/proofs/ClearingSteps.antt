@@ -235,7 +235,7 @@ module _ (seen : Seen) (clearing journal : List ℕ) (issuer : Setup) (set_up : 
     ends_clearing ReadStopped ending held faults fresh serves counts none failed ends =
         let rose : Rose 0 input.faults = subst (λ (n : ℕ). Rose n input.faults) none (failed refl) in
         ends_by_stop seen held faults ReadFault ending serves.text
-        (inr (inr (inr (inr (inr (record {
+        (inr (inr (inr (inr (inr (inl (record {
           verdicts = serves.text;
           lines =
               lines-checked verdicts_text (λ file read asked. AreWholeLines read asked)
@@ -243,16 +243,16 @@ module _ (seen : Seen) (clearing journal : List ℕ) (issuer : Setup) (set_up : 
           which = serves.which;
           failed = Rose-from_none input.faults rose;
           last = refl;
-        }))))))
+        })))))))
         serves.written counts.never_falls ends
     ends_clearing (LongStopped number) ending held faults fresh serves counts none failed ends =
         ends_by_stop seen held faults (TooLong number) ending serves.text
-        (inr (record {
+        (inr (inl (record {
           verdicts = serves.text;
           lines =
               lines-checked verdicts_text (λ file read asked. AreLinesBefore number read asked)
               (Appends seen.sink.held_before held) serves;
           which = serves.which;
           last = refl;
-        }))
+        })))
         serves.written counts.never_falls ends

@@ -19,7 +19,7 @@ use Rattle.answer_text.specs.StopText.{stop_text}
 use Rattle.answer_text.specs.declared.stop_line.Stop.{Stop}
 use Rattle.answer_text.specs.declared.stop_line.Stop.TheVariants.{Usage, Config, ReadFault, StoreFault, BadJournal}
 use Rattle.answer_text.specs.declared.stop_line.Stop.TheVariants.{BadOldJournal, NoMemory, TooLong, BadDol, BadData}
-use Rattle.answer_text.specs.declared.stop_line.Stop.TheVariants.{NoKey}
+use Rattle.answer_text.specs.declared.stop_line.Stop.TheVariants.{BadFeed, NoKey}
 use Rattle.issuer_setup.specs.IssuerSetup.{Setup}
 use Rattle.one_caller.specs.Books.{Book}
 use Rattle.issuer_top.specs.declared.ending.Ending.{Ending}
@@ -216,6 +216,8 @@ module _ (seen : Seen) (config : List ℕ) (ending : Ending) (command : ReadsCon
   ends_no_issuer T first input left (BadDol at) opened input_is none_opened given none fresh count stopping = absurd none
   ends_no_issuer T first input left (BadData at) opened input_is none_opened given none fresh count stopping =
       absurd none
+  ends_no_issuer T first input left (BadFeed line) opened input_is none_opened given none fresh count stopping =
+      absurd none
   ends_no_issuer T first input left NoKey opened input_is none_opened given none fresh count stopping = absurd none
 
 -- the words and the configuration are as they should be
@@ -313,6 +315,7 @@ module _ (seen : Seen) (journal : List ℕ) (issuer : Setup) (ending : Ending)
   ends_no_host (TooLong line) with_config no_requests cause left stopping = absurd cause
   ends_no_host (BadDol at) with_config no_requests cause left stopping = absurd cause
   ends_no_host (BadData at) with_config no_requests cause left stopping = absurd cause
+  ends_no_host (BadFeed line) with_config no_requests cause left stopping = absurd cause
   ends_no_host NoKey with_config no_requests cause left stopping = absurd cause
 
 -- the journals gave no host, by what the desk told and counted before

@@ -173,7 +173,7 @@ pub export-issuer : (seen : Seen) (journal : List ℕ) (issuer : Setup) → IsEx
     → HasIssuer seen journal issuer
 export-issuer seen journal issuer set_up = record {
   config = set_up.config;
-  command = inr (inr set_up.command);
+  command = inr (inr (inl set_up.command));
   said = set_up.said;
 }
 
@@ -187,7 +187,7 @@ module _ (seen : Seen) (journal : List ℕ) (issuer : Setup) (set_up : IsExporti
   unfolding loads
   ends_unexported ending stopping =
       ends_at_once seen NoMemory ending
-      (inr (inr (inr (inr (inr (record { loaded = loads; told = refl })))))) stopping
+      (inr (inr (inr (inr (inr (inl (record { loaded = loads; told = refl }))))))) stopping
 
   -- how the run ends, by how the export did
   pub ends_exporting : (exported : Result (Unit {0}) ExportFault) (ending : Ending) (held : Option (List ℕ)) (faults : ℕ)
@@ -198,7 +198,7 @@ module _ (seen : Seen) (journal : List ℕ) (issuer : Setup) (set_up : IsExporti
   ends_exporting (Ok done) ending held faults feeds counts ends =
       subst (EndsBy seen) (sym ends.ending_is) (
         feeds.0,
-        inr (inr (inr (inr (inr (inr (record { loaded = loads; feed = feeds.1 })))))),
+        inr (inr (inr (inr (inr (inr (inl (record { loaded = loads; feed = feeds.1 }))))))),
         subst (λ (h : Option (List ℕ)). Appends seen.sink.held_before h feeds.0) (sym ends.same) feeds.2,
       )
   ends_exporting (Err SinkFault) ending held faults feeds counts ends =
@@ -207,7 +207,7 @@ module _ (seen : Seen) (journal : List ℕ) (issuer : Setup) (set_up : IsExporti
       (λ whole. record {
         rose = subst (Rose seen.sink.faults_before) (sym ends.stood) counts.counted;
         text = whole.0;
-        due = inr (inr (inr (inr (inr (inr (inr (inr (inr (record { loaded = loads; feed = whole.1 })))))))));
+        due = inr (inr (inr (inr (inr (inr (inr (inr (inr (inl (record { loaded = loads; feed = whole.1 }))))))))));
         front =
             subst (λ (h : Option (List ℕ)). AppendsFront seen.sink.held_before h whole.0) (sym ends.same) whole.2;
       })
@@ -225,7 +225,7 @@ module _ (seen : Seen) (journal : List ℕ) (issuer : Setup) (set_up : IsExporti
       feeds)
   ends_exporting (Err (Unread ReadingFails shard)) ending held faults feeds counts ends =
       ends_by_stop seen held faults (StoreFault shard) ending feeds.0
-      (inr (inr (record {
+      (inr (inr (inl (record {
         loaded = loads;
         shard = shard;
         written = feeds.0;
@@ -234,7 +234,7 @@ module _ (seen : Seen) (journal : List ℕ) (issuer : Setup) (set_up : IsExporti
         cause = feeds.3;
         stop_is = refl;
         last = refl;
-      })))
+      }))))
       feeds.2 counts.never_falls ends
   ends_exporting (Err (Unread (ReadsBad line) shard)) ending held faults feeds counts ends =
       ends_by_stop seen held faults (BadJournal shard line) ending feeds.0

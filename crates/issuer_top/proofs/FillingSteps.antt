@@ -7,7 +7,7 @@ use Rattle.answer_text.specs.AnswerText.{bytes_text}
 use Rattle.answer_text.specs.StopText.{status_of_stop, stop_text}
 use Rattle.answer_text.specs.declared.stop_line.Stop.{Stop}
 use Rattle.answer_text.specs.declared.stop_line.Stop.TheVariants.{Usage, Config, ReadFault, StoreFault, BadJournal}
-use Rattle.answer_text.specs.declared.stop_line.Stop.TheVariants.{BadOldJournal, NoMemory, TooLong, NoKey}
+use Rattle.answer_text.specs.declared.stop_line.Stop.TheVariants.{BadFeed, BadOldJournal, NoMemory, TooLong, NoKey}
 use Rattle.answer_text.specs.declared.stop_line.Stop.TheVariants.{BadDol as StopsAtDol, BadData as StopsAtData}
 use Rattle.terminal_kernel.specs.declared.dol.DolEntry.{DolEntry}
 use Rattle.terminal_kernel.specs.declared.dol.BadDol.{BadDol}
@@ -18,7 +18,7 @@ use Rattle.terminal_kernel.specs.Filling.{filled}
 use Rattle.command_line.specs.Command.{RequestFile, IsFill, IsCommand}
 use Rattle.command_line.proofs.CommandWords.{fill-no_command, fill-no_world, one-fill}
 use Rattle.command_line.proofs.ClearNames.{clear-no_fill}
-use Rattle.command_line.proofs.FeedNames.{export-no_fill}
+use Rattle.command_line.proofs.FeedNames.{export-no_fill, standby-no_fill}
 use Rattle.command_line.proofs.PinOrders.{pin-no_fill}
 use Rattle.issuer_top.specs.declared.ending.Ending.{Ending}
 use Rattle.issuer_top.specs.declared.ending.Ending.TheVariants.{Done, Stopped, WriteFault}
@@ -31,6 +31,8 @@ use Rattle.issuer_top.specs.Endings.{IsDone, IsFilled, CannotFill, IsReadFault, 
 use Rattle.issuer_top.specs.Endings.{ReadsConfig}
 use Rattle.issuer_top.specs.Clearing.{LoadsToClear}
 use Rattle.issuer_top.specs.Exporting.{LoadsToExport}
+use Rattle.standby_serving.specs.declared.follower.Followed.{Followed}
+use Rattle.issuer_top.specs.Standing.{LoadsToStandBy, StandsBy}
 use Rattle.issuer_top.specs.Endings.{EndsBy}
 use Rattle.issuer_top.proofs.EndingSteps.{ends_at_once, ends_by_text}
 use Rattle.issuer_top.proofs.OverJournals.{over-no_fill}
@@ -96,6 +98,14 @@ module _ (seen : Seen) (dol given : List ℕ) (fill : IsFill seen.words dol give
   no_check loaded =
       clear-no_fill seen.words loaded.set_up.config loaded.clearing loaded.journal loaded.set_up.command dol given fill
 
+  no_stand : {followed : Followed} → StandsBy followed seen → ⊥
+  no_stand stands =
+      standby-no_fill seen.words stands.set_up.config stands.feed stands.journal stands.set_up.command dol given fill
+
+  no_standby : LoadsToStandBy seen → ⊥
+  no_standby loaded =
+      standby-no_fill seen.words loaded.set_up.config loaded.feed loaded.journal loaded.set_up.command dol given fill
+
   no_export : LoadsToExport seen → ⊥
   no_export loaded =
       export-no_fill seen.words loaded.set_up.config loaded.journal loaded.set_up.command dol given fill
@@ -106,7 +116,9 @@ module _ (seen : Seen) (dol given : List ℕ) (fill : IsFill seen.words dol give
       (λ more. ⊎_elim (λ b. no_config b.config b.command)
       (λ more. ⊎_elim (λ c. let l = c.loaded in no_host l.set_up.config (Some l.requests) l.journal l.set_up.command)
       (λ more. ⊎_elim (λ d. let l = d.lines in no_host l.set_up.config (Some l.requests) l.journal l.set_up.command)
-      (λ more. ⊎_elim (λ e. no_check e.loaded) (λ f. no_check f.lines.loaded) more) more) more) more)
+      (λ more. ⊎_elim (λ e. no_check e.loaded)
+      (λ more. ⊎_elim (λ f. no_check f.lines.loaded)
+      (λ more. ⊎_elim (λ g. no_standby g.loaded) (λ h. no_stand h.stands) more) more) more) more) more) more)
       cannot
 
   not-unloaded : (stop : Stop) (text : List ℕ) → HasNoHost stop seen text → ⊥
@@ -119,7 +131,8 @@ module _ (seen : Seen) (dol given : List ℕ) (fill : IsFill seen.words dol give
       (λ more. ⊎_elim (λ b. let l = b.loaded in no_host l.set_up.config (Some l.requests) l.journal l.set_up.command)
       (λ more. ⊎_elim (λ c. fill-no_world seen.words dol given c.cards c.steps c.seed fill c.world)
       (λ more. ⊎_elim (λ d. pin-no_fill seen.words d.order dol given d.pin fill)
-      (λ more. ⊎_elim (λ e. no_check e.loaded) (λ f. no_export f.loaded) more) more) more)
+      (λ more. ⊎_elim (λ e. no_check e.loaded)
+      (λ more. ⊎_elim (λ f. no_export f.loaded) (λ g. no_standby g.loaded) more) more) more) more)
       more)
       short
 
@@ -143,7 +156,8 @@ module _ (seen : Seen) (dol given : List ℕ) (fill : IsFill seen.words dol give
       (λ more. ⊎_elim (λ c. absurd (fill-no_world seen.words dol given c.cards c.steps c.seed fill c.world))
       (λ more. ⊎_elim (λ d. is ∙ ap fill_status (sym d.filled_is ∙ same d.dol d.given d.fill))
       (λ more. ⊎_elim (λ e. absurd (pin-no_fill seen.words e.order dol given e.ordered.pin fill))
-      (λ more. ⊎_elim (λ f. absurd (no_check f.lines.loaded)) (λ g. absurd (no_export g.loaded)) more) more) more)
+      (λ more. ⊎_elim (λ f. absurd (no_check f.lines.loaded))
+      (λ more. ⊎_elim (λ g. absurd (no_export g.loaded)) (λ h. absurd (no_stand h.stands)) more) more) more) more)
       more) more)
       ends
 
@@ -157,7 +171,8 @@ module _ (seen : Seen) (dol given : List ℕ) (fill : IsFill seen.words dol give
   status-of status (Stopped ReadFault) is ends = absurd (not-unread ends.0 ends.1)
   status-of status (Stopped (StoreFault shard)) is ends =
       ⊎_elim (λ none. absurd (not-unloaded (StoreFault shard) ends.0 none))
-      (λ more. ⊎_elim (λ again. absurd (no_check again.loaded)) (λ on. absurd (no_export on.loaded)) more) ends.1
+      (λ more. ⊎_elim (λ again. absurd (no_check again.loaded))
+      (λ more. ⊎_elim (λ on. absurd (no_export on.loaded)) (λ take. absurd (no_stand take.stands)) more) more) ends.1
   status-of status (Stopped (BadJournal shard line)) is ends =
       ⊎_elim (λ none. absurd (not-unloaded (BadJournal shard line) ends.0 none))
       (λ more. ⊎_elim (λ again. absurd (no_check again.loaded)) (λ on. absurd (no_export on.loaded)) more) ends.1
@@ -167,9 +182,10 @@ module _ (seen : Seen) (dol given : List ℕ) (fill : IsFill seen.words dol give
   status-of status (Stopped (TooLong line)) is ends =
       ⊎_elim
       (λ long. let l = long.lines in absurd (no_host l.set_up.config (Some l.requests) l.journal l.set_up.command))
-      (λ long. absurd (no_check long.lines.loaded)) ends.1
+      (λ more. ⊎_elim (λ long. absurd (no_check long.lines.loaded)) (λ long. absurd (no_stand long.stands)) more) ends.1
   status-of status (Stopped (StopsAtDol at)) is ends = inl (stopped status (StopsAtDol at) ends.0 is ends.1)
   status-of status (Stopped (StopsAtData at)) is ends = inl (stopped status (StopsAtData at) ends.0 is ends.1)
+  status-of status (Stopped (BadFeed line)) is ends = absurd (no_stand ends.1.stands)
   status-of status (Stopped NoKey) is ends =
       let k = ends.1 in absurd (pin-no_fill seen.words k.order dol given k.ordered.pin fill)
   status-of status WriteFault is ends = inr (is, ends.rose)

@@ -18,7 +18,7 @@ use Rattle.config_read.specs.Configuration.{configured}
 use Rattle.answer_text.specs.declared.stop_line.Stop.{Stop}
 use Rattle.answer_text.specs.declared.stop_line.Stop.TheVariants.{Usage, Config, ReadFault, StoreFault, BadJournal}
 use Rattle.answer_text.specs.declared.stop_line.Stop.TheVariants.{BadOldJournal, NoMemory, TooLong, BadDol, BadData}
-use Rattle.answer_text.specs.declared.stop_line.Stop.TheVariants.{NoKey}
+use Rattle.answer_text.specs.declared.stop_line.Stop.TheVariants.{BadFeed, NoKey}
 use Rattle.shard_book.specs.declared.replay.LoadFault.{LoadFault}
 use Rattle.shard_book.specs.Loading.{IsOutside}
 use Rattle.shard_book.proofs.Exactly.{stops-outside}
@@ -45,6 +45,20 @@ use Rattle.issuer_top.specs.ReadAgain.{StopsReading, stop_of_reading}
 use Rattle.command_line.proofs.ClearNames.{clear-no_command, clear-no_pin, clear-no_world, one-clear}
 use Rattle.command_line.proofs.CommandWords.{serve-gives, show-gives, serve-no_show, command-no_world}
 use Rattle.command_line.proofs.CommandWords.{fill-no_world}
+use Rattle.std.proofs.Common.{Bool, eq-eqb}
+use Rattle.std.proofs.lemmas.Option.{slice_get_within}
+use Rattle.std.specs.Prelude.{MatchBool}
+use Rattle.desk_host.proofs.SeenSteps.{at-place}
+use Rattle.standby_serving.specs.declared.follower.Followed.{Followed}
+use Rattle.standby_serving.specs.declared.follower.Followed.TheVariants.{TooLong as LongFeed, BadFeed as BadLine}
+use Rattle.issuer_top.specs.Standing.{CannotTake, LoadsToStandBy, StandsBy, WereJournals}
+use Rattle.issuer_base.specs.declared.entry.Entry.{Entry}
+use Rattle.one_caller.specs.Books.{Book, histories_of}
+use Rattle.standby_node.specs.Streams.{StopsBadly}
+use Rattle.issuer_top.specs.Endings.{StandsInOrder}
+use Rattle.command_line.proofs.FeedNames.{one-standby}
+use Rattle.command_line.proofs.FeedNames.{standby-no_clear, standby-no_command, standby-no_export, standby-no_pin}
+use Rattle.command_line.proofs.FeedNames.{standby-no_world}
 use Rattle.command_line.proofs.FeedNames.{export-no_clear, export-no_command, export-no_pin, export-no_world}
 use Rattle.command_line.proofs.PinOrders.{one-order, pin-no_command, pin-no_world, pin-no_fill}
 use Rattle.command_line.specs.Command.{PinOrder}
@@ -173,7 +187,10 @@ module _ (seen : Seen) (config journal : List ℕ) (command : IsOverJournals see
       (λ more. ⊎_elim (λ c. order.desk_stood c.fails.rose)
       (λ more. ⊎_elim (λ d. order.requests_stood (counted seen.requests d.lines.input d.lines.input_is d.failed))
       (λ more. ⊎_elim (λ e. order.desk_stood e.fails.rose)
-      (λ f. order.requests_stood (counted seen.requests f.lines.input f.lines.input_is f.failed)) more) more) more)
+      (λ more. ⊎_elim (λ f. order.requests_stood (counted seen.requests f.lines.input f.lines.input_is f.failed))
+      (λ more. ⊎_elim (λ g. order.desk_stood g.fails.rose)
+      (λ h. order.requests_stood (counted seen.requests h.stands.input h.stands.input_is h.failed)) more) more) more)
+      more) more)
       more)
       cannot
 
@@ -223,6 +240,24 @@ module _ (seen : Seen) (config journal : List ℕ) (command : IsOverJournals see
   not-again loaded (FileLine line) shard stop cause is other = told loaded shard cause.0 cause.1 cause.2
   not-again loaded NoRoom shard stop cause is other = other is
 
+  -- no store failed at a record of a feed
+  not-failed : (shard : ℕ) (text : List ℕ) → CannotTake shard seen text → ⊥
+  not-failed shard text cannot =
+      let s = cannot.stands in
+      let count = s.kept.stores_are in
+      let olds = s.kept.olds_are in
+      let firsts = s.kept.first_are in
+      let histories = s.kept.histories_are in
+      let within = slice_get_within s.histories shard s.takes.history s.takes.next.is_for.history_is in
+      let store = at-place seen.journals.stores shard (omega (arith, within, count, histories)) in
+      let old = at-place seen.journals.olds shard (omega (arith, within, olds, histories)) in
+      let first = at-place s.first shard (omega (arith, within, firsts, histories)) in
+      let keeps = s.kept.each shard first.0 s.takes.history old.0 store.0 first.1 s.takes.next.is_for.history_is old.1
+      store.1 in
+      order.stores_stood shard store.0 store.1
+      (subst (λ (b : Bool). MatchBool b (0 < store.0.faults) ((keeps.tail ≡ []) × (store.0.faults ≡ 0)))
+      (eq-eqb shard shard refl) keeps.doubted)
+
   not-read : (stop : Stop) (text : List ℕ) → (stop ≡ NoMemory → ⊥)
       → CannotReadAgain stop seen text ⊎ CannotReadOn stop seen text → ⊥
   not-read stop text other cannot =
@@ -239,35 +274,39 @@ module _ (seen : Seen) (config journal : List ℕ) (command : IsOverJournals see
 
   -- where the request file isn't too long, the status is 0 or 7
   in-order : (status : ℕ) (ending : Ending) → status ≡ status_of ending → EndsBy seen ending
-      → ((line : ℕ) → ending ≡ Stopped (TooLong line) → ⊥) → (status ≡ 0) ⊎ (status ≡ 7)
-  in-order status Done is ends short = inl is
-  in-order status (Stopped Usage) is ends short =
+      → ((line : ℕ) → ending ≡ Stopped (TooLong line) → ⊥)
+      → ((line : ℕ) → ending ≡ Stopped (BadFeed line) → ⊥) → (status ≡ 0) ⊎ (status ≡ 7)
+  in-order status Done is ends short good = inl is
+  in-order status (Stopped Usage) is ends short good =
       absurd (over-known seen.words config journal command ends.1.no_command)
-  in-order status (Stopped (Config part index)) is ends short =
+  in-order status (Stopped (Config part index)) is ends short good =
       let content = same-content seen.desk.tells config ends.1.config ends.1.content order.content
       (same-config ends.1.config ends.1.command) order.config_held ends.1.held in
       absurd (not-both ends.1.content order.content order.issuer ends.1.fault content order.says ends.1.broken)
-  in-order status (Stopped ReadFault) is ends short = absurd (not-unread ends.0 ends.1)
-  in-order status (Stopped (StoreFault shard)) is ends short =
+  in-order status (Stopped ReadFault) is ends short good = absurd (not-unread ends.0 ends.1)
+  in-order status (Stopped (StoreFault shard)) is ends short good =
       ⊎_elim (λ none. absurd (not-unstored shard ends.0 none))
-      (λ more. absurd (not-read (StoreFault shard) ends.0 (λ e. absurd (cc)) more)) ends.1
-  in-order status (Stopped (BadJournal shard line)) is ends short =
+      (λ more. ⊎_elim (λ again. absurd (not-read (StoreFault shard) ends.0 (λ e. absurd (cc)) (inl again)))
+      (λ more. ⊎_elim (λ on. absurd (not-read (StoreFault shard) ends.0 (λ e. absurd (cc)) (inr on)))
+      (λ take. absurd (not-failed shard ends.0 take)) more) more) ends.1
+  in-order status (Stopped (BadJournal shard line)) is ends short good =
       ⊎_elim
       (λ none. absurd (not-bad_journal (BadJournal shard line) shard (IsBadLine line) ends.0 none none.cause
       (λ fault. not-bad_line fault line)))
       (λ more. absurd (not-read (BadJournal shard line) ends.0 (λ e. absurd (cc)) more)) ends.1
-  in-order status (Stopped (BadOldJournal shard line)) is ends short =
+  in-order status (Stopped (BadOldJournal shard line)) is ends short good =
       absurd (not-bad_journal (BadOldJournal shard line) shard (IsBadOldLine line) ends.0 ends.1 ends.1.cause
       (λ fault. not-bad_old_line fault line))
-  in-order status (Stopped NoMemory) is ends short = inr is
-  in-order status (Stopped (TooLong line)) is ends short = absurd (short line refl)
-  in-order status (Stopped (BadDol at)) is ends short =
+  in-order status (Stopped NoMemory) is ends short good = inr is
+  in-order status (Stopped (TooLong line)) is ends short good = absurd (short line refl)
+  in-order status (Stopped (BadDol at)) is ends short good =
       let f = ends.1 in absurd (over-no_fill seen.words config journal command f.dol f.given f.fill)
-  in-order status (Stopped (BadData at)) is ends short =
+  in-order status (Stopped (BadData at)) is ends short good =
       let f = ends.1 in absurd (over-no_fill seen.words config journal command f.dol f.given f.fill)
-  in-order status (Stopped NoKey) is ends short =
+  in-order status (Stopped (BadFeed line)) is ends short good = absurd (good line refl)
+  in-order status (Stopped NoKey) is ends short good =
       let k = ends.1 in absurd (over-no_pin seen.words config journal command k.order k.ordered.pin)
-  in-order status WriteFault is ends short = absurd (order.sink_stood ends.rose)
+  in-order status WriteFault is ends short good = absurd (order.sink_stood ends.rose)
 
 -- ---- the commands
 
@@ -284,6 +323,12 @@ not-to-read seen config requests journal command loads =
     ⊎_elim (not-to-clear seen config requests journal command)
     (λ loaded. export-no_command seen.words loaded.set_up.config loaded.journal loaded.set_up.command config requests
     journal command) loads
+
+not-to-stand : (seen : Seen) (config : List ℕ) (requests : Option RequestFile) (journal : List ℕ)
+    → IsCommand seen.words config requests journal → (followed : Followed) → StandsBy followed seen → ⊥
+not-to-stand seen config requests journal command followed stands =
+    standby-no_command seen.words stands.set_up.config stands.feed stands.journal stands.set_up.command config requests
+    journal command
 
 serves-in_order : (seen : Seen) (status : ℕ) (ending : Ending) → status ≡ status_of ending → EndsBy seen ending
     → ServesInOrder seen
@@ -304,8 +349,14 @@ serves-in_order seen status ending is ends order =
     let content = same-content seen.desk.tells order.requests.name l.requests.name l.file order.file name
     order.requests_held l.held in
     not-past l.file order.file l.read l.asked line l.input.left content order.within l.was_read past.which)
+    (λ more. ⊎_elim
     (λ past. not-to-clear seen order.config (Some order.requests) order.journal order.serve past.lines.loaded)
+    (λ past. not-to-stand seen order.config (Some order.requests) order.journal order.serve (LongFeed line) past.stands)
+    more)
     passed.1)
+    (λ line bad.
+    let stopped = subst (EndsBy seen) bad ends in
+    not-to-stand seen order.config (Some order.requests) order.journal order.serve (BadLine line) stopped.1.stands)
 
 shows-in_order : (seen : Seen) (status : ℕ) (ending : Ending) → status ≡ status_of ending → EndsBy seen ending
     → ShowsInOrder seen
@@ -320,7 +371,12 @@ shows-in_order seen status ending is ends order =
     let same = same-names seen.words order.config l.set_up.config None (Some l.requests) order.journal l.journal
     order.show l.set_up.command in
     (let e : None ≡ Some l.requests.name = same.file_is in cc))
-    (λ past. not-to-clear seen order.config None order.journal order.show past.lines.loaded) passed.1)
+    (λ more. ⊎_elim (λ past. not-to-clear seen order.config None order.journal order.show past.lines.loaded)
+    (λ past. not-to-stand seen order.config None order.journal order.show (LongFeed line) past.stands) more)
+    passed.1)
+    (λ line bad.
+    let stopped = subst (EndsBy seen) bad ends in
+    not-to-stand seen order.config None order.journal order.show (BadLine line) stopped.1.stands)
 
 clears-in_order : (seen : Seen) (status : ℕ) (ending : Ending) → status ≡ status_of ending → EndsBy seen ending
     → ClearsInOrder seen
@@ -334,6 +390,7 @@ clears-in_order seen status ending is ends order =
     let l = past.lines in
     clear-no_command seen.words order.config order.clearing order.journal order.clear l.set_up.config
     (Some l.requests) l.journal l.set_up.command)
+    (λ more. ⊎_elim
     (λ past.
     let l = past.lines in
     let set_up = l.loaded.set_up in
@@ -342,7 +399,16 @@ clears-in_order seen status ending is ends order =
     let content = same-content seen.desk.tells order.clearing l.loaded.clearing l.file order.file
     (sym same.clearing_is) order.clearing_held l.held in
     not-past l.file order.file l.read l.asked line l.input.left content order.within l.was_read past.which)
+    (λ past. not-cleared (LongFeed line) past.stands) more)
     passed.1)
+    (λ line bad.
+    let stopped = subst (EndsBy seen) bad ends in
+    not-cleared (BadLine line) stopped.1.stands)
+  where
+    not-cleared : (followed : Followed) → StandsBy followed seen → ⊥
+    not-cleared followed s =
+        standby-no_clear seen.words s.set_up.config s.feed s.journal s.set_up.command order.config order.clearing
+        order.journal order.clear
 
 exports-in_order : (seen : Seen) (status : ℕ) (ending : Ending) → status ≡ status_of ending → EndsBy seen ending
     → ExportsInOrder seen
@@ -357,11 +423,114 @@ exports-in_order seen status ending is ends order =
     let l = past.lines in
     export-no_command seen.words order.config order.journal export l.set_up.config (Some l.requests) l.journal
     l.set_up.command)
+    (λ more. ⊎_elim
     (λ past.
     let l = past.lines.loaded in
     export-no_clear seen.words order.config order.journal export l.set_up.config l.clearing l.journal
     l.set_up.command)
+    (λ past. not-exporting (LongFeed line) past.stands) more)
     passed.1)
+    (λ line bad.
+    let stopped = subst (EndsBy seen) bad ends in
+    not-exporting (BadLine line) stopped.1.stands)
+  where
+    not-exporting : (followed : Followed) → StandsBy followed seen → ⊥
+    not-exporting followed s =
+        standby-no_export seen.words s.set_up.config s.feed s.journal s.set_up.command order.config order.journal
+        order.export
+
+-- a stream with more behind it has the same first bad line
+stops-more : (issuer : Setup) (opening histories : List (List Entry)) (read rest : List ℕ) (number : ℕ)
+    → StopsBadly issuer opening read number histories → StopsBadly issuer opening (read ++ rest) number histories
+stops-more issuer opening histories read rest number stops =
+    let s = stops.stops in
+    record {
+      line = stops.line;
+      stops = record {
+        before = s.before;
+        ahead = s.ahead ++ rest;
+        begins = BeginsWithLines-given read (s.before ++ stops.line ∷ []) s.ahead rest s.begins;
+        taken = s.taken;
+        number_is = s.number_is;
+      };
+      bad = stops.bad;
+    }
+
+-- the journals were those of the first books
+were-journals : {followed : Followed} (seen : Seen) (s : StandsBy followed seen)
+    → WereJournals s.issuer s.journal seen.desk.logs s.first
+were-journals seen s = record {
+  count_is = s.kept.first_are;
+  each = λ shard was was_at.
+      let within = slice_get_within s.first shard was was_at in
+      let firsts = s.kept.first_are in
+      let count = s.kept.histories_are in
+      let olds = s.kept.olds_are in
+      let stores = s.kept.stores_are in
+      let history = at-place s.histories shard (omega (arith, within, firsts, count)) in
+      let old = at-place seen.journals.olds shard (omega (arith, within, firsts, olds)) in
+      let store = at-place seen.journals.stores shard (omega (arith, within, firsts, stores)) in
+      let keeps = s.kept.each shard was history.0 old.0 store.0 was_at history.1 old.1 store.1 in
+      (keeps.old, keeps.was);
+}
+
+module _ (seen : Seen) (order : StandsInOrder seen) where
+  -- a feed that was taken is the one of the words
+  fed-file : {followed : Followed} (s : StandsBy followed seen) → s.file ≡ order.file
+  fed-file s =
+      let same = one-standby seen.words order.config order.feed order.journal s.set_up.config s.feed s.journal
+      order.standby s.set_up.command in
+      same-content seen.desk.tells order.feed s.feed s.file order.file (sym same.feed_is) order.feed_held s.held
+
+  -- and has no bad line
+  fed-well : (number : ℕ) → StandsBy (BadLine number) seen → ⊥
+  fed-well number s =
+      let same = one-standby seen.words order.config order.feed order.journal s.set_up.config s.feed s.journal
+      order.standby s.set_up.command in
+      let said = s.set_up.said in
+      let content =
+      same-content seen.desk.tells order.config s.set_up.config said.content order.in_order.content
+      (sym same.config_is) order.in_order.config_held said.held in
+      let issuer = one-issuer said.content order.in_order.content order.in_order.issuer s.issuer content
+      order.in_order.says said.says in
+      let were = subst (λ (j : List ℕ). WereJournals order.in_order.issuer j seen.desk.logs s.first)
+      (sym same.journal_is)
+      (subst (λ (i : Setup). WereJournals i s.journal seen.desk.logs s.first) issuer (were-journals seen s)) in
+      let stops = subst (λ (i : Setup). StopsBadly i (histories_of s.first) s.read number s.histories) issuer s.takes in
+      let whole = stops-more order.in_order.issuer (histories_of s.first) s.histories s.read s.was_read.unread number
+      stops in
+      order.none_bad s.first number s.histories were
+      (subst (λ (f : List ℕ). StopsBadly order.in_order.issuer (histories_of s.first) f number s.histories)
+      (sym s.was_read.split ∙ fed-file s) whole)
+
+  not-reading : LoadsToClear seen ⊎ LoadsToExport seen → ⊥
+  not-reading loads =
+      ⊎_elim
+      (λ l. standby-no_clear seen.words order.config order.feed order.journal order.standby l.set_up.config l.clearing
+      l.journal l.set_up.command)
+      (λ l. standby-no_export seen.words order.config order.feed order.journal order.standby l.set_up.config l.journal
+      l.set_up.command) loads
+
+  stands-in_order : (status : ℕ) (ending : Ending) → status ≡ status_of ending → EndsBy seen ending
+      → (status ≡ 0) ⊎ (status ≡ 7)
+  stands-in_order status ending is ends =
+      in-order seen order.config order.journal (inr (inr (inr (order.feed, order.standby)))) order.in_order
+      (λ loads. absurd (not-reading loads)) status ending is ends
+      (λ line long.
+      let passed = subst (EndsBy seen) long ends in
+      ⊎_elim (λ past.
+      let l = past.lines in
+      standby-no_command seen.words order.config order.feed order.journal order.standby l.set_up.config
+      (Some l.requests) l.journal l.set_up.command)
+      (λ more. ⊎_elim (λ past. not-reading (inl past.lines.loaded))
+      (λ past.
+      let s = past.stands in
+      not-past s.file order.file s.read s.takes.before line s.input.left (fed-file s) order.within s.was_read
+      s.takes.are_before) more)
+      passed.1)
+      (λ line bad.
+      let stopped = subst (EndsBy seen) bad ends in
+      fed-well line stopped.1.stands)
 
 module _ (seen : Seen) (order : PlaysInOrder seen) where
   -- the words are no command over journals
@@ -386,13 +555,25 @@ module _ (seen : Seen) (order : PlaysInOrder seen) where
       export-no_world seen.words loaded.set_up.config loaded.journal loaded.set_up.command order.cards order.steps
       order.seed order.world
 
+  no_stand : {followed : Followed} → StandsBy followed seen → ⊥
+  no_stand stands =
+      standby-no_world seen.words stands.set_up.config stands.feed stands.journal stands.set_up.command order.cards
+      order.steps order.seed order.world
+
+  no_standby : LoadsToStandBy seen → ⊥
+  no_standby loaded =
+      standby-no_world seen.words loaded.set_up.config loaded.feed loaded.journal loaded.set_up.command order.cards
+      order.steps order.seed order.world
+
   none-unread : (text : List ℕ) → IsReadFault seen text → ⊥
   none-unread text cannot =
       ⊎_elim (λ a. no_config a.config a.command)
       (λ more. ⊎_elim (λ b. no_config b.config b.command)
       (λ more. ⊎_elim (λ c. let l = c.loaded in no_host l.set_up.config (Some l.requests) l.journal l.set_up.command)
       (λ more. ⊎_elim (λ d. let l = d.lines in no_host l.set_up.config (Some l.requests) l.journal l.set_up.command)
-      (λ more. ⊎_elim (λ e. no_check e.loaded) (λ f. no_check f.lines.loaded) more) more) more) more)
+      (λ more. ⊎_elim (λ e. no_check e.loaded)
+      (λ more. ⊎_elim (λ f. no_check f.lines.loaded)
+      (λ more. ⊎_elim (λ g. no_standby g.loaded) (λ h. no_stand h.stands) more) more) more) more) more) more)
       cannot
 
   none-unloaded : (stop : Stop) (text : List ℕ) → HasNoHost stop seen text → ⊥
@@ -410,7 +591,8 @@ module _ (seen : Seen) (order : PlaysInOrder seen) where
   plays-in_order status (Stopped ReadFault) is ends = absurd (none-unread ends.0 ends.1)
   plays-in_order status (Stopped (StoreFault shard)) is ends =
       ⊎_elim (λ none. absurd (none-unloaded (StoreFault shard) ends.0 none))
-      (λ more. ⊎_elim (λ again. absurd (no_check again.loaded)) (λ on. absurd (no_export on.loaded)) more) ends.1
+      (λ more. ⊎_elim (λ again. absurd (no_check again.loaded))
+      (λ more. ⊎_elim (λ on. absurd (no_export on.loaded)) (λ take. absurd (no_stand take.stands)) more) more) ends.1
   plays-in_order status (Stopped (BadJournal shard line)) is ends =
       ⊎_elim (λ none. absurd (none-unloaded (BadJournal shard line) ends.0 none))
       (λ more. ⊎_elim (λ again. absurd (no_check again.loaded)) (λ on. absurd (no_export on.loaded)) more) ends.1
@@ -420,13 +602,14 @@ module _ (seen : Seen) (order : PlaysInOrder seen) where
   plays-in_order status (Stopped (TooLong line)) is ends =
       ⊎_elim
       (λ long. let l = long.lines in absurd (no_host l.set_up.config (Some l.requests) l.journal l.set_up.command))
-      (λ long. absurd (no_check long.lines.loaded)) ends.1
+      (λ more. ⊎_elim (λ long. absurd (no_check long.lines.loaded)) (λ long. absurd (no_stand long.stands)) more) ends.1
   plays-in_order status (Stopped (BadDol at)) is ends =
       let f = ends.1 in
       absurd (fill-no_world seen.words f.dol f.given order.cards order.steps order.seed f.fill order.world)
   plays-in_order status (Stopped (BadData at)) is ends =
       let f = ends.1 in
       absurd (fill-no_world seen.words f.dol f.given order.cards order.steps order.seed f.fill order.world)
+  plays-in_order status (Stopped (BadFeed line)) is ends = absurd (no_stand ends.1.stands)
   plays-in_order status (Stopped NoKey) is ends =
       let k = ends.1 in
       absurd (pin-no_world seen.words k.order order.cards order.steps order.seed k.ordered.pin order.world)
@@ -448,6 +631,16 @@ module _ (seen : Seen) (order : ChangesInOrder seen) where
   not-exported loaded =
       export-no_pin seen.words loaded.set_up.config loaded.journal loaded.set_up.command order.order order.pin
 
+  not-standing : {followed : Followed} → StandsBy followed seen → ⊥
+  not-standing stands =
+      standby-no_pin seen.words stands.set_up.config stands.feed stands.journal stands.set_up.command order.order
+      order.pin
+
+  not-stood : LoadsToStandBy seen → ⊥
+  not-stood loaded =
+      standby-no_pin seen.words loaded.set_up.config loaded.feed loaded.journal loaded.set_up.command order.order
+      order.pin
+
   none-failed : (text : List ℕ) → IsReadFault seen text → ⊥
   none-failed text cannot =
       ⊎_elim (λ a. order.desk_stood a.fails.rose)
@@ -456,7 +649,9 @@ module _ (seen : Seen) (order : ChangesInOrder seen) where
       (λ c. let l = c.loaded in not-over_journals l.set_up.config (Some l.requests) l.journal l.set_up.command)
       (λ more. ⊎_elim
       (λ d. let l = d.lines in not-over_journals l.set_up.config (Some l.requests) l.journal l.set_up.command)
-      (λ more. ⊎_elim (λ e. not-checked e.loaded) (λ f. not-checked f.lines.loaded) more) more) more)
+      (λ more. ⊎_elim (λ e. not-checked e.loaded)
+      (λ more. ⊎_elim (λ f. not-checked f.lines.loaded)
+      (λ more. ⊎_elim (λ g. not-stood g.loaded) (λ h. not-standing h.stands) more) more) more) more) more)
       more)
       cannot
 
@@ -496,7 +691,8 @@ module _ (seen : Seen) (order : ChangesInOrder seen) where
   changes-in_order status (Stopped ReadFault) is ends = absurd (none-failed ends.0 ends.1)
   changes-in_order status (Stopped (StoreFault shard)) is ends =
       ⊎_elim (λ none. absurd (none-loaded (StoreFault shard) ends.0 none))
-      (λ more. ⊎_elim (λ again. absurd (not-checked again.loaded)) (λ on. absurd (not-exported on.loaded)) more) ends.1
+      (λ more. ⊎_elim (λ again. absurd (not-checked again.loaded))
+      (λ more. ⊎_elim (λ on. absurd (not-exported on.loaded)) (λ take. absurd (not-standing take.stands)) more) more) ends.1
   changes-in_order status (Stopped (BadJournal shard line)) is ends =
       ⊎_elim (λ none. absurd (none-loaded (BadJournal shard line) ends.0 none))
       (λ more. ⊎_elim (λ again. absurd (not-checked again.loaded)) (λ on. absurd (not-exported on.loaded)) more) ends.1
@@ -507,11 +703,12 @@ module _ (seen : Seen) (order : ChangesInOrder seen) where
       ⊎_elim
       (λ long. let l = long.lines in
       absurd (not-over_journals l.set_up.config (Some l.requests) l.journal l.set_up.command))
-      (λ long. absurd (not-checked long.lines.loaded)) ends.1
+      (λ more. ⊎_elim (λ long. absurd (not-checked long.lines.loaded)) (λ long. absurd (not-standing long.stands)) more) ends.1
   changes-in_order status (Stopped (BadDol at)) is ends =
       let f = ends.1 in absurd (pin-no_fill seen.words order.order f.dol f.given order.pin f.fill)
   changes-in_order status (Stopped (BadData at)) is ends =
       let f = ends.1 in absurd (pin-no_fill seen.words order.order f.dol f.given order.pin f.fill)
+  changes-in_order status (Stopped (BadFeed line)) is ends = absurd (not-standing ends.1.stands)
   changes-in_order status (Stopped NoKey) is ends = absurd (not-keyless ends.0 ends.1)
   changes-in_order status WriteFault is ends = absurd (order.sink_stood ends.rose)
 
@@ -522,5 +719,7 @@ completes seen status ending is ends order =
     (⊎_elim (shows-in_order seen status ending is ends)
     (⊎_elim (λ plays. plays-in_order seen plays status ending is ends)
     (⊎_elim (λ changes. changes-in_order seen changes status ending is ends)
-    (⊎_elim (clears-in_order seen status ending is ends) (exports-in_order seen status ending is ends)))))
+    (⊎_elim (clears-in_order seen status ending is ends)
+    (⊎_elim (exports-in_order seen status ending is ends)
+    (λ stands. stands-in_order seen stands status ending is ends))))))
     order

@@ -5,6 +5,7 @@ pub mod InOrder
 mod ReadingSteps
 mod ClearingSteps
 mod ExportingSteps
+mod StandingSteps
 mod FillingSteps
 mod OverJournals
 mod PinSteps

@@ -5,8 +5,10 @@ use Rattle.command_line.specs.Command.{IsWorld, IsFill, IsPin, PinOrder, IsNoCom
 use Rattle.command_line.specs.Pairs.{value_in}
 use Rattle.command_line.proofs.ClearNames.{clear-no_world, clear-no_fill, clear-no_pin}
 use Rattle.command_line.proofs.CommandWords.{clear-gives, command-no_world, export-gives, fill-no_command, serve-gives}
+use Rattle.command_line.proofs.CommandWords.{standby-gives}
 use Rattle.command_line.proofs.CommandWords.{show-gives}
 use Rattle.command_line.proofs.FeedNames.{export-no_world, export-no_fill, export-no_pin}
+use Rattle.command_line.proofs.FeedNames.{standby-no_world, standby-no_fill, standby-no_pin}
 use Rattle.command_line.proofs.PinOrders.{pin-no_command}
 use Rattle.issuer_top.specs.Endings.{IsOverJournals}
 
@@ -29,25 +31,29 @@ module _ (words : List (List ℕ)) (config journal : List ℕ) (over : IsOverJou
   over-no_world cards steps seed world =
       ⊎_elim (λ host. command-no_world words config host.0 journal cards steps seed host.1 world)
       (λ more. ⊎_elim (λ clear. clear-no_world words config clear.0 journal clear.1 cards steps seed world)
-      (λ export. export-no_world words config journal export cards steps seed world) more) over
+      (λ more. ⊎_elim (λ export. export-no_world words config journal export cards steps seed world)
+      (λ standby. standby-no_world words config standby.0 journal standby.1 cards steps seed world) more) more) over
 
   pub over-no_fill : (dol given : List ℕ) → IsFill words dol given → ⊥
   over-no_fill dol given fill =
       ⊎_elim (λ host. fill-no_command words dol given config host.0 journal fill host.1)
       (λ more. ⊎_elim (λ clear. clear-no_fill words config clear.0 journal clear.1 dol given fill)
-      (λ export. export-no_fill words config journal export dol given fill) more) over
+      (λ more. ⊎_elim (λ export. export-no_fill words config journal export dol given fill)
+      (λ standby. standby-no_fill words config standby.0 journal standby.1 dol given fill) more) more) over
 
   pub over-no_pin : (order : PinOrder) → IsPin words order → ⊥
   over-no_pin order pin =
       ⊎_elim (λ host. pin-no_command words order config host.0 journal pin host.1)
       (λ more. ⊎_elim (λ clear. clear-no_pin words config clear.0 journal clear.1 order pin)
-      (λ export. export-no_pin words config journal export order pin) more) over
+      (λ more. ⊎_elim (λ export. export-no_pin words config journal export order pin)
+      (λ standby. standby-no_pin words config standby.0 journal standby.1 order pin) more) more) over
 
   pub over-known : IsNoCommand words → ⊥
   over-known none =
       ⊎_elim (λ host. none.no_host config host.0 journal host.1)
       (λ more. ⊎_elim (λ clear. none.no_clear config clear.0 journal clear.1)
-      (λ export. none.no_export config journal export) more) over
+      (λ more. ⊎_elim (λ export. none.no_export config journal export)
+      (λ standby. none.no_standby config standby.0 journal standby.1) more) more) over
 
   over-names : GivesNames words config journal
   over-names =
@@ -56,9 +62,13 @@ module _ (words : List (List ℕ)) (config journal : List ℕ) (over : IsOverJou
       (λ clear.
       let gives = clear-gives words config clear.0 journal clear.1 in
       record { config_is = gives.config_is; journal_is = gives.journal_is })
+      (λ more. ⊎_elim
       (λ export.
       let gives = export-gives words config journal export in
-      record { config_is = gives.config_is; journal_is = gives.journal_is }) more) over
+      record { config_is = gives.config_is; journal_is = gives.journal_is })
+      (λ standby.
+      let gives = standby-gives words config standby.0 journal standby.1 in
+      record { config_is = gives.config_is; journal_is = gives.journal_is }) more) more) over
 
 -- words are a command over journals in one way: with the same names
 pub record AreSameOver (config other_config journal other_journal : List ℕ) : Type 0 where

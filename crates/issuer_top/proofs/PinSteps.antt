@@ -5,12 +5,12 @@ use Rattle.answer_text.specs.StopText.{stop_text}
 use Rattle.answer_text.specs.declared.stop_line.Stop.{Stop}
 use Rattle.answer_text.specs.declared.stop_line.Stop.TheVariants.{Usage, Config, ReadFault, StoreFault, BadJournal}
 use Rattle.answer_text.specs.declared.stop_line.Stop.TheVariants.{BadOldJournal, NoMemory, TooLong, BadDol, BadData}
-use Rattle.answer_text.specs.declared.stop_line.Stop.TheVariants.{NoKey}
+use Rattle.answer_text.specs.declared.stop_line.Stop.TheVariants.{BadFeed, NoKey}
 use Rattle.des_block.specs.declared.Key16.{Key16}
 use Rattle.issuer_setup.specs.IssuerSetup.{Setup}
 use Rattle.command_line.specs.Command.{RequestFile, PinOrder, IsPin, IsCommand}
 use Rattle.command_line.proofs.ClearNames.{clear-no_pin}
-use Rattle.command_line.proofs.FeedNames.{export-no_pin}
+use Rattle.command_line.proofs.FeedNames.{export-no_pin, standby-no_pin}
 use Rattle.command_line.proofs.PinOrders.{one-order, pin-no_command, pin-no_world, pin-no_fill}
 use Rattle.desk_host.specs.Configuration.{Says}
 use Rattle.desk_host.specs.SeenStores.{no_journals}
@@ -25,6 +25,8 @@ use Rattle.issuer_top.specs.Opened.{OpenedNoInput, OpenedConfigOnly}
 use Rattle.issuer_top.specs.Endings.{IsOrdered, IsChanged, IsDone, HasNoHost}
 use Rattle.issuer_top.specs.Clearing.{LoadsToClear}
 use Rattle.issuer_top.specs.Exporting.{LoadsToExport}
+use Rattle.standby_serving.specs.declared.follower.Followed.{Followed}
+use Rattle.issuer_top.specs.Standing.{LoadsToStandBy, StandsBy}
 use Rattle.issuer_top.specs.Endings.{IsNoMemory, EndsBy}
 use Rattle.issuer_top.proofs.OverJournals.{over-no_pin}
 use Rattle.issuer_top.proofs.EndingSteps.{told-given, ends_at_once, ends_by_text}
@@ -82,6 +84,14 @@ module _ (seen : Seen) (order : PinOrder) (pin : IsPin seen.words order) where
   no_check loaded =
       clear-no_pin seen.words loaded.set_up.config loaded.clearing loaded.journal loaded.set_up.command order pin
 
+  no_stand : {followed : Followed} → StandsBy followed seen → ⊥
+  no_stand stands =
+      standby-no_pin seen.words stands.set_up.config stands.feed stands.journal stands.set_up.command order pin
+
+  no_standby : LoadsToStandBy seen → ⊥
+  no_standby loaded =
+      standby-no_pin seen.words loaded.set_up.config loaded.feed loaded.journal loaded.set_up.command order pin
+
   no_export : LoadsToExport seen → ⊥
   no_export loaded =
       export-no_pin seen.words loaded.set_up.config loaded.journal loaded.set_up.command order pin
@@ -102,7 +112,8 @@ module _ (seen : Seen) (order : PinOrder) (pin : IsPin seen.words order) where
       (λ more. ⊎_elim (λ c. absurd (pin-no_world seen.words order c.cards c.steps c.seed pin c.world))
       (λ more. ⊎_elim (λ d. absurd (pin-no_fill seen.words order d.dol d.given pin d.fill))
       (λ more. ⊎_elim (λ e. answered status e.order e.issuer e.ordered (is ∙ sym (ap change_status e.text_is)))
-      (λ more. ⊎_elim (λ f. absurd (no_check f.lines.loaded)) (λ g. absurd (no_export g.loaded)) more) more) more)
+      (λ more. ⊎_elim (λ f. absurd (no_check f.lines.loaded))
+      (λ more. ⊎_elim (λ g. absurd (no_export g.loaded)) (λ h. absurd (no_stand h.stands)) more) more) more) more)
       more) more)
       ends
 
@@ -115,7 +126,8 @@ module _ (seen : Seen) (order : PinOrder) (pin : IsPin seen.words order) where
   status-of status (Stopped ReadFault) is ends = inl (inr (inl is))
   status-of status (Stopped (StoreFault shard)) is ends =
       ⊎_elim (λ none. absurd (not-unloaded (StoreFault shard) ends.0 none))
-      (λ more. ⊎_elim (λ again. absurd (no_check again.loaded)) (λ on. absurd (no_export on.loaded)) more) ends.1
+      (λ more. ⊎_elim (λ again. absurd (no_check again.loaded))
+      (λ more. ⊎_elim (λ on. absurd (no_export on.loaded)) (λ take. absurd (no_stand take.stands)) more) more) ends.1
   status-of status (Stopped (BadJournal shard line)) is ends =
       ⊎_elim (λ none. absurd (not-unloaded (BadJournal shard line) ends.0 none))
       (λ more. ⊎_elim (λ again. absurd (no_check again.loaded)) (λ on. absurd (no_export on.loaded)) more) ends.1
@@ -125,11 +137,12 @@ module _ (seen : Seen) (order : PinOrder) (pin : IsPin seen.words order) where
   status-of status (Stopped (TooLong line)) is ends =
       ⊎_elim
       (λ long. let l = long.lines in absurd (no_host l.set_up.config (Some l.requests) l.journal l.set_up.command))
-      (λ long. absurd (no_check long.lines.loaded)) ends.1
+      (λ more. ⊎_elim (λ long. absurd (no_check long.lines.loaded)) (λ long. absurd (no_stand long.stands)) more) ends.1
   status-of status (Stopped (BadDol at)) is ends =
       let f = ends.1 in absurd (pin-no_fill seen.words order f.dol f.given pin f.fill)
   status-of status (Stopped (BadData at)) is ends =
       let f = ends.1 in absurd (pin-no_fill seen.words order f.dol f.given pin f.fill)
+  status-of status (Stopped (BadFeed line)) is ends = absurd (no_stand ends.1.stands)
   status-of status (Stopped NoKey) is ends =
       let k = ends.1 in inr (inl (answered status k.order k.issuer k.ordered (is ∙ sym (ap change_status k.cause))))
   status-of status WriteFault is ends = inr (inr (is, ends.rose))

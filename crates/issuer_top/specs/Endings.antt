@@ -21,9 +21,9 @@ use Rattle.answer_text.specs.declared.stop_line.Stop.TheVariants.{BadOldJournal,
 use Rattle.answer_text.specs.declared.stop_line.Stop.TheVariants.{NoKey}
 use Rattle.shard_book.specs.Loading.{IsOldText}
 use Rattle.shard_book.specs.Shards.{IsTextOf}
-use Rattle.one_caller.specs.Books.{Book}
+use Rattle.one_caller.specs.Books.{Book, histories_of}
 use Rattle.command_line.specs.Command.{RequestFile, PinOrder, IsServe, IsShow, IsWorld, IsFill, IsPin, IsClear}
-use Rattle.command_line.specs.Command.{IsExport}
+use Rattle.command_line.specs.Command.{IsExport, IsStandby}
 use Rattle.command_line.specs.Command.{IsCommand, IsNoCommand}
 use Rattle.line_serving.specs.Answers.{AreAnsweredBy, AnswersNone}
 use Rattle.desk_host.specs.SeenStores.{SeenStore, no_journals}
@@ -31,6 +31,11 @@ use Rattle.issuer_top.specs.Seen.{Seen, SeenInput}
 use Rattle.issuer_top.specs.Opened.{OpenedNoInput, OpenedConfigOnly, OpenedBothInputs, FailsToOpen}
 use Rattle.issuer_top.specs.Clearing.{IsCleared, IsCheckBegun, CannotReadAgain, CannotOpenClearing, CannotReadClearing}
 use Rattle.issuer_top.specs.Clearing.{CannotCheck, IsClearingTooLong}
+use Rattle.standby_serving.specs.declared.follower.Followed.TheVariants.{All as FollowsAll, WriteFault as SinkBreaks}
+use Rattle.answer_text.specs.declared.stop_line.Stop.TheVariants.{BadFeed}
+use Rattle.issuer_top.specs.Standing.{HasStoodBy, CannotOpenFeed, CannotReadFeed, CannotTake, CannotStandBy, IsFeedTooLong}
+use Rattle.issuer_top.specs.Standing.{HasBadLine, WereJournals}
+use Rattle.standby_node.specs.Streams.{StopsBadly}
 use Rattle.issuer_top.specs.Exporting.{IsExported, IsExportBegun, CannotReadOn, CannotExport}
 use Rattle.desk_host.specs.Configuration.{config_stop}
 use Rattle.desk_host.specs.Journals.{old_name, journal_name}
@@ -50,12 +55,13 @@ use Rattle.issuer_top.specs.declared.ending.Ending.TheVariants.{Done, Stopped, W
 -- ---- what endings have in common
 
 -- the words are a command over the journals of this name, with this configuration: to serve, to show, to check clearing
--- lines, or to export them
+-- lines, to export them, or to take a feed into them
 abbrev pub IsOverJournals : List (List ℕ) → List ℕ → List ℕ → Type 0
 IsOverJournals words config journal =
     ((requests : Option RequestFile) × IsCommand words config requests journal)
     ⊎ (((clearing : List ℕ) × IsClear words config clearing journal)
-    ⊎ IsExport words config journal)
+    ⊎ (IsExport words config journal
+    ⊎ ((feed : List ℕ) × IsStandby words config feed journal)))
 
 -- the words are a command that reads the configuration of this name: one over journals, or the one to change a PIN
 abbrev pub ReadsConfig : List (List ℕ) → List ℕ → Type 0
@@ -166,11 +172,13 @@ pub record IsChanged (seen : Seen) (text : List ℕ) : Type 0 where
   pub text_is : changing issuer order ≡ Ok text
 
 -- status 0: all lines of the request file were answered, all cards were shown, a world was played, a DOL was filled, a
--- change of a PIN was written, all lines of a clearing file were checked, or the feed of all records was written
+-- change of a PIN was written, all lines of a clearing file were checked, the feed of all records was written, or a feed
+-- was taken
 abbrev pub IsDone : Seen → List ℕ → Type 0
 IsDone seen text =
     IsServed seen text ⊎ (IsShown seen text ⊎ (IsPlayed seen text
-    ⊎ (IsFilled seen text ⊎ (IsChanged seen text ⊎ (IsCleared seen text ⊎ IsExported seen text)))))
+    ⊎ (IsFilled seen text ⊎ (IsChanged seen text ⊎ (IsCleared seen text
+    ⊎ (IsExported seen text ⊎ HasStoodBy FollowsAll seen text))))))
 
 -- ---- the other statuses
 
@@ -230,7 +238,8 @@ abbrev pub IsReadFault : Seen → List ℕ → Type 0
 IsReadFault seen text =
     CannotOpenConfig seen text ⊎ (CannotReadConfig seen text
     ⊎ (CannotOpenRequests seen text ⊎ (CannotReadRequests seen text
-    ⊎ (CannotOpenClearing seen text ⊎ CannotReadClearing seen text))))
+    ⊎ (CannotOpenClearing seen text ⊎ (CannotReadClearing seen text
+    ⊎ (CannotOpenFeed seen text ⊎ CannotReadFeed seen text))))))
 
 -- the words are a command over the journals of this name, and the configuration says this issuer
 pub record HasIssuer (seen : Seen) (journal : List ℕ) (issuer : Setup) : Type 0 where
@@ -292,7 +301,8 @@ pub record CannotConfigure (seen : Seen) (text : List ℕ) : Type 0 where
 abbrev pub IsNoMemory : Seen → List ℕ → Type 0
 IsNoMemory seen text =
     LacksMemory seen text ⊎ (CannotServe seen text ⊎ (CannotPlay seen text
-    ⊎ (CannotConfigure seen text ⊎ (CannotCheck seen text ⊎ CannotExport seen text))))
+    ⊎ (CannotConfigure seen text ⊎ (CannotCheck seen text
+    ⊎ (CannotExport seen text ⊎ CannotStandBy seen text)))))
 
 -- status 8: a byte of the request file past a limit was read, in the line of this number, and the lines before were
 -- answered
@@ -327,15 +337,18 @@ Stops (Config part index) seen text = IsConfig (Config part index) seen text
 Stops ReadFault seen text = IsReadFault seen text
 Stops (StoreFault shard) seen text =
     HasNoHost (StoreFault shard) seen text
-    ⊎ (CannotReadAgain (StoreFault shard) seen text ⊎ CannotReadOn (StoreFault shard) seen text)
+    ⊎ (CannotReadAgain (StoreFault shard) seen text
+    ⊎ (CannotReadOn (StoreFault shard) seen text ⊎ CannotTake shard seen text))
 Stops (BadJournal shard line) seen text =
     HasNoHost (BadJournal shard line) seen text
     ⊎ (CannotReadAgain (BadJournal shard line) seen text ⊎ CannotReadOn (BadJournal shard line) seen text)
 Stops (BadOldJournal shard line) seen text = HasNoHost (BadOldJournal shard line) seen text
 Stops NoMemory seen text = IsNoMemory seen text
-Stops (TooLong number) seen text = IsTooLong number seen text ⊎ IsClearingTooLong number seen text
+Stops (TooLong number) seen text =
+    IsTooLong number seen text ⊎ (IsClearingTooLong number seen text ⊎ IsFeedTooLong number seen text)
 Stops (BadDol at) seen text = CannotFill (BadDol at) seen text
 Stops (BadData at) seen text = CannotFill (BadData at) seen text
+Stops (BadFeed number) seen text = HasBadLine number seen text
 Stops NoKey seen text = HasNoKey seen text
 
 -- the sink took all of a text of this kind, and nothing else
@@ -348,15 +361,15 @@ pub record IsBegun (seen : Seen) (text : List ℕ) : Type 0 where
   pub which : AreFirstLines lines.file lines.read lines.asked
 
 -- status 4: the texts of which the sink may have taken a prefix alone: that of a run that stops, the answers so far,
--- the cards, what a world came to, a filled DOL, a change of a PIN, the verdicts so far, a clearing check, or the feed
--- of the first records or of all
+-- the cards, what a world came to, a filled DOL, a change of a PIN, the verdicts so far, a clearing check, the feed
+-- of the first records or of all, or the numbers of records once a feed was taken
 abbrev pub IsDue : Seen → List ℕ → Type 0
 IsDue seen text =
     ((stop : Stop) × Stops stop seen text)
     ⊎ (IsBegun seen text
     ⊎ (IsShown seen text ⊎ (IsPlayed seen text ⊎ (IsFilled seen text
     ⊎ (IsChanged seen text ⊎ (IsCheckBegun seen text ⊎ (IsCleared seen text
-    ⊎ (IsExportBegun seen text ⊎ IsExported seen text))))))))
+    ⊎ (IsExportBegun seen text ⊎ (IsExported seen text ⊎ HasStoodBy SinkBreaks seen text)))))))))
 
 -- status 4: the sink failed, and took a prefix of a text that was due, but not all of it
 pub record IsWriteFault (seen : Seen) : Type 0 where
@@ -474,9 +487,24 @@ pub record ExportsInOrder (seen : Seen) : Type 0 where
   pub in_order : IsInOrder seen config journal
   pub stores_told : AreObservable seen.journals.stores
 
+-- the words are the command to take a feed, all is in order, and the desk tells of a feed within the limits that has no
+-- bad line
+pub record StandsInOrder (seen : Seen) : Type 0 where
+  pub config : List ℕ
+  pub feed : List ℕ
+  pub journal : List ℕ
+  pub file : List ℕ
+  pub standby : IsStandby seen.words config feed journal
+  pub in_order : IsInOrder seen config journal
+  pub feed_held : seen.desk.tells feed ≡ Some (Some file)
+  pub within : IsWithinLimits (length (lines file)) (length file)
+  pub none_bad : (first : List Book) (number : ℕ) (histories : List (List Entry))
+      → WereJournals in_order.issuer journal seen.desk.logs first
+      → StopsBadly in_order.issuer (histories_of first) file number histories → ⊥
+
 -- where all is in order and no count rose, all is done, or memory was wanting
 abbrev pub Completes : ℕ → Seen → Type 0
 Completes status seen =
     (ServesInOrder seen ⊎ (ShowsInOrder seen ⊎ (PlaysInOrder seen
-    ⊎ (ChangesInOrder seen ⊎ (ClearsInOrder seen ⊎ ExportsInOrder seen)))))
+    ⊎ (ChangesInOrder seen ⊎ (ClearsInOrder seen ⊎ (ExportsInOrder seen ⊎ StandsInOrder seen))))))
     → (status ≡ 0) ⊎ (status ≡ 7)

@@ -6,6 +6,7 @@ pub mod Opened
 pub mod ReadAgain
 pub mod Clearing
 pub mod Exporting
+pub mod Standing
 pub mod Endings
 pub mod Stopping
 pub mod Played

@@ -12,6 +12,11 @@ use Rattle.line_serving.specs.declared.serve.Served.TheVariants.{All, ReadFault,
 use Rattle.journal_filing.specs.Filing.{fault_of}
 use Rattle.journal_export.specs.declared.export.ExportFault.{ExportFault}
 use Rattle.journal_export.specs.declared.export.ExportFault.TheVariants.{WriteFault as SinkBreaks, Unread}
+use Rattle.standby_serving.specs.declared.follower.Followed.{Followed}
+use Rattle.standby_serving.specs.declared.follower.Followed.TheVariants.{All as FollowsAll, ReadFault as FeedFails}
+use Rattle.standby_serving.specs.declared.follower.Followed.TheVariants.{WriteFault as CountsFail, TooLong as FeedTooLong}
+use Rattle.standby_serving.specs.declared.follower.Followed.TheVariants.{BadFeed as FeedIsBad, StoreFault as StoreFails}
+use Rattle.answer_text.specs.declared.stop_line.Stop.TheVariants.{BadFeed as BadFeedStop, StoreFault as StoreStop}
 use Rattle.issuer_top.specs.ReadAgain.{stop_of_reading}
 use Rattle.issuer_top.specs.declared.ending.Ending.{Ending}
 use Rattle.issuer_top.specs.declared.ending.Ending.TheVariants.{Done, Stopped, WriteFault}
@@ -65,3 +70,18 @@ EndsExporting held_before held_after faults_before faults_after (Err SinkBreaks)
     GivesNothing held_before held_after faults_before faults_after WriteFault ending
 EndsExporting held_before held_after faults_before faults_after (Err (Unread fault shard)) ending =
     GivesStop held_before held_after faults_before faults_after (stop_of_reading (fault_of fault) shard) ending
+
+-- how a run ends that took a feed so
+abbrev pub EndsFollowing : Option (List ℕ) → Option (List ℕ) → ℕ → ℕ → Followed → Ending → Type 0
+EndsFollowing held_before held_after faults_before faults_after FollowsAll ending =
+    GivesNothing held_before held_after faults_before faults_after Done ending
+EndsFollowing held_before held_after faults_before faults_after CountsFail ending =
+    GivesNothing held_before held_after faults_before faults_after WriteFault ending
+EndsFollowing held_before held_after faults_before faults_after FeedFails ending =
+    GivesStop held_before held_after faults_before faults_after ReadStop ending
+EndsFollowing held_before held_after faults_before faults_after (FeedTooLong line) ending =
+    GivesStop held_before held_after faults_before faults_after (LongStop line) ending
+EndsFollowing held_before held_after faults_before faults_after (FeedIsBad line) ending =
+    GivesStop held_before held_after faults_before faults_after (BadFeedStop line) ending
+EndsFollowing held_before held_after faults_before faults_after (StoreFails shard) ending =
+    GivesStop held_before held_after faults_before faults_after (StoreStop shard) ending

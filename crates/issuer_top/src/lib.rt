@@ -7,6 +7,7 @@ mod export;
 mod filling;
 mod pin;
 mod play;
+mod standby;
 mod stopping;
 mod top_call;
 

@@ -3,4 +3,4 @@
 
 mod loading;
 
-pub use loading::load_journals;
+pub use loading::{LoadedShards, load_journals, load_shards};

@@ -12,7 +12,7 @@ returns-in-Err g c =
     let stopped = c.stop.ensures in
     rw stopped.2 (λ words command.
     ends-as _ _ stopped.0 refl
-    (ends_no_config _ _ _ (inl (_, inr (inr command))) (lacks-none _ _ _ (inr (inr command))) (Unit {0}) _ c.in-Err.fault
+    (ends_no_config _ _ _ (inl (_, inr (inr (inl command)))) (lacks-none _ _ _ (inr (inr (inl command)))) (Unit {0}) _ c.in-Err.fault
     refl refl
     (journals-none g.D.Journal.Store _ _ c.none.ensures.olds c.none.ensures.stores) c.in-Err.ensures.count
     c.in-Err.ensures.last
@@ -31,7 +31,7 @@ returns-in-Err-read_issuer g c =
     let stopped = c.stop-in-Err-read_issuer.ensures in
     rw stopped.2 (λ words command.
     ends-as _ _ stopped.0 refl
-    (ends_no_issuer _ _ _ (inl (_, inr (inr command))) (lacks-none _ _ _ (inr (inr command))) (Unit {0}) _ _ _
+    (ends_no_issuer _ _ _ (inl (_, inr (inr (inl command)))) (lacks-none _ _ _ (inr (inr (inl command)))) (Unit {0}) _ _ _
     c.in-Err-read_issuer.cause
     (record { config_is = refl; requests_is = refl; desk_stood = c.in-Ok.ensures.count.counted }) refl
     (journals-none g.D.Journal.Store _ _ c.none-in-Err-read_issuer.ensures.olds

@@ -1,0 +1,4 @@
+-- The lemmas of this crate, lowest first.
+mod KeptLines
+mod Feeding
+mod Counts
