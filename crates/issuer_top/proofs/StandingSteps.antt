@@ -29,7 +29,7 @@ use Rattle.shard_book.specs.Taking.{IsReplicaOf}
 use Rattle.one_caller.specs.Books.{Book, histories_of}
 use Rattle.one_caller.specs.Hosts.{AreShards}
 use Rattle.standby_node.specs.declared.standby.Standby.{Standby}
-use Rattle.standby_node.specs.Standing.{Hold, IsImageBetween, KeepsShards, LeavesBetween, fails_at, shards_in}
+use Rattle.standby_node.specs.Standing.{Hold, IsReplicaBetween, KeepsShards, LeavesBetween, fails_at, shards_in}
 use Rattle.standby_serving.specs.Following.{FollowsFeed, TakesFeed, WritesCounts, counts_text, fault_of, in_doubt_after, read_failed}
 use Rattle.standby_serving.specs.Following.{write_failed}
 use Rattle.standby_serving.specs.declared.follower.Followed.{Followed}
@@ -66,17 +66,17 @@ use Rattle.issuer_top.proofs.EndingSteps.{told-given, ends_by_stop, ends_at_once
 -- a load, and then a feed
 crash-fed : (issuer : Setup) (shard : ℕ) (old first last : List Entry) (was mid now : Option Disk)
     → BothTold (λ before after. LeavesOnly (IsLoadImage old first before.now) before after) was mid
-    → BothTold (LeavesOnly (IsImageBetween issuer shard first last)) mid now
+    → BothTold (LeavesOnly (IsReplicaBetween issuer shard first last)) mid now
     → BothTold (λ before after. LeavesOnly (IsReplicaImage issuer shard old first last before.now) before after) was now
 crash-fed issuer shard old first last was mid now =
     BothTold-then (λ before after. LeavesOnly (IsLoadImage old first before.now) before after)
-    (LeavesOnly (IsImageBetween issuer shard first last))
+    (LeavesOnly (IsReplicaBetween issuer shard first last))
     (λ before after. LeavesOnly (IsReplicaImage issuer shard old first last before.now) before after) was mid now
     (λ a b c loads feeds.
     let P : List ℕ → Type 0 = IsReplicaImage issuer shard old first last a.now in
     LeavesOnly-then P a b c
     (LeavesOnly-weaker (IsLoadImage old first a.now) P a b (λ image left. inl left) loads)
-    (LeavesOnly-weaker (IsImageBetween issuer shard first last) P b c (λ image left. inr left) feeds))
+    (LeavesOnly-weaker (IsReplicaBetween issuer shard first last) P b c (λ image left. inr left) feeds))
 
 -- the record of a shard is in doubt exactly if its store is the one that failed
 doubts-failed : (followed : Followed) (shard : ℕ) → fails_at (fault_of followed) shard ≡ in_doubt_after followed shard

@@ -172,8 +172,8 @@ pub record IsChanged (seen : Seen) (text : List ℕ) : Type 0 where
   pub text_is : changing issuer order ≡ Ok text
 
 -- status 0: all lines of the request file were answered, all cards were shown, a world was played, a DOL was filled, a
--- change of a PIN was written, all lines of a clearing file were checked, the feed of all records was written, or a feed
--- was taken
+-- change of a PIN was written, all lines of a clearing file were checked, the feed of all records was written, or a
+-- feed was taken
 abbrev pub IsDone : Seen → List ℕ → Type 0
 IsDone seen text =
     IsServed seen text ⊎ (IsShown seen text ⊎ (IsPlayed seen text

@@ -15,7 +15,7 @@ use Rattle.shard_book.specs.Shards.{IsLoadImage}
 use Rattle.one_caller.specs.Books.{Book, histories_of}
 use Rattle.command_line.specs.Command.{IsStandby}
 use Rattle.line_serving.specs.Answered.{WasRead}
-use Rattle.standby_node.specs.Standing.{IsImageBetween}
+use Rattle.standby_node.specs.Standing.{IsReplicaBetween}
 use Rattle.standby_serving.specs.Following.{TakesFeed, counts_text, in_doubt_after}
 use Rattle.standby_serving.specs.declared.follower.Followed.{Followed}
 use Rattle.standby_serving.specs.declared.follower.Followed.TheVariants.{All, ReadFault, WriteFault, TooLong, BadFeed, StoreFault}
@@ -42,7 +42,7 @@ pub record IsStandingBy (seen : Seen) (feed journal : List ℕ) (issuer : Setup)
 -- the first one; or the text of a history between the first and the last, possibly with a torn record after it
 abbrev pub IsReplicaImage : Setup → ℕ → List Entry → List Entry → List Entry → Moment → List ℕ → Type 0
 IsReplicaImage issuer shard old first last opened image =
-    IsLoadImage old first opened image ⊎ IsImageBetween issuer shard first last image
+    IsLoadImage old first opened image ⊎ IsReplicaBetween issuer shard first last image
 
 -- the journal of a shard was that of the first book, and is the text of this history, which extends the book's. If its
 -- next record is in doubt, its store counted a fault, and a prefix of the text of a valid successor may follow. The old
@@ -78,7 +78,8 @@ pub record KeepReplicas (issuer : Setup) (prefix : List ℕ) (logs : Logged) (jo
 pub record WereJournals (issuer : Setup) (prefix : List ℕ) (logs : Logged) (first : List Book) : Type 0 where
   pub count_is : length first ≡ issuer.shards
   pub each : (shard : ℕ) (was : Book) → slice_get first shard ≡ Some was
-      → (old : List Entry) × WasJournal issuer shard (logs (old_name prefix shard)) (logs (journal_name prefix shard)) old
+      → (old : List Entry) × WasJournal issuer shard (logs (old_name prefix shard))
+      (logs (journal_name prefix shard)) old
       was
 
 -- the journals were loaded for a standby, and are as loading left them

@@ -9,8 +9,8 @@ use issuer_base::WriteFault;
 /// How a run ends.
 #[derive(Clone, Copy)]
 pub(crate) enum Ending {
-    /// All lines were answered, checked or taken, all cards were shown, all records were exported, a world was played, a
-    /// DOL was filled, or a change of a PIN was written.
+    /// All lines were answered, checked or taken, all cards were shown, all records were exported, a world was played,
+    /// a DOL was filled, or a change of a PIN was written.
     Done,
     /// The run stopped early, and wrote its last line.
     Stopped(Stop),

@@ -32,12 +32,12 @@ use std::thread::Threads;
 
 /// What a run gives back: its status, the desk, and all that was opened.
 pub struct Ended<D: Desk> {
-    /// 0: all lines were answered, checked or taken, all cards shown, all records exported, a world played, a DOL filled,
-    /// or a change of a PIN written; 1: the words are no command; 2: the configuration is none; 3: an input failed; 4:
-    /// the sink failed; 5: a journal, old or new, can't be opened, or its store failed while it was loaded or read again,
-    /// or at a record of a feed; 6: a line of a journal is bad, or of an old one; 7: no memory was left; 8: the request
-    /// file, the clearing file or the feed goes past a limit; 9: the DOL is broken; 10: the data are; 11: a line of the
-    /// feed is bad; 12: the card or the key for a change of a PIN is missing.
+    /// 0: all lines were answered, checked or taken, all cards shown, all records exported, a world played, a DOL
+    /// filled, or a change of a PIN written; 1: the words are no command; 2: the configuration is none; 3: an input
+    /// failed; 4: the sink failed; 5: a journal, old or new, can't be opened, or its store failed while it was loaded
+    /// or read again, or at a record of a feed; 6: a line of a journal is bad, or of an old one; 7: no memory was left;
+    /// 8: the request file, the clearing file or the feed goes past a limit; 9: the DOL is broken; 10: the data are;
+    /// 11: a line of the feed is bad; 12: the card or the key for a change of a PIN is missing.
     pub status: u8,
     /// The desk that was given.
     pub desk: D,
@@ -52,9 +52,9 @@ pub struct Ended<D: Desk> {
 }
 
 /// Does all that the program does: reads the words and the configuration, loads the journals, and answers each line of
-/// the request file, by one caller or by several at once, shows all cards, checks the lines of a clearing file, writes the
-/// records of the journals as a feed, or takes those of another host's feed; or plays a world of its own, fills a DOL, or
-/// writes a change of a PIN.
+/// the request file, by one caller or by several at once, shows all cards, checks the lines of a clearing file, writes
+/// the records of the journals as a feed, or takes those of another host's feed; or plays a world of its own, fills a
+/// DOL, or writes a change of a PIN.
 ///
 /// The gate is told of each request line by its number, from 1: before it is answered and once it is. It may wait for
 /// the gate.

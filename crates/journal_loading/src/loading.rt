@@ -46,8 +46,8 @@ pub fn load_journals<D: Desk>(
 }
 
 /// The shards of an issuer over the journals under these names, which are opened at the desk and loaded: each old
-/// journal is migrated, a torn last line is truncated, and each record is checked. No host takes the issuer. It is faster
-/// where the issuer's keys are cached ([`Issuer::keep_all`]).
+/// journal is migrated, a torn last line is truncated, and each record is checked. No host takes the issuer. It is
+/// faster where the issuer's keys are cached ([`Issuer::keep_all`]).
 ///
 /// The first journal that can't be opened or loaded stops it: its fault comes back with the journals that were opened.
 pub fn load_shards<D: Desk>(

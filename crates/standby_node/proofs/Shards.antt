@@ -25,16 +25,16 @@ use Rattle.one_caller.specs.Hosts.{AreShards}
 use Rattle.one_caller.proofs.Places.{read-other, read-within, read-written}
 use Rattle.standby_node.specs.declared.line.FeedFault.{FeedFault}
 use Rattle.standby_node.specs.declared.line.FeedFault.TheVariants.{StoreFault}
-use Rattle.standby_node.specs.Standing.{Hold, IsImageBetween, KeepsShards, LeavesBetween, fails_at}
+use Rattle.standby_node.specs.Standing.{Hold, IsReplicaBetween, KeepsShards, LeavesBetween, fails_at}
 
 -- an image of a history is one between it and a longer one
 image-between : (issuer : Setup) (shard : ℕ) (first last : List Entry) → GoesOn first last → (image : List ℕ)
-    → IsImageOf (grounds_of issuer) shard first image → IsImageBetween issuer shard first last image
+    → IsImageOf (grounds_of issuer) shard first image → IsReplicaBetween issuer shard first last image
 image-between issuer shard first last on image is = record { between = first; from_first = goes-none first; to_last = on; image_is = is }
 
 -- an image between two histories is one between an earlier and a later one
 image-wider : (issuer : Setup) (shard : ℕ) (first was is last : List Entry) → GoesOn first was → GoesOn is last → (image : List ℕ)
-    → IsImageBetween issuer shard was is image → IsImageBetween issuer shard first last image
+    → IsReplicaBetween issuer shard was is image → IsReplicaBetween issuer shard first last image
 image-wider issuer shard first was is last earlier later image it = record {
   between = it.between;
   from_first = goes-then first was it.between earlier it.from_first;
@@ -188,11 +188,11 @@ module _ {S : Type 0} {G : Ghosts S} (issuer : Setup) where
 
   between : (number : ℕ) (before after : Shard S G) (first last : List Entry) → GoesOn first last
       → BothTold (LeavesOnly (IsImageOf (grounds_of issuer) number first)) (disk_in before) (disk_in after)
-      → BothTold (LeavesOnly (IsImageBetween issuer number first last)) (disk_in before) (disk_in after)
+      → BothTold (LeavesOnly (IsReplicaBetween issuer number first last)) (disk_in before) (disk_in after)
   between number before after first last on =
-      BothTold-weaker (LeavesOnly (IsImageOf (grounds_of issuer) number first)) (LeavesOnly (IsImageBetween issuer number first last))
+      BothTold-weaker (LeavesOnly (IsImageOf (grounds_of issuer) number first)) (LeavesOnly (IsReplicaBetween issuer number first last))
       (disk_in before) (disk_in after)
-      (λ x y only. LeavesOnly-weaker (IsImageOf (grounds_of issuer) number first) (IsImageBetween issuer number first last) x y
+      (λ x y only. LeavesOnly-weaker (IsImageOf (grounds_of issuer) number first) (IsReplicaBetween issuer number first last) x y
       (λ image is. image-between issuer number first last on image is) only)
 
   -- a shard that isn't called
@@ -207,11 +207,11 @@ module _ {S : Type 0} {G : Ghosts S} (issuer : Setup) where
     uncalled : (number : ℕ) (before after : Shard S G) (was is : List Entry)
         → slice_get shards number ≡ Some before → slice_get shards number ≡ Some after
         → slice_get histories number ≡ Some was → slice_get histories number ≡ Some is
-        → BothTold (LeavesOnly (IsImageBetween issuer number was is)) (disk_in before) (disk_in after)
+        → BothTold (LeavesOnly (IsReplicaBetween issuer number was is)) (disk_in before) (disk_in after)
     uncalled number before after was is before_is after_is was_is is_is =
-        subst (λ (is : List Entry). BothTold (LeavesOnly (IsImageBetween issuer number was is)) (disk_in before) (disk_in after))
+        subst (λ (is : List Entry). BothTold (LeavesOnly (IsReplicaBetween issuer number was is)) (disk_in before) (disk_in after))
         (same_Some was is (sym was_is ∙ is_is))
-        (subst (λ (after : Shard S G). BothTold (LeavesOnly (IsImageBetween issuer number was was)) (disk_in before) (disk_in after))
+        (subst (λ (after : Shard S G). BothTold (LeavesOnly (IsReplicaBetween issuer number was was)) (disk_in before) (disk_in after))
         (same_Some before after (sym before_is ∙ after_is))
         (between number before before was was (goes-none was)
         (leaves-uncalled number before was (are.numbers_are number before before_is)
@@ -251,11 +251,11 @@ module _ {S : Type 0} {G : Ghosts S} (issuer : Setup) where
                     let was_shard : old ≡ before =
                     same_Some old before (sym old_is ∙ subst (λ (n : ℕ). slice_get shards n ≡ Some before) same before_is) in
                     let is_shard = at-number shards are number old new old_is other after same after_is in
-                    subst (λ (n : ℕ). BothTold (LeavesOnly (IsImageBetween issuer n was is)) (disk_in before) (disk_in after)) (sym same)
-                    (subst (λ (was : List Entry). BothTold (LeavesOnly (IsImageBetween issuer number was is)) (disk_in before) (disk_in after)) begins
-                    (subst (λ (is : List Entry). BothTold (LeavesOnly (IsImageBetween issuer number first is)) (disk_in before) (disk_in after)) ends
-                    (subst (λ (before : Shard S G). BothTold (LeavesOnly (IsImageBetween issuer number first last)) (disk_in before) (disk_in after)) was_shard
-                    (subst (λ (after : Shard S G). BothTold (LeavesOnly (IsImageBetween issuer number first last)) (disk_in old) (disk_in after)) is_shard
+                    subst (λ (n : ℕ). BothTold (LeavesOnly (IsReplicaBetween issuer n was is)) (disk_in before) (disk_in after)) (sym same)
+                    (subst (λ (was : List Entry). BothTold (LeavesOnly (IsReplicaBetween issuer number was is)) (disk_in before) (disk_in after)) begins
+                    (subst (λ (is : List Entry). BothTold (LeavesOnly (IsReplicaBetween issuer number first is)) (disk_in before) (disk_in after)) ends
+                    (subst (λ (before : Shard S G). BothTold (LeavesOnly (IsReplicaBetween issuer number first last)) (disk_in before) (disk_in after)) was_shard
+                    (subst (λ (after : Shard S G). BothTold (LeavesOnly (IsReplicaBetween issuer number first last)) (disk_in old) (disk_in after)) is_shard
                     (between number old new first last on leaves)))))
                 | inr apart ↦
                     uncalled other before after was is before_is (there-other shards are number old new old_is other after apart after_is) was_is
@@ -282,13 +282,13 @@ module _ {S : Type 0} {G : Ghosts S} (issuer : Setup) where
             let shard = read-within b number (omega (arith, within, count)) in
             let earlier = one.extended number was among.0 was_is among.1 in
             let later = two.extended number among.0 is among.1 is_is in
-            BothTold-then (LeavesOnly (IsImageBetween issuer number was among.0)) (LeavesOnly (IsImageBetween issuer number among.0 is))
-            (LeavesOnly (IsImageBetween issuer number was is)) (disk_in before) (disk_in shard.0) (disk_in after)
+            BothTold-then (LeavesOnly (IsReplicaBetween issuer number was among.0)) (LeavesOnly (IsReplicaBetween issuer number among.0 is))
+            (LeavesOnly (IsReplicaBetween issuer number was is)) (disk_in before) (disk_in shard.0) (disk_in after)
             (λ x y z early late.
-            LeavesOnly-then (IsImageBetween issuer number was is) x y z
-            (LeavesOnly-weaker (IsImageBetween issuer number was among.0) (IsImageBetween issuer number was is) x y
+            LeavesOnly-then (IsReplicaBetween issuer number was is) x y z
+            (LeavesOnly-weaker (IsReplicaBetween issuer number was among.0) (IsReplicaBetween issuer number was is) x y
             (λ image it. image-wider issuer number was was among.0 is (goes-none was) later image it) early)
-            (LeavesOnly-weaker (IsImageBetween issuer number among.0 is) (IsImageBetween issuer number was is) y z
+            (LeavesOnly-weaker (IsReplicaBetween issuer number among.0 is) (IsReplicaBetween issuer number was is) y z
             (λ image it. image-wider issuer number was among.0 is is earlier (goes-none is) image it) late))
             (one.leaves number before shard.0 was among.0 before_is shard.1 was_is among.1)
             (two.leaves number shard.0 after among.0 is shard.1 after_is among.1 is_is);

@@ -25,7 +25,7 @@ fails_at (Err (StoreFault shard)) number = number == shard
 fails_at _ number = false
 
 -- the text of a history that extends the first one and is a prefix of the last, possibly with a torn record after it
-pub record IsImageBetween (issuer : Setup) (shard : ℕ) (first last : List Entry) (image : List ℕ) : Type 0 where
+pub record IsReplicaBetween (issuer : Setup) (shard : ℕ) (first last : List Entry) (image : List ℕ) : Type 0 where
   pub between : List Entry
   pub from_first : GoesOn first between
   pub to_last : GoesOn between last
@@ -90,7 +90,7 @@ module _ {S : Type 0} {G : Ghosts S} where
     pub leaves : (number : ℕ) (before after : Shard S G) (was is : List Entry)
         → slice_get old number ≡ Some before → slice_get new number ≡ Some after
         → slice_get first number ≡ Some was → slice_get last number ≡ Some is
-        → BothTold (LeavesOnly (IsImageBetween issuer number was is)) (disk_in before) (disk_in after)
+        → BothTold (LeavesOnly (IsReplicaBetween issuer number was is)) (disk_in before) (disk_in after)
 
   -- what is kept of the shards: they are this issuer's, in order, and only of the one whose store failed the fault
   -- counter increases

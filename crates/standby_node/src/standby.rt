@@ -31,7 +31,8 @@ pub struct Standby<S: Store> {
 }
 
 impl<S: Store> Standby<S> {
-    /// A standby that was fed with nothing. To be fed, it needs all shards of one issuer, in the order of their numbers.
+    /// A standby that was fed with nothing. To be fed, it needs all shards of one issuer, in the order of their
+    /// numbers.
     pub fn new(shards: Vec<Shard<S>>) -> Standby<S>
         ensures opened { (issuer : Setup) (in_doubt : ℕ → Bool) (histories : List (List Entry))
             → Hold issuer in_doubt shards.items histories → HasTaken issuer in_doubt histories [] result histories }

@@ -52,8 +52,8 @@ pub record StopsAtRecord (issuer : Setup) (opening : List (List Entry)) (read : 
   pub stops : StopsAt issuer opening read number line histories
   pub next : IsNext issuer histories line shard history entry
 
--- what the feed makes of the opening histories, by how taking it ended: all of it was read; or a part was, and its whole
--- lines were taken, or those before the one in hand
+-- what the feed makes of the opening histories, by how taking it ended: all of it was read; or a part was, and its
+-- whole lines were taken, or those before the one in hand
 abbrev pub TakesFeed : Setup → List (List Entry) → List ℕ → List ℕ → Followed → List (List Entry) → Type 0
 TakesFeed issuer opening file read All histories = (read ≡ file) × TakesFile issuer opening file histories
 TakesFeed issuer opening file read WriteFault histories = (read ≡ file) × TakesFile issuer opening file histories

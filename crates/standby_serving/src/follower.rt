@@ -111,7 +111,8 @@ impl Follower {
         requires shards { AreShards issuer.now (shards_in node.old) }
         ensures followed { (opening : List (List Entry)) → HasTaken issuer.now (λ _. false) opening [] node.old opening
             → (histories : List (List Entry))
-            × FollowsFeed issuer.now opening (I.left source.old) (I.left source.new) node.old node.new result histories }
+            × FollowsFeed issuer.now opening (I.left source.old)
+            (I.left source.new) node.old node.new result histories }
         ensures kept { KeepsShards issuer.now (shards_in node.old) (fault_of result) (shards_in node.new) }
         ensures count { read_failed result ≡ true → Rose (I.faults source.old) (I.faults source.new) }
         ensures none_written { write_failed result ≡ false }
@@ -156,11 +157,7 @@ impl Follower {
 }
 
 /// Feeds a line and its newline to a standby.
-fn feed_line<S: Store>(
-    issuer: &Issuer,
-    node: &mut Standby<S>,
-    line: &[u8],
-) -> Result<(), FeedFault>
+fn feed_line<S: Store>(issuer: &Issuer, node: &mut Standby<S>, line: &[u8]) -> Result<(), FeedFault>
     requires live { IsTrue (live_in node.old) }
     requires shards { AreShards issuer.now (shards_in node.old) }
     ensures fed { (in_doubt : ℕ → Bool) (opening histories : List (List Entry)) (stream : List ℕ)
