@@ -1,5 +1,5 @@
 //! A text of records that is appended to: a record is durable in the store before it counts.
-ghost use Rattle.std.specs.Prelude.{◌≡◌, ◌⊎◌, ◌+◌, ◌^◌, ◌<◌, ◌≤◌, ℕ, List, [], ◌++◌, length, false, IfOk, IfErr, IsErr, IsOkAnd, OnOk, is_err, true};
+ghost use Rattle.std.specs.Prelude.{◌≡◌, ◌⊎◌, ◌+◌, ◌^◌, ◌<◌, ◌≤◌, ℕ, List, [], ◌++◌, length, false, IfOk, IfErr, IsErr, IsOkAnd, MatchResult, OnOk, is_err, true};
 ghost use Rattle.issuer_base.specs.OutsideFaults.{CountsFaults};
 ghost use Rattle.issuer_base.specs.Stores.{BothTold, CutsBytes, Disk, HasRoom, LeavesOnly, Passes};
 ghost use Rattle.issuer_base.specs.Tells.{Tells};
@@ -88,9 +88,8 @@ impl<S: Store> Journal<S> {
     pub fn put(&mut self, piece: &[u8]) -> Result<u64, StoreFail>
         requires { 0 < length piece.now }
         ensures put { (count : ℕ) (text tail : List ℕ) → Holds self.old count text tail
-            → IfOk result (λ place. (place ≡ count) × Holds self.new (count + 1) (text ++ piece.now) []) }
-        ensures failed { (count : ℕ) (text tail : List ℕ) → Holds self.old count text tail
-            → IsErr result → Holds self.new count text tail ⊎ Holds self.new count text piece.now }
+            → MatchResult result (λ place. (place ≡ count) × Holds self.new (count + 1) (text ++ piece.now) [])
+            (λ _. Holds self.new count text tail ⊎ Holds self.new count text piece.now) }
         ensures settled { OnOk result (self.new.in_doubt ≡ false) }
 
         // A crash since the start of the call leaves the text and a prefix of what was in doubt, or of the record.

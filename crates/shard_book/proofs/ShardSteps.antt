@@ -1,6 +1,6 @@
 -- A record that is appended to the journal of a shard: what the shard holds then, and what a crash may leave.
 use Rattle.std.proofs.Common.{◌≡◌, ◌⊎◌, ℕ, ◌+◌, List, [], ◌∷◌, ◌++◌, length, append-nil, refl, sym, ap, subst, ◌∙◌, inl, inr, ⊎_elim, Bool, true, false}
-use Rattle.std.proofs.Common.{All, Option, None, Some, Result, Ok, Err, IfOk, IfSome, IsErr, MatchResult, OnOk, is_err, zero, suc, arith}
+use Rattle.std.proofs.Common.{All, Option, None, Some, Result, Ok, Err, IfOk, IfSome, MatchResult, OnOk, is_err, zero, suc, arith}
 use Rattle.std.proofs.lemmas.List.{length_push}
 use Rattle.std.proofs.lemmas.List.Elements.{All-push}
 use Rattle.std.proofs.lemmas.List.Concat.{flat_map-append}
@@ -49,15 +49,15 @@ module _ {S : Type 0} {G : Ghosts S} (history : List Entry) (entry : Entry) (new
 
   -- nothing is after the text with the record; or what was there, or a prefix of the record's
   pub put-tail : {E : Type 0} (tail : List ℕ) (result : Result ℕ E)
-      → IfOk result (λ place. (place ≡ length history) × Holds new (length history + 1) (journal_text history ++ piece) [])
-      → (IsErr result → Holds new (length history) (journal_text history) tail ⊎ Holds new (length history) (journal_text history) piece)
+      → MatchResult result (λ place. (place ≡ length history) × Holds new (length history + 1) (journal_text history ++ piece) [])
+      (λ _. Holds new (length history) (journal_text history) tail ⊎ Holds new (length history) (journal_text history) piece)
       → MatchResult result
       (λ place. (place ≡ length history) × Holds new (length (history ++ entry ∷ [])) (journal_text (history ++ entry ∷ [])) [])
       (λ _. Holds new (length history) (journal_text history) tail ⊎ Holds new (length history) (journal_text history) (text_of entry))
-  put-tail tail (Ok place) done failed = (done.0, holds-more done.1)
-  put-tail tail (Err error) done failed = ⊎_elim (λ (same : Holds new (length history) (journal_text history) tail). inl same)
+  put-tail tail (Ok place) done = (done.0, holds-more done.1)
+  put-tail tail (Err error) failed = ⊎_elim (λ (same : Holds new (length history) (journal_text history) tail). inl same)
       (λ (torn : Holds new (length history) (journal_text history) piece). inr (subst (Holds new (length history) (journal_text history)) its torn))
-      (failed refl)
+      failed
 
 -- an appended record is one of the history's
 pub put-done : {S : Type 0} {G : Ghosts S} (grounds : Grounds) (number : ℕ) (history : List Entry) (entry : Entry) (new : Journal S G)

@@ -12,7 +12,6 @@ pub returns-clause-put : goal.returns-clause-put
 returns-clause-put g c history tail entry its holds =
     put-tail history entry c.put-written.new.self c.args.text.now its tail c.put-written.result
     (c.put-written.ensures.put (length history) (journal_text history) tail holds)
-    (c.put-written.ensures.failed (length history) (journal_text history) tail holds)
 
 pub returns-clause-crash : goal.returns-clause-crash
 returns-clause-crash g c history tail entry its holds =
