@@ -5,4 +5,6 @@ mod pin_words;
 mod words;
 
 pub use pin_words::PinWords;
-pub use words::{ClearWords, DolTexts, ExportWords, Names, Requests, StandbyWords, Task, WorldSize, read_words};
+pub use words::{
+    ClearWords, DolTexts, ExportWords, Names, Requests, StandbyWords, Task, WorldSize, read_words,
+};

@@ -415,7 +415,7 @@ exports-in_order : (seen : Seen) (status : ℕ) (ending : Ending) → status ≡
     → (status ≡ 0) ⊎ (status ≡ 7)
 exports-in_order seen status ending is ends order =
     let export = order.export in
-    in-order seen order.config order.journal (inr (inr export)) order.in_order
+    in-order seen order.config order.journal (inr (inr (inl export))) order.in_order
     (λ loads. order.stores_told) status ending is ends
     (λ line long.
     let passed = subst (EndsBy seen) long ends in

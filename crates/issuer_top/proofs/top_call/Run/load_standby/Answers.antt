@@ -6,11 +6,11 @@ use Rattle.issuer_top.proofs.StandingSteps.{ready-are, ready-same, standby-issue
 use Rattle.issuer_top.proofs.Statuses.{ends-as}
 use Rattle.issuer_top.proofs.top_call.Run.load_standby.Goals as goal
 
-pub follow_feed-requires-sound : goal.follow_feed-requires-sound
-follow_feed-requires-sound g c = subst HasSoundParts (sym c.keep_all.ensures) c.requires
+pub follow_feed-requires-clause-sound : goal.follow_feed-requires-clause-sound
+follow_feed-requires-clause-sound g c κs lives = subst HasSoundParts (sym c.keep_all.ensures) c.requires
 
-pub follow_feed-requires-shards : goal.follow_feed-requires-shards
-follow_feed-requires-shards g c = ready-are _ _ _ _ _ c.in-Ok.ensures.ready
+pub follow_feed-requires-clause-shards : goal.follow_feed-requires-clause-shards
+follow_feed-requires-clause-shards g c κs lives = ready-are _ _ _ _ _ c.in-Ok.ensures.ready
 
 pub returns-in-Ok : goal.returns-in-Ok
 returns-in-Ok g c = λ words given set_up same logs_are.

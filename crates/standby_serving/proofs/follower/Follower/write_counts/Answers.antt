@@ -1,6 +1,5 @@
 -- The line of one more shard is put.
 use Rattle.std.proofs.Common.{◌<◌, ◌++◌, List, ℕ, ap, ap₂, sym, ◌∙◌, arith, add-one, length, take}
-use Rattle.issuer_base.specs.declared.entry.Entry.{Entry}
 use Rattle.answer_text.specs.CountText.{count_text}
 use Rattle.desk_host.proofs.SeenSteps.{at-place}
 use Rattle.standby_serving.specs.Following.{counts_text}
