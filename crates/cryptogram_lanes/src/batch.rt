@@ -7,11 +7,10 @@ ghost use Rattle.cryptogram_lanes.specs.Batch.{cryptogram_of, des_cryptogram_of}
 use crate::KeyedRequest;
 use crate::sessions::sessions;
 use arrayvec::ArrayVec;
-use cryptogram_in::input;
+use cryptogram_in::{expected, input};
 use des_block::Key16;
 use issuer_base::Suite;
-use key_derive::session_ac;
-use suite_mac::MacKey;
+use key_derive::{CardKeys, SessionKey};
 
 /// How many of the requests are of triple DES.
 pub(crate) fn count_in_lanes(requests: &[KeyedRequest]) -> usize {
@@ -22,12 +21,17 @@ pub(crate) fn count_in_lanes(requests: &[KeyedRequest]) -> usize {
 }
 
 /// The cryptogram of one request.
-#[tactic(auto, unfolding(crate::specs::Batch::cryptogram_of, cryptogram_in::specs::Cryptogram::cryptogram_under))]
+#[tactic(auto, unfolding(crate::specs::Batch::cryptogram_of, cryptogram_in::specs::Cryptogram::application_cryptogram))]
 pub(crate) fn alone(entry: &KeyedRequest) -> [u8; 8]
     ensures { result ≡ cryptogram_of entry.now }
 {
-    let session = session_ac(entry.suite, &entry.key, entry.request.parts().atc);
-    MacKey::new(entry.suite, &session).mac(&input(&entry.request))
+    let keys = CardKeys {
+        suite: entry.suite,
+        ac: entry.key,
+        smi: entry.key,
+    };
+    let session = SessionKey::for_cryptograms(&keys, entry.request.parts().atc);
+    expected(&session, &entry.request)
 }
 
 /// The cryptograms, those of triple DES in lanes.
@@ -56,7 +60,6 @@ fn by_triple_des(requests: &[KeyedRequest]) -> ArrayVec<[u8; 8], 128>
 }
 
 /// The cryptogram of a request, if this is the one that triple DES gives.
-#[tactic(auto, unfolding(crate::specs::Batch::cryptogram_of, crate::specs::Batch::des_cryptogram_of, cryptogram_in::specs::Cryptogram::cryptogram_under, suite_mac::specs::SuiteMac::mac_of))]
 fn cryptogram(entry: &KeyedRequest, by_triple_des: [u8; 8]) -> [u8; 8]
     requires { by_triple_des ≡ des_cryptogram_of entry.now }
     ensures { result ≡ cryptogram_of entry.now }
