@@ -1,5 +1,6 @@
 //! A card's master keys, of which those for cryptograms can be cached with their key schedules.
 ghost use Rattle.std.specs.Prelude.{◌≡◌, IsSome, Some};
+ghost use Rattle.std.specs.Option.{option_map};
 ghost use Rattle.key_derive.specs.declared.card.CardKeys.{CardKeys};
 ghost use Rattle.key_derive.specs.CardSecret.{secrets_of, keys_in};
 ghost use Rattle.key_derive.specs.SessionKey.{session_ac, session_of};
@@ -55,6 +56,17 @@ impl CardSecrets {
         }
     }
 
+    /// The key for application cryptograms of a suite, if the card has keys of it. If it isn't cached, this computes the
+    /// issuer's key schedule and enciphers two blocks of triple DES or one of AES.
+    pub fn ac(&self, suite: Suite) -> Option<Key16>
+        ensures { result ≡ option_map (λ keys. keys.ac) (keys_in suite self.now) }
+    {
+        match suite {
+            Suite::TripleDes => Some(self.des.ac()),
+            Suite::Aes => Some(self.aes.as_ref()?.ac()),
+        }
+    }
+
     /// The session key for the cryptograms of the transaction with this ATC in a suite that the card has keys of. If
     /// the master key is cached, this computes the key schedules of the session key alone; otherwise also those of the
     /// issuer's and the card's master key.
@@ -67,7 +79,7 @@ impl CardSecrets {
             Suite::TripleDes => &self.des,
             Suite::Aes => self.aes.as_ref().unwrap(),
         };
-        SessionKey::new(cached.keys.suite(), cached.session_ac(atc))
+        SessionKey::of(cached.keys.suite(), cached.session_ac(atc))
     }
 
     /// Caches the key for application cryptograms of a suite, if the card has keys of it. If it isn't cached yet, this
@@ -97,26 +109,33 @@ impl CardSecrets {
     }
 }
 
-/// A card's master keys of one suite, and the key schedule of the one for application cryptograms, if it is cached.
+/// A card's master keys of one suite, and the one for application cryptograms with its key schedule, if it is cached.
 ///
 /// A contract sees the pair of keys.
 #[derive(Drop)]
 struct CachedKeys {
     keys: LazyKeys,
-    cipher: Option<SuiteCipher>,
+    cached: Option<CachedAc>,
+}
+
+/// The key for application cryptograms, and its key schedule.
+#[derive(Drop)]
+struct CachedAc {
+    ac: Key16,
+    cipher: SuiteCipher,
 }
 
 impl Model for CachedKeys {
-    ghost use Rattle.std.specs.Prelude.{IfSome};
+    ghost use Rattle.std.specs.Prelude.{◌≡◌, IfSome};
     ghost use Rattle.key_derive.specs.declared.card.CardKeys.{CardKeys};
     ghost use Rattle.key_derive.specs.SuiteCipher.{HasCipherKey};
 
     ghost Value = { CardKeys };
 
-    ghost view = { λ cached. cached.keys };
+    ghost view = { λ both. both.keys };
 
-    ghost invariant = { λ cached.
-        IfSome cached.cipher (λ cipher. HasCipherKey cipher cached.keys.suite cached.keys.ac.0) };
+    ghost invariant = { λ both. IfSome both.cached (λ cached.
+        (cached.ac ≡ both.keys.ac) × HasCipherKey cached.cipher both.keys.suite both.keys.ac.0) };
 }
 
 impl CachedKeys {
@@ -124,15 +143,25 @@ impl CachedKeys {
     fn new(keys: LazyKeys) -> CachedKeys
         ensures { result ≡ keys }
     {
-        CachedKeys { keys, cipher: None }
+        CachedKeys { keys, cached: None }
+    }
+
+    /// The key for application cryptograms.
+    fn ac(&self) -> Key16
+        ensures { result ≡ self.now.ac }
+    {
+        match &self.cached {
+            Some(cached) => cached.ac,
+            None => self.keys.ac(),
+        }
     }
 
     /// The session key for the cryptograms of the transaction with this ATC.
     fn session_ac(&self, atc: u16) -> Key16
         ensures { result.0 ≡ session_ac self.now.suite self.now.ac.0 atc }
     {
-        match &self.cipher {
-            Some(cipher) => cipher.session_ac(atc),
+        match &self.cached {
+            Some(cached) => cached.cipher.session_ac(atc),
             None => session_ac(self.keys.suite(), &self.keys.ac(), atc),
         }
     }
@@ -140,7 +169,7 @@ impl CachedKeys {
     fn keep(&mut self)
         ensures { self.new ≡ self.old }
     {
-        if self.cipher.is_none() {
+        if self.cached.is_none() {
             let ac = self.keys.ac();
             self.keep_key(ac);
         }
@@ -149,17 +178,18 @@ impl CachedKeys {
     fn keep_by(&mut self, ciphers: &MasterCiphers)
         ensures { self.new ≡ self.old }
     {
-        if self.cipher.is_none() {
+        if self.cached.is_none() {
             let ac = self.keys.ac_by(ciphers);
             self.keep_key(ac);
         }
     }
 
-    /// Caches the key schedule of this key, which is the one for application cryptograms.
+    /// Caches this key, which is the one for application cryptograms, with its key schedule.
     fn keep_key(&mut self, ac: Key16)
         requires { ac ≡ self.old.ac }
         ensures { self.new ≡ self.old }
     {
-        self.cipher = Some(SuiteCipher::new(self.keys.suite(), &ac));
+        let cipher = SuiteCipher::new(self.keys.suite(), &ac);
+        self.cached = Some(CachedAc { ac, cipher });
     }
 }

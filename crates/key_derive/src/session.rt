@@ -42,13 +42,13 @@ impl SessionKey {
     pub fn for_cryptograms(keys: &CardKeys, atc: u16) -> SessionKey
         ensures { result ≡ session_of keys.now atc }
     {
-        SessionKey::new(keys.suite, session_ac(keys.suite, &keys.ac, atc))
+        SessionKey::of(keys.suite, session_ac(keys.suite, &keys.ac, atc))
     }
 
-    /// A session key of this suite with its key schedules. Each suite has a path of its own, on which the compiler
-    /// copies the key schedules once.
+    /// The session key of this suite with these sixteen bytes. Computes its key schedules. Each suite has a path of its
+    /// own, on which the compiler copies the key schedules once.
     #[inline(always)]
-    pub(crate) fn new(suite: Suite, key: Key16) -> SessionKey
+    pub fn of(suite: Suite, key: Key16) -> SessionKey
         ensures { result ≡ record { suite = suite; key = key.0 } }
     {
         if let Suite::Aes = suite {
