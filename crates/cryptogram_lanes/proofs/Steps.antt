@@ -3,16 +3,14 @@ use Rattle.std.proofs.Common.{◌≡◌, ℕ, zero, suc, ◌+◌, ◌<◌, List,
 use Rattle.std.specs.List.{range_with_len, AllZip}
 
 -- the lanes of a batch, each of which is a function of its entry's parts
-pub lanes_are : {A K : Type 0} (requests : List A) (key : A → K) (counter : A → ℕ) (text : A → List ℕ) (none : K) (h : K → ℕ → List ℕ → List ℕ)
-    (g : ℕ → List ℕ) (from : ℕ)
-    → ((i : ℕ) → i < length requests
-    → g (from + i) ≡ h (get_or (map key requests) i none) (get_or (map counter requests) i 0) (get_or (map text requests) i []))
-    → map g (range_with_len from (length requests)) ≡ map (λ entry. h (key entry) (counter entry) (text entry)) requests
-lanes_are [] key counter text none h g from is = refl
-lanes_are (entry ∷ rest) key counter text none h g from is =
+pub lanes_are : {A K T X : Type 0} (entries : List A) (key : A → K) (text : A → T) (no_key : K) (no_text : T) (h : K → T → X) (g : ℕ → X) (from : ℕ)
+    → ((i : ℕ) → i < length entries → g (from + i) ≡ h (get_or (map key entries) i no_key) (get_or (map text entries) i no_text))
+    → map g (range_with_len from (length entries)) ≡ map (λ entry. h (key entry) (text entry)) entries
+lanes_are [] key text no_key no_text h g from is = refl
+lanes_are (entry ∷ rest) key text no_key no_text h g from is =
     let first : from ≡ from + 0 = omega arith in
     ap₂ (λ x xs. x ∷ xs) (ap g first ∙ is 0 (omega arith))
-    (lanes_are rest key counter text none h g (from + 1)
+    (lanes_are rest key text no_key no_text h g (from + 1)
     (λ i below. let place : from + 1 + i ≡ from + suc i = omega arith in ap g place ∙ is (suc i) (omega arith)))
 
 zip_next : {A : Type 0} (R : A → Bool → Type 0) (xs : List A) (i : ℕ) (x : A) (ys : List Bool) (y : Bool) → i < length xs → x ≡ get_or xs i x

@@ -1,16 +1,15 @@
 //! The cryptograms of a batch.
 
-ghost use Rattle.std.specs.Prelude.{◌≡◌, ◌≤◌, length, map, take};
-ghost use Rattle.cryptogram_in.specs.Cryptogram.{input};
-ghost use Rattle.cryptogram_lanes.specs.Batch.{cryptogram_of, des_cryptogram_of};
+ghost use Rattle.std.specs.Prelude.{◌≡◌, ◌≤◌, length, map};
+ghost use Rattle.cryptogram_lanes.specs.Batch.{cryptogram_of, des_cryptogram_of, check_of};
 
 use crate::KeyedRequest;
-use crate::sessions::sessions;
+use crate::checks::{DesCheck, macs_of, sessions_of};
 use arrayvec::ArrayVec;
-use cryptogram_in::{expected, input};
-use des_block::Key16;
+use cryptogram_in::input;
 use issuer_base::Suite;
-use key_derive::{CardKeys, SessionKey};
+use key_derive::session_ac;
+use suite_mac::MacKey;
 
 /// How many of the requests are of triple DES.
 pub(crate) fn count_in_lanes(requests: &[KeyedRequest]) -> usize {
@@ -21,17 +20,12 @@ pub(crate) fn count_in_lanes(requests: &[KeyedRequest]) -> usize {
 }
 
 /// The cryptogram of one request.
-#[tactic(auto, unfolding(crate::specs::Batch::cryptogram_of, cryptogram_in::specs::Cryptogram::application_cryptogram))]
+#[tactic(auto, unfolding(crate::specs::Batch::cryptogram_of, cryptogram_in::specs::Cryptogram::cryptogram_under))]
 pub(crate) fn alone(entry: &KeyedRequest) -> [u8; 8]
     ensures { result ≡ cryptogram_of entry.now }
 {
-    let keys = CardKeys {
-        suite: entry.suite,
-        ac: entry.key,
-        smi: entry.key,
-    };
-    let session = SessionKey::for_cryptograms(&keys, entry.request.parts().atc);
-    expected(&session, &entry.request)
+    let session = session_ac(entry.suite, &entry.key, entry.request.parts().atc);
+    MacKey::new(entry.suite, &session).mac(&input(&entry.request))
 }
 
 /// The cryptograms, those of triple DES in lanes.
@@ -52,14 +46,13 @@ fn by_triple_des(requests: &[KeyedRequest]) -> ArrayVec<[u8; 8], 128>
     requires { length requests.now ≤ 128 }
     ensures { result.items ≡ map des_cryptogram_of requests.now }
 {
-    let keys = keys_of(requests);
-    let counters = counters_of(requests);
-    let inputs = inputs_of(requests);
-    let sessions = sessions(&keys[..requests.len()], counters.as_slice());
-    sessions.macs(inputs.as_slice()).first(requests.len())
+    let checks = checks_of(requests);
+    let sessions = sessions_of(checks.as_slice());
+    macs_of(&sessions, checks.as_slice())
 }
 
 /// The cryptogram of a request, if this is the one that triple DES gives.
+#[tactic(auto, unfolding(crate::specs::Batch::cryptogram_of, crate::specs::Batch::des_cryptogram_of, cryptogram_in::specs::Cryptogram::cryptogram_under, suite_mac::specs::SuiteMac::mac_of))]
 fn cryptogram(entry: &KeyedRequest, by_triple_des: [u8; 8]) -> [u8; 8]
     requires { by_triple_des ≡ des_cryptogram_of entry.now }
     ensures { result ≡ cryptogram_of entry.now }
@@ -70,38 +63,14 @@ fn cryptogram(entry: &KeyedRequest, by_triple_des: [u8; 8]) -> [u8; 8]
     }
 }
 
-/// The key of each request, and then zeros.
-fn keys_of(requests: &[KeyedRequest]) -> [Key16; 128]
+/// The check of each request under its key, as one of triple DES.
+fn checks_of(requests: &[KeyedRequest]) -> ArrayVec<DesCheck, 128>
     requires { length requests.now ≤ 128 }
-    ensures { take (length requests.now) result ≡ map (λ entry. entry.key) requests.now }
+    ensures { result.items ≡ map (λ entry. check_of entry.key entry.request) requests.now }
 {
-    let mut keys = [Key16([0; 16]); 128];
-    for (i, entry) in requests.iter().enumerate() {
-        keys[i] = entry.key;
-    }
-    keys
-}
-
-/// The ATC of each request.
-fn counters_of(requests: &[KeyedRequest]) -> ArrayVec<u16, 128>
-    requires { length requests.now ≤ 128 }
-    ensures { result.items ≡ map (λ entry. entry.request.atc) requests.now }
-{
-    let mut counters = ArrayVec::new();
+    let mut checks = ArrayVec::new();
     for entry in requests {
-        counters.push(entry.request.parts().atc);
+        checks.push(DesCheck::of(entry.key, &entry.request));
     }
-    counters
-}
-
-/// The data under the cryptogram of each request.
-fn inputs_of(requests: &[KeyedRequest]) -> ArrayVec<[u8; 65], 128>
-    requires { length requests.now ≤ 128 }
-    ensures { result.items ≡ map (λ entry. input entry.request) requests.now }
-{
-    let mut inputs = ArrayVec::new();
-    for entry in requests {
-        inputs.push(input(&entry.request));
-    }
-    inputs
+    checks
 }

@@ -5,6 +5,7 @@
 #![tactic(auto)]
 
 mod batch;
+mod checks;
 mod sessions;
 
 ghost use Rattle.std.specs.Prelude.{◌≡◌, ◌≤◌, ◌↔◌, length, map, IsTrue};
@@ -13,11 +14,12 @@ ghost use Rattle.cryptogram_lanes.specs.Batch.{cryptogram_of};
 
 use arrayvec::ArrayVec;
 use batch::{alone, count_in_lanes, in_lanes};
+pub use checks::{DesCheck, right_sessions};
 use des_block::Key16;
 use issuer_base::{Request, Suite};
 
 /// As many cryptograms of triple DES as take about the same time in lanes and one by one.
-const FEWEST_IN_LANES: usize = 24;
+pub const FEWEST_IN_LANES: usize = 24;
 
 /// A request, and the master key of its card for application cryptograms.
 #[derive(Drop)]

@@ -1,10 +1,10 @@
--- The ATCs so far, and those of the requests after them.
+-- The ATCs so far, and those of the checks after them.
 use Rattle.std.proofs.Common.{◌≡◌, ◌++◌, map, drop}
 use Rattle.arrayvec.specs.ArrayVec.{array_vec_len}
-use Rattle.cryptogram_lanes.proofs.batch.counters_of.Given as goal
+use Rattle.cryptogram_lanes.proofs.checks.counters_of.Given as goal
 
-abbrev pub invariant-loop-entry : goal.invariant-loop-entry
-invariant-loop-entry l = record {
-  so_far : l.counters.items ++ map (λ entry. entry.request.atc) (drop l.entry-index l.requests) ≡ map (λ entry. entry.request.atc) l.requests;
-  len : array_vec_len l.counters ≡ l.entry-index;
+abbrev pub invariant-loop-check : goal.invariant-loop-check
+invariant-loop-check l = record {
+  so_far : l.counters.items ++ map (λ check. check.atc) (drop l.check-index l.checks) ≡ map (λ check. check.atc) l.checks;
+  len : array_vec_len l.counters ≡ l.check-index;
 }
