@@ -2,5 +2,6 @@
 pub mod Numbers
 pub mod KeptLines
 pub mod LookUps
+pub mod RightSessions
 pub mod CheckedRequests
 pub mod Orders
