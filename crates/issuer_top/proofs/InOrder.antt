@@ -53,7 +53,7 @@ use Rattle.standby_serving.specs.declared.follower.Followed.{Followed}
 use Rattle.standby_serving.specs.declared.follower.Followed.TheVariants.{TooLong as LongFeed, BadFeed as BadLine}
 use Rattle.issuer_top.specs.Standing.{CannotTake, LoadsToStandBy, StandsBy, WereJournals}
 use Rattle.issuer_base.specs.declared.entry.Entry.{Entry}
-use Rattle.one_caller.specs.Books.{Book, histories_of}
+use Rattle.one_caller.specs.Books.{histories_of}
 use Rattle.standby_node.specs.Streams.{StopsBadly}
 use Rattle.issuer_top.specs.Endings.{StandsInOrder}
 use Rattle.command_line.proofs.FeedNames.{one-standby}

@@ -1,6 +1,6 @@
 -- How a run ends that takes a feed into journals.
-use Rattle.std.proofs.Common.{◌≡◌, ℕ, ◌+◌, ◌<◌, Bool, true, false, List, [], ◌++◌, length, map, Option, None, Some, Ok, Err, Result}
-use Rattle.std.proofs.Common.{inl, inr, ⊎_elim, refl, sym, ap, subst, ◌∙◌, arith, append-nil}
+use Rattle.std.proofs.Common.{◌≡◌, ℕ, ◌<◌, Bool, true, false, List, [], length, map, Option, Some, Err}
+use Rattle.std.proofs.Common.{inl, inr, refl, sym, ap, subst, ◌∙◌, arith}
 use Rattle.std.specs.Prelude.{slice_get, IfSome, MatchBool, is_some}
 use Rattle.std.specs.Option.{option_map}
 use Rattle.std.proofs.lemmas.Option.{slice_get-map, slice_get_within}
@@ -24,7 +24,7 @@ use Rattle.journal_rec.specs.RecordText.{journal_text}
 use Rattle.record_store.specs.Images.{IsImage}
 use Rattle.shard_book.specs.declared.shard.Shard.{Shard}
 use Rattle.shard_book.specs.Grounds.{IsTail, grounds_of}
-use Rattle.shard_book.specs.Shards.{IsLoadImage, IsSettled, disk_in, faults_in, store_in}
+use Rattle.shard_book.specs.Shards.{IsLoadImage, IsSettled, faults_in, store_in}
 use Rattle.shard_book.specs.Taking.{IsReplicaOf}
 use Rattle.one_caller.specs.Books.{Book, histories_of}
 use Rattle.one_caller.specs.Hosts.{AreShards}

@@ -1,5 +1,5 @@
 -- How a run ends that takes a feed into the journals of a standby.
-use Rattle.std.specs.Prelude.{◌≡◌, ◌⊎◌, ℕ, ◌<◌, Bool, true, false, MatchBool, List, [], ◌++◌, length, slice_get, Option, Some, IfSome}
+use Rattle.std.specs.Prelude.{◌≡◌, ◌⊎◌, ℕ, ◌<◌, Bool, true, MatchBool, List, [], length, slice_get, Option, Some, IfSome}
 use Rattle.issuer_base.specs.Stores.{Moment}
 use Rattle.issuer_base.specs.Tells.{Tells}
 use Rattle.issuer_base.specs.declared.entry.Entry.{Entry}
@@ -18,7 +18,7 @@ use Rattle.line_serving.specs.Answered.{WasRead}
 use Rattle.standby_node.specs.Standing.{IsReplicaBetween}
 use Rattle.standby_serving.specs.Following.{TakesFeed, counts_text, in_doubt_after}
 use Rattle.standby_serving.specs.declared.follower.Followed.{Followed}
-use Rattle.standby_serving.specs.declared.follower.Followed.TheVariants.{All, ReadFault, WriteFault, TooLong, BadFeed, StoreFault}
+use Rattle.standby_serving.specs.declared.follower.Followed.TheVariants.{ReadFault, TooLong, BadFeed, StoreFault}
 use Rattle.desk_host.specs.Journals.{old_name, journal_name}
 use Rattle.desk_host.specs.Kept.{WasJournal}
 use Rattle.desk_host.specs.Lawful.{IsLawful}
