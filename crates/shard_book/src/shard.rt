@@ -179,7 +179,9 @@ impl<S: Store> Shard<S> {
             return Err(TakeFault::StoreFault);
         };
         let mut ahead = SessionsAhead::none();
-        let _ = self.rows.adopt(Version::Two, issuer, &mut ahead, entry.copy(), place);
+        let _ = self
+            .rows
+            .adopt(Version::Two, issuer, &mut ahead, entry.copy(), place);
         Ok(place)
     }
 

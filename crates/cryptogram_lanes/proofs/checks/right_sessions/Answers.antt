@@ -10,13 +10,19 @@ use Rattle.cryptogram_lanes.proofs.checks.right_sessions.Goals as goal
 
 pub bounds-as_slice-i : goal.bounds-as_slice-i
 bounds-as_slice-i c =
-    omega (arith, ap length (c.as_slice.ensures.value ∙ c.first-left.ensures),
-    length-map-range_with_len (λ lane. block_in lane c.sessions_of-sessions.result.left) 0 (length c.args.checks.now))
+    omega (
+      arith,
+      ap length (c.as_slice.ensures.value ∙ c.first-left.ensures),
+      length-map-range_with_len (λ lane. block_in lane c.sessions_of-sessions.result.left) 0 (length c.args.checks.now),
+    )
 
 pub bounds-as_slice-i-in-loop-i : goal.bounds-as_slice-i-in-loop-i
 bounds-as_slice-i-in-loop-i c =
-    omega (arith, ap length (c.as_slice-in-loop-i.ensures.value ∙ c.first-right.ensures),
-    length-map-range_with_len (λ lane. block_in lane c.sessions_of-sessions.result.right) 0 (length c.args.checks.now))
+    omega (
+      arith,
+      ap length (c.as_slice-in-loop-i.ensures.value ∙ c.first-right.ensures),
+      length-map-range_with_len (λ lane. block_in lane c.sessions_of-sessions.result.right) 0 (length c.args.checks.now),
+    )
 
 pub bounds-as_slice-i-in-loop-i-2 : goal.bounds-as_slice-i-in-loop-i-2
 bounds-as_slice-i-in-loop-i-2 c =
