@@ -1,6 +1,6 @@
 //! Checks of cryptograms of triple DES in lanes, which give the session keys of those that are right.
 
-ghost use Rattle.std.specs.Prelude.{◌≡◌, ◌↔◌, ◌≤◌, ℕ, ◌<◌, IsTrue, length, map, take, slice_index_or, []};
+ghost use Rattle.std.specs.Prelude.{◌≡◌, ◌≤◌, ℕ, ◌<◌, length, map, take, slice_index_or, []};
 ghost use Rattle.des_lanes.specs.Lanes.{key_in};
 ghost use Rattle.cryptogram_lanes.specs.Batch.{check_of, des_session, des_mac, right_session};
 
@@ -61,13 +61,6 @@ impl DesCheck {
             input: input(request),
             ac: parts.ac,
         }
-    }
-
-    /// Whether both are the same, as `==` is.
-    pub fn is_same(&self, other: &DesCheck) -> bool
-        ensures { IsTrue result ↔ (self.now ≡ other.now) }
-    {
-        self == other
     }
 }
 

@@ -2,6 +2,5 @@
 pub mod Numbers
 pub mod KeptLines
 pub mod LookUps
-pub mod RightSessions
 pub mod CheckedRequests
 pub mod Orders

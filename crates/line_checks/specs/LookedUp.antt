@@ -1,15 +1,11 @@
 -- What is looked up for a line before its cryptogram is checked.
-use Rattle.std.specs.Prelude.{◌≡◌, ℕ, List, length, Ok, true}
+use Rattle.std.specs.Prelude.{◌≡◌, ℕ, List, Ok, true}
 use Rattle.issuer_base.specs.declared.request.Request.{Request}
 use Rattle.issuer_base.specs.ChipData.{is_arqc}
 use Rattle.card_history.specs.Records.{card_of}
 use Rattle.chip_request.specs.declared.line.LineKind.TheVariants.{Ask}
 use Rattle.chip_request.specs.LineParts.{line_of}
 use Rattle.chip_request.specs.Reading.{request_of}
-use Rattle.key_derive.specs.declared.card.CardKeys.{CardKeys}
-use Rattle.key_derive.specs.SuiteKey.{SuiteKey}
-use Rattle.key_derive.specs.SessionKey.{session_of}
-use Rattle.cryptogram_in.specs.Cryptogram.{application_cryptogram}
 use Rattle.issuer_setup.specs.IssuerSetup.{Setup}
 use Rattle.issuer_setup.specs.KeySlots.{IsSlotOf}
 use Rattle.line_checks.specs.declared.sought.Sought.{Sought}
@@ -35,9 +31,3 @@ pub record HasKeysAtHand (issuer : Setup) (sought : SoughtRequest) : Type 0 wher
 abbrev pub IsSought : Setup → List ℕ → Sought → Type 0
 IsSought issuer line (IsRequest sought) = CarriesRequest line sought.request × HasKeysAtHand issuer sought
 IsSought issuer line (Order found) = (reading issuer line ≡ Ok (order_asked found)) × IsOrderAtHand issuer found
-
--- the request's cryptogram is the one that these keys give, under this session key, and has eight bytes
-pub record IsRightSession (keys : CardKeys) (request : Request) (session : SuiteKey) : Type 0 where
-  pub session_is : session ≡ session_of keys request.atc
-  pub ac_is : request.ac ≡ application_cryptogram keys request
-  pub eight : length request.ac ≡ 8

@@ -4,8 +4,6 @@ use Rattle.issuer_base.specs.declared.request.Request.{Request}
 use Rattle.card_history.specs.Records.{card_of}
 use Rattle.key_derive.specs.declared.card.CardKeys.{CardKeys}
 use Rattle.cryptogram_in.specs.Cryptogram.{application_cryptogram}
-use Rattle.cryptogram_lanes.specs.declared.checks.DesCheck.{DesCheck}
-use Rattle.cryptogram_lanes.specs.Batch.{check_of}
 use Rattle.issuer_setup.specs.CardList.{number_of}
 use Rattle.issuer_setup.specs.IssuerSetup.{Setup, keys_of}
 
@@ -23,8 +21,3 @@ pub record HasItsKeys (issuer : Setup) (request : Request) : Type 0 where
 pub record HasValidAc (issuer : Setup) (request : Request) : Type 0 where
   pub its : HasItsKeys issuer request
   pub ac_is : request.ac ≡ application_cryptogram its.keys request
-
--- the check is that of the request's application cryptogram under its card's master key
-pub record IsItsCheck (issuer : Setup) (request : Request) (check : DesCheck) : Type 0 where
-  pub its : HasItsKeys issuer request
-  pub check_is : check ≡ check_of its.keys.ac request

@@ -2,15 +2,13 @@
 //! keys, or the first fault.
 #![tactic(auto)]
 
-mod ahead;
 mod card;
 mod checked;
 mod line;
 mod request;
 mod sought;
 
-pub use ahead::{SessionsAhead, check_ahead};
 pub use checked::{Checked, CheckedCommand, CheckedOrder, CheckedRequest, CheckedStatus};
 pub use line::{check_line, look_up};
-pub use request::{check_request, check_request_with, refusal_of};
+pub use request::{check_request, refusal_of};
 pub use sought::{Sought, SoughtRequest};

@@ -8,7 +8,6 @@ ghost use Rattle.line_checks.specs.Reading.{refusal_of, checked, checked_data};
 ghost use Rattle.line_checks.specs.AtHand.{IsRequestAtHand};
 ghost use Rattle.line_checks.specs.LookedUp.{HasKeysAtHand};
 
-use crate::ahead::SessionsAhead;
 use crate::checked::CheckedRequest;
 use crate::sought::SoughtRequest;
 use chip_request::{RequestFault, read_request};
@@ -52,23 +51,9 @@ pub fn check_request(issuer: &Issuer, request: Request) -> Result<CheckedRequest
     look_up_request(issuer, request)?.check(issuer)
 }
 
-/// As [`check_request`], with the session key that was found ahead of the request's turn, if one was.
-#[inline(always)]
-pub fn check_request_with(
-    issuer: &Issuer,
-    ahead: &mut SessionsAhead,
-    request: Request,
-) -> Result<CheckedRequest, Refusal>
-    ensures request { result_map_both (λ found. Decide found.request) (λ refusal. refusal) result
-        ≡ checked issuer.now request }
-    ensures at_hand { IfOk result (IsRequestAtHand issuer.now) }
-{
-    look_up_request(issuer, request)?.check_with(issuer, ahead)
-}
-
 /// Looks up the card and the key set of a request, which must ask to go online.
 #[inline(always)]
-pub(crate) fn look_up_request(issuer: &Issuer, request: Request) -> Result<SoughtRequest, Refusal>
+fn look_up_request(issuer: &Issuer, request: Request) -> Result<SoughtRequest, Refusal>
     ensures request { IfOk result (λ sought. sought.request ≡ request) }
     ensures known { IfOk result (HasKeysAtHand issuer.now) }
     ensures refused { IfErr result (λ refusal. (checked issuer.now request ≡ Err refusal) × (refusal ≢ BadCryptogram)) }

@@ -19,16 +19,14 @@ use crate::replay::Version;
 use crate::rows::Rows;
 use issuer_base::{Command, Entry, MAX_STATUS, Pan, Reply, Request};
 use issuer_setup::Issuer;
-use line_checks::{CheckedRequest, SessionsAhead, check_request_with};
+use line_checks::{CheckedRequest, check_request};
 
 impl Rows {
-    /// Replays the record with this index if it is a valid successor. The result is whether it is. A session key that
-    /// was found ahead of its request's turn isn't derived again.
+    /// Replays the record with this index if it is a valid successor. The result is whether it is.
     pub(crate) fn adopt(
         &mut self,
         version: Version,
         issuer: &Issuer,
-        ahead: &mut SessionsAhead,
         entry: Entry,
         place: u64,
     ) -> bool
@@ -42,7 +40,7 @@ impl Rows {
     {
         match entry {
             Entry::Decided { request, reply } => {
-                self.adopt_decision(version, issuer, ahead, request, reply, place)
+                self.adopt_decision(version, issuer, request, reply, place)
             }
             Entry::Queued { pan, psn, command } => self.adopt_command(issuer, pan, psn, command),
             Entry::Status { pan, psn, status } => self.adopt_status(issuer, pan, psn, status),
@@ -54,7 +52,6 @@ impl Rows {
         &mut self,
         version: Version,
         issuer: &Issuer,
-        ahead: &mut SessionsAhead,
         request: Request,
         reply: Reply,
         place: u64,
@@ -66,7 +63,7 @@ impl Rows {
             → place ≡ length history → RowsStandFor issuer.now self.new (history ++ Entry.Decided request reply ∷ []) }
         ensures same { AreSame self.old self.new }
     {
-        let Ok(found) = check_request_with(issuer, ahead, request) else {
+        let Ok(found) = check_request(issuer, request) else {
             return false;
         };
         if issuer.shard_of(found.card) != self.shard() {

@@ -2,7 +2,6 @@
 #![tactic(auto)]
 
 mod adopting;
-mod ahead;
 mod law;
 mod loading;
 mod migrating;

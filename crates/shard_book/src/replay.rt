@@ -8,11 +8,9 @@ ghost use Rattle.shard_book.specs.LineAhead.{IsLineAhead};
 ghost use Rattle.shard_book.specs.Versions.{bad_line, bad_record, grounds_in};
 ghost use Rattle.shard_book.specs.ShardRows.{AreRowsOf, AreSame, RowsStandFor};
 
-use crate::ahead::{ReadAhead, read_ahead};
 use crate::rows::Rows;
 use issuer_setup::Issuer;
 use journal_rec::read_entry;
-use line_checks::SessionsAhead;
 use memchr::memchr;
 
 /// Why a journal isn't loaded.
@@ -116,16 +114,11 @@ impl Rows {
             records: 0,
             bytes: 0,
         };
-        let mut ahead = ReadAhead::none();
         while let Some(length) = next_newline(text, taken.bytes) {
             let end = taken.bytes + length;
-            if ahead.end <= taken.bytes {
-                ahead = read_ahead(issuer, text, taken.bytes);
-            }
             match self.adopt_line(
                 version,
                 issuer,
-                &mut ahead.sessions,
                 &text[taken.bytes..end],
                 place + taken.records,
             ) {
@@ -144,7 +137,6 @@ impl Rows {
         &mut self,
         version: Version,
         issuer: &Issuer,
-        ahead: &mut SessionsAhead,
         line: &[u8],
         place: u64,
     ) -> Result<(), LoadFault>
@@ -162,7 +154,7 @@ impl Rows {
         let Ok(entry) = read_entry(line) else {
             return Err(version.bad_line(place));
         };
-        if !self.adopt(version, issuer, ahead, entry, place) {
+        if !self.adopt(version, issuer, entry, place) {
             return Err(version.bad_record(place));
         }
         Ok(())

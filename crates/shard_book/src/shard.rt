@@ -37,7 +37,7 @@ use issuer_base::{
 };
 use issuer_setup::Issuer;
 use journal_rec::{write_decided, write_entry};
-use line_checks::{CheckedCommand, CheckedOrder, CheckedRequest, CheckedStatus, SessionsAhead};
+use line_checks::{CheckedCommand, CheckedOrder, CheckedRequest, CheckedStatus};
 use record_store::Journal;
 use row_core::{Launch, Outcome, Row};
 use std::alloc::Global;
@@ -178,10 +178,7 @@ impl<S: Store> Shard<S> {
         let Ok(place) = self.put(entry) else {
             return Err(TakeFault::StoreFault);
         };
-        let mut ahead = SessionsAhead::none();
-        let _ = self
-            .rows
-            .adopt(Version::Two, issuer, &mut ahead, entry.copy(), place);
+        let _ = self.rows.adopt(Version::Two, issuer, entry.copy(), place);
         Ok(place)
     }
 

@@ -1,6 +1,5 @@
 -- The MACs of the checks are the cryptograms of the requests.
-use Rattle.std.proofs.Common.{◌≡◌, ◌∙◌, ℕ, List, [], ◌∷◌, ap, ap₂, map, refl, length, subst, sym}
-use Rattle.std.proofs.lemmas.List.{length-map}
+use Rattle.std.proofs.Common.{◌≡◌, ◌∙◌, List, [], ◌∷◌, ap, map, refl}
 use Rattle.cryptogram_lanes.specs.Batch.{check_of, des_mac, des_session, des_cryptogram_of}
 use Rattle.cryptogram_lanes.specs.declared.KeyedRequest.{KeyedRequest}
 use Rattle.cryptogram_lanes.proofs.batch.by_triple_des.Goals as goal

@@ -1,5 +1,5 @@
 -- Each lane has the MAC of its data under its session key.
-use Rattle.std.proofs.Common.{◌≡◌, ◌∙◌, ◌+◌, ℕ, List, [], ap, ap₂, length, get_or, map, arith}
+use Rattle.std.proofs.Common.{◌≡◌, ◌∙◌, ◌+◌, ℕ, List, [], ap, ap₂, length, get_or, arith}
 use Rattle.std.proofs.lemmas.List.{length-map}
 use Rattle.des_lanes.specs.Lanes.{block_in}
 use Rattle.retail_mac.specs.Mac.{retail_mac}

@@ -1,5 +1,5 @@
 -- Each lane has its session key.
-use Rattle.std.proofs.Common.{◌≡◌, ◌∙◌, ℕ, List, [], ap, ap₂, sym, length, get_or, arith}
+use Rattle.std.proofs.Common.{◌∙◌, ℕ, List, [], ap, ap₂, sym, length, get_or, arith}
 use Rattle.std.proofs.lemmas.List.{length-map, get_or-map}
 use Rattle.issuer_base.specs.declared.request.Suite.TheVariants.{TripleDes}
 use Rattle.des_block.specs.declared.Key16.{Key16}
