@@ -18,4 +18,4 @@ returns-in-Err-clause-taken g c history replica =
     next-failed c.args.issuer.now c.args.shard.now c.take.new.self history c.args.place c.args.text.now
     (c.if-place-places.false ∙ c.places.ensures.places ∙ replica.journal_holds.holds.count_is)
     c.in-Ok.entry ((c.in-Ok.ensures c.in-Ok.entry).0 refl) (λ other line_is. cc ((c.in-Ok.ensures other).1 line_is))
-    c.in-Err.fault (c.in-Err.ensures.taken history replica) (λ same. c.in-Err.ensures.unchanged (ap Err same))
+    c.in-Err.fault (c.in-Err.ensures.taken history replica) (λ same. c.in-Err.ensures.kept.unchanged (ap Err same))
