@@ -47,7 +47,7 @@ prefixes (line ∷ some) (other ∷ others) ahead behind p q same =
     ]
 
 -- all whole lines of a text begin with some of them
-whole-begins : (some whole : List (List ℕ)) (ahead rest : List ℕ) → AllByRecursion IsUnbroken some → AllByRecursion IsUnbroken whole → IsUnbroken rest
+pub whole-begins : (some whole : List (List ℕ)) (ahead rest : List ℕ) → AllByRecursion IsUnbroken some → AllByRecursion IsUnbroken whole → IsUnbroken rest
     → flat_map ended some ++ ahead ≡ flat_map ended whole ++ rest → (more : List (List ℕ)) × (whole ≡ some ++ more)
 whole-begins [] whole ahead rest p q r same = (whole, refl)
 whole-begins (line ∷ some) [] ahead rest p q r same =
