@@ -1,8 +1,8 @@
 -- How a run ends, from what its parts did.
-use Rattle.std.proofs.Common.{◌≡◌, ◌⊎◌, ℕ, ◌<◌, ◌≤◌, true, false, List, [], ◌++◌, length, Option, None, Some, Err, Ok}
+use Rattle.std.proofs.Common.{◌≡◌, ◌⊎◌, ℕ, ◌≤◌, true, false, List, [], ◌++◌, length, Option, None, Some, Err, Ok}
 use Rattle.std.proofs.Common.{inl, inr, ⊎_elim}
 use Rattle.std.proofs.Common.{refl, sym, subst, ◌∙◌, arith}
-use Rattle.std.specs.Prelude.{is_some, IsSomeAnd, Result, is_err}
+use Rattle.std.specs.Prelude.{is_some, Result, is_err}
 use Rattle.std.specs.Io.KnownBytes.{Appends}
 use Rattle.std.proofs.KnownBytes.{Appends-nil, Appends-trans}
 use Rattle.issuer_base.specs.OutsideFaults.{Rose, CountsFaults}
@@ -30,9 +30,8 @@ use Rattle.desk_host.specs.SeenStores.{SeenJournals, Logged, no_journals}
 use Rattle.issuer_top.specs.Seen.{Seen, SeenInput}
 use Rattle.line_serving.specs.Answered.{AreAllLines, AreWholeLines, AreLinesBefore, AreFirstLines}
 use Rattle.line_serving.specs.Hosts.{LeavesAnswered, LeavesLoaded}
-use Rattle.desk_host.specs.Configuration.{Says, GivesNoIssuer, is_read_stop}
 use Rattle.issuer_top.specs.Opening.{GivesInput, stop_of}
-use Rattle.command_line.specs.Command.{RequestFile, IsWorld, IsCommand, IsNoCommand}
+use Rattle.command_line.specs.Command.{RequestFile, IsWorld, IsNoCommand}
 use Rattle.desk_host.specs.Loading.{GivesNoHost}
 use Rattle.desk_host.specs.Left.{LeaveJournals}
 use Rattle.desk_host.specs.Shown.{shown_text}
@@ -41,7 +40,7 @@ use Rattle.issuer_top.specs.Stopping.{is_broken, GivesStop, EndsServing, written
 use Rattle.issuer_top.specs.Played.{IsWorldText, GivesText, PlaysBy}
 use Rattle.issuer_top.specs.Opened.{OpenedNoInput, OpenedConfigOnly, OpenedBothInputs}
 use Rattle.issuer_top.specs.Endings.{IsSetUp, HasIssuer, IsOverJournals, AnswersLines}
-use Rattle.issuer_top.specs.Endings.{AnswersNoLine, IsPlayed, OnlyLoads, HasNoHost, IsNoMemory, ReadsConfig}
+use Rattle.issuer_top.specs.Endings.{AnswersNoLine, IsPlayed, OnlyLoads, HasNoHost, IsNoMemory}
 use Rattle.issuer_top.specs.Endings.{Stops, IsDone, IsDue, EndsBy}
 
 -- an input that a desk gave is one that stands there
@@ -137,103 +136,7 @@ module _ (seen : Seen) (config journal : List ℕ) (command : IsOverJournals see
       → IsNoMemory seen (stop_text NoMemory)
   lacks-none none_opened opened = lacks-host opened (none-left journal seen.desk.logs seen.journals none_opened)
 
-module _ (seen : Seen) (config : List ℕ) (ending : Ending) (command : ReadsConfig seen.words config)
-    (lacks : seen.journals ≡ no_journals → OpenedNoInput seen ⊎ OpenedConfigOnly seen
-    → IsNoMemory seen (stop_text NoMemory)) where
-  -- the desk gave no configuration
-  pub ends_no_config : (T : Type 0) (other : Option FailedCall) (fault : DeskFault)
-      → is_some seen.config ≡ false → is_some seen.requests ≡ false → seen.journals ≡ no_journals
-      → CountsFaults seen.desk.faults_before seen.desk.faults_after (is_fault {T = T} (Err fault))
-      → seen.desk.last_fault ≡ last_after Read config (is_fault {T = T} (Err fault)) other
-      → StopsAtOnce seen (stop_of fault) ending → EndsBy seen ending
-  ends_no_config T other Fault no_config no_requests none_opened desk_count last stopping =
-      ends_at_once seen ReadFault ending
-      (inl (record {
-        config = config;
-        command = command;
-        fails = record { config_is = no_config; requests_is = no_requests; rose = desk_count.counted; call_is = last };
-        none_opened = none_opened;
-        last = refl;
-      }))
-      stopping
-  ends_no_config T other NoRoom no_config no_requests none_opened desk_count last stopping =
-      ends_at_once seen NoMemory ending
-      (lacks none_opened (inl (record {
-        config_is = no_config;
-        requests_is = no_requests;
-        desk_stood = desk_count.counted;
-      })))
-      stopping
-
-  -- the configuration gave no issuer
-  pub ends_no_issuer : (T : Type 0) (first : ℕ) (input : SeenInput) (left : Option (List ℕ)) (cause : Stop)
-      → OpenedConfigOnly seen
-      → seen.config ≡ Some input → seen.journals ≡ no_journals → GivesInput (seen.desk.tells config) left
-      → GivesNoIssuer left cause → first ≡ 0
-      → CountsFaults first input.faults (is_read_stop {T = T} (Err cause))
-      → StopsAtOnce seen cause ending → EndsBy seen ending
-  ends_no_issuer T first input left (Config part index) opened input_is none_opened given none fresh count stopping =
-      ends_at_once seen (Config part index) ending
-      (record {
-        config = config;
-        content = none.content;
-        fault = none.fault;
-        command = command;
-        opened = opened;
-        none_opened = none_opened;
-        held = told-given (seen.desk.tells config) left none.content given none.held;
-        broken = none.broken;
-        stop_is = none.stop_is;
-        last = refl;
-      })
-      stopping
-  ends_no_issuer T first input left ReadFault opened input_is none_opened given none fresh count stopping =
-      let rose : Rose 0 input.faults = subst (λ (n : ℕ). Rose n input.faults) fresh count.counted in
-      ends_at_once seen ReadFault ending
-      (inr (inl (record {
-        config = config;
-        command = command;
-        opened = opened;
-        failed =
-            subst (λ c. IsSomeAnd c (λ (i : SeenInput). 0 < i.faults)) (sym input_is)
-            (Rose-from_none input.faults rose);
-        none_opened = none_opened;
-        last = refl;
-      })))
-      stopping
-  ends_no_issuer T first input left NoMemory opened input_is none_opened given none fresh count stopping =
-      ends_at_once seen NoMemory ending (lacks none_opened (inr opened)) stopping
-  ends_no_issuer T first input left Usage opened input_is none_opened given none fresh count stopping = absurd none
-  ends_no_issuer T first input left (StoreFault shard) opened input_is none_opened given none fresh count stopping =
-      absurd none
-  ends_no_issuer T first input left (BadJournal shard line) opened input_is none_opened given none fresh count stopping =
-      absurd none
-  ends_no_issuer T first input left (BadOldJournal shard line) opened input_is none_opened given none fresh count
-      stopping =
-      absurd none
-  ends_no_issuer T first input left (TooLong line) opened input_is none_opened given none fresh count stopping =
-      absurd none
-  ends_no_issuer T first input left (BadDol at) opened input_is none_opened given none fresh count stopping = absurd none
-  ends_no_issuer T first input left (BadData at) opened input_is none_opened given none fresh count stopping =
-      absurd none
-  ends_no_issuer T first input left (BadFeed line) opened input_is none_opened given none fresh count stopping =
-      absurd none
-  ends_no_issuer T first input left NoKey opened input_is none_opened given none fresh count stopping = absurd none
-
--- the words and the configuration are as they should be
-pub IsSetUp-from_said : (seen : Seen) (config : List ℕ) (requests : Option RequestFile) (journal : List ℕ)
-    (left : Option (List ℕ)) (issuer : Setup)
-    → IsCommand seen.words config requests journal → GivesInput (seen.desk.tells config) left → Says left issuer
-    → IsSetUp seen requests journal issuer
-IsSetUp-from_said seen config requests journal left issuer command given said = record {
-  config = config;
-  content = said.content;
-  command = command;
-  held = told-given (seen.desk.tells config) left said.content given said.held;
-  says = said.says;
-}
-
--- they are those of a command over journals
+-- words and a configuration as they should be are those of a command over journals
 pub has-issuer : (seen : Seen) (requests : Option RequestFile) (journal : List ℕ) (issuer : Setup)
     → IsSetUp seen requests journal issuer → HasIssuer seen journal issuer
 has-issuer seen requests journal issuer set_up = record {

@@ -9,3 +9,4 @@ mod StandingSteps
 mod FillingSteps
 mod OverJournals
 mod PinSteps
+mod OpeningSteps

@@ -12,14 +12,12 @@ use Rattle.command_line.specs.Command.{RequestFile, PinOrder, IsPin, IsCommand}
 use Rattle.command_line.proofs.ClearNames.{clear-no_pin}
 use Rattle.command_line.proofs.FeedNames.{export-no_pin, standby-no_pin}
 use Rattle.command_line.proofs.PinOrders.{one-order, pin-no_command, pin-no_world, pin-no_fill}
-use Rattle.desk_host.specs.Configuration.{Says}
 use Rattle.desk_host.specs.SeenStores.{no_journals}
 use Rattle.issuer_top.specs.declared.ending.Ending.{Ending}
 use Rattle.issuer_top.specs.declared.ending.Ending.TheVariants.{Done, Stopped, WriteFault}
-use Rattle.issuer_top.specs.Opening.{GivesInput}
 use Rattle.issuer_top.specs.Seen.{Seen}
 use Rattle.issuer_top.specs.Status.{status_of}
-use Rattle.issuer_top.specs.PinChanges.{smc_for, change_by, change_text, changing, ChangesBy, SaysIssuer, change_status}
+use Rattle.issuer_top.specs.PinChanges.{smc_for, change_by, change_text, changing, ChangesBy, change_status}
 use Rattle.issuer_top.specs.PinChanges.{IsUnread, IsAnswered, Pins}
 use Rattle.issuer_top.specs.Opened.{OpenedNoInput, OpenedConfigOnly}
 use Rattle.issuer_top.specs.Endings.{IsOrdered, IsChanged, IsDone, HasNoHost}
@@ -29,7 +27,7 @@ use Rattle.standby_serving.specs.declared.follower.Followed.{Followed}
 use Rattle.issuer_top.specs.Standing.{LoadsToStandBy, StandsBy}
 use Rattle.issuer_top.specs.Endings.{IsNoMemory, EndsBy}
 use Rattle.issuer_top.proofs.OverJournals.{over-no_pin}
-use Rattle.issuer_top.proofs.EndingSteps.{told-given, ends_at_once, ends_by_text}
+use Rattle.issuer_top.proofs.EndingSteps.{ends_at_once, ends_by_text}
 
 -- ---- the ways that a change of a PIN ends
 
@@ -39,15 +37,6 @@ pub lacks-pin : (seen : Seen) (order : PinOrder) → IsPin seen.words order → 
 lacks-pin seen order pin none_opened opened =
     inr (inr (inr (inl (record
     { order = order; pin = pin; opened = opened; none_opened = none_opened; last = refl }))))
-
--- the configuration says an issuer
-pub says-issuer : (seen : Seen) (config : List ℕ) (left : Option (List ℕ)) (issuer : Setup)
-    → GivesInput (seen.desk.tells config) left → Says left issuer → SaysIssuer seen config issuer
-says-issuer seen config left issuer given said = record {
-  content = said.content;
-  held = told-given (seen.desk.tells config) left said.content given said.held;
-  says = said.says;
-}
 
 module _ (seen : Seen) (order : PinOrder) (issuer : Setup) (ordered : IsOrdered seen order issuer)
     (ending : Ending) where

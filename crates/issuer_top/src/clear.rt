@@ -1,5 +1,5 @@
 //! A clearing check: lines of transaction certificates, compared with the records of the journals.
-ghost use Rattle.std.specs.Prelude.{◌≡◌, ℕ, List, [], None, IfOk, length};
+ghost use Rattle.std.specs.Prelude.{◌≡◌, ℕ, List, [], IfOk, length};
 ghost use Rattle.issuer_setup.specs.IssuerSetup.{Setup};
 ghost use Rattle.command_line.specs.Command.{IsClear};
 ghost use Rattle.clearing_serving.specs.Clearing.{IsNew};
@@ -11,12 +11,13 @@ ghost use Rattle.issuer_top.specs.Endings.{Ends};
 ghost use Rattle.issuer_top.specs.ReadAgain.{StayLoaded, stop_of_reading};
 ghost use Rattle.issuer_top.specs.Seen.{IsSameDesk, seen_by};
 
-use crate::top_call::{Ended, Run, end_serving, stop_of};
+use crate::opening::{open_issuer, stop_of};
+use crate::top_call::{Ended, Run, end_serving};
 use answer_text::Stop;
 use clearing_check::Book;
 use clearing_serving::Judge;
 use command_line::ClearWords;
-use desk_host::{Journals, read_issuer};
+use desk_host::Journals;
 use issuer_base::{Desk, NoMemory, Sink};
 use issuer_setup::Issuer;
 use journal_filing::{FilingFault, NotFiled, file_journals};
@@ -54,14 +55,9 @@ impl<R: AllocGlobal, D: Desk, G> Run<'_, R, D, G> {
             → Ends result.status
             (seen_by D.Desk D.Input.Source D.Journal.Store W.Sink words self.entry.desk result out.old out.new) }
     {
-        let alloc = self.rt.alloc();
-        let mut config = match self.desk.read(names.config) {
-            Ok(config) => config,
-            Err(fault) => return self.stop(stop_of(fault), None, Journals::none(alloc), out),
-        };
-        match read_issuer(alloc, &mut config) {
-            Ok(issuer) => self.load_to_clear(issuer, config, names, out),
-            Err(cause) => self.stop(cause, Some(config), Journals::none(alloc), out),
+        match open_issuer(self.rt.alloc(), &mut self.desk, names.config) {
+            Ok((issuer, config)) => self.load_to_clear(issuer, config, names, out),
+            Err(none) => self.not_opened(none, out),
         }
     }
 

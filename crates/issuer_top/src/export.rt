@@ -13,11 +13,12 @@ ghost use Rattle.issuer_top.specs.Seen.{IsSameDesk, seen_by};
 ghost use Rattle.issuer_top.specs.Stopping.{EndsExporting};
 
 use crate::ending::Ending;
+use crate::opening::open_issuer;
 use crate::stopping::stop_with;
-use crate::top_call::{Ended, Run, stop_of};
+use crate::top_call::{Ended, Run};
 use answer_text::Stop;
 use command_line::ExportWords;
-use desk_host::{Journals, read_issuer};
+use desk_host::Journals;
 use issuer_base::{Desk, NoMemory, Sink};
 use issuer_setup::Issuer;
 use journal_export::{ExportFault, Exporter};
@@ -31,14 +32,9 @@ impl<R: AllocGlobal, D: Desk, G> Run<'_, R, D, G> {
             → Ends result.status
             (seen_by D.Desk D.Input.Source D.Journal.Store W.Sink words self.entry.desk result out.old out.new) }
     {
-        let alloc = self.rt.alloc();
-        let mut config = match self.desk.read(names.config) {
-            Ok(config) => config,
-            Err(fault) => return self.stop(stop_of(fault), None, Journals::none(alloc), out),
-        };
-        match read_issuer(alloc, &mut config) {
-            Ok(issuer) => self.load_to_export(issuer, config, names, out),
-            Err(cause) => self.stop(cause, Some(config), Journals::none(alloc), out),
+        match open_issuer(self.rt.alloc(), &mut self.desk, names.config) {
+            Ok((issuer, config)) => self.load_to_export(issuer, config, names, out),
+            Err(none) => self.not_opened(none, out),
         }
     }
 

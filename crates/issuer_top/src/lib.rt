@@ -5,6 +5,7 @@ mod clear;
 mod ending;
 mod export;
 mod filling;
+mod opening;
 mod pin;
 mod play;
 mod standby;

@@ -10,13 +10,14 @@ ghost use Rattle.issuer_top.specs.Played.{GivesText};
 ghost use Rattle.issuer_top.specs.Seen.{seen_by};
 
 use crate::ending::{Ending, end_writing};
+use crate::opening::open_issuer;
 use crate::stopping::stop_with;
-use crate::top_call::{Ended, Run, stop_of};
+use crate::top_call::{Ended, Run};
 use answer_text::{Stop, write_queue};
 use arrayvec::ArrayVec;
 use command_line::PinWords;
 use des_block::Key16;
-use desk_host::{Journals, read_issuer};
+use desk_host::Journals;
 use issuer_base::{Desk, Sink, write_all};
 use issuer_setup::Issuer;
 use key_derive::card_smc;
@@ -30,16 +31,12 @@ impl<R: AllocGlobal, D: Desk, G> Run<'_, R, D, G> {
             (seen_by D.Desk D.Input.Source D.Journal.Store W.Sink words self.entry.desk result out.old out.new) }
     {
         let alloc = self.rt.alloc();
-        let mut config = match self.desk.read(order.config) {
-            Ok(config) => config,
-            Err(fault) => return self.stop(stop_of(fault), None, Journals::none(alloc), out),
-        };
-        match read_issuer(alloc, &mut config) {
-            Ok(issuer) => {
+        match open_issuer(alloc, &mut self.desk, order.config) {
+            Ok((issuer, config)) => {
                 let ending = write_change(&issuer, &order, out);
                 self.ended(ending, Some(config), None, Journals::none(alloc))
             }
-            Err(cause) => self.stop(cause, Some(config), Journals::none(alloc), out),
+            Err(none) => self.not_opened(none, out),
         }
     }
 }

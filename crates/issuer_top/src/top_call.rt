@@ -8,22 +8,23 @@ ghost use Rattle.desk_host.specs.Loading.{stop_of_load};
 ghost use Rattle.line_serving.specs.Hosts.{callers_of, IsReady, HasServed, IsIdle};
 ghost use Rattle.command_line.specs.Command.{IsCommand, IsGroup};
 ghost use Rattle.command_line.specs.Pairs.{request_file};
-ghost use Rattle.issuer_top.specs.Endings.{IsSetUp, Ends, Completes};
+ghost use Rattle.issuer_top.specs.Endings.{IsSetUp, Ends, Completes, ReadsConfig};
 ghost use Rattle.issuer_top.specs.Filling.{Fills};
-ghost use Rattle.issuer_top.specs.Opening.{stop_of};
+ghost use Rattle.issuer_top.specs.Opening.{OpensNoIssuer};
 ghost use Rattle.issuer_top.specs.PinChanges.{Pins};
-ghost use Rattle.issuer_top.specs.Seen.{IsSameDesk, seen_by};
+ghost use Rattle.issuer_top.specs.Seen.{IsSameDesk, desk_seen, input_seen, seen_by};
 ghost use Rattle.issuer_top.specs.Status.{status_of};
 ghost use Rattle.issuer_top.specs.Stopping.{EndsServing, GivesStop};
 
 use crate::ending::{Ending, end_writing, status_of};
 use crate::filling::fill_dol;
+use crate::opening::{NotOpened, open_issuer, stop_of};
 use crate::play::play_world;
 use crate::stopping::stop_with;
 use answer_text::Stop;
 use command_line::{Names, Task, read_words};
-use desk_host::{Journals, Loaded, NoHost, load_alone, read_issuer, show, stop_of_load};
-use issuer_base::{Desk, DeskFault, Gate, NoMemory, Sink, Store, Words};
+use desk_host::{Journals, Loaded, NoHost, load_alone, show, stop_of_load};
+use issuer_base::{Desk, Gate, NoMemory, Sink, Store, Words};
 use issuer_setup::Issuer;
 use line_serving::{LineHost, Served, Server, load_host};
 use one_caller::Solo;
@@ -199,6 +200,21 @@ impl<R, D: Desk, G> Run<'_, R, D, G> {
     }
 }
 
+impl<R: AllocGlobal, D: Desk, G> Run<'_, R, D, G> {
+    /// Stops the run whose configuration gave no issuer.
+    pub(crate) fn not_opened<W: Sink>(self, none: NotOpened<D::Input>, out: &mut W) -> Ended<D>
+        ensures { (words : List (List ℕ)) (given : D) (name : List ℕ) → ReadsConfig words name
+            → OpensNoIssuer (desk_seen D.Desk given self.entry.desk) name
+            (option_map (input_seen D.Input.Source) none.config) none.cause
+            → Ends result.status
+            (seen_by D.Desk D.Input.Source D.Journal.Store W.Sink words given result out.old out.new) }
+    {
+        let NotOpened { cause, config } = none;
+        let journals = Journals::none(self.rt.alloc());
+        self.stop(cause, config, journals, out)
+    }
+}
+
 impl<R, D, G> Run<'_, R, D, G>
 where
     R: AllocGlobal + Threads + Wait + Sync,
@@ -238,14 +254,9 @@ where
             → Ends result.status
             (seen_by D.Desk D.Input.Source D.Journal.Store W.Sink words self.entry.desk result out.old out.new) }
     {
-        let alloc = self.rt.alloc();
-        let mut config = match self.desk.read(names.config) {
-            Ok(config) => config,
-            Err(fault) => return self.stop(stop_of(fault), None, Journals::none(alloc), out),
-        };
-        match read_issuer(alloc, &mut config) {
-            Ok(issuer) => self.do_command(issuer, config, names, out),
-            Err(cause) => self.stop(cause, Some(config), Journals::none(alloc), out),
+        match open_issuer(self.rt.alloc(), &mut self.desk, names.config) {
+            Ok((issuer, config)) => self.do_command(issuer, config, names, out),
+            Err(none) => self.not_opened(none, out),
         }
     }
 
@@ -325,16 +336,6 @@ where
             Some(requests),
             Journals { olds, stores },
         )
-    }
-}
-
-/// Why a run stops where the desk gives no input.
-pub(crate) fn stop_of(fault: DeskFault) -> Stop
-    ensures { result ≡ stop_of fault }
-{
-    match fault {
-        DeskFault::Fault => Stop::ReadFault,
-        DeskFault::NoMemory => Stop::NoMemory,
     }
 }
 

@@ -1,38 +1,13 @@
 -- How a run ends, stage by stage.
-use Rattle.std.proofs.Common.{inl, refl}
-use Rattle.desk_host.proofs.JournalSteps.{journals-none}
-use Rattle.issuer_top.proofs.EndingSteps.{gives_input, lacks-none, ends_no_config, ends_no_issuer, IsSetUp-from_said}
-use Rattle.issuer_top.proofs.Statuses.{ends-as}
+use Rattle.std.proofs.Common.{inl}
+use Rattle.issuer_top.proofs.OpeningSteps.{is-set_up}
 use Rattle.issuer_top.proofs.top_call.Run.run_host.Goals as goal
 
+pub returns-in-Ok : goal.returns-in-Ok
+returns-in-Ok g c = λ words command.
+    c.do_command.ensures words _ (is-set_up _ _ _ _ _ command c.in-Ok.ensures.says) c.in-Ok.ensures.sound
+    (record { holds_are = c.in-Ok.ensures.kept; faults_are = c.in-Ok.ensures.stood }) c.in-Ok.ensures.kept_logs
+
 pub returns-in-Err : goal.returns-in-Err
-returns-in-Err g c =
-    let stopped = c.stop.ensures in
-    rw stopped.2 (λ words command.
-    ends-as _ _ stopped.0 refl
-    (ends_no_config _ _ _ (inl (_, inl (_, command))) (lacks-none _ _ _ (inl (_, command))) (Unit {0}) _
-    c.in-Err.fault refl refl
-    (journals-none g.D.Journal.Store _ _ c.none.ensures.olds c.none.ensures.stores) c.in-Err.ensures.count
-    c.in-Err.ensures.last
-    (rw c.stop_of.ensures at stopped.1)))
-
-pub returns-in-Ok-read_issuer : goal.returns-in-Ok-read_issuer
-returns-in-Ok-read_issuer g c = λ words command.
-    c.do_command.ensures words _
-    (IsSetUp-from_said _ _ _ _ _ _ command (gives_input _ _ c.in-Ok.ensures.input c.in-Ok.ensures.absent)
-    c.in-Ok-read_issuer.ensures.says)
-    c.in-Ok-read_issuer.ensures.sound
-    (record { holds_are = c.in-Ok.ensures.kept; faults_are = c.in-Ok.ensures.count.counted }) c.in-Ok.ensures.kept_logs
-
-pub returns-in-Err-read_issuer : goal.returns-in-Err-read_issuer
-returns-in-Err-read_issuer g c =
-    let stopped = c.stop-in-Err-read_issuer.ensures in
-    rw stopped.2 (λ words command.
-    ends-as _ _ stopped.0 refl
-    (ends_no_issuer _ _ _ (inl (_, inl (_, command))) (lacks-none _ _ _ (inl (_, command))) (Unit {0}) _ _ _
-    c.in-Err-read_issuer.cause
-    (record { config_is = refl; requests_is = refl; desk_stood = c.in-Ok.ensures.count.counted }) refl
-    (journals-none g.D.Journal.Store _ _ c.none-in-Err-read_issuer.ensures.olds
-    c.none-in-Err-read_issuer.ensures.stores)
-    (gives_input _ _ c.in-Ok.ensures.input c.in-Ok.ensures.absent) c.in-Err-read_issuer.ensures.none c.in-Ok.ensures.new
-    c.in-Err-read_issuer.ensures.count stopped.1))
+returns-in-Err g c = λ words command.
+    c.not_opened.ensures words _ _ (inl (_, inl (_, command))) c.in-Err.ensures.none
