@@ -11,11 +11,10 @@ use Rattle.issuer_base.proofs.ManyCalls.{AppendsFront-after}
 use Rattle.issuer_setup.specs.IssuerSetup.{Setup}
 use Rattle.chip_request.proofs.LineLaws.{longest_line, line_of-kept}
 use Rattle.line_reader.specs.Reading.{kept}
-use Rattle.line_serving.specs.declared.serve.Served.{Served}
-use Rattle.line_serving.specs.declared.serve.Served.TheVariants.{All, ReadFault, WriteFault as SinkFault, TooLong}
-use Rattle.line_serving.specs.Answered.{AreAllLines, AreFirstLines, AreLinesBefore, AreWholeLines}
-use Rattle.line_serving.specs.Hosts.{TakesLine}
-use Rattle.line_serving.specs.Serving.{Finishes, Serves, ServesLines, WritesDue}
+use Rattle.line_blocks.specs.declared.served.Served.{Served}
+use Rattle.line_blocks.specs.declared.served.Served.TheVariants.{All, ReadFault, WriteFault as SinkFault, TooLong}
+use Rattle.line_blocks.specs.Answered.{AreAllLines, AreFirstLines, AreLinesBefore, AreWholeLines}
+use Rattle.line_blocks.specs.Serving.{Finishes, Serves, ServesLines, TakesLine, WritesDue}
 use Rattle.filed_records.specs.declared.filed.Filed.{Filed}
 use Rattle.clearing_check.specs.ClearingLine.{of_form, presented}
 use Rattle.clearing_check.specs.Verdicts.{after_line, records_after, verdict, verdict_on}

@@ -5,10 +5,10 @@ use Rattle.issuer_base.specs.declared.faults.WriteFault.{WriteFault}
 use Rattle.issuer_base.specs.Sink.{AppendsFront, WritesAll}
 use Rattle.issuer_setup.specs.IssuerSetup.{Setup}
 use Rattle.line_reader.specs.Reading.{unread}
-use Rattle.line_serving.specs.declared.serve.Served.{Served}
-use Rattle.line_serving.specs.declared.serve.Served.TheVariants.{All, ReadFault, WriteFault as SinkFault, TooLong}
-use Rattle.line_serving.specs.Answered.{AreAllLines, AreWholeLines, AreLinesBefore, AreFirstLines}
-use Rattle.line_serving.specs.Serving.{ServesLines}
+use Rattle.line_blocks.specs.declared.served.Served.{Served}
+use Rattle.line_blocks.specs.declared.served.Served.TheVariants.{All, ReadFault, WriteFault as SinkFault, TooLong}
+use Rattle.line_blocks.specs.Answered.{AreAllLines, AreWholeLines, AreLinesBefore, AreFirstLines}
+use Rattle.line_blocks.specs.Serving.{ServesLines}
 use Rattle.filed_records.specs.declared.filed.Filed.{Filed}
 use Rattle.clearing_text.specs.ClearText.{verdicts_text, after_lines, clear_text}
 use Rattle.clearing_serving.specs.declared.judge.Judge.{Judge}

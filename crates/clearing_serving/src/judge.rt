@@ -3,8 +3,8 @@ ghost use Rattle.std.specs.Prelude.{◌≡◌, ℕ, ◌+◌, ◌<◌, ◌≤◌,
 ghost use Rattle.issuer_base.specs.OutsideFaults.{Rose, CountsFaults};
 ghost use Rattle.issuer_base.specs.Sink.{WritesAll};
 ghost use Rattle.line_reader.specs.Reading.{kept};
-ghost use Rattle.shared_callers.specs.declared.lanes.TheConstants.{BLOCK_LINES};
-ghost use Rattle.line_serving.specs.Serving.{Serves, read_failed, write_failed};
+ghost use Rattle.line_blocks.specs.declared.block.TheConstants.{BLOCK_LINES};
+ghost use Rattle.line_blocks.specs.Serving.{Serves, read_failed, write_failed};
 ghost use Rattle.filed_records.specs.declared.filed.Filed.{Filed};
 ghost use Rattle.clearing_check.specs.Verdicts.{verdict, after_line};
 ghost use Rattle.clearing_text.specs.ClearText.{verdict_text, closing_text};
@@ -15,8 +15,8 @@ use clearing_check::Book;
 use clearing_text::{write_open, write_total, write_verdict};
 use issuer_base::{NoMemory, Sink, Source, WriteFault};
 use issuer_setup::Issuer;
+use line_blocks::{Block, Served};
 use line_reader::{LineReader, NextLine};
-use line_serving::{Block, Served};
 use std::alloc::Global;
 
 /// What it takes to read clearing lines and to write what their check prints.

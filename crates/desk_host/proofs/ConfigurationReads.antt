@@ -9,7 +9,7 @@ use Rattle.config_read.specs.Configuration.{configured}
 use Rattle.config_read.specs.declared.config.TheConstants.{MAX_CONFIG_BYTES}
 use Rattle.desk_host.specs.Configuration.{IsRead, Says, IsBroken, GivesNoIssuer, config_stop}
 use Rattle.issuer_base.proofs.ManyCalls.{Tells-whole}
-use Rattle.desk_host.proofs.InputFronts.{front-read}
+use Rattle.line_blocks.proofs.InputFronts.{front-read}
 
 -- a text past the limit is broken as a whole
 configured-long : (text : List ℕ) → MAX_CONFIG_BYTES < length text → configured text ≡ Err (At 1 0)

@@ -1,7 +1,7 @@
 -- The journals of shards: their names, and what is opened under them.
-use Rattle.std.proofs.Common.{◌≡◌, ℕ, ◌+◌, ◌<◌, zero, suc, List, [], ◌∷◌, ◌++◌, length, Option, None, Some, refl, sym, ap}
+use Rattle.std.proofs.Common.{◌≡◌, ℕ, ◌+◌, zero, suc, List, [], ◌∷◌, ◌++◌, length, Option, None, Some, refl, sym, ap}
 use Rattle.std.proofs.Common.{◌∙◌, subst, arith, inl, inr, ⊎_elim}
-use Rattle.std.specs.Prelude.{◌/◌, ◌%◌, ◌⊎◌, codes, slice_get}
+use Rattle.std.specs.Prelude.{◌/◌, ◌%◌, ◌⊎◌, slice_get}
 use Rattle.std.proofs.lemmas.List.{length-append}
 use Rattle.issuer_base.specs.declared.outside.store.Store.{Ghosts}
 use Rattle.desk_host.specs.SeenStores.{Logged, journals_seen, no_journals}

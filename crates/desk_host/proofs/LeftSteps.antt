@@ -1,5 +1,5 @@
 -- What is left of journals that were opened, and maybe loaded.
-use Rattle.std.proofs.Common.{◌≡◌, ℕ, ◌<◌, ◌≤◌, zero, suc, List, [], ◌∷◌, ◌++◌, length, take, Option, None, Some}
+use Rattle.std.proofs.Common.{◌≡◌, ℕ, ◌<◌, ◌≤◌, List, [], ◌++◌, length, Option, None, Some}
 use Rattle.std.proofs.Common.{refl, sym, ap, ◌∙◌, subst, arith, inl, inr, ⊎_elim, append-nil}
 use Rattle.std.specs.Prelude.{slice_get, map, All, IfSome, IsSomeAnd, ◌⊎◌}
 use Rattle.std.proofs.lemmas.List.Elements.{All-nil}
@@ -21,16 +21,16 @@ use Rattle.record_store.proofs.ReadSoFar.{reads-none}
 use Rattle.shard_book.specs.declared.replay.LoadFault.{LoadFault}
 use Rattle.shard_book.specs.declared.replay.LoadFault.TheVariants.{OldLine, OldRecord, BadLine, BadRecord}
 use Rattle.shard_book.specs.declared.replay.LoadFault.TheVariants.{StoreFault, NoMemory}
-use Rattle.shard_book.specs.declared.replay.Version.TheVariants.{One, Two}
+use Rattle.shard_book.specs.declared.replay.Version.TheVariants.{One}
 use Rattle.shard_book.specs.declared.shard.Shard.{Shard}
-use Rattle.shard_book.specs.Shards.{store_in, IsCutToText, IsFailedImage, IsJournalOf, IsLoadImage, IsMigrated, IsTakenFor}
+use Rattle.shard_book.specs.Shards.{store_in, IsCutToText, IsFailedImage, IsLoadImage, IsMigrated, IsTakenFor}
 use Rattle.shard_book.specs.Versions.{HasText, IsPartOf}
-use Rattle.shard_book.specs.Loads.{IsNotLoaded, IsOnlyRead}
+use Rattle.shard_book.specs.Loads.{IsNotLoaded}
 use Rattle.one_caller.specs.Loading.{AreOnlyRead, ComeBack, IsGivenBack}
 use Rattle.one_caller.proofs.Loads.{given-back}
 use Rattle.desk_host.specs.SeenStores.{Logged, SeenStore, store_seen, journals_seen}
 use Rattle.desk_host.specs.Journals.{old_name, journal_name, IsOpened, AreOpened, IsReady}
-use Rattle.desk_host.specs.Left.{CrashSince, GoesOnMigrating, IsSparedImage, KeepsLines, LeavesJournal, LeaveJournals}
+use Rattle.desk_host.specs.Left.{GoesOnMigrating, IsSparedImage, KeepsLines, LeavesJournal, LeaveJournals}
 use Rattle.desk_host.specs.Left.{StaysAsOpened}
 use Rattle.desk_host.proofs.CrashSteps.{crash-reads, crash-since, stays-opened}
 use Rattle.desk_host.proofs.SeenSteps.{at-place, held-told, seen-at, seen-store, told-held}

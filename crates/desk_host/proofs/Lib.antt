@@ -1,5 +1,4 @@
 -- The lemmas of this crate.
-pub mod InputFronts
 pub mod ConfigurationReads
 pub mod HostRuns
 pub mod WorldLaws

@@ -1,6 +1,5 @@
 -- Why the journals of an issuer's shards gave no host.
 use Rattle.std.specs.Prelude.{◌≡◌, ℕ, ◌<◌, ◌⊎◌, Bool, true, false, List, [], length, slice_get, Option, Some, Result, Err}
-use Rattle.std.specs.Prelude.{map}
 use Rattle.issuer_base.specs.Desk.{FailedCall}
 use Rattle.issuer_base.specs.OutsideFaults.{Rose}
 use Rattle.issuer_base.specs.declared.entry.Entry.{Entry}
@@ -19,7 +18,7 @@ use Rattle.shard_book.specs.Loading.{StopsText}
 use Rattle.shard_book.specs.Shards.{IsJournalOf}
 use Rattle.one_caller.specs.declared.loading.HostBack.{HostBack}
 use Rattle.desk_host.specs.declared.journals.NoHost.{NoHost}
-use Rattle.desk_host.specs.SeenStores.{Logged, SeenStore, SeenJournals, store_seen, journals_seen}
+use Rattle.desk_host.specs.SeenStores.{Logged, SeenStore, SeenJournals, journals_seen}
 use Rattle.desk_host.specs.Journals.{old_name, journal_name, AreOpened}
 use Rattle.desk_host.specs.Left.{LeaveJournals}
 

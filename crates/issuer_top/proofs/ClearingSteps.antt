@@ -23,11 +23,11 @@ use Rattle.journal_filing.specs.declared.filing.FilingFault.TheVariants.{StoreFa
 use Rattle.journal_filing.specs.declared.filing.FilingFault.TheVariants.{NoMemory as NoRoom}
 use Rattle.journal_loading.specs.Loaded.{AreLoadedFrom}
 use Rattle.desk_host.specs.SeenStores.{Logged, SeenJournals, journals_seen, store_seen}
-use Rattle.line_serving.specs.Answered.{AreAllLines, AreWholeLines, AreLinesBefore, AreFirstLines}
-use Rattle.line_serving.specs.Serving.{ServesLines, read_failed, write_failed}
-use Rattle.line_serving.specs.declared.serve.Served.{Served}
-use Rattle.line_serving.specs.declared.serve.Served.TheVariants.{All, ReadFault as ReadStopped, WriteFault as SinkFault}
-use Rattle.line_serving.specs.declared.serve.Served.TheVariants.{TooLong as LongStopped}
+use Rattle.line_blocks.specs.Answered.{AreAllLines, AreWholeLines, AreLinesBefore, AreFirstLines}
+use Rattle.line_blocks.specs.Serving.{ServesLines, read_failed, write_failed}
+use Rattle.line_blocks.specs.declared.served.Served.{Served}
+use Rattle.line_blocks.specs.declared.served.Served.TheVariants.{All, ReadFault as ReadStopped, WriteFault as SinkFault}
+use Rattle.line_blocks.specs.declared.served.Served.TheVariants.{TooLong as LongStopped}
 use Rattle.clearing_serving.specs.Clearing.{Clears}
 use Rattle.issuer_top.specs.declared.ending.Ending.{Ending}
 use Rattle.issuer_top.specs.Seen.{Seen, SeenInput}

@@ -23,19 +23,19 @@ use Rattle.answer_text.specs.declared.stop_line.Stop.TheVariants.{BadFeed, NoKey
 use Rattle.issuer_setup.specs.IssuerSetup.{Setup}
 use Rattle.one_caller.specs.Books.{Book}
 use Rattle.issuer_top.specs.declared.ending.Ending.{Ending}
-use Rattle.line_serving.specs.declared.serve.Served.{Served}
-use Rattle.line_serving.specs.declared.serve.Served.TheVariants.{All, ReadFault as ReadStopped, WriteFault as SinkFault}
-use Rattle.line_serving.specs.declared.serve.Served.TheVariants.{TooLong as LongStopped}
+use Rattle.line_blocks.specs.declared.served.Served.{Served}
+use Rattle.line_blocks.specs.declared.served.Served.TheVariants.{All, ReadFault as ReadStopped, WriteFault as SinkFault}
+use Rattle.line_blocks.specs.declared.served.Served.TheVariants.{TooLong as LongStopped}
 use Rattle.desk_host.specs.SeenStores.{SeenJournals, Logged, no_journals}
 use Rattle.issuer_top.specs.Seen.{Seen, SeenInput}
-use Rattle.line_serving.specs.Answered.{AreAllLines, AreWholeLines, AreLinesBefore, AreFirstLines}
+use Rattle.line_blocks.specs.Answered.{AreAllLines, AreWholeLines, AreLinesBefore, AreFirstLines}
 use Rattle.line_serving.specs.Hosts.{LeavesAnswered, LeavesLoaded}
 use Rattle.issuer_top.specs.Opening.{GivesInput, stop_of}
 use Rattle.command_line.specs.Command.{RequestFile, IsWorld, IsNoCommand}
 use Rattle.desk_host.specs.Loading.{GivesNoHost}
 use Rattle.desk_host.specs.Left.{LeaveJournals}
 use Rattle.desk_host.specs.Shown.{shown_text}
-use Rattle.line_serving.specs.Serving.{ServesLines, Serves, read_failed, write_failed}
+use Rattle.line_blocks.specs.Serving.{ServesLines, Serves, read_failed, write_failed}
 use Rattle.issuer_top.specs.Stopping.{is_broken, GivesStop, EndsServing, written_ending}
 use Rattle.issuer_top.specs.Played.{IsWorldText, GivesText, PlaysBy}
 use Rattle.issuer_top.specs.Opened.{OpenedNoInput, OpenedConfigOnly, OpenedBothInputs}

@@ -27,7 +27,7 @@ use Rattle.issuer_top.specs.declared.ending.Ending.TheVariants.{Done, Stopped, W
 use Rattle.command_line.specs.Command.{RequestFile, IsCommand}
 use Rattle.command_line.specs.Pairs.{value_in}
 use Rattle.issuer_top.specs.Seen.{Told, Seen, SeenInput}
-use Rattle.line_serving.specs.Answered.{AreLinesBefore, WasRead}
+use Rattle.line_blocks.specs.Answered.{AreLinesBefore, WasRead}
 use Rattle.journal_filing.specs.declared.filing.FilingFault.{FilingFault}
 use Rattle.journal_filing.specs.declared.filing.FilingFault.TheVariants.{StoreFault as StoreFails, BadLine as FileLine}
 use Rattle.journal_filing.specs.declared.filing.FilingFault.TheVariants.{NoMemory as NoRoom}

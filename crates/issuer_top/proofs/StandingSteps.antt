@@ -47,7 +47,7 @@ use Rattle.desk_host.proofs.KeptSteps.{begins}
 use Rattle.desk_host.proofs.SeenSteps.{at-place, journal-held, mapped, seen-at, seen-store}
 use Rattle.issuer_base.specs.Tells.{Tells}
 use Rattle.std.proofs.KnownBytes.{Appends-nil}
-use Rattle.line_serving.specs.Answered.{WasRead}
+use Rattle.line_blocks.specs.Answered.{WasRead}
 use Rattle.desk_host.specs.Lawful.{IsLawful}
 use Rattle.command_line.specs.Command.{IsStandby}
 use Rattle.issuer_top.specs.declared.ending.Ending.{Ending}

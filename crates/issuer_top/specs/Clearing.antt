@@ -8,7 +8,7 @@ use Rattle.answer_text.specs.declared.stop_line.Stop.TheVariants.{ReadFault, NoM
 use Rattle.issuer_setup.specs.IssuerSetup.{Setup}
 use Rattle.one_caller.specs.Books.{Book}
 use Rattle.command_line.specs.Command.{IsClear}
-use Rattle.line_serving.specs.Answered.{WasRead, AreAllLines, AreWholeLines, AreLinesBefore, AreFirstLines}
+use Rattle.line_blocks.specs.Answered.{WasRead, AreAllLines, AreWholeLines, AreLinesBefore, AreFirstLines}
 use Rattle.filed_records.specs.declared.filed.Filed.{Filed}
 use Rattle.clearing_text.specs.ClearText.{clear_text, verdicts_text}
 use Rattle.journal_filing.specs.Filing.{filed_records}

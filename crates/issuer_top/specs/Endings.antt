@@ -40,7 +40,7 @@ use Rattle.issuer_top.specs.Exporting.{IsExported, IsExportBegun, CannotReadOn, 
 use Rattle.desk_host.specs.Configuration.{config_stop}
 use Rattle.desk_host.specs.Journals.{old_name, journal_name}
 use Rattle.desk_host.specs.Loading.{GivesNoHost}
-use Rattle.line_serving.specs.Answered.{WasRead, AreAllLines, AreWholeLines, AreLinesBefore, AreFirstLines}
+use Rattle.line_blocks.specs.Answered.{WasRead, AreAllLines, AreWholeLines, AreLinesBefore, AreFirstLines}
 use Rattle.desk_host.specs.Kept.{KeepJournals}
 use Rattle.desk_host.specs.Lawful.{IsLawful}
 use Rattle.desk_host.specs.Left.{LeaveJournals}

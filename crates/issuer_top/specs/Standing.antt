@@ -14,7 +14,7 @@ use Rattle.shard_book.specs.Histories.{GoesOn}
 use Rattle.shard_book.specs.Shards.{IsLoadImage}
 use Rattle.one_caller.specs.Books.{Book, histories_of}
 use Rattle.command_line.specs.Command.{IsStandby}
-use Rattle.line_serving.specs.Answered.{WasRead}
+use Rattle.line_blocks.specs.Answered.{WasRead}
 use Rattle.standby_node.specs.Standing.{IsReplicaBetween}
 use Rattle.standby_serving.specs.Following.{TakesFeed, counts_text, in_doubt_after}
 use Rattle.standby_serving.specs.declared.follower.Followed.{Followed}

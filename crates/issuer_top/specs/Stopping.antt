@@ -7,8 +7,8 @@ use Rattle.issuer_base.specs.Sink.{AppendsFront}
 use Rattle.answer_text.specs.StopText.{stop_text}
 use Rattle.answer_text.specs.declared.stop_line.Stop.{Stop}
 use Rattle.answer_text.specs.declared.stop_line.Stop.TheVariants.{ReadFault as ReadStop, TooLong as LongStop}
-use Rattle.line_serving.specs.declared.serve.Served.{Served}
-use Rattle.line_serving.specs.declared.serve.Served.TheVariants.{All, ReadFault, WriteFault as SinkFault, TooLong}
+use Rattle.line_blocks.specs.declared.served.Served.{Served}
+use Rattle.line_blocks.specs.declared.served.Served.TheVariants.{All, ReadFault, WriteFault as SinkFault, TooLong}
 use Rattle.journal_filing.specs.Filing.{fault_of}
 use Rattle.journal_export.specs.declared.export.ExportFault.{ExportFault}
 use Rattle.journal_export.specs.declared.export.ExportFault.TheVariants.{WriteFault as SinkBreaks, Unread}

@@ -1,5 +1,4 @@
 -- The lemmas of this crate.
-pub mod ServingSteps
 pub mod AloneSteps
 pub mod TogetherSteps
 pub mod LoadingTogether

@@ -1,13 +1,13 @@
 -- Why opened journals gave no host of several callers, and what is left of them.
-use Rattle.std.proofs.Common.{◌≡◌, ℕ, List, length, Some, sym, subst, arith, ⊎_elim}
-use Rattle.std.specs.Prelude.{map, IfSome}
+use Rattle.std.proofs.Common.{◌≡◌, ℕ, List, Some, sym, subst, arith, ⊎_elim}
+use Rattle.std.specs.Prelude.{IfSome}
 use Rattle.std.proofs.lemmas.Option.{slice_get_within}
 use Rattle.issuer_base.specs.declared.outside.store.Store.{Ghosts}
 use Rattle.issuer_setup.specs.IssuerSetup.{Setup}
 use Rattle.shard_book.specs.declared.replay.LoadFault.{LoadFault}
 use Rattle.one_caller.specs.Loading.{AreOnlyRead}
 use Rattle.host_calls.specs.OpeningLogs.{AllComeBack, HostComesBack}
-use Rattle.desk_host.specs.SeenStores.{Logged, store_seen, journals_seen}
+use Rattle.desk_host.specs.SeenStores.{Logged, journals_seen}
 use Rattle.desk_host.specs.Journals.{old_name, journal_name, HasAllOpened}
 use Rattle.desk_host.specs.Left.{LeavesJournal, LeaveJournals}
 use Rattle.desk_host.specs.Loading.{DeskFaults, GivesNoHost, stop_of_load}

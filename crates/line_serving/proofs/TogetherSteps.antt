@@ -47,7 +47,8 @@ use Rattle.shared_callers.specs.Lanes.{issuer_in, opening_logs, callers_in, HasS
 use Rattle.shared_callers.specs.Lanes.{LanesServe}
 use Rattle.line_serving.specs.Answers.{AreAnsweredTogether, ByCallers}
 use Rattle.desk_host.specs.Configuration.{HasSoundParts}
-use Rattle.line_serving.specs.Hosts.{TakesLine, Settles, LeavesAnswered, LeavesLoaded, IsReadyTogether, HaveAnswered}
+use Rattle.line_blocks.specs.Serving.{TakesLine, Settles}
+use Rattle.line_serving.specs.Hosts.{LeavesAnswered, LeavesLoaded, IsReadyTogether, HaveAnswered}
 use Rattle.desk_host.specs.Journals.{old_name, journal_name, IsOpened, HasAllOpened}
 use Rattle.desk_host.specs.Lawful.{IsLawful}
 use Rattle.desk_host.specs.Kept.{IsRunImage, WasJournal, KeepsJournal, KeepJournals}

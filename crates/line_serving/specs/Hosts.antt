@@ -1,5 +1,5 @@
 -- The hosts that lines are served with: what is asked of each, and what the one of one caller is.
-use Rattle.std.specs.Prelude.{◌≡◌, ⊤, ℕ, ◌<◌, ◌≤◌, false, List, [], ◌∷◌, ◌++◌, length}
+use Rattle.std.specs.Prelude.{◌≡◌, ⊤, ℕ, ◌<◌, ◌≤◌, false, List, []}
 use Rattle.std.specs.List.{flat_map}
 use Rattle.issuer_base.specs.declared.answer.Answer.{Answer}
 use Rattle.issuer_base.specs.declared.outside.store.Store.{Ghosts}
@@ -9,7 +9,9 @@ use Rattle.one_caller.specs.declared.solo.Solo.{Solo}
 use Rattle.one_caller.specs.Books.{Book}
 use Rattle.one_caller.specs.Runs.{HasRun}
 use Rattle.shared_callers.specs.declared.lanes.Lanes.{Lanes}
-use Rattle.shared_callers.specs.declared.lanes.TheConstants.{BLOCK_LINES}
+use Rattle.line_blocks.specs.declared.block.TheConstants.{BLOCK_LINES}
+use Rattle.line_reader.specs.Reading.{unread}
+use Rattle.line_serving.specs.declared.serve.Server.{Server}
 use Rattle.line_serving.specs.declared.hosts.LineHost.{LineHost}
 use Rattle.line_serving.specs.declared.hosts.LineHost.TheVariants.{Alone, Together}
 use Rattle.shared_callers.specs.Lanes.{issuer_in, opening_logs, callers_in, waiting_in, due_in, is_full_in, HasSameHost}
@@ -23,29 +25,7 @@ use Rattle.desk_host.specs.Lawful.{IsLawful}
 use Rattle.desk_host.specs.Left.{LeaveJournals}
 use Rattle.desk_host.specs.SeenStores.{Logged, SeenJournals}
 
--- ---- what a host does
-
--- `Served` says that lines were answered since the host was loaded, with this text, and that these wait
-
--- one line more was taken: of all that were taken the first are answered and the others wait, and the text of answers
--- given meanwhile is due, behind what was due
-pub record TakesLine (Served : List (List ℕ) → List ℕ → List (List ℕ) → Type 0) (lines : List (List ℕ)) (text : List ℕ)
-    (waiting : List (List ℕ))
-    (line was_due is_due : List ℕ) : Type 0 where
-  pub answered : List (List ℕ)
-  pub left : List (List ℕ)
-  pub more : List ℕ
-  pub all : answered ++ left ≡ (lines ++ waiting) ++ line ∷ []
-  pub due : is_due ≡ was_due ++ more
-  pub served : Served answered (text ++ more) left
-
--- all lines that waited are answered, and the text of their answers is due, behind what was due
-pub record Settles (Served : List (List ℕ) → List ℕ → List (List ℕ) → Type 0) (lines : List (List ℕ)) (text : List ℕ)
-    (waiting : List (List ℕ))
-    (was_due is_due : List ℕ) : Type 0 where
-  pub more : List ℕ
-  pub due : is_due ≡ was_due ++ more
-  pub served : Served (lines ++ waiting) (text ++ more) []
+-- ---- what a host leaves
 
 -- what a host of so many callers leaves that answered these lines since its journals were loaded
 pub record LeavesAnswered (count : ℕ) (issuer : Setup) (prefix : List ℕ) (logs : Logged)
@@ -161,3 +141,11 @@ module _ {S : Type 0} {G : Ghosts S} where
     pub callers_are : callers_of host ≡ callers
     pub none_served : HasServed host [] [] [] host
     pub idle : IsIdle host 0
+
+-- ---- the server
+
+-- a server that has read nothing and owes no answer
+pub record IsNew (server : Server) : Type 0 where
+  pub reads_first : server.reader ≡ unread
+  pub none_due : server.block.text.items ≡ []
+  pub no_lines : server.block.lines ≡ 0

@@ -1,5 +1,3 @@
 -- The hosts that lines are served with, and what serving does.
 pub mod Answers
-pub mod Answered
 pub mod Hosts
-pub mod Serving

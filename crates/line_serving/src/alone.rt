@@ -2,14 +2,15 @@
 ghost use Rattle.std.specs.Prelude.{◌≡◌, ◌+◌, ◌<◌, ℕ, List, [], map};
 ghost use Rattle.issuer_setup.specs.IssuerSetup.{Setup};
 ghost use Rattle.line_reader.specs.Reading.{kept};
-ghost use Rattle.shared_callers.specs.declared.lanes.TheConstants.{BLOCK_LINES};
+ghost use Rattle.line_blocks.specs.Serving.{TakesLine};
+ghost use Rattle.line_blocks.specs.declared.block.TheConstants.{BLOCK_LINES};
 ghost use Rattle.desk_host.specs.Configuration.{HasSoundParts};
 ghost use Rattle.desk_host.specs.Journals.{IsReadySolo};
-ghost use Rattle.line_serving.specs.Hosts.{TakesLine, LeavesAnswered, LeavesLoaded, HasAnswered};
+ghost use Rattle.line_serving.specs.Hosts.{LeavesAnswered, LeavesLoaded, HasAnswered};
 ghost use Rattle.desk_host.specs.SeenStores.{Logged, journals_seen};
 
-use crate::block::Block;
 use issuer_base::{Gate, Store};
+use line_blocks::Block;
 use one_caller::Solo;
 use std::sync::Wait;
 

@@ -8,9 +8,9 @@ ghost use Rattle.desk_host.specs.Configuration.{HasSoundParts};
 ghost use Rattle.desk_host.specs.SeenStores.{Logged, journals_seen};
 
 use crate::alone::{answer_at_once, close_alone};
-use crate::block::Block;
 use crate::together::{close_together, settle_together};
 use issuer_base::{Gate, Store};
+use line_blocks::Block;
 use one_caller::Solo;
 use shared_callers::Lanes;
 use std::sync::Wait;
@@ -25,7 +25,8 @@ pub enum LineHost<S: Store> {
 }
 
 impl<S: Store> LineHost<S> {
-    ghost use Rattle.line_serving.specs.Hosts.{TakesLine, Settles, LeavesAnswered, LeavesLoaded, callers_of, IsReady};
+    ghost use Rattle.line_blocks.specs.Serving.{TakesLine, Settles};
+    ghost use Rattle.line_serving.specs.Hosts.{LeavesAnswered, LeavesLoaded, callers_of, IsReady};
     ghost use Rattle.line_serving.specs.Hosts.{HasServed, MaySettle, HasRoom, IsSettled};
 
     /// Whether no other line is taken before the lines that wait are settled and the answers of the block are written.

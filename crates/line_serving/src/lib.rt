@@ -2,13 +2,11 @@
 #![tactic(auto)]
 
 mod alone;
-mod block;
 mod hosts;
 mod loading;
 mod serve;
 mod together;
 
-pub use block::Block;
 pub use hosts::LineHost;
 pub use loading::load_host;
-pub use serve::{Served, Server};
+pub use serve::Server;

@@ -4,9 +4,9 @@ ghost use Rattle.issuer_base.specs.OutsideFaults.{Rose, CountsFaults};
 ghost use Rattle.issuer_base.specs.declared.limits.TheConstants.{KEPT_BYTES};
 ghost use Rattle.line_reader.specs.Reading.{kept};
 
-use crate::block::Block;
 use crate::hosts::LineHost;
 use issuer_base::{Gate, NoMemory, Sink, Source, Store, WriteFault};
+use line_blocks::{Block, Served};
 use line_reader::{LineReader, NextLine};
 use std::alloc::Global;
 use std::sync::Wait;
@@ -19,26 +19,10 @@ pub struct Server {
     pub(crate) block: Block,
 }
 
-/// How serving ended.
-#[derive(Clone, Copy)]
-pub enum Served {
-    /// All lines were answered.
-    All,
-    /// The input failed.
-    ReadFault,
-    /// The sink failed.
-    WriteFault,
-    /// The input goes past a limit.
-    TooLong {
-        /// The number of the line, from 1, in which it does.
-        line: u64,
-    },
-}
-
 impl Server {
-    ghost use Rattle.line_serving.specs.Hosts.{TakesLine, HasServed, MaySettle, HasRoom, IsSettled, IsIdle};
-    ghost use Rattle.line_serving.specs.Serving.{IsNew, Serves, WritesAnswers, WritesDue, Finishes, read_failed};
-    ghost use Rattle.line_serving.specs.Serving.{write_failed};
+    ghost use Rattle.line_blocks.specs.Serving.{TakesLine, Serves, WritesAnswers, WritesDue, Finishes, read_failed};
+    ghost use Rattle.line_blocks.specs.Serving.{write_failed};
+    ghost use Rattle.line_serving.specs.Hosts.{IsNew, HasServed, MaySettle, HasRoom, IsSettled, IsIdle};
 
     /// All the memory that serving takes.
     pub fn new(alloc: Global) -> Result<Self, NoMemory>

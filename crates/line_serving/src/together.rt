@@ -5,12 +5,13 @@ ghost use Rattle.line_reader.specs.declared.limits.TheConstants.{MAX_LINES};
 ghost use Rattle.line_reader.specs.Reading.{kept};
 ghost use Rattle.shared_callers.specs.Lanes.{callers_in, waiting_in};
 ghost use Rattle.desk_host.specs.Configuration.{HasSoundParts};
-ghost use Rattle.line_serving.specs.Hosts.{Settles, LeavesAnswered, LeavesLoaded, IsReadyTogether, HaveAnswered};
+ghost use Rattle.line_blocks.specs.Serving.{Settles};
+ghost use Rattle.line_serving.specs.Hosts.{LeavesAnswered, LeavesLoaded, IsReadyTogether, HaveAnswered};
 ghost use Rattle.line_serving.specs.Hosts.{OwesNone, TakesMore};
 ghost use Rattle.desk_host.specs.SeenStores.{Logged, journals_seen};
 
-use crate::block::Block;
 use issuer_base::{Gate, Store};
+use line_blocks::Block;
 use shared_callers::Lanes;
 use std::sync::Wait;
 use std::thread::Threads;

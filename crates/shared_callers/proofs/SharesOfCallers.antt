@@ -1,5 +1,5 @@
 -- What the laws state of callers, said of their shares of the lines.
-use Rattle.std.proofs.Common.{◌≡◌, ◌≢◌, ◌⊎◌, ◌+◌, ◌<◌, ◌≤◌, ℕ, zero, suc, List, [], ◌∷◌, length, map}
+use Rattle.std.proofs.Common.{◌≡◌, ◌≢◌, ◌⊎◌, ◌+◌, ◌<◌, ◌≤◌, ℕ, zero, suc, List, [], ◌∷◌, length}
 use Rattle.std.proofs.Common.{None, Some, refl, sym, ap, subst, ◌∙◌, inl, inr}
 use Rattle.std.proofs.lemmas.List.{length-map}
 use Rattle.std.specs.Prelude.{slice_get}
@@ -13,14 +13,12 @@ use Rattle.issuer_setup.specs.IssuerSetup.{Setup, shard_of}
 use Rattle.line_checks.specs.Reading.{reading}
 use Rattle.shared_seats.specs.Totals.{total, how_many}
 use Rattle.turn_book.specs.declared.logs.Log.{Log}
-use Rattle.turn_book.specs.Logs.{items_at}
 use Rattle.shared_shards.specs.declared.logs.LogItem.{LogItem}
 use Rattle.shared_shards.specs.declared.logs.LogHead.{LogHead}
-use Rattle.shared_shards.specs.ShardLogs.{faults_of}
 use Rattle.one_caller.specs.OneHistory.{IsAnswered}
 use Rattle.shared_callers.specs.Callers.{Caller}
 use Rattle.shared_callers.specs.Explained.{Explains, AreAnsweredInOrder, AreExplained, IsDecidedOn, history_at, histories_in}
-use Rattle.shared_callers.specs.FaultCounts.{AreFaultsCounted, all_answers}
+use Rattle.shared_callers.specs.FaultCounts.{AreFaultsCounted}
 use Rattle.shared_callers.specs.OwnPlaces.{is_record_at, faults_told, faults_at, AreOwnPlaces, IsPending, LinePasses}
 use Rattle.shared_callers.specs.OwnPlaces.{all_faults_told, answers_at}
 use Rattle.shared_callers.specs.Settled.{AreSettled, IsDecidedNow, IsLeft}
@@ -30,7 +28,7 @@ use Rattle.shared_callers.proofs.CallersAnswers.{AreDealtToCallers, share_of, sh
 use Rattle.shared_callers.proofs.CallersAnswers.{IsCallersAnswerOn, AreCallersExplained, AreCallersOwnPlaces}
 use Rattle.shared_callers.proofs.CallersAnswers.{IsCallersPending, CallersLinePasses, AreCallersSettled}
 use Rattle.shared_callers.proofs.CallersAnswers.{IsCallersDecidedNow, IsCallersLeft, AreCallersFaultsCounted}
-use Rattle.shared_callers.proofs.CallersAnswers.{all_callers_faults, callers_answers, callers_answers_at}
+use Rattle.shared_callers.proofs.CallersAnswers.{all_callers_faults, callers_answers_at}
 
 share-at : (callers : List Caller) (number : ℕ) (caller : Caller) → slice_get callers number ≡ Some caller
     → slice_get (shares_of callers) number ≡ Some (share_of caller)

@@ -3,7 +3,7 @@ ghost use Rattle.std.specs.Prelude.{◌≡◌, ℕ, ◌<◌, ◌≤◌, ◌+◌,
 ghost use Rattle.issuer_base.specs.declared.answer.Answer.{Answer};
 ghost use Rattle.issuer_base.specs.declared.limits.TheConstants.{KEPT_BYTES};
 ghost use Rattle.shared_callers.specs.Seated.{AreSeated, IsPlain};
-ghost use Rattle.shared_callers.specs.declared.lanes.TheConstants.{BLOCK_LINES};
+ghost use Rattle.line_blocks.specs.declared.block.TheConstants.{BLOCK_LINES};
 
 use crate::dealer::Dealer;
 use host_calls::{Host, Pass};
@@ -11,9 +11,6 @@ use issuer_base::{Answer, Gate, Store};
 use issuer_setup::Issuer;
 use std::sync::Wait;
 use std::thread::Threads;
-
-/// The most lines that may wait before they are answered.
-pub const BLOCK_LINES: usize = 1_024;
 
 /// Several callers of one host, to which lines are dealt in turns. Line k of the run, from 1, goes to caller (k - 1)
 /// mod N of N callers. The callers answer the waiting lines concurrently, each its own in their order. The answers are

@@ -10,4 +10,4 @@ mod load;
 mod slots;
 
 pub use host_calls::{HostBack, LoadFault};
-pub use lanes::{BLOCK_LINES, Lanes};
+pub use lanes::Lanes;

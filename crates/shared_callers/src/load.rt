@@ -6,14 +6,15 @@ ghost use Rattle.one_caller.specs.Loading.{AreOnlyRead};
 ghost use Rattle.shared_shards.specs.ShardSeats.{opening_in};
 ghost use Rattle.shared_callers.specs.OneLane.{IsNewLane};
 ghost use Rattle.shared_callers.specs.Seated.{AreSeated};
-ghost use Rattle.shared_callers.specs.declared.lanes.TheConstants.{BLOCK_LINES};
+ghost use Rattle.line_blocks.specs.declared.block.TheConstants.{BLOCK_LINES};
 
 use crate::dealer::{Dealer, Progress};
 use crate::lane::{Lane, LaneRoom};
-use crate::lanes::{BLOCK_LINES, Lanes};
+use crate::lanes::Lanes;
 use host_calls::{Host, HostBack, LoadFault, Pass};
 use issuer_base::{NoMemory, Store};
 use issuer_setup::Issuer;
+use line_blocks::BLOCK_LINES;
 use std::alloc::Global;
 
 /// The memory of all lanes.

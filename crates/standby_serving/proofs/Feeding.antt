@@ -18,7 +18,7 @@ use Rattle.line_reader.proofs.LineLaws.{BeginsWithLines-given, flat_map-ended_pu
 use Rattle.line_reader.proofs.WholeLines.{HasGivenLines-unread, HasGivenLines-line, IsLinesAndRest-rest}
 use Rattle.line_reader.proofs.WholeLines.{IsLinesAndRest-end, IsLinesAndRest-fault, PassesLimit-stopped}
 use Rattle.line_reader.proofs.WholeLines.{lines-end_reached, lines-rest_given}
-use Rattle.desk_host.proofs.InputFronts.{front-read}
+use Rattle.line_blocks.proofs.InputFronts.{front-read}
 use Rattle.one_caller.specs.Hosts.{AreShards}
 use Rattle.standby_node.specs.declared.line.FeedFault.{FeedFault}
 use Rattle.standby_node.specs.declared.line.FeedFault.TheVariants.{BadFeed as BadLine, StoreFault as StoreFails}

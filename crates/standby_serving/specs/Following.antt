@@ -10,7 +10,7 @@ use Rattle.answer_text.specs.CountText.{count_text}
 use Rattle.issuer_setup.specs.IssuerSetup.{Setup}
 use Rattle.line_reader.specs.Lines.{lines}
 use Rattle.line_reader.specs.Reading.{IsWithinLimits, unread}
-use Rattle.line_serving.specs.Answered.{WasRead, AreLinesBefore}
+use Rattle.line_blocks.specs.Answered.{WasRead, AreLinesBefore}
 use Rattle.standby_node.specs.declared.line.FeedFault.{FeedFault}
 use Rattle.standby_node.specs.declared.line.FeedFault.TheVariants.{BadFeed as BadLine, StoreFault as StoreFails}
 use Rattle.standby_node.specs.declared.standby.Standby.{Standby}

@@ -11,8 +11,8 @@ use answer_text::{LINE_ROOM, write_count};
 use arrayvec::ArrayVec;
 use issuer_base::{NoMemory, Sink, Source, Store, WriteFault};
 use issuer_setup::Issuer;
+use line_blocks::Block;
 use line_reader::{LineReader, NextLine};
-use line_serving::Block;
 use standby_node::{FeedFault, Standby};
 use std::alloc::Global;
 

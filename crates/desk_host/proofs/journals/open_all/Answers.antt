@@ -1,9 +1,8 @@
 -- One journal more is opened, or not.
-use Rattle.std.proofs.Common.{◌≡◌, ◌+◌, sym, ap, subst, ◌∙◌, arith, rules, length, refl, inl, inr, ⊎_elim}
-use Rattle.issuer_base.specs.OutsideFaults.{CountsFaults, Rose}
+use Rattle.std.proofs.Common.{◌+◌, sym, ap, subst, ◌∙◌, arith, rules, length}
 use Rattle.desk_host.specs.Journals.{file_name, AreOpened}
 use Rattle.desk_host.proofs.LoadingSteps.{cannot-open}
-use Rattle.desk_host.proofs.JournalSteps.{names-apart, opened-more, opened-none, length-more}
+use Rattle.desk_host.proofs.JournalSteps.{names-apart, opened-more, length-more}
 use Rattle.desk_host.proofs.journals.open_all.Goals as goal
 
 pub loop-shard-preserved : goal.loop-shard-preserved

@@ -2,7 +2,8 @@
 use Rattle.std.proofs.Common.{◌++◌, ◌∙◌, [], sym, subst, arith}
 use Rattle.std.proofs.lemmas.List.{append-nil}
 use Rattle.shared_callers.specs.declared.lanes.Lanes.{Lanes}
-use Rattle.line_serving.specs.Hosts.{HaveAnswered, Settles}
+use Rattle.line_blocks.specs.Serving.{Settles}
+use Rattle.line_serving.specs.Hosts.{HaveAnswered}
 use Rattle.line_serving.proofs.TogetherSteps.{takes-answer, settles-together}
 use Rattle.line_serving.proofs.together.settle_together.Goals as goal
 

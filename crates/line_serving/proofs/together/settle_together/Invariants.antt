@@ -1,6 +1,6 @@
 -- Taking the answers, one at a time.
 use Rattle.std.proofs.Common.{◌≡◌, ◌+◌, ◌≤◌, List, ℕ}
-use Rattle.shared_callers.specs.declared.lanes.TheConstants.{BLOCK_LINES}
+use Rattle.line_blocks.specs.declared.block.TheConstants.{BLOCK_LINES}
 use Rattle.shared_callers.specs.Lanes.{waiting_in, due_in}
 use Rattle.line_serving.specs.Hosts.{HaveAnswered}
 use Rattle.line_serving.proofs.TogetherSteps.{AreBeingTaken}

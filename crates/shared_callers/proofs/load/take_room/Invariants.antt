@@ -1,6 +1,6 @@
 -- The rooms so far are allocated, each for its number of lines.
 use Rattle.std.proofs.Common.{◌≡◌, ◌≤◌, ◌/◌, All, vec_len, vec_capacity}
-use Rattle.shared_callers.specs.declared.lanes.TheConstants.{BLOCK_LINES}
+use Rattle.line_blocks.specs.declared.block.TheConstants.{BLOCK_LINES}
 use Rattle.shared_callers.proofs.load.take_room.Given as goal
 
 abbrev pub invariant-loop : goal.invariant-loop

@@ -1,7 +1,7 @@
 -- The first open records are put into blocks.
 use Rattle.std.proofs.Common.{◌≡◌, ◌≤◌, map, take}
 use Rattle.std.specs.List.{flat_map}
-use Rattle.shared_callers.specs.declared.lanes.TheConstants.{BLOCK_LINES}
+use Rattle.line_blocks.specs.declared.block.TheConstants.{BLOCK_LINES}
 use Rattle.filed_records.specs.Records.{opens, place_of}
 use Rattle.clearing_text.specs.ClearText.{open_text}
 use Rattle.clearing_serving.proofs.Closing.{IsPut}

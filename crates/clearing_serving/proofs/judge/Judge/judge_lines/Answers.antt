@@ -1,7 +1,7 @@
 -- Judging goes on by a line, and ends in one of its ways.
 use Rattle.std.proofs.Common.{rules, refl, ◌∙◌}
-use Rattle.line_serving.proofs.ServingSteps.{read-none, read-line, read-rest, read-end, read-on}
-use Rattle.line_serving.proofs.ServingSteps.{serves-file, serves-broken_line, serves-fault, serves-limit}
+use Rattle.line_blocks.proofs.ServingSteps.{read-none, read-line, read-rest, read-end, read-on}
+use Rattle.line_blocks.proofs.ServingSteps.{serves-file, serves-broken_line, serves-fault, serves-limit}
 use Rattle.clearing_serving.proofs.Judged.{finishes, judged-more, judged-none, writes-due}
 use Rattle.clearing_serving.proofs.judge.Judge.judge_lines.Goals as goal
 

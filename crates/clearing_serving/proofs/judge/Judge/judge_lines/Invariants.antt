@@ -1,8 +1,8 @@
 -- Judging, a line at a time.
 use Rattle.std.proofs.Common.{◌≡◌, ◌<◌, ◌-◌}
 use Rattle.line_reader.specs.declared.limits.TheConstants.{MAX_LINES}
-use Rattle.shared_callers.specs.declared.lanes.TheConstants.{BLOCK_LINES}
-use Rattle.line_serving.proofs.ServingSteps.{HasRead}
+use Rattle.line_blocks.specs.declared.block.TheConstants.{BLOCK_LINES}
+use Rattle.line_blocks.proofs.ServingSteps.{HasRead}
 use Rattle.clearing_serving.specs.Clearing.{HasJudged}
 use Rattle.clearing_serving.proofs.judge.Judge.judge_lines.Given as goal
 

@@ -2,7 +2,7 @@
 use Rattle.std.proofs.Common.{refl, ◌∙◌, subst}
 use Rattle.line_serving.specs.Hosts.{HasServed}
 use Rattle.issuer_top.specs.Opening.{GivesInput}
-use Rattle.line_serving.proofs.ServingSteps.{AnswersAll}
+use Rattle.line_blocks.proofs.ServingSteps.{AnswersAll}
 use Rattle.issuer_top.proofs.EndingSteps.{gives_input, ends_unserved, ends_no_requests, ends_serving}
 use Rattle.issuer_top.proofs.Statuses.{ends-as}
 use Rattle.issuer_top.proofs.top_call.Run.serve_requests.Goals as goal

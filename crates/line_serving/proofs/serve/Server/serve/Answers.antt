@@ -1,8 +1,8 @@
 -- Serving goes on by a line, and ends in one of its ways.
 use Rattle.std.proofs.Common.{rules, refl, ◌∙◌}
-use Rattle.line_serving.proofs.ServingSteps.{kept-given, read-none, read-line, read-rest, read-end, read-on}
-use Rattle.line_serving.proofs.ServingSteps.{serves-file, serves-broken_line, serves-fault}
-use Rattle.line_serving.proofs.ServingSteps.{serves-limit}
+use Rattle.line_blocks.proofs.ServingSteps.{kept-given, read-none, read-line, read-rest, read-end, read-on}
+use Rattle.line_blocks.proofs.ServingSteps.{serves-file, serves-broken_line, serves-fault}
+use Rattle.line_blocks.proofs.ServingSteps.{serves-limit}
 use Rattle.line_serving.proofs.serve.Server.serve.Goals as goal
 
 pub loop-self-init : goal.loop-self-init

@@ -3,7 +3,7 @@ use Rattle.std.proofs.Common.{◌≡◌, ◌-◌, []}
 use Rattle.line_reader.specs.declared.limits.TheConstants.{MAX_LINES}
 use Rattle.line_serving.specs.declared.hosts.LineHost.{LineHost}
 use Rattle.line_serving.specs.Hosts.{HasServed, MaySettle, HasRoom}
-use Rattle.line_serving.proofs.ServingSteps.{HasRead}
+use Rattle.line_blocks.proofs.ServingSteps.{HasRead}
 use Rattle.line_serving.proofs.serve.Server.serve.Given as goal
 
 abbrev pub invariant-loop-self : goal.invariant-loop-self

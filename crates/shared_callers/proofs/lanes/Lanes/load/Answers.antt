@@ -2,7 +2,7 @@
 use Rattle.std.proofs.Common.{◌≡◌, ◌*◌, ◌/◌, ◌<◌, ◌≤◌, [], vec_len, inl, rules, refl, sym, subst, ap, ◌∙◌}
 use Rattle.shared_shards.specs.ShardSeats.{opening_in}
 use Rattle.one_caller.proofs.Loads.{none-loaded, none-read}
-use Rattle.shared_callers.specs.declared.lanes.TheConstants.{BLOCK_LINES}
+use Rattle.line_blocks.specs.declared.block.TheConstants.{BLOCK_LINES}
 use Rattle.shared_callers.proofs.Opening.{opened-plain}
 use Rattle.shared_callers.proofs.Seating.{seated-none, new-in-turns, new-all-served, rooms-all, room-some, room-most}
 use Rattle.shared_callers.proofs.lanes.Lanes.load.Goals as goal

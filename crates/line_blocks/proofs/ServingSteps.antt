@@ -17,12 +17,11 @@ use Rattle.line_reader.proofs.LineLaws.{lines-begins, length-begins, BeginsWithL
 use Rattle.line_reader.proofs.WholeLines.{HasGivenLines-unread, HasGivenLines-line, IsLinesAndRest-rest}
 use Rattle.line_reader.proofs.WholeLines.{IsLinesAndRest-end, IsLinesAndRest-fault}
 use Rattle.line_reader.proofs.WholeLines.{lines-rest_given, lines-end_reached, PassesLimit-stopped}
-use Rattle.desk_host.proofs.InputFronts.{front-read}
-use Rattle.line_serving.specs.declared.serve.Served.{Served}
-use Rattle.line_serving.specs.declared.serve.Served.TheVariants.{All, ReadFault, TooLong}
-use Rattle.line_serving.specs.Answered.{WasRead, AreWholeLines, AreLinesBefore, AreFirstLines}
-use Rattle.line_serving.specs.Hosts.{TakesLine}
-use Rattle.line_serving.specs.Serving.{ServesLines, Serves, WritesDue, Finishes}
+use Rattle.line_blocks.proofs.InputFronts.{front-read}
+use Rattle.line_blocks.specs.declared.served.Served.{Served}
+use Rattle.line_blocks.specs.declared.served.Served.TheVariants.{All, ReadFault, TooLong}
+use Rattle.line_blocks.specs.Answered.{WasRead, AreWholeLines, AreLinesBefore, AreFirstLines}
+use Rattle.line_blocks.specs.Serving.{TakesLine, ServesLines, Serves, WritesDue, Finishes}
 
 -- ---- what an input had
 

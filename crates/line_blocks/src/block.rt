@@ -5,13 +5,15 @@ ghost use Rattle.issuer_base.specs.OutsideFaults.{CountsFaults};
 ghost use Rattle.issuer_base.specs.Sink.{WritesAll};
 ghost use Rattle.answer_text.specs.AnswerText.{printed};
 ghost use Rattle.answer_text.specs.declared.words.TheConstants.{LINE_ROOM};
-ghost use Rattle.line_serving.specs.declared.block.TheConstants.{BLOCK_ROOM};
+ghost use Rattle.line_blocks.specs.declared.block.TheConstants.{BLOCK_LINES, BLOCK_ROOM};
 
 use answer_text::{LINE_ROOM, write_answer};
 use arrayvec::ArrayVec;
 use issuer_base::{Answer, NoMemory, Sink, WriteFault, write_all};
-use shared_callers::BLOCK_LINES;
 use std::alloc::Global;
+
+/// How many lines a block has, at most; so many lines may wait before they are answered.
+pub const BLOCK_LINES: usize = 1_024;
 
 /// How many bytes their answers have, at most.
 const BLOCK_ROOM: usize = BLOCK_LINES * LINE_ROOM;
@@ -49,7 +51,7 @@ impl Block {
     }
 
     /// Puts an answer behind those that are there.
-    pub(crate) fn add(&mut self, answer: &Answer)
+    pub fn add(&mut self, answer: &Answer)
         requires { self.old.lines < BLOCK_LINES }
         ensures text { self.new.text.items ≡ self.old.text.items ++ printed answer.now }
         ensures lines { self.new.lines ≡ self.old.lines + 1 }

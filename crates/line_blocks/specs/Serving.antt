@@ -1,20 +1,12 @@
 -- What serving a file of request lines does, from its first line on.
-use Rattle.std.specs.Prelude.{◌≡◌, ◌⊎◌, ℕ, Bool, true, false, List, [], ◌++◌, Option, Result, Ok}
+use Rattle.std.specs.Prelude.{◌≡◌, ◌⊎◌, ℕ, Bool, true, false, List, [], ◌∷◌, ◌++◌, Option, Result, Ok}
 use Rattle.std.specs.Io.KnownBytes.{Appends}
 use Rattle.issuer_base.specs.declared.faults.WriteFault.{WriteFault}
 use Rattle.issuer_base.specs.Sink.{AppendsFront, WritesAll}
 use Rattle.issuer_base.specs.Tells.{Tells}
-use Rattle.line_reader.specs.Reading.{unread}
-use Rattle.line_serving.specs.declared.serve.Server.{Server}
-use Rattle.line_serving.specs.declared.serve.Served.{Served}
-use Rattle.line_serving.specs.declared.serve.Served.TheVariants.{All, ReadFault, WriteFault as SinkFault, TooLong}
-use Rattle.line_serving.specs.Answered.{WasRead, AreAllLines, AreWholeLines, AreLinesBefore, AreFirstLines}
-
--- a server that has read nothing and owes no answer
-pub record IsNew (server : Server) : Type 0 where
-  pub reads_first : server.reader ≡ unread
-  pub none_due : server.block.text.items ≡ []
-  pub no_lines : server.block.lines ≡ 0
+use Rattle.line_blocks.specs.declared.served.Served.{Served}
+use Rattle.line_blocks.specs.declared.served.Served.TheVariants.{All, ReadFault, WriteFault as SinkFault, TooLong}
+use Rattle.line_blocks.specs.Answered.{WasRead, AreAllLines, AreWholeLines, AreLinesBefore, AreFirstLines}
 
 -- lines were answered, and their answers written: `Which` says which lines, of the file and of what was read of it,
 -- `Answered` with which text, and `Written` what the sink took
@@ -43,6 +35,30 @@ Serves Answered was now held_before held_after SinkFault =
     ServesLines AreFirstLines Answered (AppendsFront held_before held_after) was now
 Serves Answered was now held_before held_after (TooLong number) =
     ServesLines (λ file read asked. AreLinesBefore number read asked) Answered (Appends held_before held_after) was now
+
+-- ---- what is done with a line
+
+-- `Served` says that lines were answered since the host was loaded, with this text, and that these wait
+
+-- one line more was taken: of all that were taken the first are answered and the others wait, and the text of answers
+-- given meanwhile is due, behind what was due
+pub record TakesLine (Served : List (List ℕ) → List ℕ → List (List ℕ) → Type 0) (lines : List (List ℕ)) (text : List ℕ)
+    (waiting : List (List ℕ))
+    (line was_due is_due : List ℕ) : Type 0 where
+  pub answered : List (List ℕ)
+  pub left : List (List ℕ)
+  pub more : List ℕ
+  pub all : answered ++ left ≡ (lines ++ waiting) ++ line ∷ []
+  pub due : is_due ≡ was_due ++ more
+  pub served : Served answered (text ++ more) left
+
+-- all lines that waited are answered, and the text of their answers is due, behind what was due
+pub record Settles (Served : List (List ℕ) → List ℕ → List (List ℕ) → Type 0) (lines : List (List ℕ)) (text : List ℕ)
+    (waiting : List (List ℕ))
+    (was_due is_due : List ℕ) : Type 0 where
+  pub more : List ℕ
+  pub due : is_due ≡ was_due ++ more
+  pub served : Served (lines ++ waiting) (text ++ more) []
 
 -- ---- lines that wait, and answers that are due
 

@@ -1,0 +1,3 @@
+-- Which lines of an input were answered, and what serving them does.
+pub mod Answered
+pub mod Serving

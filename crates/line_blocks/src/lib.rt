@@ -1,0 +1,8 @@
+//! Lines of text that are written in blocks, and what is sure of an input whose lines are answered so.
+#![tactic(auto)]
+
+mod block;
+mod served;
+
+pub use block::{BLOCK_LINES, Block};
+pub use served::Served;
