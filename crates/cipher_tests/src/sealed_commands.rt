@@ -3,7 +3,8 @@
 
 use des_block::Key16;
 use issuer_base::Suite;
-use secure_msg::{is_batch, read_command, seal, template, template_of, unseal};
+use script_commands::read_command;
+use secure_msg::{is_batch, seal, template, template_of, unseal};
 use std::test::Fail;
 
 /// The suite, the key, the chaining value, the command, and the sealed command.

@@ -18,8 +18,8 @@ use Rattle.issuer_base.specs.declared.command.Command.{Command}
 use Rattle.issuer_base.specs.declared.answer.Reply.{Reply}
 use Rattle.issuer_base.specs.declared.entry.Entry.{Entry}
 use Rattle.issuer_base.specs.declared.entry.Entry.TheVariants.{Decided, Queued, Status}
-use Rattle.secure_msg.specs.Commands.{command_of, AreBytesOf}
-use Rattle.secure_msg.proofs.Forms.{command_of-Some, command_of-AreBytesOf}
+use Rattle.script_commands.specs.Commands.{command_of, AreBytesOf}
+use Rattle.script_commands.proofs.Forms.{command_of-Some, command_of-AreBytesOf}
 use Rattle.journal_rec.specs.declared.limits.TheConstants.{COMMAND_BYTES}
 use Rattle.journal_rec.specs.RecordText.{pan_bytes, request_bytes, space, words_of}
 use Rattle.journal_rec.specs.Record.{IsCommand, IsRecord, IsReply, IsRequest}

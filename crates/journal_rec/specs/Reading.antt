@@ -12,7 +12,7 @@ use Rattle.issuer_base.specs.declared.request.Parts.{Parts}
 use Rattle.issuer_base.specs.declared.answer.Reply.{Reply}
 use Rattle.issuer_base.specs.declared.entry.Entry.{Entry}
 use Rattle.issuer_base.specs.declared.entry.Entry.TheVariants.{Decided, Queued, Status}
-use Rattle.secure_msg.specs.Commands.{command_of}
+use Rattle.script_commands.specs.Commands.{command_of}
 use Rattle.journal_rec.specs.declared.limits.TheConstants.{COMMAND_BYTES, PAN_DIGITS}
 use Rattle.journal_rec.specs.RecordText.{space}
 

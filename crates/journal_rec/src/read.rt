@@ -7,7 +7,7 @@ ghost use Rattle.journal_rec.specs.Reading.{approval_at, after_letter, card_at, 
 use crate::limits::COMMAND_BYTES;
 use crate::line::Line;
 use issuer_base::{Entry, NotEntry, Pan, Parts, Reply, Request, is_decimal};
-use secure_msg::read_command;
+use script_commands::read_command;
 
 /// Parses a line, without its newline, as a record. The error `NotEntry` means that the line is that of no record.
 pub fn read_entry(line: &[u8]) -> Result<Entry, NotEntry>

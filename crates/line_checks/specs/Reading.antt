@@ -19,7 +19,7 @@ use Rattle.chip_request.specs.LineParts.{line_of}
 use Rattle.chip_request.specs.Reading.{request_of}
 use Rattle.key_derive.specs.declared.card.CardKeys.{CardKeys}
 use Rattle.cryptogram_in.specs.Cryptogram.{application_cryptogram}
-use Rattle.secure_msg.specs.Commands.{command_of}
+use Rattle.script_commands.specs.Commands.{command_of}
 use Rattle.issuer_setup.specs.CardList.{number_of}
 use Rattle.issuer_setup.specs.IssuerSetup.{Setup, keys_of}
 

@@ -3,7 +3,7 @@ ghost use Rattle.std.specs.Prelude.{◌≡◌, ◌≢◌, ◌≤◌, IfOk, IfErr
 ghost use Rattle.std.specs.Result.{result_map_both};
 ghost use Rattle.card_history.specs.Records.{named};
 ghost use Rattle.issuer_base.specs.declared.answer.Refusal.TheVariants.{BadCryptogram};
-ghost use Rattle.secure_msg.specs.Commands.{command_of};
+ghost use Rattle.script_commands.specs.Commands.{command_of};
 ghost use Rattle.issuer_setup.specs.CardList.{number_of};
 ghost use Rattle.line_checks.specs.Reading.{command_for, status_for};
 ghost use Rattle.line_checks.specs.AtHand.{order_asked, IsOrderAtHand};
@@ -11,7 +11,7 @@ ghost use Rattle.line_checks.specs.AtHand.{order_asked, IsOrderAtHand};
 use crate::checked::{CheckedCommand, CheckedOrder, CheckedStatus};
 use issuer_base::{MAX_STATUS, Pan, Refusal};
 use issuer_setup::Issuer;
-use secure_msg::read_command;
+use script_commands::read_command;
 
 /// Parses the bytes as an issuer script command for the card with this account and sequence number.
 pub(crate) fn check_command(

@@ -20,8 +20,8 @@ use Rattle.chip_request.specs.Lines.{ReadsAs}
 use Rattle.chip_request.specs.Reading.{request_of}
 use Rattle.chip_request.proofs.LineLaws.{line_reads}
 use Rattle.key_derive.specs.declared.card.CardKeys.{CardKeys}
-use Rattle.secure_msg.specs.Commands.{command_of}
-use Rattle.secure_msg.proofs.Forms.{command_of-Some}
+use Rattle.script_commands.specs.Commands.{command_of}
+use Rattle.script_commands.proofs.Forms.{command_of-Some}
 use Rattle.issuer_setup.specs.CardList.{number_of}
 use Rattle.issuer_setup.specs.IssuerSetup.{Setup, keys_of, shard_of}
 use Rattle.issuer_setup.proofs.Shards.{shard_of-known}

@@ -1,5 +1,4 @@
 -- The laws of this crate.
-pub mod Forms
 pub mod Opening
 pub mod Batches
 pub mod PinBlocks

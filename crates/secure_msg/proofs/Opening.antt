@@ -7,9 +7,9 @@ use Rattle.std.specs.Option.{is_some}
 use Rattle.std.proofs.lemmas.Bool.{false≢true}
 use Rattle.issuer_base.specs.declared.command.Command.{Command}
 use Rattle.issuer_base.specs.declared.request.Suite.{Suite}
-use Rattle.secure_msg.specs.Commands.{command_of, AreBytesOf}
+use Rattle.script_commands.specs.Commands.{command_of, AreBytesOf}
 use Rattle.secure_msg.specs.Sealing.{command_mac, sealed_command, unsealed_bytes, if_sealed, opened_command, AreSealed}
-use Rattle.secure_msg.proofs.Forms.{command_of-Some, command_of-AreBytesOf}
+use Rattle.script_commands.proofs.Forms.{command_of-Some, command_of-AreBytesOf}
 use Rattle.std.proofs.lemmas.Slice.Eq.{bytes_eq-Decides}
 use Rattle.std.proofs.lemmas.Option.{cond_some}
 use Rattle.std.proofs.lemmas.List.{take_at}

@@ -1,5 +1,4 @@
 -- The definitions that the contracts of this crate cite.
-pub mod Commands
 pub mod Sealing
 pub mod Batch
 pub mod Pins

@@ -5,13 +5,13 @@ ghost use Rattle.issuer_base.specs.declared.command.Command.{Command};
 ghost use Rattle.issuer_base.specs.declared.request.Suite.{Suite};
 ghost use Rattle.issuer_base.specs.ScriptCommand.{is_command};
 ghost use Rattle.suite_mac.specs.SuiteRun.{IsRun};
-ghost use Rattle.secure_msg.specs.Commands.{command_of};
+ghost use Rattle.script_commands.specs.Commands.{command_of};
 ghost use Rattle.secure_msg.specs.Sealing.{sent_bytes, command_mac, sealed_command, unsealed_bytes, opened_command, AreSealed};
 
-use crate::reading::command_with;
 use arrayvec::ArrayVec;
 use des_block::Key16;
 use issuer_base::{Command, MAX_BODY_BYTES, Suite};
+use script_commands::command_of_parts;
 use suite_mac::SuiteRun;
 
 /// How many bytes precede the data of a command that is sent: class, instruction, two parameters and Lc.
@@ -98,7 +98,7 @@ pub fn unseal(
 }
 
 /// The command of the bytes without Lc and MAC, which aren't checked.
-#[tactic(auto, unfolding(crate::specs::Commands::command_of))]
+#[tactic(auto, unfolding(script_commands::specs::Commands::command_of))]
 fn unsealed(bytes: &[u8]) -> Option<Command>
     ensures { result ≡ command_of (unsealed_bytes bytes.now) }
 {
@@ -106,7 +106,7 @@ fn unsealed(bytes: &[u8]) -> Option<Command>
         return None;
     };
     let body = &rest[..rest.len().saturating_sub(MAC_BYTES)];
-    command_with(*cla, *ins, *p1, *p2, body)
+    command_of_parts(*cla, *ins, *p1, *p2, body)
 }
 
 /// At each chain, a sealed command opens to the command and the next chain of eight bytes, and nothing else opens.

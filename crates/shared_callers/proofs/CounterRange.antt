@@ -18,7 +18,7 @@ use Rattle.chip_request.proofs.LineLaws.{line_reads}
 use Rattle.tlv_objects.specs.Tlv.{TlvObject, objects_of}
 use Rattle.tlv_objects.specs.Grammar.{Covers}
 use Rattle.tlv_objects.proofs.Texts.{objects_cover}
-use Rattle.secure_msg.specs.Commands.{command_of}
+use Rattle.script_commands.specs.Commands.{command_of}
 use Rattle.issuer_setup.specs.CardList.{number_of}
 use Rattle.issuer_setup.specs.IssuerSetup.{Setup}
 use Rattle.line_checks.specs.Reading.{checked_data, command_for, status_for, said_by, reading}

@@ -23,7 +23,7 @@ use Rattle.chip_request.specs.Lines.{Spells, SpellsByte, Says}
 use Rattle.chip_request.specs.LineParts.{line_of}
 use Rattle.chip_request.specs.declared.line.LineKind.TheVariants.{Queue as IsQueueLine}
 use Rattle.chip_request.proofs.LineLaws.{line_reads, reads_once}
-use Rattle.secure_msg.specs.Commands.{command_of}
+use Rattle.script_commands.specs.Commands.{command_of}
 use Rattle.issuer_setup.specs.CardList.{name_of}
 use Rattle.issuer_setup.specs.IssuerSetup.{Setup, shard_of}
 use Rattle.issuer_setup.proofs.Shards.{shard_of-known}

@@ -3,7 +3,7 @@ use Rattle.std.proofs.Common.{◌≡◌, true, false, Some, ap, ◌∙◌, sym, 
 use Rattle.std.specs.Str.{bytes_eq}
 use Rattle.std.proofs.lemmas.Bool.{not-true, not-false}
 use Rattle.secure_msg.specs.Sealing.{unsealed_bytes}
-use Rattle.secure_msg.proofs.Forms.{command_of-Some}
+use Rattle.script_commands.proofs.Forms.{command_of-Some}
 use Rattle.secure_msg.proofs.Opening.{opened_command-no_command, opened_command-some, nothing_sealed, AreSealed-opened_command}
 use Rattle.secure_msg.proofs.sealing.unseal.Goals as goal
 

@@ -3,7 +3,7 @@
 ghost use Rattle.std.specs.Prelude.{◌≡◌, ℕ, ◌↔◌, List, Some, IfOk, OnErr, IsTrue};
 ghost use Rattle.std.specs.Result.{result_ok};
 ghost use Rattle.issuer_base.specs.declared.command.Command.{Command};
-ghost use Rattle.secure_msg.specs.Commands.{if_allowed, command_of, AreBytesOf};
+ghost use Rattle.script_commands.specs.Commands.{if_allowed, command_of, AreBytesOf};
 
 use arrayvec::ArrayVec;
 use issuer_base::{BadCommand, Command};
@@ -19,11 +19,11 @@ pub fn read_command(bytes: &[u8]) -> Result<Command, BadCommand>
     let [cla, ins, p1, p2, body @ ..] = bytes else {
         return Err(BadCommand);
     };
-    command_with(*cla, *ins, *p1, *p2, body).ok_or(BadCommand)
+    command_of_parts(*cla, *ins, *p1, *p2, body).ok_or(BadCommand)
 }
 
-/// The command of these parts, if the host sends such a command.
-pub(crate) fn command_with(cla: u8, ins: u8, p1: u8, p2: u8, data: &[u8]) -> Option<Command>
+/// The command of these parts; `None` if the host sends no such command, or it has more than `MAX_BODY_BYTES` of data.
+pub fn command_of_parts(cla: u8, ins: u8, p1: u8, p2: u8, data: &[u8]) -> Option<Command>
     ensures { result
         ≡ if_allowed (record { cla = cla; ins = ins; p1 = p1; p2 = p2; body = record { items = «data».now } }) }
 {

@@ -6,7 +6,7 @@ use Rattle.std.proofs.lemmas.Option.{cond_some}
 use Rattle.issuer_base.specs.declared.command.Command.{Command}
 use Rattle.issuer_base.specs.declared.limits.TheConstants.{MAX_BODY_BYTES}
 use Rattle.issuer_base.specs.ScriptCommand.{is_command, command_bytes}
-use Rattle.secure_msg.specs.Commands.{if_allowed, command_of, AreBytesOf}
+use Rattle.script_commands.specs.Commands.{if_allowed, command_of, AreBytesOf}
 
 both_true : (a b : Bool) → (a && b) ≡ true → (a ≡ true) × (b ≡ true)
 both_true true b e = (refl, e)
