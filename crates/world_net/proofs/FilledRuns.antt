@@ -32,7 +32,7 @@ use Rattle.world_net.specs.WorldState.{WorldState, ShardState, no_shard, home_of
 use Rattle.world_net.specs.WorldRuns.{IsIssuer, IsRunFrom}
 use Rattle.world_net.specs.Histories.{AreLegal, AreHeld, HasRoom, HasRun}
 use Rattle.world_net.proofs.Hosts.{at, recorded, AreLawful, lawful-record, home-within, legal-home, histories-at, none-at, none-lawful}
-use Rattle.world_net.proofs.NetWrites.{home-shard}
+use Rattle.world_net.proofs.Worlds.{home-shard}
 use Rattle.world_net.proofs.NewWorlds.{new-world, des_card, des_cards-under}
 use Rattle.issuer_base.specs.declared.request.Suite.TheVariants.{TripleDes}
 

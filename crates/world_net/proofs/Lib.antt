@@ -7,15 +7,5 @@ pub mod CardRecords
 pub mod Hosts
 pub mod Worlds
 pub mod KeptWorlds
-pub mod Counters
-pub mod NetSteps
-pub mod NetRows
-pub mod Replies
-pub mod NetWrites
 pub mod NewWorlds
 pub mod FilledRuns
-pub mod Truncated
-pub mod FallenSteps
-pub mod FallenRuns
-pub mod FallenRows
-pub mod LastPins

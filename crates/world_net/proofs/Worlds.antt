@@ -12,14 +12,15 @@ use Rattle.issuer_base.specs.declared.entry.Entry.{Entry}
 use Rattle.issuer_base.specs.declared.entry.Entry.TheVariants.{Decided, Queued as IsQueued, Status as IsStatus}
 use Rattle.card_history.specs.declared.decision.Asked.TheVariants.{Decide}
 use Rattle.card_history.specs.LegalRecords.{IsLegal, IsLegalDecision}
-use Rattle.card_history.specs.Records.{named}
+use Rattle.card_history.specs.Records.{card_of, named}
 use Rattle.issuer_setup.specs.declared.card.CardInfo.{CardInfo}
-use Rattle.issuer_setup.specs.CardList.{name_of}
+use Rattle.issuer_setup.specs.CardList.{name_of, number_of}
 use Rattle.issuer_setup.specs.IssuerSetup.{Setup}
+use Rattle.issuer_setup.proofs.Shards.{shard_of-known}
 use Rattle.line_checks.specs.Reading.{checked}
 use Rattle.card_model.specs.Application.{CardState}
 use Rattle.card_model.specs.CardSteps.{new_card}
-use Rattle.shard_book.specs.Grounds.{grounds_of}
+use Rattle.shard_book.specs.Grounds.{IsCardOfShard, grounds_of}
 use Rattle.world_net.specs.declared.event.Event.{Event}
 use Rattle.world_net.specs.declared.event.Event.TheVariants.{Tap, Claim, Release, Write, Send, Authenticate, Run, Queue, Status, Restart}
 use Rattle.world_net.specs.declared.parts.OpenClaim.{OpenClaim}
@@ -31,6 +32,15 @@ use Rattle.world_net.specs.Safety.{IsSafe}
 use Rattle.world_net.proofs.CardMoves.{IsSameCard, tap-same, answer-same, run-same}
 use Rattle.world_net.proofs.Hosts.{at, recorded, doubted, AreLawful, AreRecorded, home-within, legal-home, lawful-record, lawful-doubt}
 use Rattle.world_net.proofs.Hosts.{recorded-stays, doubted-stays, recorded-later, none-lawful, lawful-once, one-place}
+
+-- the shard of a request whose card has this number
+pub home-card : (world : WorldState) (request : Request) (number : ℕ) → number_of (card_of request) world.issuer.cards ≡ Some number
+    → home_of world request ≡ number % world.issuer.shards
+home-card world request number known = shard_of-known world.issuer (card_of request) number known
+
+-- and of one whose card is of a shard
+pub home-shard : (world : WorldState) (request : Request) (shard : ℕ) → IsCardOfShard world.issuer shard (card_of request) → home_of world request ≡ shard
+home-shard world request shard home = home-card world request home.number home.number_is ∙ home.home
 
 -- each card is the issuer's card of its number
 pub record AreCardsOf (issuer : Setup) (cards : List CardState) : Type 0 where

@@ -1,17 +1,11 @@
--- The parts of a world before any event, as `World::new` builds them.
-use Rattle.std.specs.Prelude.{◌≡◌, ◌<◌, ℕ, List, [], length, slice_get, Some, IfSome, IsTrue}
+-- The cards of a world before any event.
+use Rattle.std.specs.Prelude.{◌≡◌, ◌<◌, ℕ, List, length, slice_get, Some}
 use Rattle.issuer_base.specs.declared.request.Suite.{Suite}
 use Rattle.issuer_setup.specs.declared.card.CardInfo.{CardInfo}
 use Rattle.issuer_setup.specs.IssuerSetup.{Setup}
-use Rattle.issuer_setup.specs.KeyList.{has_suite}
-use Rattle.row_core.specs.CardRow.{CardRow, StandsFor}
 use Rattle.card_model.specs.Application.{CardState}
 use Rattle.key_derive.specs.declared.card.KeySet.{KeySet}
 use Rattle.world_net.specs.WorldRuns.{IsCardUnder}
-
--- the issuer's first key set has keys of the suite
-abbrev pub HasFirstKeys : Setup → Suite → Type 0
-HasFirstKeys issuer suite = IfSome (slice_get issuer.keys 0) (λ set. IsTrue (has_suite suite set))
 
 -- a new card of this suite under this key set for each of the first cards
 pub record AreUnder (set : KeySet) (suite : Suite) (infos : List CardInfo) (count : ℕ) (cards : List CardState)
@@ -25,9 +19,3 @@ pub record AreFirst (issuer : Setup) (suite : Suite) (cards : List CardState) : 
   pub set : KeySet
   pub first : slice_get issuer.keys 0 ≡ Some set
   pub cards_are : AreUnder set suite issuer.cards (length issuer.cards) cards
-
--- a row without records for each of the first cards
-pub record AreEmpty (cards : List CardInfo) (count : ℕ) (rows : List CardRow) : Type 0 where
-  pub count_is : length rows ≡ count
-  pub each : (number : ℕ) (info : CardInfo) → number < count → slice_get cards number ≡ Some info
-      → (row : CardRow) × (slice_get rows number ≡ Some row) × StandsFor info row []

@@ -38,7 +38,7 @@ use Rattle.card_model.proofs.Steps.{answer-right, answer-wrong}
 use Rattle.world_net.specs.declared.event.Event.TheVariants.{Authenticate}
 use Rattle.world_net.specs.WorldState.{WorldState, shard_at, home_of, history_for, with_card}
 use Rattle.world_net.specs.WorldRuns.{IsIssuer}
-use Rattle.world_net.proofs.NetWrites.{home-shard}
+use Rattle.world_net.proofs.Worlds.{home-shard}
 use Rattle.world_play.specs.Handing.{answer_in, commands_in, spoil_first, after_commands, where_right, after_answer}
 use Rattle.world_play.specs.Setting.{key_set, card_info, issuer}
 use Rattle.world_play.proofs.PlayedCards.{card-at}

@@ -10,7 +10,8 @@ use sample_issuer::{CARDS, CRYPTOGRAM, card, deciding_table, issuer, key_set};
 use secure_msg::{Pin, pin_command, seal};
 use std::alloc::Global;
 use std::test::Fail;
-use world_net::{Event, World};
+use world_model::World;
+use world_net::Event;
 
 /// The card's master key for confidentiality, and another one.
 const SMC: Key16 = Key16([0x20; 16]);

@@ -7,7 +7,7 @@ use issuer_setup::Issuer;
 use sample_issuer::{SampleCard, deciding_table, issuer};
 use std::alloc::Global;
 use std::test::Fail;
-use world_net::{World, has_first_keys};
+use world_model::{World, has_first_keys};
 
 /// The number of events: so many that cards leave the window of their first counters behind.
 const EVENTS: u32 = 9_000;

@@ -1,0 +1,7 @@
+-- The claims that the filter keeps are those of the other callers.
+use Rattle.std.proofs.Common.{rules}
+use Rattle.std.proofs.lemmas.Fn.{filter_same}
+use Rattle.world_model.proofs.claims.end_claim.Goals as goal
+
+pub returns : goal.returns
+returns c = filter_same _ _ _ (λ x b f' k. search rules) _ _ c.retain.ensures.filtered

@@ -1,6 +1,0 @@
--- The first shards are truncated.
-use Rattle.world_net.proofs.Truncated.{TruncatedTo}
-use Rattle.world_net.proofs.falling.truncate_all.Given as goal
-
-abbrev pub invariant-loop-number : goal.invariant-loop-number
-invariant-loop-number l = TruncatedTo l.keep l.initial.shards l.shards l.number

@@ -1,6 +1,0 @@
--- The rows so far are the empty ones of the first cards.
-use Rattle.world_net.specs.NewWorld.{AreEmpty}
-use Rattle.world_net.proofs.net.empty_rows.Given as goal
-
-abbrev pub invariant-loop-number : goal.invariant-loop-number
-invariant-loop-number l = AreEmpty l.issuer.cards l.number l.rows.items
