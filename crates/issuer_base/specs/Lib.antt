@@ -8,4 +8,3 @@ pub mod OutsideFaults
 pub mod Sink
 pub mod Desk
 pub mod Stores
-pub mod OutsideMemory

@@ -29,8 +29,7 @@ pub use limits::{
     WINDOW,
 };
 pub use outside::{
-    Desk, DeskCall, DeskFault, FailingCalls, Gate, MemorySink, MemorySource, OpenGate, Sink,
-    Source, Store, write_all,
+    Desk, DeskCall, DeskFault, Gate, OpenGate, Sink, Source, Store, write_all,
 };
 pub use pan::Pan;
 pub use request::{Parts, Request, Suite};

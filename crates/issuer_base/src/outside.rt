@@ -9,17 +9,11 @@ ghost use Rattle.issuer_base.specs.Desk.{FailedCall, is_fault, last_after};
 ghost use Rattle.issuer_base.specs.declared.outside.DeskCall.TheVariants.{Log, Read};
 ghost use Rattle.issuer_base.specs.declared.outside.DeskFault.TheVariants.{NoMemory};
 
-mod failing_calls;
 mod gate;
-mod memory_sink;
-mod memory_source;
 mod store;
 
 use crate::faults::{ReadFault, WriteFault};
-pub use failing_calls::FailingCalls;
 pub use gate::{Gate, OpenGate};
-pub use memory_sink::MemorySink;
-pub use memory_source::MemorySource;
 use std::alloc::AllocError;
 pub use store::Store;
 

@@ -1,12 +1,12 @@
 //! A run of the top call over a desk in memory.
 
-use issuer_base::{Desk, Gate, MemorySink, Sink, Store, Words};
+use issuer_base::{Desk, Gate, Sink, Store, Words};
 use issuer_top::{Ended, issue};
+use memory_edge::{MemoryDesk, MemorySink, MemoryStore};
 use std::alloc::Global;
 use std::sync::Wait;
 use std::test::Fail;
 use std::thread::Threads;
-use store_edge::{MemoryDesk, MemoryStore};
 
 pub(crate) const SERVE: &str = "serve --config config --requests requests --journal journal";
 

@@ -1,7 +1,8 @@
 //! The lines of inputs that are read in chunks of several sizes, and of one that fails.
 
-use issuer_base::{KEPT_BYTES, MemorySource};
+use issuer_base::KEPT_BYTES;
 use line_reader::{LineReader, NextLine};
+use memory_edge::MemorySource;
 use std::test::Fail;
 
 /// A text of lines: a byte, and how often it occurs in its line.

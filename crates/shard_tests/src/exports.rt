@@ -1,8 +1,8 @@
 //! The feed of two journals, whole and up to a line that is bad, and a sink that fails.
 
 use crate::journals::{COMMAND, STATUS, store};
-use issuer_base::MemorySink;
 use journal_export::{ExportFault, Exporter};
+use memory_edge::MemorySink;
 use record_reader::RecordFault;
 use sample_issuer::{CARDS, declining_table, issuer};
 use std::alloc::Global;

@@ -5,13 +5,13 @@ ghost use Rattle.shard_book.specs.Shards.{number_in, IsUnder};
 use issuer_base::{Answer, Refusal, Request, Store, Suite};
 use issuer_setup::Issuer;
 use line_checks::{Checked, check_line, check_request};
+use memory_edge::MemoryStore;
 use sample_issuer::{
     AES_CRYPTOGRAM, CARDS, CRYPTOGRAM, aes_purchase, declining_table, issuer, purchase,
 };
 use shard_book::{LoadBack, LoadFault, Shard};
 use std::alloc::Global;
 use std::test::Fail;
-use store_edge::MemoryStore;
 
 /// The record of a status of the first card.
 pub(crate) const STATUS: &str = "s 4000000000000002ffff 00 3\n";

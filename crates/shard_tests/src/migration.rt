@@ -4,10 +4,10 @@ ghost use Rattle.std.specs.Prelude.{◌≡◌};
 use crate::journals::{COMMAND, STATUS, load, loaded, one_card, store};
 use issuer_base::Store;
 use issuer_setup::Issuer;
+use memory_edge::MemoryStore;
 use shard_book::{LoadBack, LoadFault};
 use std::alloc::Global;
 use std::test::Fail;
-use store_edge::MemoryStore;
 
 /// The record of a decision of the first card on ATC 1. Another program, which works with OpenSSL, made it and the
 /// next.

@@ -6,12 +6,12 @@ ghost use Rattle.standby_node.specs.Standing.{live_in, shards_in};
 use crate::journals::store;
 use issuer_base::Store;
 use issuer_setup::Issuer;
+use memory_edge::MemoryStore;
 use one_caller::{HostBack, Lists, load_all, take_lists, take_stores};
 use sample_issuer::{CARDS, declining_table, issuer};
 use standby_node::{FeedFault, Standby};
 use std::alloc::Global;
 use std::test::Fail;
-use store_edge::MemoryStore;
 
 /// A feed, how feeding it to empty journals ends, and the texts of the two journals then.
 struct Row {

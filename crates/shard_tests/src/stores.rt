@@ -1,7 +1,8 @@
 //! The stores in memory through their trait, with the faults that they were set to have.
 use issuer_base::{Store, StoreFail};
+use memory_edge::MemoryStore;
 use std::test::Fail;
-use store_edge::{MemoryStore, RoomStore};
+use store_edge::RoomStore;
 
 // At most four bytes from an offset on, and how many there are.
 pub(crate) fn read<S: Store + Send>(store: &mut S, at: u64) -> Result<(usize, [u8; 4]), StoreFail> {

@@ -6,11 +6,11 @@ use crate::journals::{COMMAND, STATUS, load, one_card, purchase_in, reloaded_ans
 use issuer_base::{Store, Suite};
 use issuer_setup::Issuer;
 use journal_rec::read_entry;
+use memory_edge::MemoryStore;
 use sample_issuer::{CARDS, deciding_table, issuer};
 use shard_book::{LoadBack, Shard, TakeFault};
 use std::alloc::Global;
 use std::test::Fail;
-use store_edge::MemoryStore;
 
 /// The record of a status of a card that the issuer doesn't have.
 const UNKNOWN_CARD: &str = "s 4000000000000099ffff 00 3\n";

@@ -6,10 +6,10 @@ ghost use Rattle.issuer_base.specs.OutsideFaults.{CountsFaults};
 use crate::journals::{STATUS, load, one_card, set_status, store};
 use issuer_base::{Answer, Refusal, Store, StoreFail};
 use issuer_setup::Issuer;
+use memory_edge::MemoryStore;
 use shard_book::{LoadBack, LoadFault};
 use std::alloc::Global;
 use std::test::Fail;
-use store_edge::MemoryStore;
 
 /// A store in memory, of which one truncation may take effect and fail all the same, as if a file is truncated and its
 /// sync fails.

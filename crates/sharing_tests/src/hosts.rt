@@ -5,10 +5,10 @@ ghost use Rattle.std.specs.Prelude.{◌≡◌, IfOk, length};
 use host_calls::{HostBack, LoadFault, Solo};
 use issuer_base::{Answer, Refusal, Store};
 use issuer_setup::Issuer;
+use memory_edge::MemoryStore;
 use sample_issuer::{AES_REQUEST, CARDS, REQUEST, declining_table, issuer};
 use std::alloc::Global;
 use std::test::Fail;
-use store_edge::MemoryStore;
 
 /// A journal of version 1 with one record: a status of the first card.
 const OLD: &str = "s 4000000000000002ffff 00 3\n";

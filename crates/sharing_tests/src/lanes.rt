@@ -7,13 +7,13 @@ use crate::hosts::{empty_stores, sample};
 use crate::passes::{NINTH, SIXTH};
 use issuer_base::{Answer, KEPT_BYTES, OpenGate, Refusal};
 use line_blocks::BLOCK_LINES;
+use memory_edge::MemoryStore;
 use sample_issuer::REQUEST;
 use shared_callers::{HostBack, Lanes};
 use std::alloc::Global;
 use std::sync::Wait;
 use std::test::Fail;
 use std::thread::Threads;
-use store_edge::MemoryStore;
 
 /// A status of each of the issuer's cards.
 const STATUS: [&str; 4] = [

@@ -8,11 +8,11 @@ use crate::hosts::{empty_stores, is_fresh, is_kept, sample, store};
 use cvr_settle::Flight;
 use host_calls::{CardView, Checked, Host, HostBack, Pass};
 use issuer_base::{Answer, Refusal};
+use memory_edge::MemoryStore;
 use sample_issuer::{AES_REQUEST, REQUEST};
 use std::alloc::Global;
 use std::sync::Wait;
 use std::test::Fail;
-use store_edge::MemoryStore;
 
 /// The same card's requests on its counters 9 and 6.
 pub(crate) const NINTH: &str =

@@ -1,4 +1,2 @@
 -- The definitions that the contracts of this crate cite.
-pub mod KeptDisk
-pub mod MemoryStores
-pub mod MemoryDesks
+pub mod RoomStores

@@ -4,9 +4,12 @@ use std::marker::Model;
 
 /// A call of a desk that failed.
 #[derive(Drop)]
-pub(crate) struct NamedCall {
-    pub(crate) call: DeskCall,
-    pub(crate) name: String,
+pub struct NamedCall {
+    /// Which call failed.
+    pub call: DeskCall,
+
+    /// The name that it was given.
+    pub name: String,
 }
 
 impl Model for NamedCall {

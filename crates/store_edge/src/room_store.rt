@@ -24,7 +24,7 @@ pub struct RoomStore {
 impl Model for RoomStore {
     ghost use Rattle.std.specs.Prelude.{◌≤◌, vec_len, vec_capacity};
     ghost use Rattle.issuer_base.specs.declared.limits.TheConstants.{MAX_STORE_BYTES};
-    ghost use Rattle.store_edge.specs.MemoryStores.{RoomState};
+    ghost use Rattle.store_edge.specs.RoomStores.{RoomState};
 
     ghost Value = { RoomState };
 

@@ -1,7 +1,7 @@
 -- The room of a run's stores at its start.
 use Rattle.std.proofs.Common.{◌≡◌, ◌⊎◌, ℕ, zero, suc, ◌+◌, ◌*◌, ◌≤◌, List, [], ◌∷◌, ◌++◌, length, Some, refl, sym, ap, subst, inl, inr, arith, ◌∙◌}
 use Rattle.std.specs.List.{slice_get}
-use Rattle.store_edge.specs.MemoryStores.{RoomState}
+use Rattle.store_edge.specs.RoomStores.{RoomState}
 use Rattle.world_play.specs.Room.{HaveRoomToLoad, IsOpened, step_room, steps_of}
 
 -- what stands in a list with one more at its end

@@ -1,6 +1,6 @@
 -- The room of a run's stores and the place for its counts: what each move and each step may use of them.
 use Rattle.std.specs.Prelude.{◌≡◌, ℕ, zero, suc, ◌+◌, ◌*◌, ◌%◌, ◌<◌, ◌≤◌, ◌==◌, if◌then◌else◌, List, [], length, slice_get, Option, None, Some}
-use Rattle.store_edge.specs.MemoryStores.{RoomState}
+use Rattle.store_edge.specs.RoomStores.{RoomState}
 use Rattle.issuer_base.specs.declared.request.Parts.{Parts}
 use Rattle.issuer_setup.specs.IssuerSetup.{Setup}
 use Rattle.journal_rec.specs.declared.limits.TheConstants.{MOST_QUEUED_BYTES, MOST_RECORD_BYTES}

@@ -5,7 +5,7 @@ ghost use Rattle.one_caller.specs.Hosts.{Stand};
 ghost use Rattle.one_caller.specs.Loading.{AreLoaded};
 ghost use Rattle.one_caller.specs.Room.{HaveRoom};
 ghost use Rattle.shard_book.specs.declared.replay.LoadFault.TheVariants.{NoMemory as LacksMemory};
-ghost use Rattle.store_edge.specs.MemoryStores.{RoomState};
+ghost use Rattle.store_edge.specs.RoomStores.{RoomState};
 ghost use Rattle.world_play.specs.Room.{AreEmpty, HaveRoomToLoad, IsOpened, step_room, steps_of};
 ghost use Rattle.world_play.specs.Play.{empty_book, new_player, no_counts};
 ghost use Rattle.world_play.specs.Setting.{issuer, key_set};

@@ -1,6 +1,6 @@
 -- The empty stores come back for want of memory alone.
 use Rattle.std.proofs.Common.{Some, ap}
-use Rattle.store_edge.specs.MemoryStores.{RoomState}
+use Rattle.store_edge.specs.RoomStores.{RoomState}
 use Rattle.world_play.proofs.EmptyBooks.{lacks_memory}
 use Rattle.world_play.proofs.opening.load.Goals as goal
 

@@ -1,7 +1,7 @@
 -- The stores so far are empty, and have the room of their shards' steps.
 use Rattle.std.proofs.Common.{◌≡◌, ◌≤◌, ℕ, length, vec_capacity, Some}
 use Rattle.std.specs.List.{slice_get}
-use Rattle.store_edge.specs.MemoryStores.{RoomState}
+use Rattle.store_edge.specs.RoomStores.{RoomState}
 use Rattle.world_play.specs.Room.{IsOpened}
 use Rattle.world_play.proofs.opening.stores.Given as goal
 
