@@ -11,8 +11,8 @@ pub(crate) const WORD_CLAIMS: u64 = 64;
 /// How many words hold the claims of a card.
 pub(crate) const CLAIM_WORDS: u64 = 1_024;
 
-/// How many words a card has: its claims and its top.
-pub(crate) const CARD_WORDS: u64 = 1_025;
+/// How many words a card has: its claims, its top, and padding to a cache line.
+pub(crate) const CARD_WORDS: u64 = 1_032;
 
 /// The index of the word with the claim on this ATC of this card.
 pub(crate) fn claim_word(card: u32, counter: u16) -> usize

@@ -10,14 +10,14 @@ use crate::logs::{Item, Logged};
 use crate::opening::{Opening, OpeningLogs};
 use crate::rule::{Adds, Learns, Looks, Next, Parts, Releases, Retakes, Takes, TurnRule};
 use crate::seat::TurnSeat;
-use crate::values::{Ground, Spare, empty_slots, fill_slots, take_ground, take_values};
+use crate::values::{Ground, Sleepers, Spare, empty_slots, fill_slots, take_ground, take_values};
 use crate::view::TurnView;
 use atomic_table::{Refused, Table};
 use issuer_base::MAX_SHARDS;
 use std::alloc::Global;
 use std::hint;
 use std::marker::Brand;
-use std::sync::atomic::{AtomicU64, Ordering};
+use std::sync::atomic::Ordering;
 use std::sync::{Mutex, Wait};
 
 /// How often a caller tries to take a turn before it sleeps.
@@ -34,12 +34,13 @@ pub struct Turns<V: Logged<I, B>, I, B> {
     // it, the type of the values needn't be one that threads can share.
     pub(crate) spare: Mutex<Spare<V>>,
 
-    // How many callers sleep or are about to. If none does, a caller that leaves wakes none.
-    pub(crate) sleepers: AtomicU64,
+    // How many callers sleep for each shard's turn or are about to. If none does, a caller that leaves wakes none.
+    pub(crate) sleepers: Vec<Sleepers>,
     ghost some_shard: { 0 < length table.shared.key.view },
     ghost few: { length table.shared.key.view ≤ MAX_SHARDS },
     ghost sized: { table.shared.table_id.words ≡ SHARD_WORDS * length table.shared.key.view },
     ghost slots: { table.shared.table_id.slots ≡ length table.shared.key.view },
+    ghost counted: { vec_len sleepers ≡ length table.shared.key.view },
 }
 
 impl<V: Logged<I, B>, I, B> Turns<V, I, B> {
@@ -71,6 +72,7 @@ impl<V: Logged<I, B>, I, B> Turns<V, I, B> {
             words,
             key,
             mut slots,
+            sleepers,
         } = ground;
         fill_slots(&mut values, &mut slots);
         match Table::new(alloc, words.as_slice(), slots, &key) {
@@ -79,7 +81,7 @@ impl<V: Logged<I, B>, I, B> Turns<V, I, B> {
                 let turns = Turns {
                     table,
                     spare,
-                    sleepers: AtomicU64::new(0),
+                    sleepers,
                 };
                 Ok((turns, TurnSeat::of(seat)))
             }
@@ -269,16 +271,17 @@ impl<V: Logged<I, B>, I, B> Turns<V, I, B> {
     fn sleep<R: Wait>(&self, rt: &R, shard: u8)
         requires { shard < shards_of self.now }
     {
-        self.sleepers.fetch_add(1, Ordering::SeqCst);
+        let sleepers = &self.sleepers[usize::from(shard)];
+        sleepers.fetch_add(1, Ordering::SeqCst);
         self.table.shared.park(rt, turn_word(shard), TAKEN as u32);
-        self.sleepers.fetch_sub(1, Ordering::SeqCst);
+        sleepers.fetch_sub(1, Ordering::SeqCst);
     }
 
     /// Wakes one caller that sleeps for the shard's turn, if there is one.
     fn wake(&self, shard: u8)
         requires { shard < shards_of self.now }
     {
-        if self.sleepers.load(Ordering::SeqCst) != 0 {
+        if self.sleepers[usize::from(shard)].load(Ordering::SeqCst) != 0 {
             self.table.shared.wake_one(turn_word(shard));
         }
     }

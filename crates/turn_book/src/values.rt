@@ -7,8 +7,13 @@ ghost use Rattle.turn_book.specs.Opening.{AreOpeningWords};
 use crate::layout::{SHARD_WORDS, count_word};
 use crate::opening::{Opening, OpeningLogs, opening_key};
 use atomic_table::Closed;
+use crossbeam_utils::CachePadded;
 use issuer_base::MAX_SHARDS;
 use std::alloc::{AllocError, Global};
+use std::sync::atomic::AtomicU64;
+
+/// How many callers sleep for a shard's turn or are about to, in a cache line of its own.
+pub(crate) type Sleepers = CachePadded<AtomicU64>;
 
 /// An empty list with room for the value of each shard.
 pub(crate) struct Spare<V> {
@@ -90,6 +95,18 @@ pub(crate) struct Ground<V, I, B> {
     pub(crate) words: Vec<u64>,
     pub(crate) key: Opening<I, B>,
     pub(crate) slots: Vec<Option<V>>,
+    pub(crate) sleepers: Vec<Sleepers>,
+}
+
+/// No sleepers, at each of so many shards.
+fn no_sleepers(alloc: Global, count: usize) -> Result<Vec<Sleepers>, AllocError>
+    ensures { IfOk result (λ sleepers. vec_len sleepers ≡ count) }
+{
+    let mut sleepers = Vec::with_capacity(alloc, count)?;
+    for _ in 0..count {
+        sleepers.push_reserved(CachePadded::new(AtomicU64::new(0)));
+    }
+    Ok(sleepers)
 }
 
 /// Allocates the parts of a table for the values, and reserves room for `MAX_SHARDS` values in their list.
@@ -104,11 +121,18 @@ pub(crate) fn take_ground<V, J: OpeningLogs<I, B>, I, B>(
     ensures key { IfOk result (λ ground. ground.key.view ≡ J.opening) }
     ensures slots { IfOk result (λ ground. (ground.slots.items ≡ []) × (vec_len values.new ≤ vec_capacity ground.slots)
         × (MAX_SHARDS ≤ vec_capacity values.new)) }
+    ensures sleepers { IfOk result (λ ground. vec_len ground.sleepers ≡ vec_len values.old) }
 {
     let count = values.len();
     values.reserve(MAX_SHARDS as usize - count)?;
     let words = opening_words(alloc, counts)?;
     let key = opening_key::<J, I, B>(alloc)?;
+    let sleepers = no_sleepers(alloc, count)?;
     let slots = Vec::with_capacity(alloc, count)?;
-    Ok(Ground { words, key, slots })
+    Ok(Ground {
+        words,
+        key,
+        slots,
+        sleepers,
+    })
 }

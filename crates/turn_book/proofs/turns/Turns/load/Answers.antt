@@ -33,6 +33,7 @@ invariant_of-turns g c =
       few = omega (arith, long, c.args.values.ok, c.requires.shards.1);
       sized = made.0 ∙ ap length c.as_slice.ensures.value ∙ c.in-Ok.ensures.words.wide ∙ ap (λ n. SHARD_WORDS * n) counts;
       slots = made.1 ∙ slots ∙ long;
+      counted = omega (arith, long, c.args.values.ok, c.in-Ok.ensures.sleepers);
     }
 
 pub empty_slots-requires-clause-full : goal.empty_slots-requires-clause-full
