@@ -35,17 +35,17 @@ use Rattle.one_caller.specs.Books.{Book, histories_of}
 use Rattle.host_calls.specs.Closing.{book_of, IsClosed, AreClosed}
 use Rattle.one_caller.specs.OneHistory.{AreRecorded, GoOnLegally, HasFailed, LegallyGoesOn}
 use Rattle.host_calls.specs.OpeningLogs.{IsOpenedFrom, AreOpenedFrom}
-use Rattle.shared_callers.specs.Explained.{AreExplained, history_at, histories_in}
-use Rattle.shared_callers.specs.FaultCounts.{all_answers}
-use Rattle.shared_callers.specs.Laws.{AreLawfulShares}
-use Rattle.shared_callers.specs.OwnPlaces.{AreOwnPlaces, is_record_at, answers_at, faults_told, all_faults_told, faults_at}
-use Rattle.shared_callers.specs.Settled.{AreSettled, TellNoFault}
-use Rattle.shared_callers.specs.Shares.{Share, AreDealt, history_in, faults_told_in}
-use Rattle.shared_callers.specs.Dealing.{every}
+use Rattle.answer_laws.specs.Explained.{AreExplained, history_at, histories_in}
+use Rattle.answer_laws.specs.FaultCounts.{all_answers}
+use Rattle.answer_laws.specs.Laws.{AreLawfulShares}
+use Rattle.answer_laws.specs.OwnPlaces.{AreOwnPlaces, is_record_at, answers_at, faults_told, all_faults_told, faults_at}
+use Rattle.answer_laws.specs.Settled.{AreSettled, TellNoFault}
+use Rattle.answer_laws.specs.Shares.{Share, AreDealt, history_in, faults_told_in}
+use Rattle.answer_laws.specs.Dealing.{every}
 use Rattle.shared_callers.specs.declared.lanes.Lanes.{Lanes}
 use Rattle.shared_callers.specs.Lanes.{issuer_in, opening_logs, callers_in, HasSameHost, HasClosed}
 use Rattle.shared_callers.specs.Lanes.{LanesServe}
-use Rattle.line_serving.specs.Answers.{AreAnsweredTogether, ByCallers}
+use Rattle.answer_laws.specs.Answers.{AreAnsweredTogether, ByCallers}
 use Rattle.desk_host.specs.Configuration.{HasSoundParts}
 use Rattle.line_blocks.specs.Serving.{TakesLine, Settles}
 use Rattle.line_serving.specs.Hosts.{LeavesAnswered, LeavesLoaded, IsReadyTogether, HaveAnswered}
@@ -54,8 +54,8 @@ use Rattle.desk_host.specs.Lawful.{IsLawful}
 use Rattle.desk_host.specs.Kept.{IsRunImage, WasJournal, KeepsJournal, KeepJournals}
 use Rattle.desk_host.specs.SeenStores.{Logged, SeenStore, store_seen, journals_seen}
 use Rattle.desk_host.proofs.CrashSteps.{crash-run, crash-since, leaves-now, stays-opened}
-use Rattle.shared_callers.proofs.DealtAnswers.{answers-dealt}
-use Rattle.shared_callers.proofs.Lists.{mapped-at}
+use Rattle.answer_laws.proofs.DealtAnswers.{answers-dealt}
+use Rattle.answer_laws.proofs.Lists.{mapped-at}
 use Rattle.desk_host.proofs.SeenSteps.{at-place, mapped, journal-held}
 use Rattle.desk_host.proofs.WorldLaws.{is-lawful}
 

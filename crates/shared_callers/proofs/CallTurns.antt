@@ -33,7 +33,7 @@ use Rattle.host_calls.specs.Authorising.{EndsIn, Authorises}
 use Rattle.host_calls.specs.Finishes.{is_won}
 use Rattle.host_calls.specs.PreChecks.{PreChecks}
 use Rattle.shared_callers.specs.Callers.{AuthorisesAll}
-use Rattle.shared_callers.specs.OwnPlaces.{is_for_shard}
+use Rattle.answer_laws.specs.OwnPlaces.{is_for_shard}
 
 abbrev pub ShardView : Type 0
 ShardView = TurnView LogItem LogHead

@@ -24,11 +24,11 @@ use Rattle.shared_shards.specs.ShardLogs.{records_of, faults_of, RiseTo}
 use Rattle.host_calls.specs.OpeningLogs.{opened_on}
 use Rattle.one_caller.specs.OneHistory.{IsAnswered, LegallyGoesOn}
 use Rattle.shared_callers.specs.Callers.{Caller, IsCaller}
-use Rattle.shared_callers.specs.Dealing.{every}
-use Rattle.shared_callers.specs.Explained.{Explains, AreAnsweredInOrder, IsDecidedOn, history_at, histories_in}
-use Rattle.shared_callers.specs.OwnPlaces.{is_record_at, faults_told, shows_record}
-use Rattle.shared_callers.specs.Settled.{is_below_or_pending}
-use Rattle.shared_callers.specs.Shares.{Share}
+use Rattle.answer_laws.specs.Dealing.{every}
+use Rattle.answer_laws.specs.Explained.{Explains, AreAnsweredInOrder, IsDecidedOn, history_at, histories_in}
+use Rattle.answer_laws.specs.OwnPlaces.{is_record_at, faults_told, shows_record}
+use Rattle.answer_laws.specs.Settled.{is_below_or_pending}
+use Rattle.answer_laws.specs.Shares.{Share}
 
 -- the caller's share of the lines
 abbrev pub share_of : Caller → Share

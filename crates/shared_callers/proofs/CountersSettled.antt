@@ -31,14 +31,14 @@ use Rattle.one_caller.proofs.Asked.{asks-request}
 use Rattle.one_caller.proofs.LegalBooks.{goes-stays}
 use Rattle.one_caller.proofs.Places.{read-within}
 use Rattle.shared_callers.specs.Callers.{Caller}
-use Rattle.shared_callers.specs.Explained.{IsDecidedOn, history_at, Explains}
-use Rattle.shared_callers.specs.OwnPlaces.{is_record_at, is_for_shard, faults_told}
-use Rattle.shared_callers.specs.Settled.{TellNoFault, is_below_or_pending}
+use Rattle.answer_laws.specs.Explained.{IsDecidedOn, history_at, Explains}
+use Rattle.answer_laws.specs.OwnPlaces.{is_record_at, is_for_shard, faults_told}
+use Rattle.answer_laws.specs.Settled.{TellNoFault, is_below_or_pending}
 use Rattle.shared_callers.proofs.CallersAnswers.{AreCallers}
 use Rattle.shared_callers.proofs.CallersAnswers.{IsCallersAnswerOn, IsCallersDecidedNow, IsCallersLeft, AreCallersSettled}
 use Rattle.shared_callers.proofs.Decisions.{numbered-decided, decided-numbered, numbered-tells, one-true}
 use Rattle.shared_callers.proofs.EachPlace.{each-place, each-fault}
-use Rattle.shared_callers.proofs.Lists.{part-within, some-part}
+use Rattle.answer_laws.proofs.Lists.{part-within, some-part}
 use Rattle.shared_callers.proofs.MoreLines.{call-at}
 use Rattle.shared_callers.proofs.OneRun.{callers-explained}
 use Rattle.shared_callers.proofs.RightlyPending.{rightly-pending, fault-passes}

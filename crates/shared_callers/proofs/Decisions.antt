@@ -25,7 +25,7 @@ use Rattle.shard_book.specs.Histories.{GoesOn}
 use Rattle.host_calls.specs.Decisions.{is_number, decides}
 use Rattle.host_calls.specs.OpeningLogs.{is_decided}
 use Rattle.one_caller.proofs.LegalBooks.{goes-stays}
-use Rattle.shared_callers.specs.Explained.{IsDecidedOn}
+use Rattle.answer_laws.specs.Explained.{IsDecidedOn}
 
 -- some record is a decision on this ATC of the issuer's card with this number
 pub record IsNumbered (issuer : Setup) (card counter : ℕ) (history : List Entry) : Type 0 where

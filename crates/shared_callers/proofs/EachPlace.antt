@@ -12,13 +12,13 @@ use Rattle.shared_shards.specs.declared.logs.LogItem.{LogItem}
 use Rattle.shared_shards.specs.declared.logs.LogHead.{LogHead}
 use Rattle.shared_shards.specs.ShardLogs.{records_of, faults_of}
 use Rattle.shared_callers.specs.Callers.{Caller}
-use Rattle.shared_callers.specs.OwnPlaces.{is_record_at, faults_told}
+use Rattle.answer_laws.specs.OwnPlaces.{is_record_at, faults_told}
 use Rattle.shared_callers.proofs.CallersAnswers.{AreCallers}
 use Rattle.shared_callers.proofs.CallersAnswers.{callers_answers_at, all_callers_faults}
-use Rattle.shared_callers.proofs.Lists.{total-each, total-below}
-use Rattle.shared_callers.proofs.FaultPlaces.{own_faults, weigh, weigh-own, weigh-total, weigh-between}
+use Rattle.answer_laws.proofs.Lists.{total-each, total-below}
+use Rattle.answer_laws.proofs.FaultPlaces.{own_faults, weigh, weigh-own, weigh-total, weigh-between}
 use Rattle.shared_callers.proofs.OwnRecords.{calls-count}
-use Rattle.shared_callers.proofs.RecordSpots.{spot, spot-between}
+use Rattle.answer_laws.proofs.RecordSpots.{spot, spot-between}
 use Rattle.shared_callers.proofs.ToldFaults.{calls-fault}
 
 module _ (issuer : Setup) (opening logs : List (Log LogItem LogHead)) (callers : List Caller) (are : AreCallers issuer opening logs callers) (shard : ℕ)

@@ -40,7 +40,7 @@ use Rattle.host_calls.specs.declared.pass.Checked.{Checked}
 use Rattle.line_checks.specs.declared.checked.CheckedOrder.TheVariants.{Command as Queues, Status as Sets}
 use Rattle.host_calls.specs.declared.pass.Checked.TheVariants.{Decide as Decides, Order as Orders}
 use Rattle.one_caller.proofs.LegalBooks.{goes-stays}
-use Rattle.shared_callers.specs.Explained.{history_at, IsDecidedOn, ExplainsRequest, ExplainsCommand, ExplainsStatus, Explains}
+use Rattle.answer_laws.specs.Explained.{history_at, IsDecidedOn, ExplainsRequest, ExplainsCommand, ExplainsStatus, Explains}
 use Rattle.shared_callers.proofs.Decisions.{greatest-decided, decided-stays}
 use Rattle.shared_callers.proofs.Seen.{goes-same, IsWhole, turn-sees, home-there}
 

@@ -27,7 +27,7 @@ use Rattle.host_calls.specs.Passes.{claims_of, logs_of}
 use Rattle.host_calls.specs.declared.pass.Pass.{Pass}
 use Rattle.one_caller.proofs.Places.{read-within, choose}
 use Rattle.shared_callers.specs.Callers.{Caller, IsCaller}
-use Rattle.shared_callers.specs.Dealing.{every}
+use Rattle.answer_laws.specs.Dealing.{every}
 use Rattle.shared_callers.specs.Joins.{HasJoined}
 use Rattle.shared_callers.specs.Lanes.{HasClosed}
 use Rattle.shared_callers.specs.OneLane.{HadLines}

@@ -35,7 +35,7 @@ use Rattle.host_calls.specs.PreChecks.{asked_of, PreChecks, Claims}
 use Rattle.host_calls.specs.declared.pass.Checked.{Checked}
 use Rattle.host_calls.specs.declared.pass.Checked.TheVariants.{Decide as Decides, Order as Orders}
 use Rattle.shared_callers.specs.Callers.{AuthorisesAll}
-use Rattle.shared_callers.specs.Explained.{history_at, SeesTurn}
+use Rattle.answer_laws.specs.Explained.{history_at, SeesTurn}
 use Rattle.shared_callers.proofs.Decisions.{IsNumbered, numbered-stays}
 use Rattle.shared_callers.proofs.Seen.{IsWhole, turn-sees, home-there, line-sees, lines-in_order}
 

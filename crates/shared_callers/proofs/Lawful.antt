@@ -5,7 +5,7 @@ use Rattle.turn_book.specs.declared.logs.Log.{Log}
 use Rattle.shared_shards.specs.declared.logs.LogItem.{LogItem}
 use Rattle.shared_shards.specs.declared.logs.LogHead.{LogHead}
 use Rattle.shared_callers.specs.Callers.{Caller}
-use Rattle.shared_callers.specs.Laws.{AreLawfulShares}
+use Rattle.answer_laws.specs.Laws.{AreLawfulShares}
 use Rattle.shared_callers.proofs.CallersAnswers.{AreCallers, shares_of}
 use Rattle.shared_callers.proofs.CountersSettled.{counters-settled}
 use Rattle.shared_callers.proofs.EachPlace.{each-place, faults-told, each-fault}

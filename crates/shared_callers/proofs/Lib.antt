@@ -1,8 +1,5 @@
 -- The lemmas of this crate.
 mod AnsweredBoth
-mod Every
-mod Merged
-mod HavingTurns
 mod Turning
 mod Serving
 mod Seating
@@ -10,17 +7,14 @@ mod Opening
 mod Joining
 mod MoreLines
 mod Seen
-pub mod Lists
 mod Decisions
 mod KeptClaims
 mod Explaining
 mod TooOld
 mod CallersAnswers
 mod OneRun
-mod RecordSpots
 mod CallTurns
 mod OwnRecords
-mod FaultPlaces
 mod ToldFaults
 mod EachPlace
 mod CounterRange
@@ -32,4 +26,3 @@ mod RisingFaults
 mod SharesOfCallers
 mod Lawful
 mod Truncated
-pub mod DealtAnswers

@@ -34,10 +34,10 @@ use Rattle.host_calls.specs.OpeningLogs.{opened_on}
 use Rattle.one_caller.proofs.LegalBooks.{legal-once, one-reply}
 use Rattle.one_caller.proofs.Places.{read-mapped}
 use Rattle.shared_callers.specs.Callers.{AuthorisesAll, Caller, IsCaller}
-use Rattle.shared_callers.specs.Explained.{history_at, histories_in, IsDecidedOn, Explains, AreAnsweredInOrder}
+use Rattle.answer_laws.specs.Explained.{history_at, histories_in, IsDecidedOn, Explains, AreAnsweredInOrder}
 use Rattle.shared_callers.proofs.CallersAnswers.{AreCallers}
 use Rattle.shared_callers.proofs.CallersAnswers.{AreCallersExplained}
-use Rattle.shared_callers.proofs.Lists.{part-within, some-part}
+use Rattle.answer_laws.proofs.Lists.{part-within, some-part}
 use Rattle.shared_callers.proofs.Decisions.{IsNumbered, numbered-stays, numbered-decided, decided-numbered, one-true}
 use Rattle.shared_callers.proofs.Seen.{records-go_on, IsWhole, line-sees, lines-in_order}
 use Rattle.shared_callers.proofs.KeptClaims.{calls-go_on, calls-keep}

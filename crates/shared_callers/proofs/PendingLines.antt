@@ -36,8 +36,8 @@ use Rattle.line_checks.specs.declared.checked.CheckedOrder.TheVariants.{Command 
 use Rattle.host_calls.specs.declared.pass.Checked.TheVariants.{Decide, Order}
 use Rattle.host_calls.specs.Authorising.{EndsIn, Authorises}
 use Rattle.host_calls.specs.PreChecks.{asked_of, PreChecks}
-use Rattle.shared_callers.specs.Explained.{IsDecidedOn}
-use Rattle.shared_callers.specs.OwnPlaces.{shows_record}
+use Rattle.answer_laws.specs.Explained.{IsDecidedOn}
+use Rattle.answer_laws.specs.OwnPlaces.{shows_record}
 use Rattle.shared_callers.proofs.CallTurns.{ShardView}
 use Rattle.shared_callers.proofs.ClaimSteps.{won-answers}
 use Rattle.shared_callers.proofs.Decisions.{decided-stays}

@@ -30,12 +30,12 @@ use Rattle.one_caller.specs.OneHistory.{IsAnswered}
 use Rattle.host_calls.specs.OpeningLogs.{is_decided}
 use Rattle.one_caller.proofs.Asked.{asks-no_store, asks-no_pending}
 use Rattle.shared_callers.specs.Callers.{Caller, IsCaller}
-use Rattle.shared_callers.specs.Explained.{IsDecidedOn}
-use Rattle.shared_callers.specs.OwnPlaces.{shows_record}
+use Rattle.answer_laws.specs.Explained.{IsDecidedOn}
+use Rattle.answer_laws.specs.OwnPlaces.{shows_record}
 use Rattle.shared_callers.proofs.CallersAnswers.{AreCallers}
 use Rattle.shared_callers.proofs.CallersAnswers.{IsCallersAnswerOn, IsCallersPending, CallersLinePasses}
 use Rattle.shared_callers.proofs.CallTurns.{ShardView, SeesMore, IsTurnedAway, TakesTurn, call-turn, call-sees, calls-see}
-use Rattle.shared_callers.proofs.Lists.{part-within, some-part}
+use Rattle.answer_laws.proofs.Lists.{part-within, some-part}
 use Rattle.shared_callers.proofs.ClaimSteps.{calls-found, calls-claims}
 use Rattle.shared_callers.proofs.CounterRange.{counter-within}
 use Rattle.shared_callers.proofs.Decisions.{one-name, numbered-decided, decided-numbered}

@@ -11,11 +11,11 @@ use Rattle.shared_shards.specs.declared.logs.LogItem.{LogItem}
 use Rattle.shared_shards.specs.declared.logs.LogHead.{LogHead}
 use Rattle.shared_shards.specs.ShardLogs.{faults_of, RiseTo}
 use Rattle.shared_callers.specs.Callers.{Caller}
-use Rattle.shared_callers.specs.OwnPlaces.{is_for_shard, faults_told}
+use Rattle.answer_laws.specs.OwnPlaces.{is_for_shard, faults_told}
 use Rattle.shared_callers.proofs.CallersAnswers.{AreCallers}
 use Rattle.shared_callers.proofs.CallersAnswers.{AreCallersFaultsCounted}
 use Rattle.shared_callers.proofs.EachPlace.{faults-told, each-fault}
-use Rattle.shared_callers.proofs.Lists.{total-below}
+use Rattle.answer_laws.proofs.Lists.{total-below}
 
 -- counts that rise to one below the last value each rise by 1 or more
 rise-by_one : (first : ℕ) (counts : List ℕ) (now : ℕ) → RiseTo first counts now → now < 2 ^ 64 - 1 → first + length counts ≤ now

@@ -25,7 +25,7 @@ use Rattle.shared_callers.specs.Seated.{AreSeated}
 use Rattle.shared_callers.specs.Turns.{AreInTurns}
 use Rattle.shared_callers.specs.declared.lane.Lane.{Lane}
 use Rattle.shared_callers.specs.declared.dealer.Progress.{Progress}
-use Rattle.shared_callers.proofs.HavingTurns.{turns-nothing}
+use Rattle.answer_laws.proofs.HavingTurns.{turns-nothing}
 use Rattle.shared_callers.proofs.Serving.{AreServed, at-all}
 
 -- a pass that was split off was asked nothing

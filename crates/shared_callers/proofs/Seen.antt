@@ -41,7 +41,7 @@ use Rattle.host_calls.specs.declared.pass.Checked.{Checked}
 use Rattle.line_checks.specs.declared.checked.CheckedOrder.TheVariants.{Command as Queues, Status as Sets}
 use Rattle.host_calls.specs.declared.pass.Checked.TheVariants.{Decide as Decides, Order as Orders}
 use Rattle.shared_callers.specs.Callers.{AuthorisesAll}
-use Rattle.shared_callers.specs.Explained.{history_at, SeesTurn, Sees, AreAnsweredInOrder}
+use Rattle.answer_laws.specs.Explained.{history_at, SeesTurn, Sees, AreAnsweredInOrder}
 
 -- ---- histories that go on
 

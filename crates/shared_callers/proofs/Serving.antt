@@ -25,7 +25,7 @@ use Rattle.host_calls.specs.declared.pass.Pass.{Pass}
 use Rattle.one_caller.proofs.Places.{read-map, read-mapped}
 use Rattle.shared_callers.specs.Callers.{Caller, AuthorisesAll, IsCaller}
 use Rattle.shared_callers.proofs.MoreLines.{calls-more}
-use Rattle.shared_callers.specs.Dealing.{every}
+use Rattle.answer_laws.specs.Dealing.{every}
 use Rattle.shared_callers.specs.OneLane.{waiting_lines, due_answers, HadLines, LaneAnswers, LanesAnswer}
 use Rattle.shared_callers.specs.Seated.{AreSeated}
 use Rattle.shared_callers.specs.Turns.{AreInTurns, IsInTurn}

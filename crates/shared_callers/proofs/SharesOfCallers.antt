@@ -17,13 +17,13 @@ use Rattle.shared_shards.specs.declared.logs.LogItem.{LogItem}
 use Rattle.shared_shards.specs.declared.logs.LogHead.{LogHead}
 use Rattle.one_caller.specs.OneHistory.{IsAnswered}
 use Rattle.shared_callers.specs.Callers.{Caller}
-use Rattle.shared_callers.specs.Explained.{Explains, AreAnsweredInOrder, AreExplained, IsDecidedOn, history_at, histories_in}
-use Rattle.shared_callers.specs.FaultCounts.{AreFaultsCounted}
-use Rattle.shared_callers.specs.OwnPlaces.{is_record_at, faults_told, faults_at, AreOwnPlaces, IsPending, LinePasses}
-use Rattle.shared_callers.specs.OwnPlaces.{all_faults_told, answers_at}
-use Rattle.shared_callers.specs.Settled.{AreSettled, IsDecidedNow, IsLeft}
-use Rattle.shared_callers.specs.Shares.{Share, AreDealt, IsAnsweredOn}
-use Rattle.shared_callers.proofs.Lists.{mapped-at}
+use Rattle.answer_laws.specs.Explained.{Explains, AreAnsweredInOrder, AreExplained, IsDecidedOn, history_at, histories_in}
+use Rattle.answer_laws.specs.FaultCounts.{AreFaultsCounted}
+use Rattle.answer_laws.specs.OwnPlaces.{is_record_at, faults_told, faults_at, AreOwnPlaces, IsPending, LinePasses}
+use Rattle.answer_laws.specs.OwnPlaces.{all_faults_told, answers_at}
+use Rattle.answer_laws.specs.Settled.{AreSettled, IsDecidedNow, IsLeft}
+use Rattle.answer_laws.specs.Shares.{Share, AreDealt, IsAnsweredOn}
+use Rattle.answer_laws.proofs.Lists.{mapped-at}
 use Rattle.shared_callers.proofs.CallersAnswers.{AreDealtToCallers, share_of, shares_of}
 use Rattle.shared_callers.proofs.CallersAnswers.{IsCallersAnswerOn, AreCallersExplained, AreCallersOwnPlaces}
 use Rattle.shared_callers.proofs.CallersAnswers.{IsCallersPending, CallersLinePasses, AreCallersSettled}

@@ -22,9 +22,9 @@ use Rattle.shared_shards.specs.declared.logs.LogItem.TheVariants.{Record, Fault}
 use Rattle.shared_shards.specs.ShardLogs.{faults_of}
 use Rattle.shared_shards.specs.Turned.{log_after, mine_after, AddsFault, IsAdded}
 use Rattle.shared_callers.specs.Callers.{AuthorisesAll}
-use Rattle.shared_callers.specs.OwnPlaces.{is_for_shard, faults_told}
+use Rattle.answer_laws.specs.OwnPlaces.{is_for_shard, faults_told}
 use Rattle.shared_callers.proofs.CallTurns.{ShardView, TakesTurn, IsTurnedAway, call-turn, call-sees, calls-see, turn-seen}
-use Rattle.shared_callers.proofs.FaultPlaces.{is_fault_at, own_faults, fault-at_record, fault-at_fault, faults-front}
+use Rattle.answer_laws.proofs.FaultPlaces.{is_fault_at, own_faults, fault-at_record, fault-at_fault, faults-front}
 use Rattle.shared_callers.proofs.OwnRecords.{added-in}
 
 and-false : (test : Bool) → (test && false) ≡ false

@@ -35,7 +35,7 @@ use Rattle.host_calls.specs.declared.pass.Checked.{Checked}
 use Rattle.line_checks.specs.declared.checked.CheckedOrder.TheVariants.{Command as Queues, Status as Sets}
 use Rattle.host_calls.specs.declared.pass.Checked.TheVariants.{Decide as Decides, Order as Orders}
 use Rattle.shared_callers.specs.Callers.{AuthorisesAll}
-use Rattle.shared_callers.specs.Explained.{history_at, IsDecidedOn, SeesTurn}
+use Rattle.answer_laws.specs.Explained.{history_at, IsDecidedOn, SeesTurn}
 use Rattle.shared_callers.proofs.Decisions.{greatest-decided, decided-stays}
 use Rattle.shared_callers.proofs.Seen.{IsWhole, turn-sees, home-there, line-sees, sees-goes_on, goes-same}
 use Rattle.shared_callers.proofs.KeptClaims.{top-times, line-keeps}

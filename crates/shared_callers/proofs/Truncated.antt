@@ -11,7 +11,7 @@ use Rattle.shared_shards.specs.declared.logs.LogItem.{LogItem}
 use Rattle.shared_shards.specs.declared.logs.LogHead.{LogHead}
 use Rattle.host_calls.specs.Authorising.{Authorises}
 use Rattle.shared_callers.specs.Callers.{AuthorisesAll, Caller, IsCaller}
-use Rattle.shared_callers.specs.Dealing.{every}
+use Rattle.answer_laws.specs.Dealing.{every}
 
 -- what is dealt of mapped items
 every-map : {A B : Type 0} (f : A → B) (count skip : ℕ) (xs : List A)

@@ -9,14 +9,14 @@ use Rattle.std.proofs.Props.{props}
 use Rattle.std.specs.List.{slice_get}
 use Rattle.issuer_base.specs.declared.answer.Answer.{Answer}
 use Rattle.one_caller.proofs.Places.{read-within}
-use Rattle.shared_callers.specs.Dealing.{HaveTurns}
+use Rattle.answer_laws.specs.Dealing.{HaveTurns}
 use Rattle.shared_callers.specs.OneLane.{waiting_lines, due_answers}
 use Rattle.shared_callers.specs.Turns.{AreInTurns, IsBehind, IsInTurn}
 use Rattle.shared_callers.specs.declared.lane.Lane.{Lane}
 use Rattle.shared_callers.specs.declared.dealer.Progress.{Progress}
-use Rattle.shared_callers.proofs.Every.{turn-next}
-use Rattle.shared_callers.proofs.HavingTurns.{length-same, turns-deal, turns-take, turns-none, turns-same}
-use Rattle.shared_callers.proofs.HavingTurns.{turns-nothing, turns-answered, turns-empty, turns-room}
+use Rattle.answer_laws.proofs.Every.{turn-next}
+use Rattle.answer_laws.proofs.HavingTurns.{length-same, turns-deal, turns-take, turns-none, turns-same}
+use Rattle.answer_laws.proofs.HavingTurns.{turns-nothing, turns-answered, turns-empty, turns-room}
 
 pub next-turn : (n count place next : ℕ) → 0 < count → place ≡ n % count → IsBehind count place next → next ≡ suc n % count
 next-turn n count place next some turn behind = elim (turn-next n count some) [

@@ -10,10 +10,10 @@ use Rattle.shared_shards.specs.declared.logs.LogItem.{LogItem}
 use Rattle.shared_shards.specs.declared.logs.LogHead.{LogHead}
 use Rattle.host_calls.specs.Closing.{AreClosed}
 use Rattle.host_calls.specs.OpeningLogs.{AreOpenedFrom}
-use Rattle.shared_callers.specs.Dealing.{every}
-use Rattle.shared_callers.specs.Laws.{AreLawfulShares}
+use Rattle.answer_laws.specs.Dealing.{every}
+use Rattle.answer_laws.specs.Laws.{AreLawfulShares}
 use Rattle.shared_callers.specs.OneLane.{HadLines}
-use Rattle.shared_callers.specs.Shares.{Share, AreDealt}
+use Rattle.answer_laws.specs.Shares.{Share, AreDealt}
 use Rattle.shared_callers.specs.Turns.{AreInTurns}
 use Rattle.shared_callers.specs.declared.lane.Lane.{Lane}
 use Rattle.shared_callers.specs.declared.lanes.Lanes.{Lanes}

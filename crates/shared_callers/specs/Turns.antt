@@ -1,7 +1,7 @@
 -- Which lines and answers the lanes have, if all are dealt in turns.
 use Rattle.std.specs.Prelude.{◌≡◌, ℕ, ◌+◌, ◌%◌, ◌<◌, List, ◌++◌, length}
 use Rattle.issuer_base.specs.declared.answer.Answer.{Answer}
-use Rattle.shared_callers.specs.Dealing.{HaveTurns}
+use Rattle.answer_laws.specs.Dealing.{HaveTurns}
 use Rattle.shared_callers.specs.OneLane.{waiting_lines, due_answers}
 use Rattle.shared_callers.specs.declared.lane.Lane.{Lane}
 use Rattle.shared_callers.specs.declared.dealer.Progress.{Progress}
