@@ -1,9 +1,11 @@
 -- Binary digits and their values.
 use Rattle.std.proofs.Common.{◌≡◌, ℕ, zero, suc, ◌+◌, ◌-◌, ◌*◌, ◌/◌, ◌%◌, ◌^◌, ◌<◌, ◌≤◌, ◌==◌, Bool, true, false, List, [], ◌∷◌, ◌++◌, length, take, drop}
-use Rattle.std.proofs.Common.{slice_index_or, bit_xor, refl, sym, ap, ◌∙◌, arith, pow-suc, mod-lt, length-append}
+use Rattle.std.proofs.Common.{slice_index_or, bit_xor, refl, sym, ap, ◌∙◌, arith, pow-suc, mod-lt, length-append, map}
 use Rattle.std.proofs.lemmas.Nat.{mod-pow-add, shr_high, mod_low, shr_split, shr-shr, xor_block, xor_shr, xor_mod}
 use Rattle.std.proofs.lemmas.Nat.Bits.{bit_at_cat_low, bit_at_xor, bit_at-lt}
 use Rattle.std.proofs.lemmas.List.{length-map}
+use Rattle.std.proofs.lemmas.List.FromFn.{get_or-map-range_with_len}
+use Rattle.std.specs.List.{range_with_len}
 use Rattle.des_block.specs.Bits.{bits, digit, number, picked, xor_bits}
 use mathlib.Core.Bool.{xor}
 
@@ -120,3 +122,18 @@ length-xor_bits (x ∷ xs) (y ∷ ys) e = ap suc (length-xor_bits xs ys (omega a
 pub length-picked : (table : List ℕ) (bs : List Bool) → length (picked table bs) ≡ length table
 unfolding picked
 length-picked table bs = length-map table _
+
+-- more digits on the left
+pub bits-append : (n m a b : ℕ) → b < 2 ^ m → bits (n + m) (a * 2 ^ m + b) ≡ bits n a ++ bits m b
+unfolding bits
+bits-append zero m a b h = ap (λ k. bits k (a * 2 ^ m + b)) (omega arith) ∙ bits_low m m a b (omega arith)
+bits-append (suc n) m a b h =
+    let e : suc n + m ≡ suc (n + m) = omega arith in
+    let place : (a * 2 ^ m + b) / 2 ^ (n + m) ≡ a / 2 ^ n =
+    ap (λ k. (a * 2 ^ m + b) / 2 ^ k) (omega arith) ∙ sym (shr-shr (a * 2 ^ m + b) m n) ∙ ap (λ k. k / 2 ^ n) (shr_high a m b h) in
+    rw (e, place, bits-append n m a b h) refl
+
+-- two functions with one table of values agree on its arguments
+pub agree_below : (f g : ℕ → ℕ) (n : ℕ) → map f (range_with_len 0 n) ≡ map g (range_with_len 0 n) → (x : ℕ) → x < n → f x ≡ g x
+agree_below f g n e x h =
+    sym (get_or-map-range_with_len f 0 n x x 0 h (omega arith)) ∙ ap (λ t. slice_index_or t x 0) e ∙ get_or-map-range_with_len g 0 n x x 0 h (omega arith)

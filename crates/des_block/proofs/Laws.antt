@@ -12,7 +12,7 @@ use Rattle.des_block.specs.Tables.{initial_permutation, inverse_permutation}
 use Rattle.des_block.specs.Cipher.{Halves, halves, cipher_function, round, ciphered, round_keys, word_bytes, block_bits, block_bytes, des_encipher}
 use Rattle.des_block.specs.Cipher.{des_decipher, tdes_encipher, tdes_decipher}
 use Rattle.des_block.proofs.Digits.{length-picked, length-bits, length-xor_bits, bits-number, number-bits, number-lt}
-use Rattle.des_block.proofs.PlainSteps.{length-cipher_function}
+use Rattle.des_block.proofs.Lengths.{length-cipher_function}
 use mathlib.Core.Bool.{xor}
 
 xor_twice : (x y : Bool) → xor (xor x y) y ≡ x

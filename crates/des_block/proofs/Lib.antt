@@ -1,6 +1,6 @@
 -- The laws of this crate.
 pub mod Digits
-pub mod PlainSteps
+pub mod Lengths
 pub mod Linear
 pub mod WordSteps
 pub mod MixedSteps

@@ -8,7 +8,7 @@ use lib.Bits.{xor_assoc, xor_self, xor_shifted}
 use mathlib.Core.Bool.{xor}
 use Rattle.des_block.specs.Bits.{bits, digit, number, picked, xor_bits}
 use Rattle.des_block.proofs.Digits.{below_two, length-bits, length-picked, length-xor_bits, bits-xor, number-lt}
-use Rattle.des_block.proofs.PlainSteps.{agree_below}
+use Rattle.des_block.proofs.Digits.{agree_below}
 
 -- a function that goes through xor
 pub record Additive (f : ℕ → ℕ) : Type 0 where

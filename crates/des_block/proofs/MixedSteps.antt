@@ -11,7 +11,7 @@ use Rattle.des_block.specs.Tables.{expansion, box_permutation, s1, s2, s3, s4, s
 use Rattle.des_block.specs.Cipher.{box_output, substituted, cipher_function, round, turned}
 use Rattle.des_block.specs.Keyed.{box_places, turned_halves}
 use Rattle.des_block.proofs.Digits.{length-bits, bits-number, number-append, bits_mod, bits-xor, take-bits, number-lt}
-use Rattle.des_block.proofs.PlainSteps.{length-turned, length-box_output, length-substituted, length-cipher_function}
+use Rattle.des_block.proofs.Lengths.{length-turned, length-box_output, length-substituted, length-cipher_function}
 use Rattle.des_block.proofs.Linear.{Additive, picked_additive, word_picked, picked-xor_bits, xor_bits-append}
 use Rattle.des_block.proofs.WordSteps.{rotated_bits, turned_back}
 

@@ -8,7 +8,7 @@ use Rattle.des_block.specs.Cipher.{Halves, halves, turned, round, ciphered, roun
 use Rattle.des_block.specs.Keyed.{turned_halves}
 use Rattle.des_block.specs.Permuted.{permuted_word}
 use Rattle.des_block.proofs.Digits.{length-bits, number-lt, number-bits, bits-number}
-use Rattle.des_block.proofs.PlainSteps.{length-turned}
+use Rattle.des_block.proofs.Lengths.{length-turned}
 use Rattle.des_block.proofs.Linear.{picked-xor_bits, xor_bits-append, number-xor_bits}
 use Rattle.des_block.proofs.MixedSteps.{turned-xor}
 use Rattle.des_block.proofs.Laws.{AreHalves, exchanged, halves-exchanged, length_joined, length-inverse, initial-inverse, inverse-initial}

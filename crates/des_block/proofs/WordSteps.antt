@@ -7,7 +7,7 @@ use Rattle.des_block.specs.Tables.{initial_permutation, inverse_permutation}
 use Rattle.des_block.specs.Cipher.{halves, turned}
 use Rattle.des_block.specs.Keyed.{turned_halves}
 use Rattle.des_block.proofs.Digits.{length-bits, length-picked, bits-number, number-append, bits_mod, take-bits, drop-bits}
-use Rattle.des_block.proofs.PlainSteps.{bits-append}
+use Rattle.des_block.proofs.Digits.{bits-append}
 use Rattle.des_block.proofs.Linear.{Additive, shr_additive, low_additive, shl_additive, mask_additive, xor_additive, after_additive, picked_additive}
 use Rattle.des_block.proofs.Linear.{word_picked, same_additive}
 

@@ -4,7 +4,6 @@
 mod boxes;
 mod key_rows;
 mod permuted;
-pub mod plain;
 mod rounds;
 mod schedule;
 

@@ -1,8 +1,8 @@
 -- Both halves rotated, and the bits selected from them, are the next round key, up to sixteen.
 use Rattle.std.proofs.Common.{◌≡◌, ℕ, refl, arith, subst}
 use Rattle.des_block.specs.Tables.{key_choice_left, key_choice_right, round_key_choice, rotations}
-use Rattle.des_block.proofs.PlainSteps.{MakesKeys, MakesKeys_none, MakesKeys_more, MakesKeys_all}
-use Rattle.des_block.proofs.plain.round_keys.Goals as goal
+use Rattle.des_plain.proofs.PlainSteps.{MakesKeys, MakesKeys_none, MakesKeys_more, MakesKeys_all}
+use Rattle.des_plain.proofs.round_keys.Goals as goal
 
 pub loop-i-init : goal.loop-i-init
 unfolding key_choice_left key_choice_right

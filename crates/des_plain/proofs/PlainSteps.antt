@@ -11,12 +11,8 @@ use Rattle.des_block.specs.Tables.{key_choice_left, key_choice_right, round_key_
 use Rattle.des_block.specs.Tables.{inverse_permutation, s_boxes}
 use Rattle.des_block.specs.Cipher.{Halves, halves, box_output, substituted, cipher_function, round, ciphered, turned, keys_from, round_keys}
 use Rattle.des_block.proofs.Digits.{bits_low, digit_of, digit_at, number-lt, number-bits, number-append, length-picked, length-bits, bits-number, take-bits}
-use Rattle.des_block.proofs.Digits.{drop-bits, bits-xor, bits_mod}
-
--- two functions with one table of values agree on its arguments
-pub agree_below : (f g : ℕ → ℕ) (n : ℕ) → map f (range_with_len 0 n) ≡ map g (range_with_len 0 n) → (x : ℕ) → x < n → f x ≡ g x
-agree_below f g n e x h =
-    sym (get_or-map-range_with_len f 0 n x x 0 h (omega arith)) ∙ ap (λ t. slice_index_or t x 0) e ∙ get_or-map-range_with_len g 0 n x x 0 h (omega arith)
+use Rattle.des_block.proofs.Digits.{drop-bits, bits-xor, bits_mod, agree_below, bits-append}
+use Rattle.des_block.proofs.Lengths.{length-box_output, length-substituted, length-cipher_function, length-turned}
 
 number_push : (xs : List Bool) (b : Bool) → number (xs ++ b ∷ []) ≡ number xs * 2 + digit b
 unfolding number
@@ -109,20 +105,6 @@ box_output_is box six h =
     and_mask (slice_index box (row_and_column six)) 4 ∙ sym (number-bits 4 (slice_index box (row_and_column six)))
     ∙ ap (λ p. number (bits 4 (slice_index box p))) place
 
-pub length-box_output : (box : List ℕ) (six : List Bool) → length (box_output box six) ≡ 4
-unfolding box_output
-length-box_output box six = length-bits 4 _
-
--- more digits on the left
-pub bits-append : (n m a b : ℕ) → b < 2 ^ m → bits (n + m) (a * 2 ^ m + b) ≡ bits n a ++ bits m b
-unfolding bits
-bits-append zero m a b h = ap (λ k. bits k (a * 2 ^ m + b)) (omega arith) ∙ bits_low m m a b (omega arith)
-bits-append (suc n) m a b h =
-    let e : suc n + m ≡ suc (n + m) = omega arith in
-    let place : (a * 2 ^ m + b) / 2 ^ (n + m) ≡ a / 2 ^ n =
-    ap (λ k. (a * 2 ^ m + b) / 2 ^ k) (omega arith) ∙ sym (shr-shr (a * 2 ^ m + b) m n) ∙ ap (λ k. k / 2 ^ n) (shr_high a m b h) in
-    rw (e, place, bits-append n m a b h) refl
-
 -- what the loop over the S boxes has done and has left to do
 pub record Substitutes (boxes : List (List ℕ)) (word i out : ℕ) : Type 0 where
   pub fits : out < 2 ^ (4 * i)
@@ -171,17 +153,9 @@ Substitutes_all boxes word out done len =
     let whole : out % 2 ^ 32 ≡ out = omega (arith, done.fits) in
     sym whole ∙ sym (number-bits 32 out) ∙ ap number end
 
-pub length-substituted : (bs : List Bool) → length (substituted s_boxes bs) ≡ 32
-unfolding substituted s_boxes
-length-substituted bs = simp (length-append, length-box_output)
-
 length-expansion : length expansion ≡ 48
 unfolding expansion
 length-expansion = refl
-
-pub length-cipher_function : (right key : List Bool) → length (cipher_function right key) ≡ 32
-unfolding cipher_function box_permutation
-length-cipher_function right key = length-picked box_permutation _
 
 -- the word of a half and a round key
 pub mixed_bits : (right key : ℕ) (e : List ℕ) → length e ≡ 48
@@ -257,10 +231,6 @@ Ciphers_all keys block mixed l r out i len ei em done eo =
     ap (λ ks. fold round (halves_of l r) (map (bits 48) ks)) (sym none) ∙ done.joined ∙ ap (λ h. fold round h (map (bits 48) keys)) start in
     eo ∙ ap (λ b. number (picked inverse_permutation b)) (joined_of l r done.left_fits done.right_fits)
     ∙ ap (λ (h : Halves). number (picked inverse_permutation (h.right ++ h.left))) end
-
-pub length-turned : (n : ℕ) (bs : List Bool) → length (turned n bs) ≡ length bs
-unfolding turned
-length-turned n bs = omega (arith, length-append (drop n bs) (take n bs), length-drop n bs, length-take n bs)
 
 -- the loop over the rotations: the keys so far, and the keys that C and D still give
 pub record MakesKeys (key i left right : ℕ) (keys : List ℕ) : Type 0 where

@@ -1,8 +1,8 @@
 -- The next box's output is appended to those of the boxes before, up to all eight.
 use Rattle.std.proofs.Common.{◌≡◌, ℕ, refl, arith}
 use Rattle.des_block.specs.Tables.{s1, s2, s3, s4, s5, s6, s7, s8, s_boxes}
-use Rattle.des_block.proofs.PlainSteps.{Substitutes, Substitutes_none, Substitutes_more, Substitutes_all}
-use Rattle.des_block.proofs.plain.substituted.Goals as goal
+use Rattle.des_plain.proofs.PlainSteps.{Substitutes, Substitutes_none, Substitutes_more, Substitutes_all}
+use Rattle.des_plain.proofs.substituted.Goals as goal
 
 pub loop-i-init : goal.loop-i-init
 loop-i-init c = Substitutes_none s_boxes c.args.word

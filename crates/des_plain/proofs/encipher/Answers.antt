@@ -3,7 +3,7 @@ use Rattle.std.proofs.Common.{ap, ap₂, ◌∙◌, w64}
 use Rattle.std.specs.Int.{to_be_bytes}
 use Rattle.des_block.specs.Bits.{bits, number}
 use Rattle.des_block.specs.Cipher.{ciphered, round_keys, word_bytes, block_bits, block_bytes, des_encipher}
-use Rattle.des_block.proofs.plain.encipher.Goals as goal
+use Rattle.des_plain.proofs.encipher.Goals as goal
 
 pub returns : goal.returns
 unfolding des_encipher word_bytes block_bits block_bytes

@@ -1,8 +1,8 @@
 -- A round with the next key is one more round, and IP before them and its inverse after them are the cipher.
 use Rattle.std.proofs.Common.{refl, arith}
 use Rattle.des_block.specs.Tables.{initial_permutation, inverse_permutation}
-use Rattle.des_block.proofs.PlainSteps.{Ciphers_more, Ciphers_all}
-use Rattle.des_block.proofs.plain.ciphered.Goals as goal
+use Rattle.des_plain.proofs.PlainSteps.{Ciphers_more, Ciphers_all}
+use Rattle.des_plain.proofs.ciphered.Goals as goal
 
 pub loop-key-preserved : goal.loop-key-preserved
 loop-key-preserved c =

@@ -3,8 +3,8 @@ use Rattle.std.proofs.Common.{◌≡◌, ◌<◌, ◌≤◌, ◌&&◌, ℕ, true
 use Rattle.std.proofs.lemmas.Bool.{and_parts, ltb-true, leb-true}
 use Rattle.std.proofs.lemmas.List.Sums.{AllPass-from_list_all}
 use Rattle.des_block.specs.Bits.{number, picked}
-use Rattle.des_block.proofs.PlainSteps.{picked_more}
-use Rattle.des_block.proofs.plain.picked.Goals as goal
+use Rattle.des_plain.proofs.PlainSteps.{picked_more}
+use Rattle.des_plain.proofs.picked.Goals as goal
 
 pub loop-entry-init : goal.loop-entry-init
 unfolding number picked

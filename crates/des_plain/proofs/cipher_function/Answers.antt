@@ -1,7 +1,7 @@
 -- Expansion, xor with the key, substitution and permutation are the standard's cipher function.
 use Rattle.des_block.specs.Tables.{box_permutation, expansion}
-use Rattle.des_block.proofs.PlainSteps.{cipher_function_is}
-use Rattle.des_block.proofs.plain.cipher_function.Goals as goal
+use Rattle.des_plain.proofs.PlainSteps.{cipher_function_is}
+use Rattle.des_plain.proofs.cipher_function.Goals as goal
 
 pub returns : goal.returns
 unfolding expansion box_permutation

@@ -4,7 +4,7 @@ use Rattle.std.specs.Int.{to_be_bytes}
 use Rattle.des_block.specs.Bits.{bits, number}
 use Rattle.des_block.specs.Cipher.{ciphered, round_keys, word_bytes, block_bits, block_bytes, des_decipher}
 use Rattle.des_block.proofs.Laws.{map-reverse}
-use Rattle.des_block.proofs.plain.decipher.Goals as goal
+use Rattle.des_plain.proofs.decipher.Goals as goal
 
 pub returns : goal.returns
 unfolding des_decipher word_bytes block_bits block_bytes

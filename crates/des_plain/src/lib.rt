@@ -1,4 +1,5 @@
 //! DES as in FIPS 46-3, by its tables and bit by bit: a slow reference for comparison.
+#![tactic(auto)]
 
 ghost use Rattle.std.specs.Prelude.{◌≡◌, ℕ, ◌+◌, ◌<◌, ◌≤◌, ◌&&◌, List, length, map, IsTrue, nat_lt, nat_le};
 ghost use Rattle.std.specs.List.{list_all};
@@ -122,7 +123,7 @@ fn turned(half: u64, n: u32) -> u64
 }
 
 /// The sixteen round keys of a key, in the order of encipherment.
-pub(crate) fn round_keys(key: u64) -> [u64; 16]
+fn round_keys(key: u64) -> [u64; 16]
     ensures { map (bits 48) result ≡ round_keys (bits 64 key) }
 {
     let mut keys = [0; 16];
@@ -167,7 +168,7 @@ fn cipher_function(right: u64, key: u64) -> u64
 }
 
 /// A block of 64 bits through the sixteen rounds under `keys`.
-pub(crate) fn ciphered(keys: &[u64; 16], block: u64) -> u64
+fn ciphered(keys: &[u64; 16], block: u64) -> u64
     ensures { result ≡ number (ciphered (map (bits 48) keys.now) (bits 64 block)) }
 {
     let mixed = picked(block, 64, &INITIAL_PERMUTATION);
