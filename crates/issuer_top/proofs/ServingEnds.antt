@@ -21,7 +21,7 @@ use Rattle.line_blocks.specs.declared.served.Served.TheVariants.{All, ReadFault 
 use Rattle.line_blocks.specs.declared.served.Served.TheVariants.{TooLong as LongStopped}
 use Rattle.run_endings.specs.Seen.{Seen, SeenInput}
 use Rattle.line_blocks.specs.Answered.{AreAllLines, AreWholeLines, AreLinesBefore, AreFirstLines}
-use Rattle.line_serving.specs.Hosts.{LeavesAnswered, LeavesLoaded}
+use Rattle.host_closing.specs.Leaving.{LeavesAnswered, LeavesLoaded}
 use Rattle.run_endings.specs.Opening.{GivesInput, stop_of}
 use Rattle.command_line.specs.Command.{RequestFile}
 use Rattle.line_blocks.specs.Serving.{ServesLines, Serves, read_failed, write_failed}

@@ -23,7 +23,8 @@ use Rattle.one_caller.proofs.Running.{begins-legal, run-on}
 use Rattle.desk_host.specs.Configuration.{HasSoundParts}
 use Rattle.desk_host.specs.Journals.{IsReadySolo}
 use Rattle.line_blocks.specs.Serving.{TakesLine, Settles}
-use Rattle.line_serving.specs.Hosts.{LeavesAnswered, LeavesLoaded, HasAnswered}
+use Rattle.host_closing.specs.Leaving.{LeavesAnswered, LeavesLoaded}
+use Rattle.line_serving.specs.Hosts.{HasAnswered}
 use Rattle.desk_host.specs.Left.{LeaveJournals}
 use Rattle.desk_host.specs.SeenStores.{Logged, journals_seen}
 use Rattle.desk_host.proofs.HostRuns.{run-line, recorded}

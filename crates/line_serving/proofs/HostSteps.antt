@@ -11,7 +11,8 @@ use Rattle.line_serving.specs.declared.hosts.LineHost.{LineHost}
 use Rattle.line_serving.specs.declared.hosts.LineHost.TheVariants.{Alone, Together}
 use Rattle.desk_host.specs.Journals.{IsReadySolo}
 use Rattle.line_blocks.specs.Serving.{TakesLine, Settles}
-use Rattle.line_serving.specs.Hosts.{LeavesAnswered, IsReadyTogether, HasAnswered, HaveAnswered}
+use Rattle.host_closing.specs.Leaving.{LeavesAnswered}
+use Rattle.line_serving.specs.Hosts.{IsReadyTogether, HasAnswered, HaveAnswered}
 use Rattle.line_serving.specs.Hosts.{callers_of}
 use Rattle.line_serving.specs.Hosts.{IsReady, HasServed}
 use Rattle.desk_host.specs.SeenStores.{Logged, journals_seen}

@@ -16,37 +16,10 @@ use Rattle.line_serving.specs.declared.hosts.LineHost.{LineHost}
 use Rattle.line_serving.specs.declared.hosts.LineHost.TheVariants.{Alone, Together}
 use Rattle.shared_callers.specs.Lanes.{issuer_in, opening_logs, callers_in, waiting_in, due_in, is_full_in, HasSameHost}
 use Rattle.shared_callers.specs.Lanes.{LanesServe}
-use Rattle.answer_laws.specs.Answers.{AreAnsweredBy, AnswersNone}
 use Rattle.host_calls.specs.OpeningLogs.{AreOpenedFrom}
 use Rattle.one_caller.specs.Loading.{AreOnlyRead}
 use Rattle.desk_host.specs.Journals.{HasAllOpened, IsReadySolo}
-use Rattle.desk_host.specs.Kept.{KeepJournals}
-use Rattle.desk_host.specs.Lawful.{IsLawful}
-use Rattle.desk_host.specs.Left.{LeaveJournals}
-use Rattle.desk_host.specs.SeenStores.{Logged, SeenJournals}
-
--- ---- what a host leaves
-
--- what a host of so many callers leaves that answered these lines since its journals were loaded
-pub record LeavesAnswered (count : ℕ) (issuer : Setup) (prefix : List ℕ) (logs : Logged)
-    (journals : SeenJournals) (lines : List (List ℕ)) (text : List ℕ) : Type 0 where
-  pub first : List Book
-  pub last : List Book
-  pub kept : KeepJournals issuer prefix logs journals first last
-  pub lawful : IsLawful issuer first last
-  pub answers : List Answer
-  pub answered : AreAnsweredBy count issuer first last lines answers
-  pub text_is : text ≡ flat_map printed answers
-
--- what it leaves where it answered none
-pub record LeavesLoaded (count : ℕ) (issuer : Setup) (prefix : List ℕ) (logs : Logged)
-    (journals : SeenJournals) : Type 0 where
-  pub first : List Book
-  pub last : List Book
-  pub kept : KeepJournals issuer prefix logs journals first last
-  pub lawful : IsLawful issuer first last
-  pub none : AnswersNone count first last
-  pub left : count ≡ 1 → LeaveJournals prefix logs journals
+use Rattle.desk_host.specs.SeenStores.{Logged}
 
 -- ---- the host of one caller, that of several, and either
 

@@ -6,7 +6,8 @@ ghost use Rattle.line_blocks.specs.Serving.{TakesLine};
 ghost use Rattle.line_blocks.specs.declared.block.TheConstants.{BLOCK_LINES};
 ghost use Rattle.desk_host.specs.Configuration.{HasSoundParts};
 ghost use Rattle.desk_host.specs.Journals.{IsReadySolo};
-ghost use Rattle.line_serving.specs.Hosts.{LeavesAnswered, LeavesLoaded, HasAnswered};
+ghost use Rattle.host_closing.specs.Leaving.{LeavesAnswered, LeavesLoaded};
+ghost use Rattle.line_serving.specs.Hosts.{HasAnswered};
 ghost use Rattle.desk_host.specs.SeenStores.{Logged, journals_seen};
 
 use issuer_base::{Gate, Store};

@@ -26,7 +26,8 @@ pub enum LineHost<S: Store> {
 
 impl<S: Store> LineHost<S> {
     ghost use Rattle.line_blocks.specs.Serving.{TakesLine, Settles};
-    ghost use Rattle.line_serving.specs.Hosts.{LeavesAnswered, LeavesLoaded, callers_of, IsReady};
+    ghost use Rattle.host_closing.specs.Leaving.{LeavesAnswered, LeavesLoaded};
+    ghost use Rattle.line_serving.specs.Hosts.{callers_of, IsReady};
     ghost use Rattle.line_serving.specs.Hosts.{HasServed, MaySettle, HasRoom, IsSettled};
 
     /// Whether no other line is taken before the lines that wait are settled and the answers of the block are written.

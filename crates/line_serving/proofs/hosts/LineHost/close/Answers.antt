@@ -1,6 +1,7 @@
 -- What either host leaves.
 use Rattle.std.proofs.Common.{sym, subst}
-use Rattle.line_serving.specs.Hosts.{LeavesLoaded, callers_of, IsReady}
+use Rattle.host_closing.specs.Leaving.{LeavesLoaded}
+use Rattle.line_serving.specs.Hosts.{callers_of, IsReady}
 use Rattle.desk_host.specs.SeenStores.{journals_seen}
 use Rattle.line_serving.specs.declared.hosts.LineHost.{LineHost}
 use Rattle.line_serving.proofs.HostSteps.{leaves_alone, leaves_together}

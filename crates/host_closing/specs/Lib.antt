@@ -1,0 +1,2 @@
+-- The definitions that contracts on closed hosts cite.
+pub mod Leaving
