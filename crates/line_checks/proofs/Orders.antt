@@ -1,5 +1,4 @@
 -- An order at hand is for a card that the issuer has.
-use Rattle.std.proofs.Common.{◌≡◌, refl}
 use Rattle.issuer_setup.specs.IssuerSetup.{Setup}
 use Rattle.line_checks.specs.declared.checked.CheckedOrder.{CheckedOrder}
 use Rattle.line_checks.specs.declared.checked.CheckedOrder.TheVariants.{Command, Status}

@@ -1,7 +1,6 @@
 -- The card's number and the keys that the check of a line found and derived.
 use Rattle.std.specs.Prelude.{◌≡◌, ◌≤◌, ℕ, Some, length, IsTrue}
 use Rattle.issuer_base.specs.declared.limits.TheConstants.{MAX_STATUS}
-use Rattle.issuer_base.specs.declared.request.Request.{Request}
 use Rattle.issuer_base.specs.ScriptCommand.{is_command}
 use Rattle.issuer_base.specs.declared.entry.Entry.{Entry}
 use Rattle.issuer_base.specs.declared.entry.Entry.TheVariants.{Queued, Status as IsStatus}

@@ -1,13 +1,21 @@
 -- What is looked up for a line before its cryptogram is checked.
-use Rattle.std.specs.Prelude.{◌≡◌, ℕ, List, Ok, true}
+use Rattle.std.specs.Prelude.{◌≡◌, ℕ, List, length, Result, Ok, Some, IfSome, true}
+use Rattle.issuer_base.specs.declared.answer.Refusal.{Refusal}
 use Rattle.issuer_base.specs.declared.request.Request.{Request}
-use Rattle.issuer_base.specs.ChipData.{is_arqc}
+use Rattle.issuer_base.specs.declared.request.Suite.TheVariants.{TripleDes}
+use Rattle.issuer_base.specs.ChipData.{is_arqc, suite_of}
 use Rattle.card_history.specs.Records.{card_of}
 use Rattle.chip_request.specs.declared.line.LineKind.TheVariants.{Ask}
 use Rattle.chip_request.specs.LineParts.{line_of}
 use Rattle.chip_request.specs.Reading.{request_of}
+use Rattle.key_derive.specs.declared.card.CardKeys.{CardKeys}
+use Rattle.key_derive.specs.SuiteKey.{SuiteKey}
+use Rattle.key_derive.specs.SessionKey.{session_of}
+use Rattle.cryptogram_in.specs.Cryptogram.{application_cryptogram}
+use Rattle.cryptogram_lanes.specs.declared.checks.DesCheck.{DesCheck}
+use Rattle.cryptogram_lanes.specs.Batch.{check_of}
 use Rattle.issuer_setup.specs.IssuerSetup.{Setup}
-use Rattle.issuer_setup.specs.KeySlots.{IsSlotOf}
+use Rattle.issuer_setup.specs.KeySlots.{keys_at, IsSlotOf}
 use Rattle.line_checks.specs.declared.sought.Sought.{Sought}
 use Rattle.line_checks.specs.declared.sought.Sought.TheVariants.{Request as IsRequest, Order}
 use Rattle.line_checks.specs.declared.sought.SoughtRequest.{SoughtRequest}
@@ -20,14 +28,50 @@ pub record CarriesRequest (line : List ℕ) (request : Request) : Type 0 where
   pub asks : line_of line ≡ Ok (Ask (record { items = bytes }))
   pub parsed : request_of bytes ≡ Ok request
 
+-- the request's cryptogram is the one that these keys give, under this session key, and has eight bytes
+pub record IsRightSession (keys : CardKeys) (request : Request) (session : SuiteKey) : Type 0 where
+  pub session_is : session ≡ session_of keys request.atc
+  pub ac_is : request.ac ≡ application_cryptogram keys request
+  pub eight : length request.ac ≡ 8
+
 -- the request asks to go online; these are its card, and the slot of the card's master keys from the key set that the
--- request names
+-- request names; a session key that was found ahead is the one of triple DES under which its cryptogram is right
 pub record HasKeysAtHand (issuer : Setup) (sought : SoughtRequest) : Type 0 where
   pub card_is : IsCardAtHand issuer (card_of sought.request) sought.card
   pub online_is : is_arqc sought.request ≡ true
   pub slot_is : IsSlotOf issuer sought.card sought.request sought.slot
+  pub ahead_is : IfSome sought.ahead (λ session.
+      IsRightSession slot_is.keys sought.request (record { suite = TripleDes; key = session.0 }))
 
 -- what the line asks: a request with its card and keys, or an order that passed every check
 abbrev pub IsSought : Setup → List ℕ → Sought → Type 0
 IsSought issuer line (IsRequest sought) = CarriesRequest line sought.request × HasKeysAtHand issuer sought
 IsSought issuer line (Order found) = (reading issuer line ≡ Ok (order_asked found)) × IsOrderAtHand issuer found
+
+-- a request that was looked up has its card and keys
+abbrev pub IsReady : Setup → Result Sought Refusal → Type 0
+IsReady issuer (Ok (IsRequest sought)) = HasKeysAtHand issuer sought
+IsReady issuer _ = Unit {0}
+
+-- the look-up found the same: a request with its card and keys, of which the session key may be another one ahead
+pub record IsRequestAgain (issuer : Setup) (old new : SoughtRequest) : Type 0 where
+  pub request_is : new.request ≡ old.request
+  pub card_is : new.card ≡ old.card
+  pub slot_is : new.slot ≡ old.slot
+  pub at_hand : HasKeysAtHand issuer new
+
+-- or an order or a refusal, unchanged
+abbrev pub IsLookedUpAgain : Setup → Result Sought Refusal → Result Sought Refusal → Type 0
+IsLookedUpAgain issuer (Ok (IsRequest old)) (Ok (IsRequest new)) = IsRequestAgain issuer old new
+IsLookedUpAgain issuer old new = new ≡ old
+
+-- the check is that of the request's cryptogram under its card's key, if this is of triple DES
+abbrev pub IsCheckFor : Setup → SoughtRequest → DesCheck → Type 0
+IsCheckFor issuer sought check =
+    (keys : CardKeys) → keys_at issuer sought.slot ≡ Some keys → suite_of sought.request ≡ TripleDes
+    → check ≡ check_of keys.ac sought.request
+
+-- it is that of a request that was looked up
+abbrev pub IsCheckOf : Setup → Result Sought Refusal → DesCheck → Type 0
+IsCheckOf issuer (Ok (IsRequest sought)) check = IsCheckFor issuer sought check
+IsCheckOf issuer _ check = Unit {0}

@@ -4,11 +4,13 @@
 
 mod card;
 mod checked;
+mod in_lanes;
 mod line;
 mod request;
 mod sought;
 
 pub use checked::{Checked, CheckedCommand, CheckedOrder, CheckedRequest, CheckedStatus};
+pub use in_lanes::check_in_lanes;
 pub use line::{check_line, look_up};
-pub use request::{check_request, refusal_of};
+pub use request::{check_request, look_up_request, refusal_of};
 pub use sought::{Sought, SoughtRequest};

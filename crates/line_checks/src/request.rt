@@ -51,9 +51,10 @@ pub fn check_request(issuer: &Issuer, request: Request) -> Result<CheckedRequest
     look_up_request(issuer, request)?.check(issuer)
 }
 
-/// Looks up the card and the key set of a request, which must ask to go online.
+/// Looks up the card and the key set of a request, which must ask to go online: all of [`check_request`] but the check
+/// of its cryptogram. So it uses no key.
 #[inline(always)]
-fn look_up_request(issuer: &Issuer, request: Request) -> Result<SoughtRequest, Refusal>
+pub fn look_up_request(issuer: &Issuer, request: Request) -> Result<SoughtRequest, Refusal>
     ensures request { IfOk result (λ sought. sought.request ≡ request) }
     ensures known { IfOk result (HasKeysAtHand issuer.now) }
     ensures refused { IfErr result (λ refusal. (checked issuer.now request ≡ Err refusal) × (refusal ≢ BadCryptogram)) }
@@ -72,5 +73,6 @@ fn look_up_request(issuer: &Issuer, request: Request) -> Result<SoughtRequest, R
         request,
         card,
         slot,
+        ahead: None,
     })
 }

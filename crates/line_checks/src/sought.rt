@@ -1,15 +1,23 @@
 //! What is looked up for a line before a key is used.
-ghost use Rattle.std.specs.Prelude.{◌≡◌, IfOk};
+ghost use Rattle.std.specs.Prelude.{◌≡◌, Some, IsSome, IfSome, IfOk};
 ghost use Rattle.std.specs.Result.{result_map_both};
 ghost use Rattle.card_history.specs.declared.decision.Asked.TheVariants.{Decide};
+ghost use Rattle.issuer_base.specs.declared.request.Suite.TheVariants.{TripleDes};
+ghost use Rattle.issuer_base.specs.ChipData.{suite_of};
+ghost use Rattle.cryptogram_lanes.specs.declared.checks.DesCheck.{DesCheck};
+ghost use Rattle.cryptogram_lanes.specs.Batch.{right_session};
+ghost use Rattle.issuer_setup.specs.IssuerSetup.{Setup};
 ghost use Rattle.line_checks.specs.Reading.{checked};
 ghost use Rattle.line_checks.specs.AtHand.{IsRequestAtHand};
-ghost use Rattle.line_checks.specs.LookedUp.{HasKeysAtHand};
+ghost use Rattle.line_checks.specs.LookedUp.{HasKeysAtHand, IsCheckFor, IsRequestAgain};
 
 use crate::checked::{CheckedOrder, CheckedRequest};
 use cryptogram_in::holds;
-use issuer_base::{Refusal, Request};
+use cryptogram_lanes::DesCheck;
+use des_block::Key16;
+use issuer_base::{Refusal, Request, Suite};
 use issuer_setup::{Issuer, KeySlot};
+use key_derive::SessionKey;
 
 /// What a line asks of a card that the issuer has, before a request's cryptogram is checked.
 #[derive(Drop)]
@@ -31,10 +39,15 @@ pub struct SoughtRequest {
 
     /// Where the issuer has the card's master keys from the key set that the request names.
     pub slot: KeySlot,
+
+    /// The session key of the request's ATC, if the request's cryptogram was found right ahead of its turn
+    /// ([`check_in_lanes`](crate::check_in_lanes)); only of triple DES.
+    pub ahead: Option<Key16>,
 }
 
 impl SoughtRequest {
-    /// Checks the request's cryptogram under the card's keys. The key schedule of its session key is computed once.
+    /// Checks the request's cryptogram under the card's keys, unless its session key is ahead. The key schedule of its
+    /// session key is computed once.
     #[tactic(auto, unfolding(cryptogram_in::specs::Cryptogram::application_cryptogram))]
     #[inline(always)]
     pub fn check(self, issuer: &Issuer) -> Result<CheckedRequest, Refusal>
@@ -43,6 +56,15 @@ impl SoughtRequest {
             ≡ checked issuer.now self.request }
         ensures at_hand { IfOk result (IsRequestAtHand issuer.now) }
     {
+        if let Some(key) = self.ahead {
+            let session = SessionKey::of(Suite::TripleDes, key);
+            return Ok(CheckedRequest {
+                request: self.request,
+                card: self.card,
+                keys: issuer.keys(self.slot),
+                session,
+            });
+        }
         let secrets = issuer.secrets(self.slot);
         let session = secrets.session(self.slot.suite(), self.request.parts().atc);
         if !holds(&session, &self.request) {
@@ -54,5 +76,40 @@ impl SoughtRequest {
             keys: issuer.keys(self.slot),
             session,
         })
+    }
+
+    /// A copy. It allocates nothing.
+    pub fn copy(&self) -> SoughtRequest
+        ensures { result ≡ self.now }
+    {
+        SoughtRequest {
+            request: self.request.copy(),
+            card: self.card,
+            slot: self.slot,
+            ahead: self.ahead,
+        }
+    }
+
+    /// The check of the request's cryptogram, if the card's key is of triple DES.
+    pub(crate) fn check_ahead(&self, issuer: &Issuer) -> Option<DesCheck>
+        requires { HasKeysAtHand issuer.now self.now }
+        ensures some { suite_of self.now.request ≡ TripleDes → IsSome result }
+        ensures check { IfSome result (IsCheckFor issuer.now self.now) }
+    {
+        if self.request.suite() != Suite::TripleDes {
+            return None;
+        }
+        let key = issuer.secrets(self.slot).ac(self.slot.suite())?;
+        Some(DesCheck::of(key, &self.request))
+    }
+
+    /// Keeps the session key that the check of the request's cryptogram gave, if the card's key is of triple DES.
+    pub(crate) fn keep_session(&mut self, session: Option<Key16>)
+        ensures { (issuer : Setup) (check : DesCheck) → HasKeysAtHand issuer self.old → IsCheckFor issuer self.old check
+            → session ≡ right_session check → IsRequestAgain issuer self.old self.new }
+    {
+        if self.request.suite() == Suite::TripleDes {
+            self.ahead = session;
+        }
     }
 }

@@ -1,0 +1,12 @@
+-- The checks so far are those of the elements so far.
+use Rattle.std.proofs.Common.{◌≡◌, take}
+use Rattle.std.specs.List.{AllZip}
+use Rattle.arrayvec.specs.ArrayVec.{array_vec_len}
+use Rattle.line_checks.specs.LookedUp.{IsCheckOf}
+use Rattle.line_checks.proofs.in_lanes.checks_of.Given as goal
+
+abbrev pub invariant-loop-element : goal.invariant-loop-element
+invariant-loop-element l = record {
+  so_far : AllZip (IsCheckOf l.issuer) (take l.element-index l.found) l.checks.items;
+  len : array_vec_len l.checks ≡ l.element-index;
+}

@@ -1,0 +1,77 @@
+//! Checks of many requests' cryptograms at once, ahead of each request's turn.
+ghost use Rattle.std.specs.Prelude.{◌≡◌, ◌≤◌, length, All};
+ghost use Rattle.std.specs.List.{AllZip};
+ghost use Rattle.cryptogram_lanes.specs.declared.checks.DesCheck.{DesCheck};
+ghost use Rattle.cryptogram_lanes.specs.Batch.{right_session};
+ghost use Rattle.issuer_setup.specs.IssuerSetup.{Setup};
+ghost use Rattle.line_checks.specs.LookedUp.{IsReady, IsCheckOf, IsLookedUpAgain};
+
+use crate::sought::Sought;
+use arrayvec::ArrayVec;
+use cryptogram_lanes::{DesCheck, FEWEST_IN_LANES, right_sessions};
+use des_block::Key16;
+use issuer_base::{Refusal, Suite};
+use issuer_setup::Issuer;
+
+/// Checks the cryptograms of the requests among up to 128 results of look-ups together, if enough of them are of triple
+/// DES: [`FEWEST_IN_LANES`]. Each request whose cryptogram is right then has its session key ahead, and
+/// [`SoughtRequest::check`](crate::SoughtRequest::check) doesn't compute it again. It doesn't allocate.
+pub fn check_in_lanes(issuer: &Issuer, found: &mut [Result<Sought, Refusal>])
+    requires few { length found.old ≤ 128 }
+    requires ready { All (IsReady issuer.now) found.old }
+    ensures { AllZip (IsLookedUpAgain issuer.now) found.old found.new }
+{
+    if count_in_lanes(found) < FEWEST_IN_LANES {
+        return;
+    }
+    let checks = checks_of(issuer, found);
+    let sessions = right_sessions(checks.as_slice());
+    for (i, element) in found.iter_mut().enumerate() {
+        keep_session(element, sessions.as_slice()[i]);
+    }
+}
+
+/// How many requests of triple DES there are.
+fn count_in_lanes(found: &[Result<Sought, Refusal>]) -> usize {
+    found.iter().filter(|element| is_in_lanes(element)).count()
+}
+
+fn is_in_lanes(found: &Result<Sought, Refusal>) -> bool {
+    match found {
+        Ok(Sought::Request(sought)) => sought.request.suite() == Suite::TripleDes,
+        _ => false,
+    }
+}
+
+/// The check of each request of triple DES, at the index of the request. At each other index is a check of zeros.
+fn checks_of(issuer: &Issuer, found: &[Result<Sought, Refusal>]) -> ArrayVec<DesCheck, 128>
+    requires few { length found.now ≤ 128 }
+    requires ready { All (IsReady issuer.now) found.now }
+    ensures { AllZip (IsCheckOf issuer.now) found.now result.items }
+{
+    let mut checks = ArrayVec::new();
+    for element in found {
+        checks.push(check_of(issuer, element));
+    }
+    checks
+}
+
+fn check_of(issuer: &Issuer, found: &Result<Sought, Refusal>) -> DesCheck
+    requires { IsReady issuer.now found.now }
+    ensures { IsCheckOf issuer.now found.now result }
+{
+    match found {
+        Ok(Sought::Request(sought)) => sought.check_ahead(issuer).unwrap_or_default(),
+        _ => DesCheck::default(),
+    }
+}
+
+/// Keeps the session key that the check of a request gave, if its key is of triple DES.
+fn keep_session(found: &mut Result<Sought, Refusal>, session: Option<Key16>)
+    ensures { (issuer : Setup) (check : DesCheck) → IsReady issuer found.old → IsCheckOf issuer found.old check
+        → session ≡ right_session check → IsLookedUpAgain issuer found.old found.new }
+{
+    if let Ok(Sought::Request(sought)) = found {
+        sought.keep_session(session);
+    }
+}
