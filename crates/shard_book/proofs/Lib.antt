@@ -13,6 +13,7 @@ pub mod Adopted
 pub mod BothStores
 pub mod Lines
 pub mod Loaded
+pub mod ReadAhead
 pub mod LoadCrash
 pub mod LoadStops
 pub mod LoadResults

@@ -9,6 +9,7 @@ pub mod Recorded
 pub mod Answering
 pub mod Calls
 pub mod LineAhead
+pub mod ReadAhead
 pub mod Loading
 pub mod Loads
 pub mod Migrating

@@ -2,6 +2,7 @@
 #![tactic(auto)]
 
 mod adopting;
+mod ahead;
 mod law;
 mod loading;
 mod migrating;

@@ -10,6 +10,7 @@ ghost use Rattle.shard_book.specs.Loads.{CountsBoth, IsOnlyRead, loaded_size};
 ghost use Rattle.shard_book.specs.Migrating.{Agree, Continues, StopsShort};
 ghost use Rattle.shard_book.specs.ShardRows.{AreRowsOf, RowsStandFor};
 
+use crate::ahead::Ahead;
 use crate::migrating::{append_steps, check_text, text_bytes};
 use crate::reading::take_text;
 use crate::replay::{LoadFault, Taken, TakenOver, Version};
@@ -66,9 +67,13 @@ pub(crate) fn take_over<S: Store>(
     let Ok(theirs) = buffer(alloc, size) else {
         return Err(LoadFault::NoMemory);
     };
+    let Ok(ahead) = Ahead::new(alloc) else {
+        return Err(LoadFault::NoMemory);
+    };
     let mut ours = ours;
     let mut theirs = theirs;
-    take_both(rows, issuer, old, store, &mut ours, &mut theirs)
+    let mut ahead = ahead;
+    take_both(rows, issuer, old, store, &mut ours, &mut theirs, &mut ahead)
 }
 
 /// Reads both stores into rows without records.
@@ -79,6 +84,7 @@ fn take_both<S: Store>(
     store: &mut S,
     ours: &mut [u8],
     theirs: &mut [u8],
+    ahead: &mut Ahead,
 ) -> Result<TakenOver, LoadFault>
     requires rows { RowsStandFor issuer.now rows [] }
     requires few { S.size old.old ≤ MAX_STORE_BYTES }
@@ -105,12 +111,20 @@ fn take_both<S: Store>(
         records: 0,
         bytes: 0,
     };
-    let TakenOver { rows, taken } = match take_text(Version::One, rows, from, issuer, old, ours) {
+    let TakenOver { rows, taken } = match take_text(
+        Version::One,
+        rows,
+        from,
+        issuer,
+        old,
+        ours,
+        ahead,
+    ) {
         Ok(over) => over,
         Err(fault) => return Err(fault),
     };
     match check_text(old, taken.bytes as u64, store, ours, theirs) {
-        Ok(()) => continue_journal(rows, taken, issuer, old, store, ours),
+        Ok(()) => continue_journal(rows, taken, issuer, old, store, ours, ahead),
         Err(fault) => Err(fault),
     }
 }
@@ -124,6 +138,7 @@ fn continue_journal<S: Store>(
     old: &mut S,
     store: &mut S,
     buffer: &mut [u8],
+    ahead: &mut Ahead,
 ) -> Result<TakenOver, LoadFault>
     requires rows { AreRowsOf issuer.now rows }
     requires within { IsWithin known (S.size old.old) }
@@ -155,7 +170,7 @@ fn continue_journal<S: Store>(
         bytes: VERSION_LINE.len() + known.bytes,
     };
     if store.len() > text_bytes(known.bytes as u64) {
-        return take_text(Version::Two, rows, from, issuer, store, buffer);
+        return take_text(Version::Two, rows, from, issuer, store, buffer, ahead);
     }
     match append_steps(old, known.bytes as u64, store, buffer) {
         Ok(()) => Ok(TakenOver { rows, taken: from }),

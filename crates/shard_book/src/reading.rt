@@ -10,6 +10,7 @@ ghost use Rattle.shard_book.specs.LineAhead.{HasLineAhead};
 ghost use Rattle.shard_book.specs.Loading.{IsWithin, ReadsFront, ReadsText, StopsReplay, is_by_store};
 ghost use Rattle.shard_book.specs.ShardRows.{ShardRows, AreRowsOf, AreSame, RowsStandFor};
 
+use crate::ahead::Ahead;
 use crate::replay::{LoadFault, Taken, TakenOver, Version, next_newline};
 use crate::rows::Rows;
 use issuer_base::{Store, StoreFail};
@@ -25,6 +26,7 @@ pub(crate) fn take_text<S: Store>(
     issuer: &Issuer,
     store: &mut S,
     buffer: &mut [u8],
+    ahead: &mut Ahead,
 ) -> Result<TakenOver, LoadFault>
     requires rows { AreRowsOf issuer.now rows }
     requires within { IsWithin from (S.size store.old) }
@@ -45,7 +47,7 @@ pub(crate) fn take_text<S: Store>(
     ensures memory { IfErr result (λ fault. fault ≢ LoadFault.NoMemory) }
 {
     let mut rows = rows;
-    let taken = match rows.adopt_parts(version, from, issuer, store, buffer) {
+    let taken = match rows.adopt_parts(version, from, issuer, store, buffer, ahead) {
         Ok(taken) => taken,
         Err(fault) => return Err(fault),
     };
@@ -65,6 +67,7 @@ impl Rows {
         issuer: &Issuer,
         store: &mut S,
         buffer: &mut [u8],
+        ahead: &mut Ahead,
     ) -> Result<Taken, LoadFault>
         requires rows { AreRowsOf issuer.now self.old }
         requires within { IsWithin from (S.size store.old) }
@@ -87,7 +90,7 @@ impl Rows {
     {
         let mut taken = from;
         'parts: while (taken.bytes as u64) < store.len() {
-            match self.adopt_part(version, issuer, store, taken, buffer) {
+            match self.adopt_part(version, issuer, store, taken, buffer, ahead) {
                 Ok(more) => {
                     if more.bytes == taken.bytes {
                         return Ok(more);
@@ -109,6 +112,7 @@ impl Rows {
         store: &mut S,
         taken: Taken,
         buffer: &mut [u8],
+        ahead: &mut Ahead,
     ) -> Result<Taken, LoadFault>
         requires rows { AreRowsOf issuer.now self.old }
         requires within { IsWithin taken (S.size store.old) }
@@ -134,7 +138,7 @@ impl Rows {
         let Ok(count) = read_from(store, taken.bytes as u64, buffer) else {
             return Err(LoadFault::StoreFault);
         };
-        match self.adopt_lines(version, issuer, &buffer[..count], taken.records) {
+        match self.adopt_lines(version, issuer, &buffer[..count], taken.records, ahead) {
             Ok(more) => Ok(Taken {
                 records: taken.records + more.records,
                 bytes: taken.bytes + more.bytes,

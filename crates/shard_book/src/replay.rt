@@ -1,16 +1,18 @@
 //! Replays the records of a text, line by line.
-ghost use Rattle.std.specs.Prelude.{◌≡◌, ◌≢◌, ℕ, ◌+◌, ◌^◌, ◌<◌, ◌≤◌, List, length, drop, MatchOption, IfOk, IfErr, OnOk, false};
+ghost use Rattle.std.specs.Prelude.{◌≡◌, ◌≢◌, ℕ, ◌+◌, ◌^◌, ◌<◌, ◌≤◌, List, length, drop, MatchOption, IfOk, IfErr, OnOk, All, false};
 ghost use Rattle.issuer_base.specs.declared.entry.Entry.{Entry};
-ghost use Rattle.shard_book.specs.Loading.{IsBad, IsWithin, StopsLines, TakesLine, TakesLines, is_store_failure};
+ghost use Rattle.shard_book.specs.Loading.{IsWithin, StopsLines, TakesLines, is_store_failure};
+ghost use Rattle.shard_book.specs.ReadAhead.{AreLookedUp, StopsWithin, TakesAll};
+ghost use Rattle.journal_rec.specs.Record.{IsRecord};
 ghost use Rattle.card_history.specs.LegalRecords.{IsLegalHistory};
 ghost use Rattle.journal_rec.specs.RecordText.{IsUnbroken};
 ghost use Rattle.shard_book.specs.LineAhead.{IsLineAhead};
 ghost use Rattle.shard_book.specs.Versions.{bad_line, bad_record, grounds_in};
 ghost use Rattle.shard_book.specs.ShardRows.{AreRowsOf, AreSame, RowsStandFor};
 
+use crate::ahead::Ahead;
 use crate::rows::Rows;
 use issuer_setup::Issuer;
-use journal_rec::read_entry;
 use memchr::memchr;
 
 /// Why a journal isn't loaded.
@@ -88,13 +90,15 @@ pub(crate) struct Taken {
 }
 
 impl Rows {
-    /// Replays the records of the whole lines of a part of a journal, the first of which has this index.
+    /// Replays the records of the whole lines of a part of a journal, the first of which has this index. It reads them
+    /// ahead, up to 128 at a time; what was read ahead before doesn't matter.
     pub(crate) fn adopt_lines(
         &mut self,
         version: Version,
         issuer: &Issuer,
         text: &[u8],
         place: u64,
+        ahead: &mut Ahead,
     ) -> Result<Taken, LoadFault>
         requires rows { AreRowsOf issuer.now self.old }
         requires room { place + place + length text.now < 2 ^ 64 }
@@ -114,17 +118,16 @@ impl Rows {
             records: 0,
             bytes: 0,
         };
-        while let Some(length) = next_newline(text, taken.bytes) {
-            let end = taken.bytes + length;
-            match self.adopt_line(
-                version,
-                issuer,
-                &text[taken.bytes..end],
-                place + taken.records,
-            ) {
+        'lines: while let Some(_) = next_newline(text, taken.bytes) {
+            let end = ahead.read(issuer, text, taken.bytes);
+            let records = ahead.len() as u64;
+            if records == 0 {
+                return Err(version.bad_line(place + taken.records));
+            }
+            match self.adopt_all(version, issuer, ahead, place + taken.records) {
                 Ok(()) => {
-                    taken.bytes = end + 1;
-                    taken.records += 1;
+                    taken.bytes = end;
+                    taken.records += records;
                 }
                 Err(fault) => return Err(fault),
             }
@@ -132,30 +135,34 @@ impl Rows {
         Ok(taken)
     }
 
-    /// Replays the record of a line, which has this index.
-    fn adopt_line(
+    /// Replays the records that were read ahead, the first of which has this index.
+    fn adopt_all(
         &mut self,
         version: Version,
         issuer: &Issuer,
-        line: &[u8],
+        ahead: &Ahead,
         place: u64,
     ) -> Result<(), LoadFault>
         requires rows { AreRowsOf issuer.now self.old }
-        requires room { place + 2 < 2 ^ 64 }
+        requires records { All IsRecord ahead.now.entries }
+        requires found { AreLookedUp issuer.now ahead.now }
+        requires room { place + length ahead.now.entries + 2 < 2 ^ 64 }
         ensures taken { (history : List Entry) → RowsStandFor issuer.now self.old history → place ≡ length history
-            → OnOk result (TakesLine version issuer.now self.old.shard history line.now self.new) }
-        ensures long { OnOk result (0 < length line.now) }
-        ensures bad { (history : List Entry) → RowsStandFor issuer.now self.old history → place ≡ length history
-            → IfErr result (IsBad version issuer.now self.old.shard history line.now) }
+            → IsLegalHistory (grounds_in version issuer.now) self.old.shard history
+            → OnOk result (TakesAll version issuer.now self.old.shard history ahead.now.entries self.new) }
+        ensures stopped { (history : List Entry) → RowsStandFor issuer.now self.old history → place ≡ length history
+            → IsLegalHistory (grounds_in version issuer.now) self.old.shard history
+            → IfErr result (StopsWithin version issuer.now self.old.shard history ahead.now.entries) }
         ensures own { IfErr result (λ fault. is_store_failure fault ≡ false) }
         ensures memory { IfErr result (λ fault. fault ≢ LoadFault.NoMemory) }
         ensures same { AreSame self.old self.new }
     {
-        let Ok(entry) = read_entry(line) else {
-            return Err(version.bad_line(place));
-        };
-        if !self.adopt(version, issuer, entry, place) {
-            return Err(version.bad_record(place));
+        let found = ahead.found();
+        for (i, entry) in ahead.entries().iter().enumerate() {
+            let place = place + i as u64;
+            if !self.adopt(version, issuer, entry, &found[i], place) {
+                return Err(version.bad_record(place));
+            }
         }
         Ok(())
     }

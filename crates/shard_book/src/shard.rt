@@ -27,6 +27,7 @@ ghost use Rattle.shard_book.specs.Calls.{AnswersBy, IsOrderFor, IsRequestFor, Le
 ghost use Rattle.shard_book.specs.Loads.{HaveRoom, IsLoadedFrom, IsNotLoaded, IsOnlyRead};
 ghost use Rattle.shard_book.specs.Taking.{IsRecordFor, IsReplicaOf, KeepsReplica, LeavesReplicas, LeavesTaken, Takes, is_failed_store};
 
+use crate::ahead::look_up_record;
 use crate::loading::take_over;
 use crate::replay::{LoadFault, Taken, TakenOver, Version};
 use crate::rows::Rows;
@@ -178,7 +179,8 @@ impl<S: Store> Shard<S> {
         let Ok(place) = self.put(entry) else {
             return Err(TakeFault::StoreFault);
         };
-        let _ = self.rows.adopt(Version::Two, issuer, entry.copy(), place);
+        let found = look_up_record(issuer, entry);
+        let _ = self.rows.adopt(Version::Two, issuer, entry, &found, place);
         Ok(place)
     }
 

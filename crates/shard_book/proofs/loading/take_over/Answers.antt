@@ -29,3 +29,9 @@ returns-in_default-buffer-2-clause-stopped g c = stops-read c.args.issuer.now c.
 
 pub returns-in_default-buffer-2-clause-old : goal.returns-in_default-buffer-2-clause-old
 returns-in_default-buffer-2-clause-old g c = only-same g.S.Store.size g.S.Store.bytes g.S.Store.disk g.S.Store.room c.args.old.now
+
+pub returns-in_default-new-clause-stopped : goal.returns-in_default-new-clause-stopped
+returns-in_default-new-clause-stopped g c = stops-read c.args.issuer.now c.args.shard _ _ _ _ _ NoMemory tt refl (reads-none _)
+
+pub returns-in_default-new-clause-old : goal.returns-in_default-new-clause-old
+returns-in_default-new-clause-old g c = only-same g.S.Store.size g.S.Store.bytes g.S.Store.disk g.S.Store.room c.args.old.now

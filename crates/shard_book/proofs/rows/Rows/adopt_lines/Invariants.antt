@@ -7,8 +7,8 @@ use Rattle.shard_book.specs.ShardRows.{AreRowsOf, AreSame, RowsStandFor}
 use Rattle.shard_book.specs.Loading.{TakesLines}
 use Rattle.shard_book.proofs.rows.Rows.adopt_lines.Given as goal
 
-abbrev pub invariant-loop-length : goal.invariant-loop-length
-invariant-loop-length l = record {
+abbrev pub invariant-lines : goal.invariant-lines
+invariant-lines l = record {
   rows : AreRowsOf l.issuer l.self;
   same : AreSame l.fn.self l.self;
   within : l.taken.bytes ≤ length l.text;
@@ -17,5 +17,5 @@ invariant-loop-length l = record {
       → IsLegalHistory (grounds_in l.version l.issuer) l.fn.self.shard history → TakesLines l.version l.issuer l.fn.self.shard history l.text l.taken l.self;
 }
 
-abbrev pub decreases-loop-length : goal.decreases-loop-length
-decreases-loop-length l = length l.text - l.taken.bytes
+abbrev pub decreases-lines : goal.decreases-lines
+decreases-lines l = length l.text - l.taken.bytes

@@ -54,11 +54,9 @@ returns-clause-taken g c history replica =
     let put = c.in-Ok.ensures.put history h.tail h.holds in
     let number_is : c.put.new.self.rows.shard ≡ number = ap (λ (rows : ShardRows). rows.shard) c.put.ensures.rows in
     let before = subst (λ (rows : ShardRows). RowsStandFor issuer rows history) (sym c.put.ensures.rows) replica.rows_stand in
-    let still : IsLegal (grounds_of issuer) c.put.new.self.rows.shard history c.copy.result =
-    subst (λ (number : ℕ). IsLegal (grounds_of issuer) number history c.copy.result) (sym number_is)
-    (subst (IsLegal (grounds_of issuer) number history) (sym c.copy.ensures) next) in
-    let rows = subst (λ (entry : Entry). RowsStandFor issuer c.adopt.new.self (history ++ entry ∷ [])) c.copy.ensures
-    (c.adopt.ensures.adopted ((c.adopt.ensures.exact history before).1 still) history before put.0) in
+    let still : IsLegal (grounds_of issuer) c.put.new.self.rows.shard history entry =
+    subst (λ (number : ℕ). IsLegal (grounds_of issuer) number history entry) (sym number_is) next in
+    let rows = c.adopt.ensures.adopted ((c.adopt.ensures.exact history before).1 still) history before put.0 in
     let added = put-done (grounds_now issuer) number history entry c.put.new.self.journal h.records c.put.ensures.record put.1 in (
       next,
       put.0,

@@ -1,0 +1,150 @@
+//! Reads the records of a journal's next lines ahead, so that the cryptograms of their requests are checked together.
+ghost use Rattle.std.specs.Prelude.{◌≡◌, ◌≤◌, ◌<◌, ℕ, List, [], ◌∷◌, ◌++◌, length, take, drop, IfOk};
+ghost use Rattle.issuer_base.specs.declared.entry.Entry.{Entry};
+ghost use Rattle.shard_book.specs.LineAhead.{IsLineAhead};
+ghost use Rattle.shard_book.specs.ReadAhead.{IsLookedUp, AreLookedUp, AreNext, IsNoRecord};
+
+use crate::replay::next_newline;
+use issuer_base::{Entry, NoMemory, Refusal};
+use issuer_setup::Issuer;
+use journal_rec::read_entry;
+use line_checks::{
+    CheckedCommand, CheckedOrder, CheckedStatus, Sought, check_in_lanes, look_up_request,
+};
+use std::alloc::Global;
+use std::marker::Model;
+
+/// How many lines are read ahead at most: as many as have their cryptograms checked together.
+const MOST_AHEAD: usize = 128;
+
+/// The records of lines that were read ahead, and what was looked up for each.
+///
+/// A contract sees both lists.
+#[derive(Drop)]
+pub(crate) struct Ahead {
+    entries: Vec<Entry>,
+    found: Vec<Result<Sought, Refusal>>,
+}
+
+impl Model for Ahead {
+    ghost use Rattle.std.specs.Prelude.{◌≤◌, vec_capacity};
+    ghost use Rattle.shard_book.specs.ReadAhead.{ReadAhead};
+
+    ghost Value = { ReadAhead };
+
+    ghost view = { λ ahead. record { entries = ahead.entries.items; found = ahead.found.items } };
+
+    ghost invariant = { λ ahead. (128 ≤ vec_capacity ahead.entries) × (128 ≤ vec_capacity ahead.found) };
+}
+
+impl Ahead {
+    /// No records, and room for those of 128 lines. No other call allocates.
+    pub(crate) fn new(alloc: Global) -> Result<Ahead, NoMemory> {
+        let entries = Vec::with_capacity(alloc, MOST_AHEAD)?;
+        let found = Vec::with_capacity(alloc, MOST_AHEAD)?;
+        Ok(Ahead { entries, found })
+    }
+
+    /// How many records there are.
+    pub(crate) fn len(&self) -> usize
+        ensures { result ≡ length self.now.entries }
+    {
+        self.entries.len()
+    }
+
+    /// The records, in the order of their lines.
+    pub(crate) fn entries(&self) -> &[Entry]
+        ensures { result.now ≡ self.now.entries }
+    {
+        self.entries.as_slice()
+    }
+
+    /// What was looked up for each of them.
+    pub(crate) fn found(&self) -> &[Result<Sought, Refusal>]
+        ensures { result.now ≡ self.now.found }
+    {
+        self.found.as_slice()
+    }
+
+    /// Reads up to 128 whole lines of a text from an offset on, as far as they are those of records, in place of what was
+    /// read before. The card of each record is looked up, and the cryptograms of their requests are checked together.
+    /// Returns the offset of their end.
+    pub(crate) fn read(&mut self, issuer: &Issuer, text: &[u8], from: usize) -> usize
+        requires { from ≤ length text.now }
+        ensures next { AreNext text.now from self.new.entries result }
+        ensures found { AreLookedUp issuer.now self.new }
+        ensures none { self.new.entries ≡ [] → (count : ℕ) → IsLineAhead (drop from text.now) count
+            → IsNoRecord (take count (drop from text.now)) }
+    {
+        self.entries.clear();
+        self.found.clear();
+        let end = self.read_lines(issuer, text, from);
+        check_in_lanes(issuer, self.found.as_mut_slice());
+        end
+    }
+
+    /// Reads the lines into the empty lists.
+    fn read_lines(&mut self, issuer: &Issuer, text: &[u8], from: usize) -> usize
+        requires from { from ≤ length text.now }
+        requires empty { (self.old.entries ≡ []) × (self.old.found ≡ []) }
+        ensures next { AreNext text.now from self.new.entries result }
+        ensures found { AreLookedUp issuer.now self.new }
+        ensures most { length self.new.entries ≤ 128 }
+        ensures none { self.new.entries ≡ [] → (count : ℕ) → IsLineAhead (drop from text.now) count
+            → IsNoRecord (take count (drop from text.now)) }
+    {
+        let mut end = from;
+        'lines: while self.len() < MOST_AHEAD {
+            let Some(length) = next_newline(text, end) else {
+                return end;
+            };
+            let Ok(entry) = read_entry(&text[end..end + length]) else {
+                return end;
+            };
+            self.add(issuer, entry);
+            end += length + 1;
+        }
+        end
+    }
+
+    /// Adds a record and what is looked up for it.
+    fn add(&mut self, issuer: &Issuer, entry: Entry)
+        requires entries { length self.old.entries < 128 }
+        requires found { length self.old.found < 128 }
+        ensures added { self.new.entries ≡ self.old.entries ++ entry ∷ [] }
+        ensures found { AreLookedUp issuer.now self.old → AreLookedUp issuer.now self.new }
+    {
+        self.found.push_reserved(look_up_record(issuer, &entry));
+        self.entries.push_reserved(entry);
+    }
+}
+
+/// Looks up the card of a record, and where the card's keys are for the request of a decision. It uses no key.
+pub(crate) fn look_up_record(issuer: &Issuer, entry: &Entry) -> Result<Sought, Refusal>
+    ensures { IsLookedUp issuer.now entry.now result }
+{
+    match entry {
+        Entry::Decided { request, .. } => {
+            let sought = look_up_request(issuer, request.copy())?;
+            Ok(Sought::Request(sought))
+        }
+        Entry::Queued { pan, psn, command } => {
+            let card = issuer.card(pan, *psn).ok_or(Refusal::UnknownCard)?;
+            Ok(Sought::Order(CheckedOrder::Command(CheckedCommand {
+                pan: pan.copy(),
+                psn: *psn,
+                command: command.copy(),
+                card,
+            })))
+        }
+        Entry::Status { pan, psn, status } => {
+            let card = issuer.card(pan, *psn).ok_or(Refusal::UnknownCard)?;
+            Ok(Sought::Order(CheckedOrder::Status(CheckedStatus {
+                pan: pan.copy(),
+                psn: *psn,
+                status: *status,
+                card,
+            })))
+        }
+    }
+}
