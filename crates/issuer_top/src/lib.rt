@@ -3,5 +3,6 @@
 
 mod top_call;
 
+pub use restart_law::every_image_loads_again;
 pub use run_endings::Ended;
 pub use top_call::issue;

@@ -21,5 +21,4 @@ pub mod OwnDecisions
 pub mod Exactly
 pub mod Migration
 pub mod Continuing
-pub mod Restarts
 pub mod Replicas

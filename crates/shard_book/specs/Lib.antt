@@ -14,5 +14,4 @@ pub mod Loading
 pub mod Loads
 pub mod Migrating
 pub mod Room
-pub mod Restarts
 pub mod Taking

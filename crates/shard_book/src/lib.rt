@@ -3,7 +3,6 @@
 
 mod adopting;
 mod ahead;
-mod law;
 mod loading;
 mod migrating;
 mod reading;
@@ -12,7 +11,6 @@ mod rows;
 mod shard;
 mod taking;
 
-pub use law::every_image_loads_again;
 pub use replay::{LoadFault, Version};
 pub use shard::{LoadBack, Shard};
 pub use taking::TakeFault;

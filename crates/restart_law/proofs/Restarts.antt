@@ -24,7 +24,7 @@ use Rattle.shard_book.specs.declared.replay.Version.TheVariants.{One, Two}
 use Rattle.shard_book.specs.Grounds.{IsCardOfShard, IsMadeBy, IsImageOf, IsTail, grounds_by, grounds_now, grounds_of}
 use Rattle.shard_book.specs.Histories.{GoesOn, IsImageBetween, IsLegalSince}
 use Rattle.shard_book.specs.Loading.{IsOldText}
-use Rattle.shard_book.specs.Restarts.{IsHeld, LoadsBetween, LoadsPrefix, with_table}
+use Rattle.restart_law.specs.Restarts.{IsHeld, LoadsBetween, LoadsPrefix, with_table}
 use Rattle.shard_book.specs.Shards.{IsCutToText, IsFailedImage, IsLoadImage, IsMigrated, IsTakenFor, IsTextOf}
 use Rattle.shard_book.specs.Versions.{HasText, IsPartOf}
 use Rattle.shard_book.proofs.Exactly.{longer, part-whole, same-text, unbroken-front}

@@ -1,6 +1,6 @@
 -- The law of every restart.
-use Rattle.shard_book.proofs.Restarts.{loads-between, loads-failed, loads-opened}
-use Rattle.shard_book.proofs.law.every_image_loads_again.Goals as goal
+use Rattle.restart_law.proofs.Restarts.{loads-between, loads-failed, loads-opened}
+use Rattle.restart_law.proofs.law.every_image_loads_again.Goals as goal
 
 pub returns-clause-between : goal.returns-clause-between
 returns-clause-between c = λ issuer shard old first last image held on left. loads-between issuer shard old first last image held on left

@@ -5,7 +5,7 @@ ghost use Rattle.issuer_base.specs.Stores.{Moment};
 ghost use Rattle.issuer_setup.specs.IssuerSetup.{Setup};
 ghost use Rattle.shard_book.specs.Histories.{GoesOn, IsImageBetween};
 ghost use Rattle.shard_book.specs.Loading.{IsOldText};
-ghost use Rattle.shard_book.specs.Restarts.{IsHeld, LoadsBetween, LoadsPrefix};
+ghost use Rattle.restart_law.specs.Restarts.{IsHeld, LoadsBetween, LoadsPrefix};
 ghost use Rattle.shard_book.specs.Shards.{IsFailedImage, IsLoadImage, IsTextOf};
 
 /// Whatever a crash leaves of a journal loads again, even if the decision table has changed meanwhile. Of a shard that

@@ -1,0 +1,2 @@
+-- The definitions that the law of every restart cites.
+pub mod Restarts
