@@ -23,7 +23,7 @@ use Rattle.shared_shards.specs.declared.logs.LogItem.{LogItem}
 use Rattle.shared_shards.specs.declared.logs.LogHead.{LogHead}
 use Rattle.shared_shards.specs.ShardLogs.{records_of}
 use Rattle.shared_shards.specs.Turned.{log_after, turned, DecidesInTurn}
-use Rattle.host_calls.specs.Finishes.{seen_for, is_decided_or_fault, is_by_record, IsOwn, IsOpenTo, IsRecorded}
+use Rattle.call_steps.specs.Finishes.{seen_for, is_decided_or_fault, is_by_record, IsOwn, IsOpenTo, IsRecorded}
 use Rattle.host_calls.proofs.Added.{IsHeaded}
 use Rattle.host_calls.proofs.Closed.{records-go_on}
 use Rattle.one_caller.proofs.Places.{read-front}

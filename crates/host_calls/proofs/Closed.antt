@@ -26,8 +26,8 @@ use Rattle.shared_shards.specs.ShardLogs.{records_of, StandsForLog}
 use Rattle.shared_shards.specs.ShardSeats.{StandForLogs}
 use Rattle.shard_book.specs.Histories.{GoesOn, IsImageBetween}
 use Rattle.one_caller.specs.OneHistory.{LegallyGoesOn}
-use Rattle.host_calls.specs.Closing.{book_of, IsClosed, AreClosed, AreClaimsSettled}
-use Rattle.host_calls.specs.OpeningLogs.{AreCounted, AreRecordedIn}
+use Rattle.call_steps.specs.Closing.{book_of, IsClosed, AreClosed, AreClaimsSettled}
+use Rattle.call_steps.specs.OpeningLogs.{AreCounted, AreRecordedIn}
 use Rattle.one_caller.proofs.Places.{read-within, read-map}
 use Rattle.one_caller.proofs.Running.{holds-with}
 use Rattle.host_calls.proofs.Sharing.{items-there}

@@ -28,7 +28,7 @@ use Rattle.shared_shards.specs.Opening.{head_with, log_with, AreJustLoaded, IsOp
 use Rattle.shard_book.specs.declared.replay.LoadFault.TheVariants.{NoMemory}
 use Rattle.one_caller.specs.Loading.{AreLoaded, IsGivenBack}
 use Rattle.one_caller.proofs.Loads.{given-back, shard-of}
-use Rattle.host_calls.specs.OpeningLogs.{IsOpenedFrom, AreOpenedFrom, AreCounted, AllComeBack, is_decided}
+use Rattle.call_steps.specs.OpeningLogs.{IsOpenedFrom, AreOpenedFrom, AreCounted, AllComeBack, is_decided}
 use Rattle.host_calls.specs.RecordedCounters.{AreStanding, AreRecordedOf}
 use Rattle.host_calls.proofs.OpeningCounters.{as-decided}
 use Rattle.one_caller.proofs.Places.{read-within, read-map}

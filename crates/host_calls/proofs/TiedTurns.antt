@@ -27,8 +27,8 @@ use Rattle.shared_shards.specs.declared.logs.LogHead.{LogHead}
 use Rattle.shared_shards.specs.declared.turns.ShardTurns.{ShardTurns}
 use Rattle.shared_shards.specs.ShardSeats.{opening_in, AreTurnsOf, IsSeatOf}
 use Rattle.shared_shards.specs.Turned.{DecidesInTurn, OrdersInTurn, ShowsInTurn}
-use Rattle.host_calls.specs.Decisions.{AreTied}
-use Rattle.host_calls.specs.Finishes.{standing_by}
+use Rattle.call_steps.specs.Decisions.{AreTied}
+use Rattle.call_steps.specs.Finishes.{standing_by}
 use Rattle.host_calls.specs.Passes.{open_in}
 use Rattle.host_calls.proofs.Added.{IsHeaded, claimed-decides, lost-decides, order-decides, tied-turned}
 use Rattle.host_calls.proofs.Settling.{open-once, kept-settled}

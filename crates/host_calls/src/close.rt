@@ -3,8 +3,8 @@ ghost use Rattle.std.specs.Prelude.{◌≡◌, ℕ};
 ghost use Rattle.claim_words.specs.ClaimViews.{claims_on, is_kept};
 ghost use Rattle.shared_seats.specs.SeatNames.{IsWhole};
 ghost use Rattle.shared_shards.specs.ShardSeats.{opening_in};
-ghost use Rattle.host_calls.specs.Closing.{AreClosed, AreItsOwn, AreClaimsSettled};
-ghost use Rattle.host_calls.specs.Decisions.{decisions_at};
+ghost use Rattle.call_steps.specs.Closing.{AreClosed, AreItsOwn, AreClaimsSettled};
+ghost use Rattle.call_steps.specs.Decisions.{decisions_at};
 ghost use Rattle.host_calls.specs.Passes.{claims_of, logs_of, IsFree};
 
 use crate::host::Host;

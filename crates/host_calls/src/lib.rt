@@ -1,7 +1,7 @@
 //! The host of several callers over stores: each caller has a pass of its own, claims an ATC, and takes its turn at
 //! the shard.
 //!
-//! `specs/Authorising.antt` says what a line may be answered, `specs/Closing.antt` what is known once all passes are
+//! `Authorises` of `call_steps` says what a line may be answered, and `IsClosed` what is known once all passes are
 //! joined and the host is closed. [`Solo`] is the host of one caller, of the crate `one_caller`.
 #![tactic(auto)]
 
@@ -15,7 +15,8 @@ mod pre_check;
 mod recorded;
 mod share;
 
+pub use call_steps::Checked;
 pub use card_history::CardView;
 pub use host::Host;
 pub use one_caller::{HostBack, LoadFault, Solo, every_run_is_one_history};
-pub use pass::{Checked, Pass};
+pub use pass::Pass;

@@ -4,7 +4,7 @@ ghost use Rattle.issuer_setup.specs.IssuerSetup.{Setup};
 ghost use Rattle.shared_shards.specs.ShardSeats.{opening_in};
 ghost use Rattle.one_caller.specs.Loading.{AreLoaded, AreOnlyRead};
 ghost use Rattle.host_calls.specs.Loading.{IsFirstPass, IsShared};
-ghost use Rattle.host_calls.specs.OpeningLogs.{AreOpenedFrom, HostComesBack};
+ghost use Rattle.call_steps.specs.OpeningLogs.{AreOpenedFrom, HostComesBack};
 
 use crate::host::{Host, StoreRoom};
 use crate::pass::Pass;

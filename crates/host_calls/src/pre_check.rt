@@ -2,13 +2,14 @@
 ghost use Rattle.std.specs.Prelude.{◌≡◌, IfOk, MatchResult};
 ghost use Rattle.line_checks.specs.Reading.{reading};
 ghost use Rattle.host_calls.specs.Passes.{claims_of, logs_of, IsFree, Holds};
-ghost use Rattle.host_calls.specs.PreChecks.{HasPassed, ChecksRequest, IsAskedBy, PreChecks};
+ghost use Rattle.call_steps.specs.PreChecks.{HasPassed, ChecksRequest, IsAskedBy, PreChecks};
 ghost use Rattle.claim_words.specs.declared.claim_words.Claim.{Claim};
 ghost use Rattle.claim_words.specs.declared.claim_words.Claim.TheVariants.{Won};
-ghost use Rattle.host_calls.specs.declared.pass.Checked.TheVariants.{Decide};
+ghost use Rattle.call_steps.specs.declared.checked.Checked.TheVariants.{Decide};
 
 use crate::host::Host;
-use crate::pass::{Checked, Pass};
+use crate::pass::Pass;
+use call_steps::Checked;
 use issuer_base::{Refusal, Store, WINDOW};
 use line_checks::{self, CheckedRequest, check_line};
 

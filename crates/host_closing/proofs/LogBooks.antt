@@ -31,9 +31,9 @@ use Rattle.shared_shards.specs.declared.logs.LogItem.TheVariants.{Record}
 use Rattle.shared_shards.specs.declared.logs.LogHead.{LogHead}
 use Rattle.shared_shards.specs.ShardLogs.{records_of, faults_of, RiseTo}
 use Rattle.one_caller.specs.Books.{Book, histories_of}
-use Rattle.host_calls.specs.Closing.{book_of, IsClosed, AreClosed}
+use Rattle.call_steps.specs.Closing.{book_of, IsClosed, AreClosed}
 use Rattle.one_caller.specs.OneHistory.{AreRecorded, GoOnLegally, HasFailed, LegallyGoesOn}
-use Rattle.host_calls.specs.OpeningLogs.{IsOpenedFrom, AreOpenedFrom}
+use Rattle.call_steps.specs.OpeningLogs.{IsOpenedFrom, AreOpenedFrom}
 use Rattle.answer_laws.specs.Explained.{AreExplained, history_at, histories_in}
 use Rattle.answer_laws.specs.FaultCounts.{all_answers}
 use Rattle.answer_laws.specs.Laws.{AreLawfulShares}

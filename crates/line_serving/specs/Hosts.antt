@@ -16,7 +16,7 @@ use Rattle.line_serving.specs.declared.hosts.LineHost.{LineHost}
 use Rattle.line_serving.specs.declared.hosts.LineHost.TheVariants.{Alone, Together}
 use Rattle.shared_callers.specs.Lanes.{issuer_in, opening_logs, callers_in, waiting_in, due_in, is_full_in, HasSameHost}
 use Rattle.shared_callers.specs.Lanes.{LanesServe}
-use Rattle.host_calls.specs.OpeningLogs.{AreOpenedFrom}
+use Rattle.call_steps.specs.OpeningLogs.{AreOpenedFrom}
 use Rattle.one_caller.specs.Loading.{AreOnlyRead}
 use Rattle.desk_host.specs.Journals.{HasAllOpened, IsReadySolo}
 use Rattle.desk_host.specs.SeenStores.{Logged}

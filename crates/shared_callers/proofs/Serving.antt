@@ -18,13 +18,13 @@ use Rattle.turn_book.specs.declared.view.TurnView.{TurnView}
 use Rattle.shared_shards.specs.declared.logs.LogItem.{LogItem}
 use Rattle.shared_shards.specs.declared.logs.LogHead.{LogHead}
 use Rattle.line_checks.specs.Reading.{reading}
-use Rattle.host_calls.specs.Authorising.{Authorises}
+use Rattle.call_steps.specs.Authorising.{Authorises}
 use Rattle.host_calls.specs.Passes.{claims_of, logs_of, IsFree}
 use Rattle.host_calls.specs.declared.host.Host.{Host}
 use Rattle.host_calls.specs.declared.pass.Pass.{Pass}
 use Rattle.one_caller.proofs.Places.{read-map, read-mapped}
-use Rattle.shared_callers.specs.Callers.{Caller, AuthorisesAll, IsCaller}
-use Rattle.shared_callers.proofs.MoreLines.{calls-more}
+use Rattle.answer_laws.specs.Callers.{Caller, AuthorisesAll, IsCaller}
+use Rattle.answer_laws.proofs.MoreLines.{calls-more}
 use Rattle.answer_laws.specs.Dealing.{every}
 use Rattle.shared_callers.specs.OneLane.{waiting_lines, due_answers, HadLines, LaneAnswers, LanesAnswer}
 use Rattle.shared_callers.specs.Seated.{AreSeated}

@@ -8,8 +8,8 @@ use Rattle.turn_book.specs.declared.logs.Log.{Log}
 use Rattle.shared_shards.specs.ShardSeats.{opening_in}
 use Rattle.shared_shards.specs.declared.logs.LogItem.{LogItem}
 use Rattle.shared_shards.specs.declared.logs.LogHead.{LogHead}
-use Rattle.host_calls.specs.Closing.{AreClosed}
-use Rattle.host_calls.specs.OpeningLogs.{AreOpenedFrom}
+use Rattle.call_steps.specs.Closing.{AreClosed}
+use Rattle.call_steps.specs.OpeningLogs.{AreOpenedFrom}
 use Rattle.answer_laws.specs.Dealing.{every}
 use Rattle.answer_laws.specs.Laws.{AreLawfulShares}
 use Rattle.shared_callers.specs.OneLane.{HadLines}

@@ -1,6 +1,5 @@
 -- The definitions that the contracts of this crate cite: callers, their lanes, and the lines that they were dealt.
 pub mod WaitingLines
-pub mod Callers
 pub mod OneLane
 pub mod Turns
 pub mod Seated

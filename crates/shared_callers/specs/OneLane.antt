@@ -9,7 +9,7 @@ use Rattle.shared_shards.specs.declared.logs.LogHead.{LogHead}
 use Rattle.host_calls.specs.Passes.{claims_of, logs_of, IsFree}
 use Rattle.host_calls.specs.declared.host.Host.{Host}
 use Rattle.host_calls.specs.declared.pass.Pass.{Pass}
-use Rattle.shared_callers.specs.Callers.{Caller, AuthorisesAll, IsCaller}
+use Rattle.answer_laws.specs.Callers.{Caller, AuthorisesAll, IsCaller}
 use Rattle.shared_callers.specs.declared.lane.Lane.{Lane}
 
 -- the lines that wait

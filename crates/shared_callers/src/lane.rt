@@ -2,7 +2,7 @@
 ghost use Rattle.std.specs.Prelude.{◌≡◌, ◌<◌, ◌≤◌, [], ◌∷◌, ◌++◌, length, IfOk};
 ghost use Rattle.std.specs.VecDeque.{deque_capacity};
 ghost use Rattle.line_checks.specs.Reading.{reading};
-ghost use Rattle.host_calls.specs.Authorising.{Authorises};
+ghost use Rattle.call_steps.specs.Authorising.{Authorises};
 ghost use Rattle.host_calls.specs.Passes.{claims_of, logs_of, IsFree};
 ghost use Rattle.issuer_base.specs.declared.limits.TheConstants.{KEPT_BYTES};
 

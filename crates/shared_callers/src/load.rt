@@ -1,7 +1,7 @@
 //! The loading of a host for several callers.
 ghost use Rattle.std.specs.Prelude.{◌≡◌, ℕ, ◌<◌, ◌≤◌, ◌*◌, ◌/◌, [], length, vec_len, vec_capacity, All, IfOk, IfErr};
 ghost use Rattle.issuer_base.specs.declared.limits.TheConstants.{MAX_CALLERS};
-ghost use Rattle.host_calls.specs.OpeningLogs.{HostComesBack};
+ghost use Rattle.call_steps.specs.OpeningLogs.{HostComesBack};
 ghost use Rattle.one_caller.specs.Loading.{AreOnlyRead};
 ghost use Rattle.shared_shards.specs.ShardSeats.{opening_in};
 ghost use Rattle.shared_callers.specs.OneLane.{IsNewLane};

@@ -1,7 +1,7 @@
 -- The lines so far were answered in their order, and the pass is free.
 use Rattle.std.proofs.Common.{◌≡◌, length, take}
 use Rattle.host_calls.specs.Passes.{claims_of, logs_of, IsFree}
-use Rattle.shared_callers.specs.Callers.{AuthorisesAll}
+use Rattle.answer_laws.specs.Callers.{AuthorisesAll}
 use Rattle.shared_callers.proofs.lane.Lane.answer.Given as goal
 
 abbrev pub invariant-loop-place : goal.invariant-loop-place

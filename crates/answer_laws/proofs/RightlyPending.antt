@@ -25,22 +25,22 @@ use Rattle.turn_book.specs.Logs.{items_at}
 use Rattle.shared_shards.specs.declared.logs.LogItem.{LogItem}
 use Rattle.shared_shards.specs.declared.logs.LogHead.{LogHead}
 use Rattle.shared_shards.specs.ShardLogs.{records_of}
-use Rattle.host_calls.specs.Authorising.{Authorises}
+use Rattle.call_steps.specs.Authorising.{Authorises}
 use Rattle.one_caller.specs.OneHistory.{IsAnswered}
-use Rattle.host_calls.specs.OpeningLogs.{is_decided}
+use Rattle.call_steps.specs.OpeningLogs.{is_decided}
 use Rattle.one_caller.proofs.Asked.{asks-no_store, asks-no_pending}
-use Rattle.shared_callers.specs.Callers.{Caller, IsCaller}
+use Rattle.answer_laws.specs.Callers.{Caller, IsCaller}
 use Rattle.answer_laws.specs.Explained.{IsDecidedOn}
 use Rattle.answer_laws.specs.OwnPlaces.{shows_record}
-use Rattle.shared_callers.proofs.CallersAnswers.{AreCallers}
-use Rattle.shared_callers.proofs.CallersAnswers.{IsCallersAnswerOn, IsCallersPending, CallersLinePasses}
-use Rattle.shared_callers.proofs.CallTurns.{ShardView, SeesMore, IsTurnedAway, TakesTurn, call-turn, call-sees, calls-see}
+use Rattle.answer_laws.proofs.CallersAnswers.{AreCallers}
+use Rattle.answer_laws.proofs.CallersAnswers.{IsCallersAnswerOn, IsCallersPending, CallersLinePasses}
+use Rattle.answer_laws.proofs.CallTurns.{ShardView, SeesMore, IsTurnedAway, TakesTurn, call-turn, call-sees, calls-see}
 use Rattle.answer_laws.proofs.Lists.{part-within, some-part}
-use Rattle.shared_callers.proofs.ClaimSteps.{calls-found, calls-claims}
-use Rattle.shared_callers.proofs.CounterRange.{counter-within}
-use Rattle.shared_callers.proofs.Decisions.{one-name, numbered-decided, decided-numbered}
-use Rattle.shared_callers.proofs.MoreLines.{CallAt, call-at}
-use Rattle.shared_callers.proofs.PendingLines.{decision-later, unused-none, call-shown, IsLost, call-lost}
+use Rattle.answer_laws.proofs.ClaimSteps.{calls-found, calls-claims}
+use Rattle.answer_laws.proofs.CounterRange.{counter-within}
+use Rattle.answer_laws.proofs.Decisions.{one-name, numbered-decided, decided-numbered}
+use Rattle.answer_laws.proofs.MoreLines.{CallAt, call-at}
+use Rattle.answer_laws.proofs.PendingLines.{decision-later, unused-none, call-shown, IsLost, call-lost}
 
 items-past : (logs : List (Log LogItem LogHead)) (shard : ℕ) → length logs ≤ shard → items_at logs shard ≡ []
 items-past [] shard past = refl

@@ -16,7 +16,7 @@ use Rattle.turn_book.specs.declared.logs.Log.{Log}
 use Rattle.shared_shards.specs.declared.logs.LogItem.{LogItem}
 use Rattle.shared_shards.specs.declared.logs.LogHead.{LogHead}
 use Rattle.one_caller.specs.OneHistory.{IsAnswered}
-use Rattle.shared_callers.specs.Callers.{Caller}
+use Rattle.answer_laws.specs.Callers.{Caller}
 use Rattle.answer_laws.specs.Explained.{Explains, AreAnsweredInOrder, AreExplained, IsDecidedOn, history_at, histories_in}
 use Rattle.answer_laws.specs.FaultCounts.{AreFaultsCounted}
 use Rattle.answer_laws.specs.OwnPlaces.{is_record_at, faults_told, faults_at, AreOwnPlaces, IsPending, LinePasses}
@@ -24,11 +24,11 @@ use Rattle.answer_laws.specs.OwnPlaces.{all_faults_told, answers_at}
 use Rattle.answer_laws.specs.Settled.{AreSettled, IsDecidedNow, IsLeft}
 use Rattle.answer_laws.specs.Shares.{Share, AreDealt, IsAnsweredOn}
 use Rattle.answer_laws.proofs.Lists.{mapped-at}
-use Rattle.shared_callers.proofs.CallersAnswers.{AreDealtToCallers, share_of, shares_of}
-use Rattle.shared_callers.proofs.CallersAnswers.{IsCallersAnswerOn, AreCallersExplained, AreCallersOwnPlaces}
-use Rattle.shared_callers.proofs.CallersAnswers.{IsCallersPending, CallersLinePasses, AreCallersSettled}
-use Rattle.shared_callers.proofs.CallersAnswers.{IsCallersDecidedNow, IsCallersLeft, AreCallersFaultsCounted}
-use Rattle.shared_callers.proofs.CallersAnswers.{all_callers_faults, callers_answers_at}
+use Rattle.answer_laws.proofs.CallersAnswers.{AreDealtToCallers, share_of, shares_of}
+use Rattle.answer_laws.proofs.CallersAnswers.{IsCallersAnswerOn, AreCallersExplained, AreCallersOwnPlaces}
+use Rattle.answer_laws.proofs.CallersAnswers.{IsCallersPending, CallersLinePasses, AreCallersSettled}
+use Rattle.answer_laws.proofs.CallersAnswers.{IsCallersDecidedNow, IsCallersLeft, AreCallersFaultsCounted}
+use Rattle.answer_laws.proofs.CallersAnswers.{all_callers_faults, callers_answers_at}
 
 share-at : (callers : List Caller) (number : ℕ) (caller : Caller) → slice_get callers number ≡ Some caller
     → slice_get (shares_of callers) number ≡ Some (share_of caller)

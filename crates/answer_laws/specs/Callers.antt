@@ -8,7 +8,7 @@ use Rattle.turn_book.specs.declared.logs.Log.{Log}
 use Rattle.turn_book.specs.declared.view.TurnView.{TurnView}
 use Rattle.shared_shards.specs.declared.logs.LogItem.{LogItem}
 use Rattle.shared_shards.specs.declared.logs.LogHead.{LogHead}
-use Rattle.host_calls.specs.Authorising.{Authorises}
+use Rattle.call_steps.specs.Authorising.{Authorises}
 
 -- these are the answers to these lines, one after another, for a pass that had these claims and had seen these logs
 abbrev pub AuthorisesAll : Setup → List (List ℕ) → List Answer → ClaimView → TurnView LogItem LogHead → ClaimView

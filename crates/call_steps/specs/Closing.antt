@@ -18,7 +18,7 @@ use Rattle.issuer_base.specs.declared.entry.Entry.{Entry}
 use Rattle.shard_book.specs.Histories.{IsImageBetween, IsLegalSince}
 use Rattle.one_caller.specs.Books.{Book}
 use Rattle.one_caller.specs.OneHistory.{LegalFrom, LegallyGoesOn}
-use Rattle.host_calls.specs.OpeningLogs.{opened_on}
+use Rattle.call_steps.specs.OpeningLogs.{opened_on}
 use Rattle.one_caller.specs.Runs.{HoldsJournal}
 
 -- the book of a log: its history, its store's fault count, and how many answers reported that the store failed

@@ -33,16 +33,16 @@ use Rattle.shared_shards.specs.declared.logs.LogItem.{LogItem}
 use Rattle.shared_shards.specs.declared.logs.LogHead.{LogHead}
 use Rattle.shard_book.specs.Histories.{GoesOn}
 use Rattle.shard_book.proofs.Histories.{goes-then}
-use Rattle.host_calls.specs.Authorising.{EndsIn, Authorises}
-use Rattle.host_calls.specs.Finishes.{FinishesInTurn, is_won}
-use Rattle.host_calls.specs.PreChecks.{asked_of, PreChecks}
-use Rattle.host_calls.specs.declared.pass.Checked.{Checked}
+use Rattle.call_steps.specs.Authorising.{EndsIn, Authorises}
+use Rattle.call_steps.specs.Finishes.{FinishesInTurn, is_won}
+use Rattle.call_steps.specs.PreChecks.{asked_of, PreChecks}
+use Rattle.call_steps.specs.declared.checked.Checked.{Checked}
 use Rattle.line_checks.specs.declared.checked.CheckedOrder.TheVariants.{Command as Queues, Status as Sets}
-use Rattle.host_calls.specs.declared.pass.Checked.TheVariants.{Decide as Decides, Order as Orders}
+use Rattle.call_steps.specs.declared.checked.Checked.TheVariants.{Decide as Decides, Order as Orders}
 use Rattle.one_caller.proofs.LegalBooks.{goes-stays}
 use Rattle.answer_laws.specs.Explained.{history_at, IsDecidedOn, ExplainsRequest, ExplainsCommand, ExplainsStatus, Explains}
-use Rattle.shared_callers.proofs.Decisions.{greatest-decided, decided-stays}
-use Rattle.shared_callers.proofs.Seen.{goes-same, IsWhole, turn-sees, home-there}
+use Rattle.answer_laws.proofs.Decisions.{greatest-decided, decided-stays}
+use Rattle.answer_laws.proofs.Seen.{goes-same, IsWhole, turn-sees, home-there}
 
 -- ---- by a turn
 

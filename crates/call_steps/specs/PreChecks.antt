@@ -14,8 +14,8 @@ use Rattle.claim_words.specs.declared.view.ClaimView.{ClaimView}
 use Rattle.claim_words.specs.declared.claim_words.Claim.TheVariants.{Won}
 use Rattle.claim_words.specs.ClaimViews.{IsNew, after_claim, after_top}
 use Rattle.claim_words.specs.Seats.{IsTopFor}
-use Rattle.host_calls.specs.declared.pass.Checked.{Checked}
-use Rattle.host_calls.specs.declared.pass.Checked.TheVariants.{Decide, Order}
+use Rattle.call_steps.specs.declared.checked.Checked.{Checked}
+use Rattle.call_steps.specs.declared.checked.Checked.TheVariants.{Decide, Order}
 
 -- what the line asks
 abbrev pub asked_of : Checked → Asked

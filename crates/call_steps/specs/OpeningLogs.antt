@@ -19,7 +19,7 @@ use Rattle.turn_book.specs.Logs.{items_at}
 use Rattle.shared_seats.specs.Totals.{one_if}
 use Rattle.shared_shards.specs.declared.logs.LogItem.{LogItem}
 use Rattle.shared_shards.specs.declared.logs.LogHead.{LogHead}
-use Rattle.host_calls.specs.Decisions.{decides}
+use Rattle.call_steps.specs.Decisions.{decides}
 
 -- whether the items have a decision on this ATC of the issuer's card with this number
 abbrev pub is_decided : Setup → List LogItem → ℕ → ℕ → Bool

@@ -26,13 +26,13 @@ use Rattle.shared_shards.specs.declared.logs.LogItem.{LogItem}
 use Rattle.shared_shards.specs.declared.logs.LogHead.{LogHead}
 use Rattle.shared_shards.specs.ShardLogs.{records_of}
 use Rattle.shared_shards.specs.Turned.{log_after, turned, IsAdded}
-use Rattle.host_calls.specs.declared.pass.Checked.{Checked}
+use Rattle.call_steps.specs.declared.checked.Checked.{Checked}
 use Rattle.line_checks.specs.declared.checked.CheckedOrder.TheVariants.{Command as IsCommand, Status as IsStatus}
-use Rattle.host_calls.specs.declared.pass.Checked.TheVariants.{Decide, Order}
-use Rattle.host_calls.specs.Authorising.{EndsIn, Authorises}
-use Rattle.host_calls.specs.Finishes.{is_won}
-use Rattle.host_calls.specs.PreChecks.{PreChecks}
-use Rattle.shared_callers.specs.Callers.{AuthorisesAll}
+use Rattle.call_steps.specs.declared.checked.Checked.TheVariants.{Decide, Order}
+use Rattle.call_steps.specs.Authorising.{EndsIn, Authorises}
+use Rattle.call_steps.specs.Finishes.{is_won}
+use Rattle.call_steps.specs.PreChecks.{PreChecks}
+use Rattle.answer_laws.specs.Callers.{AuthorisesAll}
 use Rattle.answer_laws.specs.OwnPlaces.{is_for_shard}
 
 abbrev pub ShardView : Type 0

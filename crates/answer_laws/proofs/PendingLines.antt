@@ -31,17 +31,17 @@ use Rattle.shared_shards.specs.declared.logs.LogItem.{LogItem}
 use Rattle.shared_shards.specs.ShardLogs.{records_of}
 use Rattle.shared_shards.specs.Turned.{log_after}
 use Rattle.turn_book.proofs.LogLemmas.{items-with_same}
-use Rattle.host_calls.specs.declared.pass.Checked.{Checked}
+use Rattle.call_steps.specs.declared.checked.Checked.{Checked}
 use Rattle.line_checks.specs.declared.checked.CheckedOrder.TheVariants.{Command as IsCommand, Status as IsStatus}
-use Rattle.host_calls.specs.declared.pass.Checked.TheVariants.{Decide, Order}
-use Rattle.host_calls.specs.Authorising.{EndsIn, Authorises}
-use Rattle.host_calls.specs.PreChecks.{asked_of, PreChecks}
+use Rattle.call_steps.specs.declared.checked.Checked.TheVariants.{Decide, Order}
+use Rattle.call_steps.specs.Authorising.{EndsIn, Authorises}
+use Rattle.call_steps.specs.PreChecks.{asked_of, PreChecks}
 use Rattle.answer_laws.specs.Explained.{IsDecidedOn}
 use Rattle.answer_laws.specs.OwnPlaces.{shows_record}
-use Rattle.shared_callers.proofs.CallTurns.{ShardView}
-use Rattle.shared_callers.proofs.ClaimSteps.{won-answers}
-use Rattle.shared_callers.proofs.Decisions.{decided-stays}
-use Rattle.shared_callers.proofs.Seen.{records-go_on}
+use Rattle.answer_laws.proofs.CallTurns.{ShardView}
+use Rattle.answer_laws.proofs.ClaimSteps.{won-answers}
+use Rattle.answer_laws.proofs.Decisions.{decided-stays}
+use Rattle.answer_laws.proofs.Seen.{records-go_on}
 
 -- ---- a decision in a history
 

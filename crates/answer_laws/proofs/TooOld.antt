@@ -27,19 +27,19 @@ use Rattle.turn_book.specs.declared.view.TurnView.{TurnView}
 use Rattle.shard_book.specs.Answering.{AnswersClaimed}
 use Rattle.shared_shards.specs.declared.logs.LogItem.{LogItem}
 use Rattle.shared_shards.specs.declared.logs.LogHead.{LogHead}
-use Rattle.host_calls.specs.Authorising.{EndsIn, Authorises}
-use Rattle.host_calls.specs.Finishes.{FinishesInTurn, is_won}
+use Rattle.call_steps.specs.Authorising.{EndsIn, Authorises}
+use Rattle.call_steps.specs.Finishes.{FinishesInTurn, is_won}
 use Rattle.one_caller.specs.OneHistory.{IsAnswered}
-use Rattle.host_calls.specs.PreChecks.{asked_of, PreChecks}
-use Rattle.host_calls.specs.declared.pass.Checked.{Checked}
+use Rattle.call_steps.specs.PreChecks.{asked_of, PreChecks}
+use Rattle.call_steps.specs.declared.checked.Checked.{Checked}
 use Rattle.line_checks.specs.declared.checked.CheckedOrder.TheVariants.{Command as Queues, Status as Sets}
-use Rattle.host_calls.specs.declared.pass.Checked.TheVariants.{Decide as Decides, Order as Orders}
-use Rattle.shared_callers.specs.Callers.{AuthorisesAll}
+use Rattle.call_steps.specs.declared.checked.Checked.TheVariants.{Decide as Decides, Order as Orders}
+use Rattle.answer_laws.specs.Callers.{AuthorisesAll}
 use Rattle.answer_laws.specs.Explained.{history_at, IsDecidedOn, SeesTurn}
-use Rattle.shared_callers.proofs.Decisions.{greatest-decided, decided-stays}
-use Rattle.shared_callers.proofs.Seen.{IsWhole, turn-sees, home-there, line-sees, sees-goes_on, goes-same}
-use Rattle.shared_callers.proofs.KeptClaims.{top-times, line-keeps}
-use Rattle.shared_callers.proofs.Explaining.{told-top}
+use Rattle.answer_laws.proofs.Decisions.{greatest-decided, decided-stays}
+use Rattle.answer_laws.proofs.Seen.{IsWhole, turn-sees, home-there, line-sees, sees-goes_on, goes-same}
+use Rattle.answer_laws.proofs.KeptClaims.{top-times, line-keeps}
+use Rattle.answer_laws.proofs.Explaining.{told-top}
 
 -- an ATC of the card was told by a top, or a decision on it was seen
 abbrev IsShown : Setup → CardName → ℕ → ClaimView → TurnView LogItem LogHead → Type 0

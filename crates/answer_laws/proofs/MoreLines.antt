@@ -9,8 +9,8 @@ use Rattle.claim_words.specs.declared.view.ClaimView.{ClaimView}
 use Rattle.turn_book.specs.declared.view.TurnView.{TurnView}
 use Rattle.shared_shards.specs.declared.logs.LogItem.{LogItem}
 use Rattle.shared_shards.specs.declared.logs.LogHead.{LogHead}
-use Rattle.host_calls.specs.Authorising.{Authorises}
-use Rattle.shared_callers.specs.Callers.{AuthorisesAll}
+use Rattle.call_steps.specs.Authorising.{Authorises}
+use Rattle.answer_laws.specs.Callers.{AuthorisesAll}
 
 module _ (issuer : Setup) where
   -- a caller that has made no call

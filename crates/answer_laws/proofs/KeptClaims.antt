@@ -29,15 +29,15 @@ use Rattle.shard_book.specs.Answering.{AnswersClaimed}
 use Rattle.shared_shards.specs.declared.logs.LogItem.{LogItem}
 use Rattle.shared_shards.specs.declared.logs.LogHead.{LogHead}
 use Rattle.shard_book.specs.Histories.{GoesOn}
-use Rattle.host_calls.specs.Authorising.{EndsIn, Authorises}
-use Rattle.host_calls.specs.Finishes.{FinishesInTurn, claims_after, standing_by}
-use Rattle.host_calls.specs.PreChecks.{asked_of, PreChecks, Claims}
-use Rattle.host_calls.specs.declared.pass.Checked.{Checked}
-use Rattle.host_calls.specs.declared.pass.Checked.TheVariants.{Decide as Decides, Order as Orders}
-use Rattle.shared_callers.specs.Callers.{AuthorisesAll}
+use Rattle.call_steps.specs.Authorising.{EndsIn, Authorises}
+use Rattle.call_steps.specs.Finishes.{FinishesInTurn, claims_after, standing_by}
+use Rattle.call_steps.specs.PreChecks.{asked_of, PreChecks, Claims}
+use Rattle.call_steps.specs.declared.checked.Checked.{Checked}
+use Rattle.call_steps.specs.declared.checked.Checked.TheVariants.{Decide as Decides, Order as Orders}
+use Rattle.answer_laws.specs.Callers.{AuthorisesAll}
 use Rattle.answer_laws.specs.Explained.{history_at, SeesTurn}
-use Rattle.shared_callers.proofs.Decisions.{IsNumbered, numbered-stays}
-use Rattle.shared_callers.proofs.Seen.{IsWhole, turn-sees, home-there, line-sees, lines-in_order}
+use Rattle.answer_laws.proofs.Decisions.{IsNumbered, numbered-stays}
+use Rattle.answer_laws.proofs.Seen.{IsWhole, turn-sees, home-there, line-sees, lines-in_order}
 
 -- ---- what a check of a line does to claims
 

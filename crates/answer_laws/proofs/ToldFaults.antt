@@ -21,11 +21,11 @@ use Rattle.shared_shards.specs.declared.logs.LogItem.{LogItem}
 use Rattle.shared_shards.specs.declared.logs.LogItem.TheVariants.{Record, Fault}
 use Rattle.shared_shards.specs.ShardLogs.{faults_of}
 use Rattle.shared_shards.specs.Turned.{log_after, mine_after, AddsFault, IsAdded}
-use Rattle.shared_callers.specs.Callers.{AuthorisesAll}
+use Rattle.answer_laws.specs.Callers.{AuthorisesAll}
 use Rattle.answer_laws.specs.OwnPlaces.{is_for_shard, faults_told}
-use Rattle.shared_callers.proofs.CallTurns.{ShardView, TakesTurn, IsTurnedAway, call-turn, call-sees, calls-see, turn-seen}
+use Rattle.answer_laws.proofs.CallTurns.{ShardView, TakesTurn, IsTurnedAway, call-turn, call-sees, calls-see, turn-seen}
 use Rattle.answer_laws.proofs.FaultPlaces.{is_fault_at, own_faults, fault-at_record, fault-at_fault, faults-front}
-use Rattle.shared_callers.proofs.OwnRecords.{added-in}
+use Rattle.answer_laws.proofs.OwnRecords.{added-in}
 
 and-false : (test : Bool) → (test && false) ≡ false
 and-false true = refl

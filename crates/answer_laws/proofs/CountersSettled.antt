@@ -26,23 +26,23 @@ use Rattle.turn_book.specs.TurnRule.{between}
 use Rattle.shared_shards.specs.declared.logs.LogItem.{LogItem}
 use Rattle.shared_shards.specs.declared.logs.LogHead.{LogHead}
 use Rattle.shared_shards.specs.ShardLogs.{records_of, faults_of}
-use Rattle.host_calls.specs.OpeningLogs.{is_decided}
+use Rattle.call_steps.specs.OpeningLogs.{is_decided}
 use Rattle.one_caller.proofs.Asked.{asks-request}
 use Rattle.one_caller.proofs.LegalBooks.{goes-stays}
 use Rattle.one_caller.proofs.Places.{read-within}
-use Rattle.shared_callers.specs.Callers.{Caller}
+use Rattle.answer_laws.specs.Callers.{Caller}
 use Rattle.answer_laws.specs.Explained.{IsDecidedOn, history_at, Explains}
 use Rattle.answer_laws.specs.OwnPlaces.{is_record_at, is_for_shard, faults_told}
 use Rattle.answer_laws.specs.Settled.{TellNoFault, is_below_or_pending}
-use Rattle.shared_callers.proofs.CallersAnswers.{AreCallers}
-use Rattle.shared_callers.proofs.CallersAnswers.{IsCallersAnswerOn, IsCallersDecidedNow, IsCallersLeft, AreCallersSettled}
-use Rattle.shared_callers.proofs.Decisions.{numbered-decided, decided-numbered, numbered-tells, one-true}
-use Rattle.shared_callers.proofs.EachPlace.{each-place, each-fault}
+use Rattle.answer_laws.proofs.CallersAnswers.{AreCallers}
+use Rattle.answer_laws.proofs.CallersAnswers.{IsCallersAnswerOn, IsCallersDecidedNow, IsCallersLeft, AreCallersSettled}
+use Rattle.answer_laws.proofs.Decisions.{numbered-decided, decided-numbered, numbered-tells, one-true}
+use Rattle.answer_laws.proofs.EachPlace.{each-place, each-fault}
 use Rattle.answer_laws.proofs.Lists.{part-within, some-part}
-use Rattle.shared_callers.proofs.MoreLines.{call-at}
-use Rattle.shared_callers.proofs.OneRun.{callers-explained}
-use Rattle.shared_callers.proofs.RightlyPending.{rightly-pending, fault-passes}
-use Rattle.shared_callers.proofs.Seen.{home-below, records-go_on}
+use Rattle.answer_laws.proofs.MoreLines.{call-at}
+use Rattle.answer_laws.proofs.OneRun.{callers-explained}
+use Rattle.answer_laws.proofs.RightlyPending.{rightly-pending, fault-passes}
+use Rattle.answer_laws.proofs.Seen.{home-below, records-go_on}
 
 -- ---- no fault
 

@@ -19,9 +19,9 @@ use Rattle.shared_shards.specs.declared.logs.LogItem.{LogItem}
 use Rattle.shared_shards.specs.declared.logs.LogItem.TheVariants.{Record, Fault}
 use Rattle.shared_shards.specs.ShardLogs.{records_of}
 use Rattle.shared_shards.specs.Turned.{log_after, mine_after, AddsFault, IsAdded}
-use Rattle.shared_callers.specs.Callers.{AuthorisesAll}
+use Rattle.answer_laws.specs.Callers.{AuthorisesAll}
 use Rattle.answer_laws.specs.OwnPlaces.{is_record_at}
-use Rattle.shared_callers.proofs.CallTurns.{ShardView, Tells, TakesTurn, IsTurnedAway, call-turn, call-sees, calls-see, turn-seen}
+use Rattle.answer_laws.proofs.CallTurns.{ShardView, Tells, TakesTurn, IsTurnedAway, call-turn, call-sees, calls-see, turn-seen}
 use Rattle.answer_laws.proofs.RecordSpots.{spot, front-rest, spot-record, spot-fault}
 
 -- an item that was added to a front stands behind it in the whole

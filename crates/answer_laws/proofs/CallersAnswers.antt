@@ -21,9 +21,9 @@ use Rattle.turn_book.specs.TurnViews.{times as times_placed}
 use Rattle.shared_shards.specs.declared.logs.LogItem.{LogItem}
 use Rattle.shared_shards.specs.declared.logs.LogHead.{LogHead}
 use Rattle.shared_shards.specs.ShardLogs.{records_of, faults_of, RiseTo}
-use Rattle.host_calls.specs.OpeningLogs.{opened_on}
+use Rattle.call_steps.specs.OpeningLogs.{opened_on}
 use Rattle.one_caller.specs.OneHistory.{IsAnswered, LegallyGoesOn}
-use Rattle.shared_callers.specs.Callers.{Caller, IsCaller}
+use Rattle.answer_laws.specs.Callers.{Caller, IsCaller}
 use Rattle.answer_laws.specs.Dealing.{every}
 use Rattle.answer_laws.specs.Explained.{Explains, AreAnsweredInOrder, IsDecidedOn, history_at, histories_in}
 use Rattle.answer_laws.specs.OwnPlaces.{is_record_at, faults_told, shows_record}

@@ -28,23 +28,23 @@ use Rattle.shared_shards.specs.ShardLogs.{records_of}
 use Rattle.shard_book.specs.Histories.{GoesOn}
 use Rattle.shard_book.proofs.Histories.{goes-then}
 use Rattle.one_caller.specs.Books.{Book, histories_of}
-use Rattle.host_calls.specs.Closing.{book_of}
+use Rattle.call_steps.specs.Closing.{book_of}
 use Rattle.one_caller.specs.OneHistory.{AreLegalBooks, IsAnswered}
-use Rattle.host_calls.specs.OpeningLogs.{opened_on}
+use Rattle.call_steps.specs.OpeningLogs.{opened_on}
 use Rattle.one_caller.proofs.LegalBooks.{legal-once, one-reply}
 use Rattle.one_caller.proofs.Places.{read-mapped}
-use Rattle.shared_callers.specs.Callers.{AuthorisesAll, Caller, IsCaller}
+use Rattle.answer_laws.specs.Callers.{AuthorisesAll, Caller, IsCaller}
 use Rattle.answer_laws.specs.Explained.{history_at, histories_in, IsDecidedOn, Explains, AreAnsweredInOrder}
-use Rattle.shared_callers.proofs.CallersAnswers.{AreCallers}
-use Rattle.shared_callers.proofs.CallersAnswers.{AreCallersExplained}
+use Rattle.answer_laws.proofs.CallersAnswers.{AreCallers}
+use Rattle.answer_laws.proofs.CallersAnswers.{AreCallersExplained}
 use Rattle.answer_laws.proofs.Lists.{part-within, some-part}
-use Rattle.shared_callers.proofs.Decisions.{IsNumbered, numbered-stays, numbered-decided, decided-numbered, one-true}
-use Rattle.shared_callers.proofs.Seen.{records-go_on, IsWhole, line-sees, lines-in_order}
-use Rattle.shared_callers.proofs.KeptClaims.{calls-go_on, calls-keep}
-use Rattle.shared_callers.proofs.TooOld.{below-first}
-use Rattle.shared_callers.proofs.Explaining.{AreKnown, line-explained}
-use Rattle.shared_callers.proofs.MoreLines.{call-at}
-use Rattle.shared_callers.proofs.CallTurns.{calls-see}
+use Rattle.answer_laws.proofs.Decisions.{IsNumbered, numbered-stays, numbered-decided, decided-numbered, one-true}
+use Rattle.answer_laws.proofs.Seen.{records-go_on, IsWhole, line-sees, lines-in_order}
+use Rattle.answer_laws.proofs.KeptClaims.{calls-go_on, calls-keep}
+use Rattle.answer_laws.proofs.TooOld.{below-first}
+use Rattle.answer_laws.proofs.Explaining.{AreKnown, line-explained}
+use Rattle.answer_laws.proofs.MoreLines.{call-at}
+use Rattle.answer_laws.proofs.CallTurns.{calls-see}
 
 -- each line of a caller was answered
 answered-all : (issuer : Setup) (lines : List (List ℕ)) (answers : List Answer) (claims : ClaimView) (logs : TurnView LogItem LogHead)

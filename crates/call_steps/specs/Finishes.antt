@@ -21,8 +21,8 @@ use Rattle.shared_shards.specs.declared.logs.LogItem.{LogItem}
 use Rattle.shared_shards.specs.declared.logs.LogHead.{LogHead}
 use Rattle.shared_shards.specs.ShardLogs.{records_of}
 use Rattle.shared_shards.specs.Turned.{DecidesInTurn, OrdersInTurn}
-use Rattle.host_calls.specs.declared.pass.Checked.{Checked}
-use Rattle.host_calls.specs.declared.pass.Checked.TheVariants.{Decide, Order}
+use Rattle.call_steps.specs.declared.checked.Checked.{Checked}
+use Rattle.call_steps.specs.declared.checked.Checked.TheVariants.{Decide, Order}
 
 abbrev pub is_won : Claim → Bool
 is_won Won = true

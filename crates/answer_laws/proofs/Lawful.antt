@@ -4,15 +4,15 @@ use Rattle.issuer_setup.specs.IssuerSetup.{Setup}
 use Rattle.turn_book.specs.declared.logs.Log.{Log}
 use Rattle.shared_shards.specs.declared.logs.LogItem.{LogItem}
 use Rattle.shared_shards.specs.declared.logs.LogHead.{LogHead}
-use Rattle.shared_callers.specs.Callers.{Caller}
+use Rattle.answer_laws.specs.Callers.{Caller}
 use Rattle.answer_laws.specs.Laws.{AreLawfulShares}
-use Rattle.shared_callers.proofs.CallersAnswers.{AreCallers, shares_of}
-use Rattle.shared_callers.proofs.CountersSettled.{counters-settled}
-use Rattle.shared_callers.proofs.EachPlace.{each-place, faults-told, each-fault}
-use Rattle.shared_callers.proofs.OneRun.{callers-explained}
-use Rattle.shared_callers.proofs.RightlyPending.{rightly-pending, fault-passes}
-use Rattle.shared_callers.proofs.RisingFaults.{faults-counted}
-use Rattle.shared_callers.proofs.SharesOfCallers.{explained-shares, own-shares, counted-shares, settled-shares}
+use Rattle.answer_laws.proofs.CallersAnswers.{AreCallers, shares_of}
+use Rattle.answer_laws.proofs.CountersSettled.{counters-settled}
+use Rattle.answer_laws.proofs.EachPlace.{each-place, faults-told, each-fault}
+use Rattle.answer_laws.proofs.OneRun.{callers-explained}
+use Rattle.answer_laws.proofs.RightlyPending.{rightly-pending, fault-passes}
+use Rattle.answer_laws.proofs.RisingFaults.{faults-counted}
+use Rattle.answer_laws.proofs.SharesOfCallers.{explained-shares, own-shares, counted-shares, settled-shares}
 
 pub lawful-shares : (issuer : Setup) (opening logs : List (Log LogItem LogHead)) (callers : List Caller)
     → AreCallers issuer opening logs callers → AreLawfulShares issuer opening logs (shares_of callers)

@@ -22,8 +22,8 @@ use Rattle.shared_shards.specs.declared.logs.LogItem.{LogItem}
 use Rattle.shared_shards.specs.declared.logs.LogItem.TheVariants.{Record, Fault}
 use Rattle.shared_shards.specs.ShardLogs.{records_of}
 use Rattle.shard_book.specs.Histories.{GoesOn}
-use Rattle.host_calls.specs.Decisions.{is_number, decides}
-use Rattle.host_calls.specs.OpeningLogs.{is_decided}
+use Rattle.call_steps.specs.Decisions.{is_number, decides}
+use Rattle.call_steps.specs.OpeningLogs.{is_decided}
 use Rattle.one_caller.proofs.LegalBooks.{goes-stays}
 use Rattle.answer_laws.specs.Explained.{IsDecidedOn}
 

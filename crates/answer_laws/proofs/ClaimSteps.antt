@@ -24,15 +24,15 @@ use Rattle.claim_words.proofs.ClaimCounts.{pair_cases, pair-other, any-settled}
 use Rattle.shard_book.specs.Answering.{AnswersClaimed}
 use Rattle.shared_shards.specs.ShardLogs.{records_of}
 use Rattle.shared_shards.specs.Turned.{log_after}
-use Rattle.host_calls.specs.declared.pass.Checked.{Checked}
+use Rattle.call_steps.specs.declared.checked.Checked.{Checked}
 use Rattle.line_checks.specs.declared.checked.CheckedOrder.TheVariants.{Command as IsCommand, Status as IsStatus}
-use Rattle.host_calls.specs.declared.pass.Checked.TheVariants.{Decide, Order}
-use Rattle.host_calls.specs.Authorising.{EndsIn, Authorises}
-use Rattle.host_calls.specs.Finishes.{standing_by}
+use Rattle.call_steps.specs.declared.checked.Checked.TheVariants.{Decide, Order}
+use Rattle.call_steps.specs.Authorising.{EndsIn, Authorises}
+use Rattle.call_steps.specs.Finishes.{standing_by}
 use Rattle.one_caller.specs.OneHistory.{IsAnswered}
-use Rattle.host_calls.specs.PreChecks.{asked_of, PreChecks}
-use Rattle.shared_callers.specs.Callers.{AuthorisesAll}
-use Rattle.shared_callers.proofs.CallTurns.{ShardView}
+use Rattle.call_steps.specs.PreChecks.{asked_of, PreChecks}
+use Rattle.answer_laws.specs.Callers.{AuthorisesAll}
+use Rattle.answer_laws.proofs.CallTurns.{ShardView}
 
 -- the line is a request on this ATC of the card with this number, and isn't told that it is pending
 pub record IsWinner (issuer : Setup) (says : Result Asked Refusal) (answer : Answer) (card counter : ℕ) : Type 0 where

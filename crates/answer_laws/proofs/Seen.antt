@@ -34,13 +34,13 @@ use Rattle.shared_shards.specs.ShardLogs.{records_of}
 use Rattle.shared_shards.specs.Turned.{log_after, AnswersInTurn}
 use Rattle.shard_book.specs.Histories.{GoesOn}
 use Rattle.shard_book.proofs.Histories.{goes-then}
-use Rattle.host_calls.specs.Authorising.{EndsIn, Authorises}
-use Rattle.host_calls.specs.Finishes.{FinishesInTurn, is_won}
-use Rattle.host_calls.specs.PreChecks.{asked_of, PreChecks}
-use Rattle.host_calls.specs.declared.pass.Checked.{Checked}
+use Rattle.call_steps.specs.Authorising.{EndsIn, Authorises}
+use Rattle.call_steps.specs.Finishes.{FinishesInTurn, is_won}
+use Rattle.call_steps.specs.PreChecks.{asked_of, PreChecks}
+use Rattle.call_steps.specs.declared.checked.Checked.{Checked}
 use Rattle.line_checks.specs.declared.checked.CheckedOrder.TheVariants.{Command as Queues, Status as Sets}
-use Rattle.host_calls.specs.declared.pass.Checked.TheVariants.{Decide as Decides, Order as Orders}
-use Rattle.shared_callers.specs.Callers.{AuthorisesAll}
+use Rattle.call_steps.specs.declared.checked.Checked.TheVariants.{Decide as Decides, Order as Orders}
+use Rattle.answer_laws.specs.Callers.{AuthorisesAll}
 use Rattle.answer_laws.specs.Explained.{history_at, SeesTurn, Sees, AreAnsweredInOrder}
 
 -- ---- histories that go on

@@ -10,11 +10,11 @@ use Rattle.turn_book.specs.Logs.{items_at}
 use Rattle.shared_shards.specs.declared.logs.LogItem.{LogItem}
 use Rattle.shared_shards.specs.declared.logs.LogHead.{LogHead}
 use Rattle.shared_shards.specs.ShardLogs.{faults_of, RiseTo}
-use Rattle.shared_callers.specs.Callers.{Caller}
+use Rattle.answer_laws.specs.Callers.{Caller}
 use Rattle.answer_laws.specs.OwnPlaces.{is_for_shard, faults_told}
-use Rattle.shared_callers.proofs.CallersAnswers.{AreCallers}
-use Rattle.shared_callers.proofs.CallersAnswers.{AreCallersFaultsCounted}
-use Rattle.shared_callers.proofs.EachPlace.{faults-told, each-fault}
+use Rattle.answer_laws.proofs.CallersAnswers.{AreCallers}
+use Rattle.answer_laws.proofs.CallersAnswers.{AreCallersFaultsCounted}
+use Rattle.answer_laws.proofs.EachPlace.{faults-told, each-fault}
 use Rattle.answer_laws.proofs.Lists.{total-below}
 
 -- counts that rise to one below the last value each rise by 1 or more

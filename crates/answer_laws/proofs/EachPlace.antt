@@ -11,15 +11,15 @@ use Rattle.turn_book.specs.TurnViews.{times}
 use Rattle.shared_shards.specs.declared.logs.LogItem.{LogItem}
 use Rattle.shared_shards.specs.declared.logs.LogHead.{LogHead}
 use Rattle.shared_shards.specs.ShardLogs.{records_of, faults_of}
-use Rattle.shared_callers.specs.Callers.{Caller}
+use Rattle.answer_laws.specs.Callers.{Caller}
 use Rattle.answer_laws.specs.OwnPlaces.{is_record_at, faults_told}
-use Rattle.shared_callers.proofs.CallersAnswers.{AreCallers}
-use Rattle.shared_callers.proofs.CallersAnswers.{callers_answers_at, all_callers_faults}
+use Rattle.answer_laws.proofs.CallersAnswers.{AreCallers}
+use Rattle.answer_laws.proofs.CallersAnswers.{callers_answers_at, all_callers_faults}
 use Rattle.answer_laws.proofs.Lists.{total-each, total-below}
 use Rattle.answer_laws.proofs.FaultPlaces.{own_faults, weigh, weigh-own, weigh-total, weigh-between}
-use Rattle.shared_callers.proofs.OwnRecords.{calls-count}
+use Rattle.answer_laws.proofs.OwnRecords.{calls-count}
 use Rattle.answer_laws.proofs.RecordSpots.{spot, spot-between}
-use Rattle.shared_callers.proofs.ToldFaults.{calls-fault}
+use Rattle.answer_laws.proofs.ToldFaults.{calls-fault}
 
 module _ (issuer : Setup) (opening logs : List (Log LogItem LogHead)) (callers : List Caller) (are : AreCallers issuer opening logs callers) (shard : ℕ)
     (below : shard < issuer.shards) where

@@ -10,9 +10,9 @@ use Rattle.claim_words.specs.declared.view.ClaimView.{ClaimView}
 use Rattle.turn_book.specs.declared.view.TurnView.{TurnView}
 use Rattle.shared_shards.specs.declared.logs.LogItem.{LogItem}
 use Rattle.shared_shards.specs.declared.logs.LogHead.{LogHead}
-use Rattle.host_calls.specs.declared.pass.Checked.{Checked}
-use Rattle.host_calls.specs.Finishes.{claims_after, is_by_record, seen_for, FinishesInTurn, IsRecorded, WonIsDecided}
-use Rattle.host_calls.specs.PreChecks.{asked_of, PreChecks}
+use Rattle.call_steps.specs.declared.checked.Checked.{Checked}
+use Rattle.call_steps.specs.Finishes.{claims_after, is_by_record, seen_for, FinishesInTurn, IsRecorded, WonIsDecided}
+use Rattle.call_steps.specs.PreChecks.{asked_of, PreChecks}
 
 -- a refusal is the answer, and changes nothing more; what was checked is what the line asks, and is finished: a won
 -- request to which the shard's records are open then is decided, or the store failed
