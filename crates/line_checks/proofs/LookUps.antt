@@ -1,11 +1,13 @@
 -- A line that carries a request asks what the request's check gives, also if the request was looked up again.
-use Rattle.std.proofs.Common.{◌≡◌, ℕ, List, Result, Ok, Err, IfOk, IfErr, ap, sym, subst, ◌∙◌}
+use Rattle.std.proofs.Common.{◌≡◌, ◌≢◌, ℕ, List, [], ◌∷◌, All, Result, Ok, Err, IfOk, IfErr, ap, sym, subst, ◌∙◌}
+use Rattle.std.specs.List.{AllZip}
+use Rattle.std.proofs.lemmas.List.Elements.{All-nil, All-cons}
 use Rattle.issuer_base.specs.declared.request.Request.{Request}
 use Rattle.issuer_base.specs.declared.answer.Refusal.{Refusal}
 use Rattle.issuer_setup.specs.IssuerSetup.{Setup}
 use Rattle.line_checks.specs.declared.sought.Sought.{Sought}
 use Rattle.line_checks.specs.declared.sought.Sought.TheVariants.{Request as IsRequest, Order}
-use Rattle.line_checks.specs.LookedUp.{CarriesRequest, IsLookedUpAgain, IsReady, IsSought}
+use Rattle.line_checks.specs.LookedUp.{CarriesRequest, IsLookUp, AreLookUps, IsLookedUpAgain, IsReady, IsSought}
 use Rattle.line_checks.specs.Reading.{checked, checked_data, said_by, reading}
 
 pub carried : (issuer : Setup) (line : List ℕ) (request : Request) → CarriesRequest line request → reading issuer line ≡ checked issuer request
@@ -34,3 +36,35 @@ refused-again issuer P (Ok (IsRequest old)) (Ok (Order order)) its again = absur
 refused-again issuer P (Ok (IsRequest old)) (Err refusal) its again = absurd cc
 refused-again issuer P (Ok (Order order)) new its again = subst (λ found. IfErr found P) (sym again) tt
 refused-again issuer P (Err refusal) new its again = subst (λ found. IfErr found P) (sym again) its
+
+-- ---- the look-ups of several lines
+
+-- each has its keys at hand
+pub all-ready : (issuer : Setup) (lines : List (List ℕ)) (found : List (Result Sought Refusal)) → AreLookUps issuer lines found
+    → All (IsReady issuer) found
+all-ready issuer [] [] are = All-nil (IsReady issuer)
+all-ready issuer [] (found ∷ more) are = absurd are
+all-ready issuer (line ∷ lines) [] are = absurd are
+all-ready issuer (line ∷ lines) (Ok sought ∷ more) are =
+    All-cons (IsReady issuer) (Ok sought) more (sought-ready issuer line (Ok sought) are.0) (all-ready issuer lines more are.1)
+all-ready issuer (line ∷ lines) (Err refusal ∷ more) are =
+    All-cons (IsReady issuer) (Err refusal) more tt (all-ready issuer lines more are.1)
+
+-- what was looked up again for a line is the look-up of the line
+look-up-again : (issuer : Setup) (line : List ℕ) (old new : Result Sought Refusal) → IsLookUp issuer line old → IsLookedUpAgain issuer old new
+    → IsLookUp issuer line new
+look-up-again issuer line (Ok old) (Ok new) its again = sought-again issuer line (Ok old) (Ok new) its again
+look-up-again issuer line (Ok (IsRequest old)) (Err refusal) its again = absurd cc
+look-up-again issuer line (Ok (Order old)) (Err refusal) its again = absurd cc
+look-up-again issuer line (Err refusal) new its again = subst (IsLookUp issuer line) (sym again) its
+
+-- and so it is of each
+pub all-again : (issuer : Setup) (lines : List (List ℕ)) (old new : List (Result Sought Refusal)) → AreLookUps issuer lines old
+    → AllZip (IsLookedUpAgain issuer) old new → AreLookUps issuer lines new
+all-again issuer [] [] [] are same = tt
+all-again issuer [] [] (new ∷ news) are same = absurd same
+all-again issuer [] (old ∷ olds) new are same = absurd are
+all-again issuer (line ∷ lines) [] new are same = absurd are
+all-again issuer (line ∷ lines) (old ∷ olds) [] are same = absurd same
+all-again issuer (line ∷ lines) (old ∷ olds) (new ∷ news) are same =
+    (look-up-again issuer line old new are.0 same.0, all-again issuer lines olds news are.1 same.1)

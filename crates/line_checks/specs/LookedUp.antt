@@ -1,6 +1,8 @@
 -- What is looked up for a line before its cryptogram is checked.
-use Rattle.std.specs.Prelude.{◌≡◌, ℕ, List, length, Result, Ok, Some, IfSome, true}
+use Rattle.std.specs.Prelude.{◌≡◌, ◌≢◌, ℕ, List, length, Result, Ok, Err, Some, IfSome, true}
+use Rattle.std.specs.List.{AllZip}
 use Rattle.issuer_base.specs.declared.answer.Refusal.{Refusal}
+use Rattle.issuer_base.specs.declared.answer.Refusal.TheVariants.{BadCryptogram}
 use Rattle.issuer_base.specs.declared.request.Request.{Request}
 use Rattle.issuer_base.specs.declared.request.Suite.TheVariants.{TripleDes}
 use Rattle.issuer_base.specs.ChipData.{is_arqc, suite_of}
@@ -47,6 +49,15 @@ pub record HasKeysAtHand (issuer : Setup) (sought : SoughtRequest) : Type 0 wher
 abbrev pub IsSought : Setup → List ℕ → Sought → Type 0
 IsSought issuer line (IsRequest sought) = CarriesRequest line sought.request × HasKeysAtHand issuer sought
 IsSought issuer line (Order found) = (reading issuer line ≡ Ok (order_asked found)) × IsOrderAtHand issuer found
+
+-- this is what the look-up of the line gives: what it asks, or its refusal, which isn't for a bad cryptogram
+abbrev pub IsLookUp : Setup → List ℕ → Result Sought Refusal → Type 0
+IsLookUp issuer line (Ok sought) = IsSought issuer line sought
+IsLookUp issuer line (Err refusal) = (reading issuer line ≡ Err refusal) × (refusal ≢ BadCryptogram)
+
+-- so it is of each of these lines
+abbrev pub AreLookUps : Setup → List (List ℕ) → List (Result Sought Refusal) → Type 0
+AreLookUps issuer lines found = AllZip (IsLookUp issuer) lines found
 
 -- a request that was looked up has its card and keys
 abbrev pub IsReady : Setup → Result Sought Refusal → Type 0

@@ -1,0 +1,103 @@
+//! Lines that were looked up and wait for their turns.
+ghost use Rattle.std.specs.Prelude.{◌≡◌, ◌<◌, ◌≤◌, ◌==◌, ℕ, List, [], ◌∷◌, ◌++◌, length, IfOk, MatchOption};
+ghost use Rattle.line_checks.specs.LookedUp.{AreLookUps};
+ghost use Rattle.line_checks.specs.declared.lines_ahead.TheConstants.{MOST_AHEAD};
+
+use crate::in_lanes::check_in_lanes;
+use crate::sought::Sought;
+use issuer_base::{NoMemory, Refusal};
+use issuer_setup::Issuer;
+use std::alloc::Global;
+use std::collections::VecDeque;
+use std::marker::Model;
+
+/// The most lines that are looked up ahead of their turns: as many as [`check_in_lanes`] takes.
+pub const MOST_AHEAD: usize = 128;
+
+/// What the look-ups of lines gave, in the order of the lines, until their turns: at most [`MOST_AHEAD`].
+///
+/// A contract sees the list.
+#[derive(Drop)]
+pub struct LinesAhead {
+    found: VecDeque<Result<Sought, Refusal>>,
+}
+
+impl Model for LinesAhead {
+    ghost use Rattle.std.specs.Prelude.{◌≤◌, List, Result, length};
+    ghost use Rattle.std.specs.VecDeque.{deque_capacity};
+    ghost use Rattle.issuer_base.specs.declared.answer.Refusal.{Refusal};
+    ghost use Rattle.line_checks.specs.declared.sought.Sought.{Sought};
+    ghost use Rattle.line_checks.specs.declared.lines_ahead.TheConstants.{MOST_AHEAD};
+
+    ghost Value = { List (Result Sought Refusal) };
+
+    ghost view = { λ ahead. ahead.found.items };
+
+    ghost invariant = { λ ahead. (length ahead.found.items ≤ MOST_AHEAD) × (MOST_AHEAD ≤ deque_capacity ahead.found) };
+}
+
+impl LinesAhead {
+    /// Those of no line. Only this call allocates.
+    pub fn new(alloc: Global) -> Result<LinesAhead, NoMemory>
+        ensures { IfOk result (λ ahead. ahead ≡ []) }
+    {
+        Ok(LinesAhead {
+            found: VecDeque::with_capacity(alloc, MOST_AHEAD)?,
+        })
+    }
+
+    /// How many there are.
+    pub fn len(&self) -> usize
+        ensures count { result ≡ length self.now }
+        ensures within { result ≤ MOST_AHEAD }
+    {
+        self.found.len()
+    }
+
+    /// Whether there is none.
+    pub fn is_empty(&self) -> bool
+        ensures { result ≡ (length self.now == 0) }
+    {
+        self.found.is_empty()
+    }
+
+    /// Whether there are as many as there may be.
+    pub fn is_full(&self) -> bool
+        ensures count { result ≡ (length self.now == MOST_AHEAD) }
+        ensures within { length self.now ≤ MOST_AHEAD }
+    {
+        self.found.len() == MOST_AHEAD
+    }
+
+    /// Appends what the look-up of the next line gave.
+    pub fn add(&mut self, found: Result<Sought, Refusal>)
+        requires { length self.old < MOST_AHEAD }
+        ensures { self.new ≡ self.old ++ found ∷ [] }
+    {
+        self.found.push_back_reserved(found);
+    }
+
+    /// Checks the cryptograms of the requests together, by [`check_in_lanes`]. What the look-ups gave stays.
+    pub fn check(&mut self, issuer: &Issuer)
+        requires { (lines : List (List ℕ)) × AreLookUps issuer.now lines self.old }
+        ensures same { (lines : List (List ℕ)) → AreLookUps issuer.now lines self.old
+            → AreLookUps issuer.now lines self.new }
+        ensures count { length self.new ≡ length self.old }
+    {
+        check_in_lanes(issuer, self.found.make_contiguous());
+    }
+
+    /// Takes what the look-up of the first line gave; `None` if there is none.
+    pub fn take(&mut self) -> Option<Result<Sought, Refusal>>
+        ensures { MatchOption result ((self.old ≡ []) × (self.new ≡ [])) (λ found. self.old ≡ found ∷ self.new) }
+    {
+        self.found.pop_front()
+    }
+
+    /// Removes all.
+    pub fn clear(&mut self)
+        ensures { self.new ≡ [] }
+    {
+        self.found.clear();
+    }
+}
