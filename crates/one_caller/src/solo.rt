@@ -6,7 +6,7 @@ ghost use Rattle.issuer_setup.specs.CardList.{name_of, number_of};
 ghost use Rattle.issuer_setup.specs.IssuerSetup.{shard_of};
 ghost use Rattle.issuer_setup.specs.declared.card.CardInfo.{CardInfo};
 ghost use Rattle.line_checks.specs.AtHand.{IsRequestAtHand, IsOrderAtHand, order_asked};
-ghost use Rattle.line_checks.specs.LookedUp.{HasKeysAtHand};
+ghost use Rattle.line_checks.specs.LookedUp.{HasKeysAtHand, IsLookUp};
 ghost use Rattle.line_checks.specs.Reading.{checked, reading};
 ghost use Rattle.shard_book.specs.Answering.{tells_change};
 ghost use Rattle.shard_book.specs.Loading.{is_store_failure};
@@ -21,7 +21,7 @@ ghost use Rattle.card_history.specs.CardViews.{card_shown};
 
 use crate::loading::{HostBack, Lists, load_all, take_lists, take_stores};
 use card_history::CardView;
-use issuer_base::{Answer, MAX_CHIP_BYTES, Store};
+use issuer_base::{Answer, MAX_CHIP_BYTES, Refusal, Store};
 use issuer_setup::Issuer;
 use journal_rec::VERSION_LINE;
 use line_checks::{CheckedOrder, CheckedRequest, Sought, SoughtRequest, look_up};
@@ -114,6 +114,43 @@ impl<S: Store> Solo<S> {
         ensures issuer { self.new.issuer ≡ self.old.issuer }
     {
         match look_up(&self.issuer, line, &mut self.data) {
+            Ok(Sought::Request(sought)) => self.check(sought),
+            Ok(Sought::Order(found)) => self.order(&found),
+            Err(refusal) => Answer::Refused(refusal),
+        }
+    }
+
+    /// What the look-up of a line without its newline gives, ahead of the line's turn. It reads no shard. As in
+    /// [`Solo::authorise`], a card's key for cryptograms is derived at the card's first request, and cached.
+    pub fn look_ahead(&mut self, line: &[u8]) -> Result<Sought, Refusal>
+        ensures found { IsLookUp self.old.issuer line.now result }
+        ensures same { (self.new.issuer ≡ self.old.issuer) × (self.new.shards.items ≡ self.old.shards.items) }
+    {
+        let found = look_up(&self.issuer, line, &mut self.data);
+        if let Ok(Sought::Request(sought)) = &found {
+            self.issuer.keep(sought.slot);
+        }
+        found
+    }
+
+    /// The answer to a line that was looked up, as [`Solo::authorise`] gives it in the line's turn.
+    pub fn answer(&mut self, found: Result<Sought, Refusal>) -> Answer
+        requires { (line : List ℕ) × IsLookUp self.old.issuer line found }
+
+        // The clauses of `authorise`, for each line of which this is the look-up.
+        ensures turn { (line : List ℕ) → IsLookUp self.old.issuer line found
+            → (books : List Book) → Stand self.old.issuer self.old.shards.items books
+            → (after : List Book) × Stand self.new.issuer self.new.shards.items after
+            × Turn self.old.issuer books (reading self.old.issuer line) result after }
+        ensures unchanged { tells_change result ≡ false → self.new.shards.items ≡ self.old.shards.items }
+        ensures room { (line : List ℕ) → IsLookUp self.old.issuer line found
+            → AnswersWithin self.old.issuer (reading self.old.issuer line) result
+            self.old.shards.items self.new.shards.items }
+        ensures crash { (books : List Book) → Stand self.old.issuer self.old.shards.items books
+            → LeaveBetween self.old.issuer books books self.old.shards.items self.new.shards.items }
+        ensures issuer { self.new.issuer ≡ self.old.issuer }
+    {
+        match found {
             Ok(Sought::Request(sought)) => self.check(sought),
             Ok(Sought::Order(found)) => self.order(&found),
             Err(refusal) => Answer::Refused(refusal),
