@@ -1,5 +1,6 @@
 //! The check of a line before its turn.
-ghost use Rattle.std.specs.Prelude.{◌≡◌, IfOk, MatchResult};
+ghost use Rattle.std.specs.Prelude.{◌≡◌, ℕ, List, IfOk, MatchResult};
+ghost use Rattle.line_checks.specs.LookedUp.{IsLookUp};
 ghost use Rattle.line_checks.specs.Reading.{reading};
 ghost use Rattle.host_calls.specs.Passes.{claims_of, logs_of, IsFree, Holds};
 ghost use Rattle.call_steps.specs.PreChecks.{HasPassed, ChecksRequest, IsAskedBy, PreChecks};
@@ -11,7 +12,7 @@ use crate::host::Host;
 use crate::pass::Pass;
 use call_steps::Checked;
 use issuer_base::{Refusal, Store, WINDOW};
-use line_checks::{self, CheckedRequest, check_line};
+use line_checks::{self, CheckedRequest, Sought, check_line};
 
 impl<S: Store> Host<S> {
     /// Checks a line, without its newline, as far as that needs no shard. It returns what the line asks of a card of
@@ -33,6 +34,29 @@ impl<S: Store> Host<S> {
         match check_line(&self.issuer, line)? {
             line_checks::Checked::Decide(found) => self.claim(pass, found),
             line_checks::Checked::Order(found) => Ok(Checked::Order(found)),
+        }
+    }
+
+    /// Checks a line that was looked up ahead, as [`Host::pre_check`] does.
+    pub fn pre_check_found(
+        &self,
+        pass: &mut Pass,
+        found: Result<Sought, Refusal>,
+    ) -> Result<Checked, Refusal>
+        requires { IsFree self.now pass.old × ((line : List ℕ) × IsLookUp self.now.issuer line found) }
+
+        // The clauses of `pre_check`, for each line of which this is the look-up.
+        ensures checks { (line : List ℕ) → IsLookUp self.now.issuer line found
+            → PreChecks self.now.issuer (reading self.now.issuer line) (claims_of pass.old) result (claims_of pass.new) }
+        ensures names { (claims_of pass.new).names ≡ (claims_of pass.old).names }
+        ensures logs { logs_of pass.new ≡ logs_of pass.old }
+        ensures asked { (line : List ℕ) → IsLookUp self.now.issuer line found
+            → IfOk result (IsAskedBy self.now.issuer (reading self.now.issuer line)) }
+        ensures held { MatchResult result (Holds self.now pass.new) (λ _. IsFree self.now pass.new) }
+    {
+        match found? {
+            Sought::Request(sought) => self.claim(pass, sought.check(&self.issuer)?),
+            Sought::Order(found) => Ok(Checked::Order(found)),
         }
     }
 
