@@ -5,3 +5,4 @@ mod Serving
 mod Seating
 mod Opening
 mod Joining
+mod LooksAhead

@@ -1,5 +1,5 @@
 -- The lines and answers of a lane, and what its pass knows.
-use Rattle.std.specs.Prelude.{◌≡◌, ℕ, List, [], length, slice_get, Some}
+use Rattle.std.specs.Prelude.{◌≡◌, ℕ, List, [], length, take, drop, slice_get, Some}
 use Rattle.issuer_base.specs.declared.answer.Answer.{Answer}
 use Rattle.issuer_base.specs.declared.outside.store.Store.{Ghosts}
 use Rattle.issuer_setup.specs.IssuerSetup.{Setup}
@@ -19,6 +19,10 @@ waiting_lines lane = lane.lines.lines
 -- the answers that weren't taken yet
 abbrev pub due_answers : Lane → List Answer
 due_answers lane = lane.answers.items
+
+-- the next lines that wait from this index on, as many as were looked up ahead
+abbrev pub looked_up_lines : ℕ → Lane → List (List ℕ)
+looked_up_lines place lane = take (length lane.ahead) (drop place (waiting_lines lane))
 
 -- since the opening logs, the caller with this pass had these lines and these answers
 pub record HadLines (issuer : Setup) (opening : List (Log LogItem LogHead)) (pass : Pass) (lines : List (List ℕ))

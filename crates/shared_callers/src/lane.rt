@@ -1,14 +1,19 @@
 //! A caller with its pass, the lines that wait for it, and its answers.
-ghost use Rattle.std.specs.Prelude.{◌≡◌, ◌<◌, ◌≤◌, [], ◌∷◌, ◌++◌, length, IfOk};
+ghost use Rattle.std.specs.Prelude.{◌≡◌, ◌<◌, ◌≤◌, ◌+◌, [], ◌∷◌, ◌++◌, length, IfOk, IfSome, MatchResult};
 ghost use Rattle.std.specs.VecDeque.{deque_capacity};
+ghost use Rattle.line_checks.specs.LookedUp.{AreLookUps, IsLookUp};
 ghost use Rattle.line_checks.specs.Reading.{reading};
+ghost use Rattle.line_checks.specs.declared.lines_ahead.TheConstants.{MOST_AHEAD};
 ghost use Rattle.call_steps.specs.Authorising.{Authorises};
-ghost use Rattle.host_calls.specs.Passes.{claims_of, logs_of, IsFree};
+ghost use Rattle.call_steps.specs.PreChecks.{IsAskedBy, PreChecks};
+ghost use Rattle.host_calls.specs.Passes.{claims_of, logs_of, Holds, IsFree};
 ghost use Rattle.issuer_base.specs.declared.limits.TheConstants.{KEPT_BYTES};
 
 use crate::slots::LineSlots;
-use host_calls::{Host, Pass};
-use issuer_base::{Answer, Gate, NoMemory, Store};
+use cryptogram_lanes::FEWEST_IN_LANES;
+use host_calls::{Checked, Host, Pass};
+use issuer_base::{Answer, Gate, MAX_CHIP_BYTES, NoMemory, Refusal, Store};
+use line_checks::{LinesAhead, MOST_AHEAD, Sought, look_up};
 use std::alloc::Global;
 use std::collections::VecDeque;
 use std::sync::Wait;
@@ -17,9 +22,10 @@ use std::sync::Wait;
 #[derive(Drop)]
 pub(crate) struct LaneRoom {
     lines: LineSlots,
+    ahead: LinesAhead,
     answers: VecDeque<Answer>,
     count: usize,
-    ghost none: { (lines.lines ≡ []) × (answers.items ≡ []) },
+    ghost none: { (lines.lines ≡ []) × (ahead ≡ []) × (answers.items ≡ []) },
     ghost room: { (lines.room ≡ count) × (count ≤ deque_capacity answers) },
 }
 
@@ -30,6 +36,7 @@ impl LaneRoom {
     {
         Ok(LaneRoom {
             lines: LineSlots::new(alloc, count)?,
+            ahead: LinesAhead::new(alloc)?,
             answers: VecDeque::with_capacity(alloc, count)?,
             count,
         })
@@ -40,6 +47,9 @@ impl LaneRoom {
 pub(crate) struct Lane {
     pub(crate) pass: Pass,
     pub(crate) lines: LineSlots,
+
+    /// The look-ups of the next lines that wait, while they are answered; empty otherwise.
+    ahead: LinesAhead,
     pub(crate) answers: VecDeque<Answer>,
 
     /// How many lines may wait, and how many answers.
@@ -52,7 +62,7 @@ pub(crate) struct Lane {
 }
 
 impl Lane {
-    ghost use Rattle.shared_callers.specs.OneLane.{waiting_lines, due_answers, LaneAnswers};
+    ghost use Rattle.shared_callers.specs.OneLane.{waiting_lines, due_answers, looked_up_lines, LaneAnswers};
 
     /// A caller with this pass. `number` is that of its first line in the run, and `step` the stride between its lines.
     pub(crate) fn new(pass: Pass, room: LaneRoom, number: u64, step: u64) -> Lane
@@ -62,12 +72,14 @@ impl Lane {
     {
         let LaneRoom {
             lines,
+            ahead,
             answers,
             count,
         } = room;
         Lane {
             pass,
             lines,
+            ahead,
             answers,
             room: count,
             number,
@@ -103,6 +115,7 @@ impl Lane {
         let Lane {
             pass,
             lines: _,
+            ahead: _,
             answers: _,
             room: _,
             number: _,
@@ -117,17 +130,52 @@ impl Lane {
         requires none { self.old.answers.items ≡ [] }
         ensures { LaneAnswers host.now self.old self.new }
     {
+        self.ahead.clear();
         for place in 0..self.lines.len() {
+            self.look_ahead(host, place);
+            let found = self.ahead.take();
             let line = self.lines.line(place);
-            let answer = answer_line(rt, host, gate, &mut self.pass, self.number, line);
+            let answer = answer_line(rt, host, gate, &mut self.pass, self.number, line, found);
             self.answers.push_back_reserved(answer);
             self.number = self.number.saturating_add(self.step);
         }
         self.lines.clear();
     }
+
+    /// Looks up lines ahead from this index on, unless some are. If too few are left to be checked together, none is.
+    fn look_ahead<S: Store>(&mut self, host: &Host<S>, place: usize)
+        requires within { place ≤ length (waiting_lines self.old) }
+        requires ahead { AreLookUps host.now.issuer (looked_up_lines place self.old) self.old.ahead }
+        ensures ahead { AreLookUps host.now.issuer (looked_up_lines place self.new) self.new.ahead }
+        ensures same { (self.new.pass ≡ self.old.pass) × (self.new.lines ≡ self.old.lines)
+            × (self.new.answers ≡ self.old.answers) × (self.new.room ≡ self.old.room) }
+    {
+        let count = MOST_AHEAD.min(self.lines.len() - place);
+        if self.ahead.is_empty() && count >= FEWEST_IN_LANES {
+            self.look_up_lines(host, place, place + count);
+        }
+    }
+
+    /// Looks up the lines from one index on up to another, and checks their cryptograms together.
+    fn look_up_lines<S: Store>(&mut self, host: &Host<S>, place: usize, end: usize)
+        requires within { (place ≤ end) × (end ≤ length (waiting_lines self.old)) }
+        requires few { end ≤ place + MOST_AHEAD }
+        requires none { length self.old.ahead ≡ 0 }
+        ensures ahead { AreLookUps host.now.issuer (looked_up_lines place self.new) self.new.ahead }
+        ensures same { (self.new.pass ≡ self.old.pass) × (self.new.lines ≡ self.old.lines)
+            × (self.new.answers ≡ self.old.answers) × (self.new.room ≡ self.old.room) }
+    {
+        let mut data = [0; MAX_CHIP_BYTES];
+        for index in place..end {
+            let found = look_up(host.issuer(), self.lines.line(index), &mut data);
+            self.ahead.add(found);
+        }
+        self.ahead.check(host.issuer());
+    }
 }
 
-/// Answers the line with this number. The gate is called before the line's turn and after it.
+/// Answers the line with this number. If it was looked up ahead, `found` is what that gave. The gate is called before
+/// the line's turn and after it.
 fn answer_line<S: Store, R: Wait, G: Gate>(
     rt: &R,
     host: &Host<S>,
@@ -135,14 +183,16 @@ fn answer_line<S: Store, R: Wait, G: Gate>(
     pass: &mut Pass,
     number: u64,
     line: &[u8],
+    found: Option<Result<Sought, Refusal>>,
 ) -> Answer
     requires free { IsFree host.now pass.old }
+    requires found { IfSome found (IsLookUp host.now.issuer line.now) }
     ensures free { IsFree host.now pass.new }
     ensures answers { Authorises host.now.issuer (reading host.now.issuer line.now)
         (claims_of pass.old) (logs_of pass.old) result (claims_of pass.new) (logs_of pass.new) }
     ensures names { (claims_of pass.new).names ≡ (claims_of pass.old).names }
 {
-    let checked = host.pre_check(pass, line);
+    let checked = pre_check(host, pass, line, found);
     gate.at(rt, number);
     let answer = match checked {
         Ok(checked) => host.finish(rt, pass, checked),
@@ -150,4 +200,25 @@ fn answer_line<S: Store, R: Wait, G: Gate>(
     };
     gate.done(rt, number);
     answer
+}
+
+/// Checks a line before its turn, by what its look-up gave, if it was looked up ahead.
+fn pre_check<S: Store>(
+    host: &Host<S>,
+    pass: &mut Pass,
+    line: &[u8],
+    found: Option<Result<Sought, Refusal>>,
+) -> Result<Checked, Refusal>
+    requires { IsFree host.now pass.old × IfSome found (IsLookUp host.now.issuer line.now) }
+    ensures checks { PreChecks host.now.issuer (reading host.now.issuer line.now)
+        (claims_of pass.old) result (claims_of pass.new) }
+    ensures names { (claims_of pass.new).names ≡ (claims_of pass.old).names }
+    ensures logs { logs_of pass.new ≡ logs_of pass.old }
+    ensures asked { IfOk result (IsAskedBy host.now.issuer (reading host.now.issuer line.now)) }
+    ensures held { MatchResult result (Holds host.now pass.new) (λ _. IsFree host.now pass.new) }
+{
+    match found {
+        Some(found) => host.pre_check_found(pass, found),
+        None => host.pre_check(pass, line),
+    }
 }
