@@ -1,13 +1,13 @@
 -- The records of the next lines of a text, and what was looked up for each.
-use Rattle.std.proofs.Common.{◌≡◌, ◌≢◌, ℕ, zero, suc, ◌+◌, ◌<◌, ◌≤◌, List, [], ◌∷◌, ◌++◌, length, take, drop, get_or, refl, sym, ap, subst, ◌∙◌, inl, inr, arith}
-use Rattle.std.proofs.Common.{Option, None, Some, Result, Ok, Err, All, append-nil, append_assoc, length-append, length-take, length-drop}
+use Rattle.std.proofs.Common.{◌≡◌, ℕ, ◌+◌, ◌<◌, ◌≤◌, List, [], ◌∷◌, ◌++◌, length, take, drop, get_or, refl, sym, ap, subst, ◌∙◌, inl, inr, arith}
+use Rattle.std.proofs.Common.{Result, Ok, Err, All, append-nil, append_assoc, length-append, length-take, length-drop}
 use Rattle.std.proofs.Math.Seq.{take-add}
 use Rattle.std.proofs.lemmas.Bool.{cases_lt}
 use Rattle.std.proofs.lemmas.List.{length_push, take-append-drop, length-take-le, get_or-take, get_or_push, take_more}
 use Rattle.std.proofs.lemmas.List.Concat.{flat_map-append}
 use Rattle.std.proofs.lemmas.List.Elements.{All-nil, All-cons, All-push, All-append, All-take}
 use Rattle.std.proofs.lemmas.Option.{slice_get_within, get_or_from_slice_get}
-use Rattle.std.specs.List.{AllZip, slice_get}
+use Rattle.std.specs.List.{AllZip}
 use Rattle.issuer_base.specs.declared.answer.Refusal.{Refusal}
 use Rattle.issuer_base.specs.declared.entry.Entry.{Entry}
 use Rattle.issuer_base.specs.declared.entry.Entry.TheVariants.{Decided, Queued, Status}
@@ -16,7 +16,7 @@ use Rattle.card_history.specs.LegalRecords.{IsLegal, IsLegalHistory}
 use Rattle.card_history.specs.Records.{named}
 use Rattle.issuer_setup.specs.IssuerSetup.{Setup}
 use Rattle.journal_rec.specs.Record.{IsRecord, IsLineOf}
-use Rattle.journal_rec.specs.RecordText.{newline, text_of, texts_of, IsLine, IsUnbroken}
+use Rattle.journal_rec.specs.RecordText.{newline, text_of, texts_of, IsUnbroken}
 use Rattle.journal_rec.proofs.TextLaws.{text_of-IsLine}
 use Rattle.line_checks.specs.declared.checked.CheckedOrder.{CheckedOrder}
 use Rattle.line_checks.specs.AtHand.{record_of}

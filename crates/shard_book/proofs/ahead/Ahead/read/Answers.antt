@@ -1,11 +1,8 @@
 -- What was looked up is looked up again, with session keys ahead.
-use Rattle.std.proofs.Common.{◌≡◌, [], List, Result, length, ap, sym, subst, ◌∙◌, arith}
+use Rattle.std.proofs.Common.{◌≡◌, length, ap, sym, subst, ◌∙◌, arith}
 use Rattle.std.proofs.lemmas.List.{with_items_is}
 use Rattle.std.proofs.lemmas.Slice.Zip.{AllZip-long}
 use Rattle.std.specs.List.{AllZip}
-use Rattle.issuer_base.specs.declared.answer.Refusal.{Refusal}
-use Rattle.issuer_base.specs.declared.entry.Entry.{Entry}
-use Rattle.line_checks.specs.declared.sought.Sought.{Sought}
 use Rattle.shard_book.specs.ReadAhead.{IsLookedUp, ReadAhead}
 use Rattle.shard_book.proofs.ReadAhead.{all-again, all-ready}
 use Rattle.shard_book.proofs.ahead.Ahead.read.Goals.{After-as_mut_slice}

@@ -1,5 +1,5 @@
 -- One more record is replayed, or is no valid successor.
-use Rattle.std.proofs.Common.{◌≡◌, ◌+◌, ℕ, List, Result, Some, ◌∷◌, [], ◌++◌, get_or, length, take, ap, subst, sym, ◌∙◌, arith, length-append}
+use Rattle.std.proofs.Common.{◌≡◌, ◌+◌, ℕ, List, Result, Some, ◌++◌, get_or, length, take, ap, subst, sym, ◌∙◌, arith, length-append}
 use Rattle.std.proofs.lemmas.Bool.{false≢true}
 use Rattle.std.proofs.lemmas.List.{length-take-le}
 use Rattle.std.proofs.lemmas.Option.{slice_get-get_or}
