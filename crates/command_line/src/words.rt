@@ -340,24 +340,16 @@ fn command_of(word: &str) -> Option<Command>
     ensures { MatchOption result ((command : Command) → word.now ≢ first_word command)
         (λ command. word.now ≡ first_word command) }
 {
-    if word == "serve" {
-        Some(Command::Serve)
-    } else if word == "show" {
-        Some(Command::Show)
-    } else if word == "world" {
-        Some(Command::World)
-    } else if word == "fill" {
-        Some(Command::Fill)
-    } else if word == "pin" {
-        Some(Command::Pin)
-    } else if word == "clear" {
-        Some(Command::Clear)
-    } else if word == "export" {
-        Some(Command::Export)
-    } else if word == "standby" {
-        Some(Command::Standby)
-    } else {
-        None
+    match word {
+        "serve" => Some(Command::Serve),
+        "show" => Some(Command::Show),
+        "world" => Some(Command::World),
+        "fill" => Some(Command::Fill),
+        "pin" => Some(Command::Pin),
+        "clear" => Some(Command::Clear),
+        "export" => Some(Command::Export),
+        "standby" => Some(Command::Standby),
+        _ => None,
     }
 }
 
@@ -387,27 +379,26 @@ fn is_option(word: &str, command: Command) -> bool
     ensures { result ≡ is_one_of (options_of command) word.now }
 {
     match command {
-        Command::Serve => {
-            word == "--callers" || word == "--config" || word == "--requests" || word == "--journal"
-        }
-        Command::Show | Command::Export => word == "--config" || word == "--journal",
-        Command::World => word == "--cards" || word == "--steps" || word == "--seed",
-        Command::Fill => word == "--dol" || word == "--data",
+        Command::Serve => matches!(
+            word,
+            "--callers" | "--config" | "--requests" | "--journal"
+        ),
+        Command::Show | Command::Export => matches!(word, "--config" | "--journal"),
+        Command::World => matches!(word, "--cards" | "--steps" | "--seed"),
+        Command::Fill => matches!(word, "--dol" | "--data"),
         Command::Pin => is_pin_option(word),
-        Command::Clear => word == "--config" || word == "--clearing" || word == "--journal",
-        Command::Standby => word == "--config" || word == "--feed" || word == "--journal",
+        Command::Clear => matches!(word, "--config" | "--clearing" | "--journal"),
+        Command::Standby => matches!(word, "--config" | "--feed" | "--journal"),
     }
 }
 
 fn is_pin_option(word: &str) -> bool
     ensures { result ≡ is_one_of pin_options word.now }
 {
-    word == "--config"
-        || word == "--pan"
-        || word == "--psn"
-        || word == "--dki"
-        || word == "--salt"
-        || word == "--pin"
+    matches!(
+        word,
+        "--config" | "--pan" | "--psn" | "--dki" | "--salt" | "--pin"
+    )
 }
 
 fn is_value(word: &str) -> bool
