@@ -4,9 +4,7 @@
 #![tactic(auto)]
 
 mod card;
-mod pin_card;
 mod terminal;
 
 pub use card::{Card, LAST_COUNTER, MOST_COUNTED};
-pub use pin_card::PinCard;
 pub use terminal::Terminal;

@@ -3,8 +3,9 @@
 use arrayvec::ArrayVec;
 use des_block::Key16;
 use issuer_base::Command;
+use pin_card::read_pin;
 use retail_mac::cbc_open;
-use secure_msg::{Pin, pin_block, pin_command, read_pin};
+use secure_msg::{Pin, pin_block, pin_command};
 use std::test::Fail;
 
 /// The digits of which the PINs are the first ones.

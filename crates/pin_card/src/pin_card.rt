@@ -7,14 +7,15 @@ ghost use Rattle.std.specs.Option.{option_map};
 ghost use Rattle.issuer_base.specs.declared.command.Command.{Command};
 ghost use Rattle.issuer_base.specs.ChipData.{is_bcd};
 ghost use Rattle.cryptogram_in.specs.Cryptogram.{application_cryptogram};
-ghost use Rattle.secure_msg.specs.PinChange.{SetsPin, IsLastPin};
+ghost use Rattle.secure_msg.specs.PinChange.{SetsPin};
+ghost use Rattle.pin_card.specs.LastPin.{IsLastPin};
 ghost use Rattle.card_model.specs.CardSteps.{CardStep, Tap, Authenticate, Run};
 
-use crate::card::{Card, LAST_COUNTER};
-use crate::terminal::Terminal;
+use crate::reading::read_pin;
+use card_model::{Card, LAST_COUNTER, Terminal};
 use des_block::Key16;
 use issuer_base::{Command, NoMemory, Request};
-use secure_msg::{Pin, read_pin};
+use secure_msg::Pin;
 use std::marker::Model;
 
 /// A card with a master key for secure messaging for confidentiality: it sets its PIN by the PIN changes that it runs.
@@ -29,8 +30,8 @@ pub struct PinCard {
 }
 
 impl Model for PinCard {
-    ghost use Rattle.secure_msg.specs.PinChange.{IsLastPin};
-    ghost use Rattle.card_model.specs.PinCards.{PinCardState};
+    ghost use Rattle.pin_card.specs.LastPin.{IsLastPin};
+    ghost use Rattle.pin_card.specs.PinCards.{PinCardState};
 
     ghost Value = { PinCardState };
 

@@ -113,20 +113,6 @@ nibble_at-block pin i valid below =
 pub count-block : (block pin : List ℕ) → IsTrue (is_pin pin) → block ≡ pin_block pin → get_or block 0 0 % 16 ≡ length pin
 count-block block pin valid is = ap (λ b. get_or b 0 0 % 16) is ∙ nibble_at-block pin 1 valid (omega arith)
 
--- the nibbles of a block from its third on begin with the digits of its PIN
-pub digits-block : (block pin nibbles : List ℕ) → IsTrue (is_pin pin) → block ≡ pin_block pin → length nibbles ≡ 14
-    → ((k : ℕ) → k < 14 → get_or nibbles k 0 ≡ nibble_at block (k + 2)) → take (length pin) nibbles ≡ pin
-digits-block block pin nibbles valid is long at =
-    let few : length pin ≤ 12 = (length-pin pin valid).1 in
-    let front : length (take (length pin) nibbles) ≡ length pin = length-take-le (length pin) nibbles (omega arith) in
-    let more : (k : ℕ) → k < length pin → get_or (pin_nibbles pin) (k + 2) 0 ≡ get_or pin k 0 =
-    λ k below. ap (λ n. get_or (pin_nibbles pin) n 0) (let two : k + 2 ≡ suc (suc k) = omega arith in two)
-    ∙ get_or_append_left pin (replicate (14 - length pin) 0xF) 0 k below in
-    ext_get_or 0 (take (length pin) nibbles) pin front (λ k below.
-    let within : k < length pin = omega arith in
-    get_or-take (length pin) nibbles k 0 within ∙ at k (omega arith) ∙ ap (λ b. nibble_at b (k + 2)) is
-    ∙ nibble_at-block pin (k + 2) valid (omega arith) ∙ more k within)
-
 -- a block has one PIN
 pub one_pin : (first second : List ℕ) → IsTrue (is_pin first) → IsTrue (is_pin second) → pin_block first ≡ pin_block second → first ≡ second
 one_pin first second valid other same =
@@ -139,9 +125,3 @@ one_pin first second valid other same =
     ∙ get_or_append_left pin (replicate (14 - length pin) 0xF) 0 k within in
     sym (digit first below) ∙ sym (nibble_at-block first (k + 2) valid (omega arith)) ∙ ap (λ b. nibble_at b (k + 2)) same
     ∙ nibble_at-block second (k + 2) other (omega arith) ∙ digit second (omega arith))
-
--- if a block is a PIN's, the PIN is made of as many nibbles from the third on as the second says
-pub candidate : (block pin nibbles : List ℕ) → IsTrue (is_pin pin) → block ≡ pin_block pin → length nibbles ≡ 14
-    → ((k : ℕ) → k < 14 → get_or nibbles k 0 ≡ nibble_at block (k + 2)) → pin_from (take (get_or block 0 0 % 16) nibbles) ≡ Some pin
-candidate block pin nibbles valid is long at =
-    ap pin_from (ap (λ n. take n nibbles) (count-block block pin valid is) ∙ digits-block block pin nibbles valid is long at) ∙ pin_from-valid pin valid

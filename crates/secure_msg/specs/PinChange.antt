@@ -1,6 +1,6 @@
 -- The script command that changes a card's PIN: EMV 4.3 Book 3, section 6.5.10. That its data begin with R, from which
 -- the session key is derived, is this project's profile.
-use Rattle.std.specs.Prelude.{◌≡◌, ℕ, Bool, ◌==◌, ◌&&◌, List, ◌∷◌, ◌++◌, length, Option, Some, None, All, IsTrue}
+use Rattle.std.specs.Prelude.{◌≡◌, ℕ, List, ◌++◌, length, IsTrue}
 use Rattle.issuer_base.specs.declared.command.Command.{Command}
 use Rattle.issuer_base.specs.declared.request.Suite.TheVariants.{TripleDes}
 use Rattle.key_derive.specs.SessionKey.{session_sm}
@@ -22,11 +22,6 @@ pin_command smc r pin = record {
       record { items = pin_body smc r pin };
 }
 
--- the command has the header and the length of a PIN change
-abbrev pub is_pin_change : Command → Bool
-is_pin_change command =
-    command.ins == 0x24 && command.p1 == 0x00 && command.p2 == 0x02 && length command.body.items == 24
-
 -- on a card with this master key for confidentiality the command sets this PIN: but for its class it is a PIN change
 -- to it, with some R of eight bytes
 pub record SetsPin (smc : List ℕ) (command : Command) (pin : List ℕ) : Type 0 where
@@ -37,21 +32,3 @@ pub record SetsPin (smc : List ℕ) (command : Command) (pin : List ℕ) : Type 
   pub first_parameter : command.p1 ≡ 0x00
   pub second_parameter : command.p2 ≡ 0x02
   pub body_is : command.body.items ≡ pin_body smc r pin
-
--- none of the commands sets a PIN
-abbrev pub SetNoPin : List ℕ → List Command → Type 0
-SetNoPin smc commands = All (λ command. (pin : List ℕ) → SetsPin smc command pin → ⊥) commands
-
--- one of the commands sets this PIN, and none after it sets one
-pub record SetLast (smc : List ℕ) (commands : List Command) (pin : List ℕ) : Type 0 where
-  pub earlier : List Command
-  pub command : Command
-  pub later : List Command
-  pub commands_are : commands ≡ earlier ++ command ∷ later
-  pub sets : SetsPin smc command pin
-  pub none_later : SetNoPin smc later
-
--- the last PIN that the commands set on a card with this master key for confidentiality, or none
-abbrev pub IsLastPin : List ℕ → List Command → Option (List ℕ) → Type 0
-IsLastPin smc commands None = SetNoPin smc commands
-IsLastPin smc commands (Some pin) = SetLast smc commands pin

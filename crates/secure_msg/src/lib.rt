@@ -12,5 +12,7 @@ mod sealing;
 
 pub use batch::{Template, is_batch, template, template_of};
 pub use pin::{MAX_PIN_DIGITS, MIN_PIN_DIGITS, Pin, pin_block};
-pub use pin_change::{last_pin, pin_changes_set_their_pin, pin_command, read_pin};
+pub use pin_change::{
+    FIRST_PARAMETER, NEW_PIN, PIN_CHANGE, pin_changes_set_their_pin, pin_command,
+};
 pub use sealing::{MAX_SEALED_BYTES, SealedCommand, only_sealed_commands_open, seal, unseal};

@@ -6,7 +6,7 @@ use Rattle.issuer_base.specs.declared.command.Command.{Command}
 use Rattle.card_history.specs.Records.{queue}
 use Rattle.issuer_setup.specs.CardList.{name_of}
 use Rattle.card_model.specs.Application.{CardState}
-use Rattle.secure_msg.specs.PinChange.{IsLastPin}
+use Rattle.pin_card.specs.LastPin.{IsLastPin}
 use Rattle.world_model.specs.FallBack.{IsGenuinelyReached}
 use Rattle.world_model.specs.LastPins.{IsLastQueued}
 use Rattle.world_model.specs.Stepping.{IsReached}

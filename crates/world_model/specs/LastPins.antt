@@ -4,7 +4,7 @@ use Rattle.card_history.specs.Records.{queue}
 use Rattle.issuer_setup.specs.declared.card.CardInfo.{CardInfo}
 use Rattle.issuer_setup.specs.CardList.{name_of}
 use Rattle.card_model.specs.Application.{CardState}
-use Rattle.secure_msg.specs.PinChange.{IsLastPin}
+use Rattle.pin_card.specs.LastPin.{IsLastPin}
 use Rattle.world_net.specs.WorldState.{WorldState, history_at}
 
 -- a PIN, or none, is that of the last PIN change among the first commands of the card's queue, as many as the card ran

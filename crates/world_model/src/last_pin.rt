@@ -1,13 +1,14 @@
 //! The last PIN of a card.
 ghost use Rattle.std.specs.Prelude.{◌≡◌, ◌↔◌, ◌<◌, length, slice_get, IsTrue, Some};
 ghost use Rattle.card_model.specs.Application.{CardState};
-ghost use Rattle.secure_msg.specs.PinChange.{IsLastPin};
+ghost use Rattle.pin_card.specs.LastPin.{IsLastPin};
 ghost use Rattle.world_model.specs.FallBack.{IsGenuinelyReached};
 ghost use Rattle.world_model.specs.LastPins.{IsLastQueued};
 
 use crate::world::World;
 use des_block::Key16;
-use secure_msg::{Pin, last_pin};
+use pin_card::last_pin;
+use secure_msg::Pin;
 
 impl World {
     /// Whether there is a card with this number.

@@ -1,7 +1,7 @@
 -- Each nibble so far is the block's, two further on.
 use Rattle.std.proofs.Common.{◌≡◌, ℕ, ◌+◌, ◌<◌, length, get_or}
 use Rattle.secure_msg.specs.Pins.{nibble_at}
-use Rattle.secure_msg.proofs.pin.digit_nibbles.Given as goal
+use Rattle.pin_card.proofs.block.digit_nibbles.Given as goal
 
 abbrev pub invariant-loop-i : goal.invariant-loop-i
 invariant-loop-i l = record {

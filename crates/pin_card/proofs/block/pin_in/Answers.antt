@@ -3,8 +3,9 @@ use Rattle.std.proofs.Common.{◌≡◌, ◌≤◌, ℕ, List, length, take, get
 use Rattle.std.proofs.lemmas.Bool.{false≢true}
 use Rattle.std.proofs.lemmas.Option.{none-some, same_Some}
 use Rattle.secure_msg.specs.Pins.{is_pin, pin_from, pin_block}
-use Rattle.secure_msg.proofs.PinBlocks.{length-pin, count-block, candidate, pin_from-some}
-use Rattle.secure_msg.proofs.pin.pin_in.Goals as goal
+use Rattle.secure_msg.proofs.PinBlocks.{length-pin, count-block, pin_from-some}
+use Rattle.pin_card.proofs.OpenedPins.{candidate}
+use Rattle.pin_card.proofs.block.pin_in.Goals as goal
 
 pub returns-then-count-gt-DIGIT_NIBBLES : goal.returns-then-count-gt-DIGIT_NIBBLES
 returns-then-count-gt-DIGIT_NIBBLES c = λ pin. (

@@ -4,7 +4,7 @@ use Rattle.std.proofs.lemmas.Option.{same_Some}
 use Rattle.issuer_base.specs.declared.command.Command.{Command}
 use Rattle.secure_msg.specs.PinChange.{SetsPin}
 use Rattle.card_model.proofs.Ran.{last-pushed}
-use Rattle.card_model.proofs.pin_card.last_set.Goals as goal
+use Rattle.pin_card.proofs.pin_card.last_set.Goals as goal
 
 pub returns : goal.returns
 returns c = λ earlier command pin ran_is.

@@ -4,10 +4,10 @@ use Rattle.std.specs.Prelude.{if◌then◌else◌}
 use Rattle.std.proofs.lemmas.List.{take_more, take_all}
 use Rattle.std.proofs.lemmas.Bool.{cond-true, cond-false}
 use Rattle.issuer_base.specs.declared.command.Command.{Command}
-use Rattle.secure_msg.specs.PinChange.{IsLastPin}
-use Rattle.secure_msg.proofs.PinChanges.{last-more}
-use Rattle.secure_msg.proofs.pin_change.last_pin.Goals as goal
-use Rattle.secure_msg.proofs.pin_change.last_pin.Goals.{then-is_some, else-is_some}
+use Rattle.pin_card.specs.LastPin.{IsLastPin}
+use Rattle.pin_card.proofs.LastPins.{last-more}
+use Rattle.pin_card.proofs.reading.last_pin.Goals as goal
+use Rattle.pin_card.proofs.reading.last_pin.Goals.{then-is_some, else-is_some}
 
 pub loop-command-preserved : goal.loop-command-preserved
 loop-command-preserved c =

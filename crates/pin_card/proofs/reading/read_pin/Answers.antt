@@ -3,10 +3,11 @@ use Rattle.std.proofs.Common.{◌≡◌, ◌++◌, ℕ, List, length, take, drop
 use Rattle.std.proofs.lemmas.Bool.{false≢true}
 use Rattle.std.proofs.lemmas.Option.{none-some}
 use Rattle.secure_msg.specs.Pins.{pin_block}
-use Rattle.secure_msg.specs.PinChange.{is_pin_change, SetsPin}
+use Rattle.secure_msg.specs.PinChange.{SetsPin}
+use Rattle.pin_card.specs.LastPin.{is_pin_change}
 use Rattle.secure_msg.proofs.PinBlocks.{length-pin, length-pin_block}
-use Rattle.secure_msg.proofs.PinChanges.{sets-header, AreParts, parts-are, sets-opens, opens-sets}
-use Rattle.secure_msg.proofs.pin_change.read_pin.Goals as goal
+use Rattle.pin_card.proofs.OpenedPins.{sets-header, AreParts, parts-are, sets-opens, opens-sets}
+use Rattle.pin_card.proofs.reading.read_pin.Goals as goal
 
 pub returns-then-not-is_pin_change : goal.returns-then-not-is_pin_change
 returns-then-not-is_pin_change c = λ pin. (

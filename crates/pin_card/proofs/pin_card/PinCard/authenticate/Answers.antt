@@ -1,9 +1,9 @@
 -- An answer runs no command.
 use Rattle.std.proofs.Common.{List, sym, subst}
 use Rattle.issuer_base.specs.declared.command.Command.{Command}
-use Rattle.secure_msg.specs.PinChange.{IsLastPin}
+use Rattle.pin_card.specs.LastPin.{IsLastPin}
 use Rattle.card_model.proofs.Ran.{answer-ran}
-use Rattle.card_model.proofs.pin_card.PinCard.authenticate.Goals as goal
+use Rattle.pin_card.proofs.pin_card.PinCard.authenticate.Goals as goal
 
 pub invariant_of-self : goal.invariant_of-self
 invariant_of-self c =

@@ -1,9 +1,9 @@
 -- The stored PIN is that of the last PIN change.
 use Rattle.std.proofs.Common.{ℕ, List, Option, sym, subst}
 use Rattle.std.specs.Option.{option_map}
-use Rattle.secure_msg.specs.PinChange.{IsLastPin}
-use Rattle.card_model.specs.PinCards.{PinCardState}
-use Rattle.card_model.proofs.pin_card.PinCard.pin.Goals as goal
+use Rattle.pin_card.specs.LastPin.{IsLastPin}
+use Rattle.pin_card.specs.PinCards.{PinCardState}
+use Rattle.pin_card.proofs.pin_card.PinCard.pin.Goals as goal
 
 pub returns : goal.returns
 returns c =

@@ -2,11 +2,11 @@
 use Rattle.std.proofs.Common.{◌≡◌, ◌∷◌, ◌++◌, [], Bool, true, false, Some, List, sym, ap, ◌∙◌, subst}
 use Rattle.std.proofs.lemmas.Option.{none-some}
 use Rattle.issuer_base.specs.declared.command.Command.{Command}
-use Rattle.secure_msg.specs.PinChange.{IsLastPin}
-use Rattle.secure_msg.proofs.PinChanges.{last-set, last-kept}
+use Rattle.pin_card.specs.LastPin.{IsLastPin}
+use Rattle.pin_card.proofs.LastPins.{last-set, last-kept}
 use Rattle.card_model.specs.CardSteps.{CardStep, Run}
 use Rattle.card_model.proofs.Ran.{RanOneMore, command-adds, refused-adds_none}
-use Rattle.card_model.proofs.pin_card.PinCard.run.Goals as goal
+use Rattle.pin_card.proofs.pin_card.PinCard.run.Goals as goal
 
 pub invariant_of-self-then-not-branch : goal.invariant_of-self-then-not-branch
 invariant_of-self-then-not-branch c =

@@ -1,9 +1,9 @@
 -- A tap runs no command.
 use Rattle.std.proofs.Common.{List, sym, subst}
 use Rattle.issuer_base.specs.declared.command.Command.{Command}
-use Rattle.secure_msg.specs.PinChange.{IsLastPin}
+use Rattle.pin_card.specs.LastPin.{IsLastPin}
 use Rattle.card_model.proofs.Ran.{tap-ran}
-use Rattle.card_model.proofs.pin_card.PinCard.tap.Goals as goal
+use Rattle.pin_card.proofs.pin_card.PinCard.tap.Goals as goal
 
 pub invariant_of-self : goal.invariant_of-self
 invariant_of-self c =

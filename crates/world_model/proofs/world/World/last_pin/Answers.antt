@@ -3,7 +3,7 @@ use Rattle.std.proofs.Common.{◌≡◌, List, Some, slice_get, subst, sym, ap, 
 use Rattle.std.proofs.lemmas.Option.{get_or_from_slice_get}
 use Rattle.issuer_base.specs.declared.command.Command.{Command}
 use Rattle.card_model.specs.Application.{CardState}
-use Rattle.secure_msg.specs.PinChange.{IsLastPin}
+use Rattle.pin_card.specs.LastPin.{IsLastPin}
 use Rattle.world_model.specs.Stepping.{IsReached}
 use Rattle.world_net.specs.WorldState.{WorldState}
 use Rattle.world_model.proofs.LastPins.{genuine-last}

@@ -1,0 +1,3 @@
+-- The laws of this crate.
+pub mod OpenedPins
+pub mod LastPins
