@@ -21,9 +21,18 @@ pub fn check_in_lanes(issuer: &Issuer, found: &mut [Result<Sought, Refusal>])
     requires ready { All (IsReady issuer.now) found.old }
     ensures { AllZip (IsLookedUpAgain issuer.now) found.old found.new }
 {
-    if count_in_lanes(found) < FEWEST_IN_LANES {
-        return;
+    if count_in_lanes(found) >= FEWEST_IN_LANES {
+        check_all(issuer, found);
     }
+}
+
+/// Checks all cryptograms of triple DES. It is a function of its own, so that few requests don't pay for its arrays.
+#[inline(never)]
+fn check_all(issuer: &Issuer, found: &mut [Result<Sought, Refusal>])
+    requires few { length found.old ≤ 128 }
+    requires ready { All (IsReady issuer.now) found.old }
+    ensures { AllZip (IsLookedUpAgain issuer.now) found.old found.new }
+{
     let checks = checks_of(issuer, found);
     let sessions = right_sessions(checks.as_slice());
     for (i, element) in found.iter_mut().enumerate() {

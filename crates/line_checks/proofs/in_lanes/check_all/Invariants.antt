@@ -2,7 +2,7 @@
 use Rattle.std.proofs.Common.{◌≡◌, take, drop, length}
 use Rattle.std.specs.List.{AllZip}
 use Rattle.line_checks.specs.LookedUp.{IsLookedUpAgain}
-use Rattle.line_checks.proofs.in_lanes.check_in_lanes.Given as goal
+use Rattle.line_checks.proofs.in_lanes.check_all.Given as goal
 
 abbrev pub invariant-loop-i : goal.invariant-loop-i
 invariant-loop-i l = record {
