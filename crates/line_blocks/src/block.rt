@@ -43,6 +43,13 @@ impl Block {
         })
     }
 
+    /// How many lines it has.
+    pub fn lines(&self) -> usize
+        ensures { result ≡ self.now.lines }
+    {
+        self.lines
+    }
+
     /// Whether it has the answers of as many lines as it takes.
     pub fn is_full(&self) -> bool
         ensures { result ≡ (self.now.lines == BLOCK_LINES) }

@@ -1,5 +1,5 @@
 -- What holds of the host of one caller and of that of several, of either.
-use Rattle.std.proofs.Common.{◌≡◌, ◌≤◌, ℕ, List, [], length, map, sym, subst}
+use Rattle.std.proofs.Common.{◌≡◌, ◌≤◌, ℕ, List, [], length, map, subst}
 use Rattle.issuer_base.specs.declared.outside.store.Store.{Ghosts}
 use Rattle.line_reader.specs.declared.limits.TheConstants.{MAX_LINES}
 use Rattle.line_reader.specs.Reading.{kept}
@@ -7,6 +7,7 @@ use Rattle.issuer_setup.specs.IssuerSetup.{Setup}
 use Rattle.one_caller.specs.declared.solo.Solo.{Solo}
 use Rattle.shared_callers.specs.declared.lanes.Lanes.{Lanes}
 use Rattle.shared_callers.specs.Lanes.{callers_in}
+use Rattle.line_serving.specs.declared.alone.AloneHost.{AloneHost}
 use Rattle.line_serving.specs.declared.hosts.LineHost.{LineHost}
 use Rattle.line_serving.specs.declared.hosts.LineHost.TheVariants.{Alone, Together}
 use Rattle.desk_host.specs.Journals.{IsReadySolo}
@@ -17,10 +18,9 @@ use Rattle.line_serving.specs.Hosts.{callers_of}
 use Rattle.line_serving.specs.Hosts.{IsReady, HasServed}
 use Rattle.desk_host.specs.SeenStores.{Logged, journals_seen}
 use Rattle.desk_host.specs.Configuration.{HasSoundParts}
-use Rattle.line_serving.proofs.AloneSteps.{settles-alone}
 
 module _ {S : Type 0} {G : Ghosts S} (first : LineHost S G) where
-  pub takes_alone : (old new : Solo S G) (line was_due is_due : List ℕ)
+  pub takes_alone : (old new : AloneHost S G) (line was_due is_due : List ℕ)
       → ((first : Solo S G) (lines : List (List ℕ)) (text : List ℕ) (waiting : List (List ℕ))
       → HasAnswered first lines text waiting old
       → TakesLine (λ lines text waiting. HasAnswered first lines text waiting new) lines text waiting line was_due
@@ -33,8 +33,8 @@ module _ {S : Type 0} {G : Ghosts S} (first : LineHost S G) where
       elim first as (λ first. HasServed first lines text waiting (Alone old)
       → TakesLine (λ lines text waiting. HasServed first lines text waiting (Alone new)) lines text waiting line was_due
       is_due) [
-        | Alone host ↦ λ so_far. takes host lines text waiting so_far
-        | Together host ↦ λ so_far. absurd so_far
+        | Alone begun ↦ λ so_far. takes begun.host lines text waiting so_far
+        | Together begun ↦ λ so_far. absurd so_far
       ]
 
   pub takes_together : (old new : Lanes S G) (line was_due is_due : List ℕ)
@@ -54,17 +54,20 @@ module _ {S : Type 0} {G : Ghosts S} (first : LineHost S G) where
         | Together host ↦ λ so_far. takes host lines text waiting so_far
       ]
 
-  pub settles_none : (now later : LineHost S G) (host : Solo S G) (due : List ℕ) → now ≡ Alone host → later ≡ Alone host
-      → (lines : List (List ℕ)) (text : List ℕ) (waiting : List (List ℕ)) → HasServed first lines text waiting now
-      → Settles (λ lines text waiting. HasServed first lines text waiting later) lines text waiting due due
-  settles_none now later host due same kept_same lines text waiting served =
-      subst (λ (l : LineHost S G). Settles (λ lines text waiting. HasServed first lines text waiting l) lines text
-      waiting due due) (sym kept_same)
-      (elim first as (λ first. HasServed first lines text waiting (Alone host)
-      → Settles (λ lines text waiting. HasServed first lines text waiting (Alone host)) lines text waiting due due) [
-        | Alone begun ↦ λ so_far. settles-alone begun host due lines text waiting so_far
+  pub settles_alone : (old new : AloneHost S G) (was_due is_due : List ℕ)
+      → ((first : Solo S G) (lines : List (List ℕ)) (text : List ℕ) (waiting : List (List ℕ))
+      → HasAnswered first lines text waiting old
+      → Settles (λ lines text waiting. HasAnswered first lines text waiting new) lines text waiting was_due is_due)
+      → (lines : List (List ℕ)) (text : List ℕ) (waiting : List (List ℕ))
+      → HasServed first lines text waiting (Alone old)
+      → Settles (λ lines text waiting. HasServed first lines text waiting (Alone new)) lines text waiting was_due is_due
+  settles_alone old new was_due is_due settles lines text waiting =
+      elim first as (λ first. HasServed first lines text waiting (Alone old)
+      → Settles (λ lines text waiting. HasServed first lines text waiting (Alone new)) lines text waiting was_due
+      is_due) [
+        | Alone begun ↦ λ so_far. settles begun.host lines text waiting so_far
         | Together begun ↦ λ so_far. absurd so_far
-      ] (subst (HasServed first lines text waiting) same served))
+      ]
 
   pub settles_together : (old new : Lanes S G) (was_due is_due : List ℕ)
       → ((first : Lanes S G) (lines : List (List ℕ)) (text : List ℕ) (waiting : List (List ℕ))
@@ -84,7 +87,7 @@ module _ {S : Type 0} {G : Ghosts S} (first : LineHost S G) where
 
   -- ---- what they leave
 
-  pub leaves_alone : (now : LineHost S G) (host : Solo S G) (stores : List S) → now ≡ Alone host
+  pub leaves_alone : (now : LineHost S G) (host : AloneHost S G) (stores : List S) → now ≡ Alone host
       → ((issuer : Setup) (prefix : List ℕ) (logs : Logged) (olds : List S) (first : Solo S G)
       (lines : List (List ℕ)) (text : List ℕ)
       → IsReadySolo issuer prefix logs olds first → HasSoundParts issuer → HasAnswered first (map kept lines) text [] host
@@ -96,7 +99,7 @@ module _ {S : Type 0} {G : Ghosts S} (first : LineHost S G) where
   leaves_alone now host stores same leaves issuer prefix logs olds lines text ready sound within served =
       elim first as (λ first. IsReady issuer prefix logs olds first → HasServed first (map kept lines) text [] (Alone host)
       → LeavesAnswered (callers_of first) issuer prefix logs (journals_seen G olds stores) lines text) [
-        | Alone begun ↦ λ ready so_far. leaves issuer prefix logs olds begun lines text ready sound so_far
+        | Alone begun ↦ λ ready so_far. leaves issuer prefix logs olds begun.host lines text ready sound so_far
         | Together begun ↦ λ ready so_far. absurd so_far
       ] ready (subst (HasServed first (map kept lines) text []) same served)
 

@@ -1,10 +1,12 @@
 -- The hosts that lines are served with: what is asked of each, and what the one of one caller is.
-use Rattle.std.specs.Prelude.{◌≡◌, ⊤, ℕ, ◌<◌, ◌≤◌, false, List, []}
+use Rattle.std.specs.Prelude.{◌≡◌, ⊤, ℕ, ◌+◌, ◌<◌, ◌≤◌, false, List, [], ◌∷◌, ◌++◌, length}
 use Rattle.std.specs.List.{flat_map}
 use Rattle.issuer_base.specs.declared.answer.Answer.{Answer}
 use Rattle.issuer_base.specs.declared.outside.store.Store.{Ghosts}
 use Rattle.issuer_setup.specs.IssuerSetup.{Setup}
 use Rattle.answer_text.specs.AnswerText.{printed}
+use Rattle.line_checks.specs.LookedUp.{AreLookUps}
+use Rattle.line_checks.specs.declared.lines_ahead.TheConstants.{MOST_AHEAD}
 use Rattle.one_caller.specs.declared.solo.Solo.{Solo}
 use Rattle.one_caller.specs.Books.{Book}
 use Rattle.one_caller.specs.Runs.{HasRun}
@@ -12,6 +14,7 @@ use Rattle.shared_callers.specs.declared.lanes.Lanes.{Lanes}
 use Rattle.line_blocks.specs.declared.block.TheConstants.{BLOCK_LINES}
 use Rattle.line_reader.specs.Reading.{unread}
 use Rattle.line_serving.specs.declared.serve.Server.{Server}
+use Rattle.line_serving.specs.declared.alone.AloneHost.{AloneHost}
 use Rattle.line_serving.specs.declared.hosts.LineHost.{LineHost}
 use Rattle.line_serving.specs.declared.hosts.LineHost.TheVariants.{Alone, Together}
 use Rattle.shared_callers.specs.Lanes.{issuer_in, opening_logs, callers_in, waiting_in, due_in, is_full_in, HasSameHost}
@@ -24,15 +27,28 @@ use Rattle.desk_host.specs.SeenStores.{Logged}
 -- ---- the host of one caller, that of several, and either
 
 module _ {S : Type 0} {G : Ghosts S} where
-  -- since it was the first host, these lines were answered, with this text, and none waits
+  -- since it was this host, these lines were answered, with this text, and these were looked up and wait
   pub record HasAnswered (first : Solo S G) (lines : List (List ℕ)) (text : List ℕ) (waiting : List (List ℕ))
-      (now : Solo S G) : Type 0 where
-    pub none_waits : waiting ≡ []
-    pub issuer_is : now.issuer ≡ first.issuer
+      (now : AloneHost S G) : Type 0 where
+    pub waits : AreLookUps first.issuer waiting now.ahead
+    pub issuer_is : now.host.issuer ≡ first.issuer
     pub answers : List Answer
     pub text_is : text ≡ flat_map printed answers
     pub run : (books : List Book) → HasRun first.issuer first.shards.items books [] [] first.shards.items books
-        → (last : List Book) × HasRun first.issuer first.shards.items books lines answers now.shards.items last
+        → (last : List Book) × HasRun first.issuer first.shards.items books lines answers now.host.shards.items last
+
+  -- the lines that wait were looked up and are fewer than are checked together, and their answers fit a block that has
+  -- the answers to so many lines
+  pub record MaySettleAlone (alone : AloneHost S G) (lines : ℕ) : Type 0 where
+    pub waiting : List (List ℕ)
+    pub looked_up : AreLookUps alone.host.issuer waiting alone.ahead
+    pub few : length alone.ahead < MOST_AHEAD
+    pub fit : lines + length alone.ahead ≤ BLOCK_LINES
+
+  -- so does the answer to another line
+  pub record TakesMoreAlone (alone : AloneHost S G) (lines : ℕ) : Type 0 where
+    pub may_settle : MaySettleAlone alone lines
+    pub fits : lines + length alone.ahead < BLOCK_LINES
 
   -- it was loaded for this issuer and more than one caller, from the journals that the desk had under their names; of
   -- these, the old ones were only read. It has answered no line
@@ -79,28 +95,28 @@ module _ {S : Type 0} {G : Ghosts S} where
 
   -- it was just loaded for this issuer, from the journals that the desk had under their names
   abbrev pub IsReady : Setup → List ℕ → Logged → List S → LineHost S G → Type 0
-  IsReady issuer prefix logs olds (Alone host) = IsReadySolo issuer prefix logs olds host
+  IsReady issuer prefix logs olds (Alone alone) = IsReadySolo issuer prefix logs olds alone.host
   IsReady issuer prefix logs olds (Together host) = IsReadyTogether issuer prefix logs olds host
 
   -- since it was the first host, these lines were answered, with this text, and these were taken and wait
   abbrev pub HasServed : LineHost S G → List (List ℕ) → List ℕ → List (List ℕ) → LineHost S G → Type 0
-  HasServed (Alone first) lines text waiting (Alone now) = HasAnswered first lines text waiting now
+  HasServed (Alone first) lines text waiting (Alone now) = HasAnswered first.host lines text waiting now
   HasServed (Together first) lines text waiting (Together now) = HaveAnswered first lines text waiting now
   HasServed _ lines text waiting _ = ⊥
 
   -- the lines that wait may be settled into a block that has the answers to so many lines
   abbrev pub MaySettle : LineHost S G → ℕ → Type 0
-  MaySettle (Alone host) lines = lines ≤ BLOCK_LINES
+  MaySettle (Alone alone) lines = MaySettleAlone alone lines
   MaySettle (Together host) lines = OwesNone host lines
 
   -- beside such a block another line may be taken
   abbrev pub HasRoom : LineHost S G → ℕ → Type 0
-  HasRoom (Alone host) lines = lines < BLOCK_LINES
+  HasRoom (Alone alone) lines = TakesMoreAlone alone lines
   HasRoom (Together host) lines = TakesMore host lines
 
   -- no line waits
   abbrev pub IsSettled : LineHost S G → Type 0
-  IsSettled (Alone host) = ⊤
+  IsSettled (Alone alone) = alone.ahead ≡ []
   IsSettled (Together host) = waiting_in host ≡ 0
 
   -- no line waits, and beside a block that has the answers to so many lines one may be taken

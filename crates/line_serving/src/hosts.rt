@@ -7,19 +7,18 @@ ghost use Rattle.line_reader.specs.Reading.{kept};
 ghost use Rattle.desk_host.specs.Configuration.{HasSoundParts};
 ghost use Rattle.desk_host.specs.SeenStores.{Logged, journals_seen};
 
-use crate::alone::{answer_at_once, close_alone};
+use crate::alone::AloneHost;
 use crate::together::{close_together, settle_together};
 use issuer_base::{Gate, Store};
 use line_blocks::Block;
-use one_caller::Solo;
 use shared_callers::Lanes;
 use std::sync::Wait;
 use std::thread::Threads;
 
-/// The host of a run: with one caller, who answers each line at once, or with several, who answer lines together.
+/// The host of a run: with one caller, who answers one line after another, or with several, who answer lines together.
 pub enum LineHost<S: Store> {
     /// One caller.
-    Alone(Solo<S>),
+    Alone(AloneHost<S>),
     /// Several callers.
     Together(Lanes<S>),
 }
@@ -36,18 +35,20 @@ impl<S: Store> LineHost<S> {
         ensures { result ≡ false → HasRoom self.now block.now.lines }
     {
         match self {
-            LineHost::Alone(_) => block.is_full(),
+            LineHost::Alone(alone) => alone.is_full(block),
             LineHost::Together(lanes) => lanes.is_full(),
         }
     }
 
-    /// Takes the line with this number. Its answer goes into the block at once, or it waits.
+    /// Takes the line with this number. Its answer goes into the block at once, or it waits. `has_next` is whether
+    /// another whole line is in hand.
     pub(crate) fn take_line<R: Wait, G: Gate>(
         &mut self,
         rt: &R,
         gate: &G,
         number: u64,
         line: &[u8],
+        has_next: bool,
         block: &mut Block,
     )
         requires room { HasRoom self.old block.old.lines }
@@ -60,7 +61,7 @@ impl<S: Store> LineHost<S> {
         ensures open { MaySettle self.new block.new.lines }
     {
         match self {
-            LineHost::Alone(host) => answer_at_once(host, rt, gate, number, line, block),
+            LineHost::Alone(alone) => alone.take_line(rt, gate, number, line, has_next, block),
             LineHost::Together(lanes) => lanes.deal(line),
         }
     }
@@ -85,7 +86,7 @@ impl<S: Store> LineHost<S> {
         ensures settled { IsSettled self.new }
     {
         match self {
-            LineHost::Alone(_) => {}
+            LineHost::Alone(alone) => alone.settle(rt, gate, block),
             LineHost::Together(lanes) => settle_together(lanes, rt, gate, block),
         }
     }
@@ -104,7 +105,7 @@ impl<S: Store> LineHost<S> {
             → LeavesLoaded (callers_of self) issuer prefix logs (journals_seen S.Store olds result.items) }
     {
         match self {
-            LineHost::Alone(host) => close_alone(host),
+            LineHost::Alone(alone) => alone.close(),
             LineHost::Together(lanes) => close_together(lanes),
         }
     }

@@ -7,6 +7,7 @@ mod loading;
 mod serve;
 mod together;
 
+pub use alone::AloneHost;
 pub use hosts::LineHost;
 pub use loading::load_host;
 pub use serve::Server;

@@ -1,14 +1,17 @@
 //! The host that lines are served with, loaded from the journals at a desk.
-ghost use Rattle.std.specs.Prelude.{◌≡◌, ◌<◌, ◌≤◌, true, is_ok, IfOk, IfErr};
+ghost use Rattle.std.specs.Prelude.{◌≡◌, ◌<◌, ◌≤◌, [], true, is_ok, IfOk, IfErr};
 ghost use Rattle.issuer_base.specs.declared.limits.TheConstants.{MAX_CALLERS};
 ghost use Rattle.desk_host.specs.Loading.{ComesToNoHost};
+ghost use Rattle.shard_book.specs.declared.replay.LoadFault.TheVariants.{NoMemory as NoRoom};
 ghost use Rattle.line_serving.specs.Hosts.{IsReadyTogether, IsFreshTogether, IsReady, IsFresh};
 
+use crate::alone::AloneHost;
 use crate::hosts::LineHost;
 use desk_host::{Journals, Loaded, NoHost, load_alone, no_host, open_journals};
 use issuer_base::Desk;
 use issuer_setup::Issuer;
-use shared_callers::Lanes;
+use line_checks::LinesAhead;
+use shared_callers::{Lanes, LoadFault};
 use std::alloc::Global;
 
 /// The host of an issuer with so many callers, 1 to 16, over the journals under these names: they are opened at the
@@ -30,8 +33,11 @@ pub fn load_host<D: Desk>(
     ensures kept { D.holds desk.new ≡ D.holds desk.old }
 {
     if callers == 1 {
+        let Ok(ahead) = LinesAhead::new(alloc) else {
+            return Err(no_memory(alloc));
+        };
         let Loaded { host, olds } = load_alone(alloc, desk, prefix, issuer)?;
-        let host = LineHost::Alone(host);
+        let host = LineHost::Alone(AloneHost::new(host, ahead));
         Ok(Loaded { host, olds })
     } else {
         let Loaded { host, olds } = load_together(alloc, desk, prefix, issuer, callers)?;
@@ -60,5 +66,17 @@ fn load_together<D: Desk>(
     match Lanes::load(alloc, &mut olds, stores, issuer, callers) {
         Ok(host) => Ok(Loaded { host, olds }),
         Err(back) => Err(no_host(back, olds)),
+    }
+}
+
+/// No host, since memory ran out before a journal was opened.
+fn no_memory<S>(alloc: Global) -> NoHost<S>
+    ensures fault { (result.fault ≡ NoRoom) × (result.shard ≡ 0) }
+    ensures none { (result.journals.olds.items ≡ []) × (result.journals.stores.items ≡ []) }
+{
+    NoHost {
+        fault: LoadFault::NoMemory,
+        shard: 0,
+        journals: Journals::none(alloc),
     }
 }

@@ -96,7 +96,15 @@ impl Server {
         ensures reader { self.new.reader ≡ self.old.reader }
     {
         let number = u64::from(self.reader.number());
-        host.take_line(rt, gate, number, self.reader.line(), &mut self.block);
+        let has_next = self.reader.has_line();
+        host.take_line(
+            rt,
+            gate,
+            number,
+            self.reader.line(),
+            has_next,
+            &mut self.block,
+        );
     }
 
     /// Settles the lines that wait and writes the answers, where that is due.

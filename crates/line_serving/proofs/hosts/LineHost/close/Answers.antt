@@ -9,7 +9,7 @@ use Rattle.line_serving.proofs.hosts.LineHost.close.Goals as goal
 
 pub returns-in-Alone-clause-answered : goal.returns-in-Alone-clause-answered
 returns-in-Alone-clause-answered g c = λ issuer prefix logs olds first lines text.
-    leaves_alone first c.args.self c.in-Alone.host _ c.in-Alone.is c.close_alone.ensures.answered issuer prefix logs
+    leaves_alone first c.args.self c.in-Alone.alone _ c.in-Alone.is c.close.ensures.answered issuer prefix logs
     olds lines text
 
 pub returns-in-Together-clause-answered : goal.returns-in-Together-clause-answered
