@@ -379,10 +379,7 @@ fn is_option(word: &str, command: Command) -> bool
     ensures { result ≡ is_one_of (options_of command) word.now }
 {
     match command {
-        Command::Serve => matches!(
-            word,
-            "--callers" | "--config" | "--requests" | "--journal"
-        ),
+        Command::Serve => matches!(word, "--callers" | "--config" | "--requests" | "--journal"),
         Command::Show | Command::Export => matches!(word, "--config" | "--journal"),
         Command::World => matches!(word, "--cards" | "--steps" | "--seed"),
         Command::Fill => matches!(word, "--dol" | "--data"),

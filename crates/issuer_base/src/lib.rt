@@ -28,9 +28,7 @@ pub use limits::{
     MAX_TABLE_ROWS, MAX_TEMPLATE_BYTES, MAX_UNDONE, MAX_UNSYNCED_BYTES, MIN_PAN_DIGITS, OLD_WINDOW,
     WINDOW,
 };
-pub use outside::{
-    Desk, DeskCall, DeskFault, Gate, OpenGate, Sink, Source, Store, write_all,
-};
+pub use outside::{Desk, DeskCall, DeskFault, Gate, OpenGate, Sink, Source, Store, write_all};
 pub use pan::Pan;
 pub use request::{Parts, Request, Suite};
 pub use words::Words;

@@ -5,9 +5,7 @@ use crate::callers::looks_for;
 use crate::pieces::Pieces;
 use crate::running::{SERVE, left_by, run_over, words_of};
 use crate::samples::{CONFIG, FRESH_EACH, SEVENTH_EACH, TWO_SHARDS};
-use issuer_base::{
-    Desk, DeskFault, NoMemory, OpenGate, Sink, Store, StoreFail, WriteFault,
-};
+use issuer_base::{Desk, DeskFault, NoMemory, OpenGate, Sink, Store, StoreFail, WriteFault};
 use memory_edge::MemorySink;
 use std::alloc::Global;
 use std::sync::Arc;

@@ -4,9 +4,7 @@ ghost use Rattle.std.specs.Prelude.{◌≡◌, None, length};
 use crate::pieces::Pieces;
 use crate::running::{left_by, run_over, words_of};
 use crate::samples::{ELEVEN_LINES, TWO_SHARDS};
-use issuer_base::{
-    Desk, DeskFault, Gate, NoMemory, OpenGate, Sink, Store, StoreFail, WriteFault,
-};
+use issuer_base::{Desk, DeskFault, Gate, NoMemory, OpenGate, Sink, Store, StoreFail, WriteFault};
 use memory_edge::MemorySink;
 use std::alloc::Global;
 use std::array;
