@@ -1,6 +1,5 @@
 -- How many bits the parts of the cipher have.
-use Rattle.std.proofs.Common.{◌≡◌, ℕ, ◌++◌, Bool, List, length, drop, take, arith, length-append, length-drop, length-take}
-use Rattle.des_block.specs.Bits.{bits}
+use Rattle.std.proofs.Common.{◌≡◌, ℕ, Bool, List, length, drop, take, arith, length-append, length-drop, length-take}
 use Rattle.des_block.specs.Tables.{box_permutation, s_boxes}
 use Rattle.des_block.specs.Cipher.{box_output, substituted, cipher_function, turned}
 use Rattle.des_block.proofs.Digits.{length-picked, length-bits}

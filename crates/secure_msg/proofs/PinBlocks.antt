@@ -1,10 +1,10 @@
 -- PINs, the nibbles of their blocks, and the PIN of a block.
-use Rattle.std.proofs.Common.{◌≡◌, ℕ, zero, suc, ◌+◌, ◌-◌, ◌*◌, ◌/◌, ◌%◌, ◌<◌, ◌≤◌, ◌==◌, List, [], ◌∷◌, ◌++◌, length, take, drop, replicate, get_or}
+use Rattle.std.proofs.Common.{◌≡◌, ℕ, zero, suc, ◌+◌, ◌-◌, ◌*◌, ◌/◌, ◌%◌, ◌<◌, ◌≤◌, ◌==◌, List, [], ◌∷◌, ◌++◌, length, drop, replicate, get_or}
 use Rattle.std.proofs.Common.{Some, IsTrue, inl, inr, refl, sym, ap, ap₂, ◌∙◌, arith, length-append}
 use Rattle.std.specs.Prelude.{if◌then◌else◌}
 use Rattle.std.proofs.lemmas.Bool.{and_parts, cond-true, leb-true, cases_lt}
 use Rattle.std.proofs.lemmas.Option.{cond_some}
-use Rattle.std.proofs.lemmas.List.{ext_get_or, get_or-append_right, get_or_append_left, get_or_past, get_or-take, length-replicate, length-take-le, drop-replicate}
+use Rattle.std.proofs.lemmas.List.{ext_get_or, get_or_append_left, get_or_past, length-replicate, drop-replicate}
 use Rattle.issuer_base.proofs.Decimal.{list_all-at}
 use Rattle.master_keys.specs.Digits.{packed}
 use Rattle.master_keys.proofs.Nibbles.{AreNibbles, AreNibbles-append}

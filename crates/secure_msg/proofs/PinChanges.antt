@@ -1,12 +1,8 @@
 -- PIN changes.
-use Rattle.std.proofs.Common.{◌≡◌, ℕ, ◌+◌, ◌-◌, ◌*◌, ◌/◌, ◌<◌, ◌≤◌, List, [], ◌∷◌, ◌++◌, length, take, drop, Option, Some, None, Result, Ok, Err, Bool, true, ◌&&◌, IsTrue, All, ◌↔◌}
-use Rattle.std.proofs.Common.{refl, sym, ap, ap₂, ◌∙◌, arith, length-append, append_assoc, subst}
-use Rattle.std.proofs.lemmas.List.{take_at, drop_at, take-append-drop, length-take-le}
-use Rattle.std.proofs.lemmas.Bool.{and_parts, eq-eqb, eqb-true}
+use Rattle.std.proofs.Common.{◌≡◌, ℕ, ◌≤◌, List, [], ◌++◌, length, take, drop, Result, Ok, Err, IsTrue}
+use Rattle.std.proofs.Common.{refl, sym, ap, ap₂, ◌∙◌, arith, length-append}
+use Rattle.std.proofs.lemmas.List.{take_at, drop_at}
 use Rattle.std.specs.Result.{IsOk, IsErr}
-use Rattle.std.specs.Prelude.{is_some, if◌then◌else◌}
-use Rattle.std.proofs.lemmas.Option.{none-some}
-use Rattle.std.proofs.lemmas.List.Elements.{All-push, All-nil}
 use Rattle.issuer_base.specs.declared.command.Command.{Command}
 use Rattle.issuer_base.specs.declared.request.Suite.TheVariants.{TripleDes}
 use Rattle.key_derive.specs.SessionKey.{session_sm}

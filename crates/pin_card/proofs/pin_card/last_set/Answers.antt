@@ -1,5 +1,5 @@
 -- The last command is read.
-use Rattle.std.proofs.Common.{◌≡◌, Some, sym, ap, ◌∙◌, subst, ◌↔◌}
+use Rattle.std.proofs.Common.{◌≡◌, Some, ◌∙◌, subst, ◌↔◌}
 use Rattle.std.proofs.lemmas.Option.{same_Some}
 use Rattle.issuer_base.specs.declared.command.Command.{Command}
 use Rattle.secure_msg.specs.PinChange.{SetsPin}

@@ -1,9 +1,8 @@
 -- A command sets a PIN exactly if it has the header, and its data after R open to the PIN's block.
-use Rattle.std.proofs.Common.{◌≡◌, ◌++◌, ℕ, List, length, take, drop, true, Some, refl, sym, ap, ap₂, ◌∙◌, arith}
+use Rattle.std.proofs.Common.{◌≡◌, ◌++◌, length, true, sym, ap, ◌∙◌, arith}
 use Rattle.std.proofs.lemmas.Bool.{false≢true}
 use Rattle.std.proofs.lemmas.Option.{none-some}
 use Rattle.secure_msg.specs.Pins.{pin_block}
-use Rattle.secure_msg.specs.PinChange.{SetsPin}
 use Rattle.pin_card.specs.LastPin.{is_pin_change}
 use Rattle.secure_msg.proofs.PinBlocks.{length-pin, length-pin_block}
 use Rattle.pin_card.proofs.OpenedPins.{sets-header, AreParts, parts-are, sets-opens, opens-sets}

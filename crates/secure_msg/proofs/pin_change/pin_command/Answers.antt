@@ -1,11 +1,8 @@
 -- The data are R and the enciphered block, so the command is a PIN change to this PIN.
-use Rattle.std.proofs.Common.{◌≡◌, ◌≤◌, ◌++◌, length, refl, ap, ap₂, ◌∙◌, arith, List, ℕ}
+use Rattle.std.proofs.Common.{◌≡◌, ◌++◌, length, refl, ap, ◌∙◌, arith, List, ℕ}
 use Rattle.issuer_base.specs.ScriptCommand.{is_command}
-use Rattle.issuer_base.specs.declared.request.Suite.TheVariants.{TripleDes}
-use Rattle.key_derive.specs.SessionKey.{session_sm}
 use Rattle.retail_mac.specs.Mac.{cbc}
 use Rattle.retail_mac.proofs.Blocks.{length-padded}
-use Rattle.secure_msg.specs.Pins.{pin_block}
 use Rattle.secure_msg.specs.PinChange.{pin_body}
 use Rattle.secure_msg.proofs.PinBlocks.{length-pin, length-pin_block}
 use Rattle.secure_msg.proofs.PinChanges.{ok-unless_err, length-enciphered, body-written}

@@ -1,5 +1,5 @@
 -- A command that was run sets the PIN if it is a PIN change, and any other leaves it.
-use Rattle.std.proofs.Common.{◌≡◌, ◌∷◌, ◌++◌, [], Bool, true, false, Some, List, sym, ap, ◌∙◌, subst}
+use Rattle.std.proofs.Common.{Bool, true, false, Some, List, sym, ◌∙◌, subst}
 use Rattle.std.proofs.lemmas.Option.{none-some}
 use Rattle.issuer_base.specs.declared.command.Command.{Command}
 use Rattle.pin_card.specs.LastPin.{IsLastPin}
