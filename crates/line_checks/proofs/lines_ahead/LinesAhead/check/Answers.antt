@@ -1,5 +1,5 @@
 -- The look-ups are those of the same lines, checked.
-use Rattle.std.proofs.Common.{◌≡◌, List, All, Result, sym, subst, ◌∙◌}
+use Rattle.std.proofs.Common.{List, All, Result, sym, subst, ◌∙◌}
 use Rattle.std.specs.List.{AllZip}
 use Rattle.std.proofs.lemmas.Slice.Zip.{AllZip-long}
 use Rattle.issuer_base.specs.declared.answer.Refusal.{Refusal}
