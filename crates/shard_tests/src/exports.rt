@@ -1,12 +1,21 @@
 //! The feed of two journals, whole and up to a line that is bad, and a sink that fails.
+ghost use Rattle.std.specs.Prelude.{◌≡◌, vec_len, IfOk};
 
-use crate::journals::{COMMAND, STATUS, store};
+use crate::journals::{COMMAND, STATUS, store, two_shards};
 use journal_export::{ExportFault, Exporter};
-use memory_edge::MemorySink;
+use memory_edge::{MemorySink, MemoryStore};
 use record_reader::RecordFault;
-use sample_issuer::{CARDS, declining_table, issuer};
 use std::alloc::Global;
 use std::test::Fail;
+
+/// Two stores with these texts.
+fn two_stores(alloc: Global, first: &str, second: &str) -> Result<Vec<MemoryStore>, Fail>
+    ensures { IfOk result (λ stores. vec_len stores ≡ 2) }
+{
+    let first = store(alloc, first.as_bytes().to_vec(alloc)?, &[])?;
+    let second = store(alloc, second.as_bytes().to_vec(alloc)?, &[])?;
+    Ok(vec![in alloc; first, second]?)
+}
 
 /// What an export writes of two journals with these texts to a sink that fails at these calls, and how it ends.
 fn exported(
@@ -15,15 +24,23 @@ fn exported(
     second: &str,
     fails: &[u64],
 ) -> Result<(String, Result<(), ExportFault>), Fail> {
-    let table = declining_table().ok_or("a table")?;
-    let issuer = issuer(alloc, 2, &CARDS[..2], table).ok_or("an issuer")?;
-    let mut stores = Vec::new(alloc);
-    stores.push(store(alloc, first.as_bytes().to_vec(alloc)?, &[])?)?;
-    stores.push(store(alloc, second.as_bytes().to_vec(alloc)?, &[])?)?;
-    let mut exporter = Exporter::new(alloc)?;
+    let mut stores = two_stores(alloc, first, second)?;
     let mut out = MemorySink::new(alloc, 4_096, fails.to_vec(alloc)?)?;
-    let ended = exporter.export(&issuer, &mut stores, &mut out);
+    let ended = export_to(alloc, &mut stores, &mut out)?;
     Ok((String::from_utf8(out.bytes().to_vec(alloc)?)?, ended))
+}
+
+/// How an export of two journals to a sink ends.
+fn export_to(
+    alloc: Global,
+    stores: &mut Vec<MemoryStore>,
+    out: &mut MemorySink,
+) -> Result<Result<(), ExportFault>, Fail>
+    requires { vec_len stores.old ≡ 2 }
+{
+    let issuer = two_shards(alloc)?;
+    let mut exporter = Exporter::new(alloc)?;
+    Ok(exporter.export(&issuer, stores, out))
 }
 
 #[test]

@@ -30,6 +30,17 @@ pub(crate) fn one_card(alloc: Global) -> Result<Issuer, Fail>
     }
 }
 
+/// An issuer of two shards and two cards.
+pub(crate) fn two_shards(alloc: Global) -> Result<Issuer, Fail>
+    ensures { IfOk result (λ issuer. issuer.shards ≡ 2) }
+{
+    let table = declining_table().ok_or("a table")?;
+    match issuer(alloc, 2, &CARDS[..2], table) {
+        Some(issuer) => Ok(issuer),
+        None => Err("an issuer".into()),
+    }
+}
+
 /// A store with this text and spare capacity, which fails at the listed calls.
 pub(crate) fn store(alloc: Global, text: Vec<u8>, fails: &[u64]) -> Result<MemoryStore, Fail> {
     let fails = fails.to_vec(alloc)?;

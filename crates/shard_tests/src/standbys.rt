@@ -3,12 +3,11 @@ ghost use Rattle.std.specs.Prelude.{◌≡◌, ◌≤◌, length, vec_capacity, 
 ghost use Rattle.one_caller.specs.Hosts.{AreShards};
 ghost use Rattle.standby_node.specs.Standing.{live_in, shards_in};
 
-use crate::journals::store;
+use crate::journals::{store, two_shards};
 use issuer_base::Store;
 use issuer_setup::Issuer;
 use memory_edge::MemoryStore;
 use one_caller::{HostBack, Lists, load_all, take_lists, take_stores};
-use sample_issuer::{CARDS, declining_table, issuer};
 use standby_node::{FeedFault, Standby};
 use std::alloc::Global;
 use std::test::Fail;
@@ -113,17 +112,6 @@ static REFUSED: [Row; 6] = [
         second: "v2\n",
     },
 ];
-
-/// An issuer of two shards and two cards.
-fn two_shards(alloc: Global) -> Result<Issuer, Fail>
-    ensures { IfOk result (λ issuer. issuer.shards ≡ 2) }
-{
-    let table = declining_table().ok_or("a table")?;
-    match issuer(alloc, 2, &CARDS[..2], table) {
-        Some(issuer) => Ok(issuer),
-        None => Err("an issuer".into()),
-    }
-}
 
 /// Two shards over empty journals, and room for their stores. The first store fails at the listed calls.
 fn load_both(alloc: Global, issuer: &Issuer, fails: &[u64]) -> Result<Lists<MemoryStore>, Fail>
@@ -246,23 +234,36 @@ fn stops_at_the_first_bad_line(rt: HostRuntime) -> Result<(), Fail> {
     Ok(())
 }
 
+/// How a feed whose line ends in so many bytes `x` ends: with a newline behind them, if all went well before it.
+fn end_of_long_line(
+    alloc: Global,
+    issuer: &Issuer,
+    size: usize,
+) -> Result<Result<(), FeedFault>, Fail>
+    requires { issuer.now.shards ≡ 2 }
+{
+    let mut line = vec![in alloc; b'x'; size]?;
+    let ended = end_of_feed(alloc, issuer, b"0 7 ", &line, &[])?;
+    if ended.fed.is_err() {
+        return Err("a line that isn't whole".into());
+    }
+    line.push(b'\n')?;
+    Ok(end_of_feed(alloc, issuer, b"0 7 ", &line, &[])?.fed)
+}
+
 /// A line may have 524 bytes with its newline, whether it is passed over or not.
 #[test]
 fn a_line_of_525_bytes_is_bad(rt: HostRuntime) -> Result<(), Fail> {
-    let alloc = rt.alloc();
-    let issuer = two_shards(alloc)?;
+    let issuer = two_shards(rt.alloc())?;
     for (size, fed) in [
         (519, Ok(())),
         (520, Err(FeedFault::BadFeed(1))),
         (2_000, Err(FeedFault::BadFeed(1))),
     ] {
-        let padding = vec![in alloc; b'x'; size]?;
-        let ended = end_of_feed(alloc, &issuer, b"0 7 ", &padding, &[])?;
-        assert!(rt; ended.fed == Ok(()), "{size}");
-        let mut line = padding;
-        line.push(b'\n')?;
-        let ended = end_of_feed(alloc, &issuer, b"0 7 ", &line, &[])?;
-        assert!(rt; ended.fed == fed, "{size}");
+        assert!(rt;
+            end_of_long_line(rt.alloc(), &issuer, size)? == fed,
+            "{size}"
+        );
     }
     Ok(())
 }

@@ -15,6 +15,9 @@ use std::test::Fail;
 /// The record of a status of a card that the issuer doesn't have.
 const UNKNOWN_CARD: &str = "s 4000000000000099ffff 00 3\n";
 
+/// The journal with the record of [`STATUS`].
+const ONE_STATUS: &str = "v2\ns 4000000000000002ffff 00 3\n";
+
 /// The issuer of [`one_card`] with another table, which approves.
 fn approving_issuer(alloc: Global) -> Result<Issuer, Fail>
     ensures { IfOk result (λ issuer. issuer.shards ≡ 1) }
@@ -85,46 +88,86 @@ fn text_of(store: &MemoryStore) -> Result<Vec<u8>, Fail> {
     }
 }
 
+/// Whether the journal is such, once the records of two lines were taken over an empty store with these results.
+fn ends_so(
+    alloc: Global,
+    issuer: &Issuer,
+    fails: &[u64],
+    lines: [&[u8]; 2],
+    results: [Option<Result<u64, TakeFault>>; 2],
+    text: &[u8],
+) -> Result<bool, Fail>
+    requires { issuer.now.shards ≡ 1 }
+{
+    let taken = take_both(alloc, issuer, fails, lines)?;
+    let [first, second] = results;
+    if taken.first != first || taken.second != second {
+        return Ok(false);
+    }
+    Ok(taken.text.as_slice() == text)
+}
+
 #[test]
 fn takes_legal_records(rt: HostRuntime) -> Result<(), Fail> {
     let alloc = rt.alloc();
     let issuer = one_card(alloc)?;
-    for (name, line, expected, added) in [
-        ("a command", COMMAND, Some(Ok(1)), COMMAND),
-        ("the status again", STATUS, Some(Ok(1)), STATUS),
+    for (name, line, second, text) in [
+        (
+            "a command",
+            COMMAND,
+            Some(Ok(1)),
+            "v2\ns 4000000000000002ffff 00 3\nq 4000000000000002ffff 00 84160000\n",
+        ),
+        (
+            "the status again",
+            STATUS,
+            Some(Ok(1)),
+            "v2\ns 4000000000000002ffff 00 3\ns 4000000000000002ffff 00 3\n",
+        ),
         (
             "a status of an unknown card",
             UNKNOWN_CARD,
             Some(Err(TakeFault::NotLegal)),
-            "",
+            ONE_STATUS,
         ),
-        ("no record", "s 4000000000000002ffff 00", None, ""),
+        ("no record", "s 4000000000000002ffff 00", None, ONE_STATUS),
     ] {
-        let taken = take_both(alloc, &issuer, &[], [STATUS.as_bytes(), line.as_bytes()])?;
-        assert!(rt; taken.first == Some(Ok(0)), "{name}");
-        assert!(rt; taken.second == expected, "{name}");
-        let text = format!(in alloc; "v2\n{STATUS}{added}")?;
-        assert!(rt; taken.text == text.into_bytes(), "{name}");
+        let lines = [STATUS.as_bytes(), line.as_bytes()];
+        let results = [Some(Ok(0)), second];
+        assert!(rt;
+            ends_so(alloc, &issuer, &[], lines, results, text.as_bytes())?,
+            "{name}"
+        );
     }
     Ok(())
+}
+
+/// The journal of a host that declined a request of this suite.
+fn declined(alloc: Global, suite: Suite) -> Result<Vec<u8>, Fail> {
+    let issuer = one_card(alloc)?;
+    let empty = store(alloc, Vec::new(alloc), &[])?;
+    let request = purchase_in(suite).ok_or("a request")?;
+    let (_answer, decided) = reloaded_answer(alloc, &issuer, empty, request)?;
+    text_of(&decided)
+}
+
+/// Whether the decision of this journal is taken once.
+fn is_taken_once(alloc: Global, issuer: &Issuer, journal: &[u8]) -> Result<bool, Fail>
+    requires { issuer.now.shards ≡ 1 }
+{
+    let line = journal.strip_prefix(b"v2\n").ok_or("a journal")?;
+    let results = [Some(Ok(0)), Some(Err(TakeFault::NotLegal))];
+    ends_so(alloc, issuer, &[], [line, line], results, journal)
 }
 
 /// A decision is taken under another table than the one that decided it, and only once.
 #[test]
 fn takes_a_decision_once(rt: HostRuntime) -> Result<(), Fail> {
     let alloc = rt.alloc();
-    let declining = one_card(alloc)?;
-    let approving = approving_issuer(alloc)?;
+    let issuer = approving_issuer(alloc)?;
     for suite in [Suite::TripleDes, Suite::Aes] {
-        let empty = store(alloc, Vec::new(alloc), &[])?;
-        let request = purchase_in(suite).ok_or("a request")?;
-        let (_answer, decided) = reloaded_answer(alloc, &declining, empty, request)?;
-        let text = text_of(&decided)?;
-        let line = text.strip_prefix(b"v2\n").ok_or("a journal")?;
-        let taken = take_both(alloc, &approving, &[], [line, line])?;
-        assert!(rt; taken.first == Some(Ok(0)), "{suite:?}");
-        assert!(rt; taken.second == Some(Err(TakeFault::NotLegal)), "{suite:?}");
-        assert!(rt; taken.text == text, "{suite:?}");
+        let journal = declined(alloc, suite)?;
+        assert!(rt; is_taken_once(alloc, &issuer, &journal)?, "{suite:?}");
     }
     Ok(())
 }
@@ -136,16 +179,19 @@ fn takes_a_record_again_after_a_fault(rt: HostRuntime) -> Result<(), Fail> {
     let issuer = one_card(alloc)?;
     // the load makes three calls, and a record two
     for fails in 3..5 {
-        let taken = take_both(
-            alloc,
-            &issuer,
-            &[fails],
-            [STATUS.as_bytes(), STATUS.as_bytes()],
-        )?;
-        assert!(rt; taken.first == Some(Err(TakeFault::StoreFault)), "{fails}");
-        assert!(rt; taken.second == Some(Ok(0)), "{fails}");
-        let text = format!(in alloc; "v2\n{STATUS}")?;
-        assert!(rt; taken.text == text.into_bytes(), "{fails}");
+        let lines = [STATUS.as_bytes(), STATUS.as_bytes()];
+        let results = [Some(Err(TakeFault::StoreFault)), Some(Ok(0))];
+        assert!(rt;
+            ends_so(
+                alloc,
+                &issuer,
+                &[fails],
+                lines,
+                results,
+                ONE_STATUS.as_bytes()
+            )?,
+            "{fails}"
+        );
     }
     Ok(())
 }

@@ -3,13 +3,16 @@ ghost use Rattle.std.specs.Prelude.{◌≡◌, length, true, is_err, Some};
 ghost use Rattle.std.proofs.Common.{refl};
 ghost use Rattle.issuer_base.specs.OutsideFaults.{CountsFaults};
 
-use crate::journals::{STATUS, load, one_card, set_status, store};
+use crate::journals::{load, one_card, set_status, store};
 use issuer_base::{Answer, Refusal, Store, StoreFail};
 use issuer_setup::Issuer;
 use memory_edge::MemoryStore;
 use shard_book::{LoadBack, LoadFault};
 use std::alloc::Global;
 use std::test::Fail;
+
+/// A journal with one record and a torn last line.
+const TORN: &str = "v2\ns 4000000000000002ffff 00 3\ns 40";
 
 /// A store in memory, of which one truncation may take effect and fail all the same, as if a file is truncated and its
 /// sync fails.
@@ -126,21 +129,14 @@ fn reloaded(alloc: Global, issuer: &Issuer, store: Truncating) -> Result<(u64, u
     }
 }
 
-/// The answers to three statuses, of which the first one's record is torn, and the store after them.
-#[derive(Drop)]
-struct Answered {
-    first: Option<Answer>,
-    second: Option<Answer>,
-    third: Option<Answer>,
-    store: Truncating,
-}
-
+/// The store after three statuses, of which the first one's record is torn, if they are answered as they should be: the
+/// first two by a fault of the store.
 fn answer_three(
     alloc: Global,
     issuer: &Issuer,
     calls: &[u64],
     fails: bool,
-) -> Result<Answered, Fail>
+) -> Result<Truncating, Fail>
     requires { issuer.now.shards ≡ 1 }
 {
     let mut old = over_text(alloc, "", &[], false)?;
@@ -154,15 +150,36 @@ fn answer_three(
             let first = set_status(&mut shard, issuer);
             let second = set_status(&mut shard, issuer);
             let third = set_status(&mut shard, issuer);
-            Ok(Answered {
-                first,
-                second,
-                third,
-                store: shard.into_store(),
-            })
+            let store = shard.into_store();
+            if !is_fault(&first) || !is_fault(&second) || !is_set(&third) {
+                return Err("two faults, and then a status".into());
+            }
+            Ok(store)
         }
         Err(LoadBack { fault: _, store: _ }) => Err("a shard".into()),
     }
+}
+
+fn is_fault(answer: &Option<Answer>) -> bool {
+    *answer == Some(Answer::Refused(Refusal::StoreFault))
+}
+
+fn is_set(answer: &Option<Answer>) -> bool {
+    *answer == Some(Answer::Set { shard: 0, place: 0 })
+}
+
+/// How many calls of a store failed at three statuses, and how many records and bytes it then has.
+fn counts_after_three(
+    alloc: Global,
+    issuer: &Issuer,
+    calls: &[u64],
+    fails: bool,
+) -> Result<(u64, (u64, u64)), Fail>
+    requires { issuer.now.shards ≡ 1 }
+{
+    let store = answer_three(alloc, issuer, calls, fails)?;
+    let faults = store.faults;
+    Ok((faults, reloaded(alloc, issuer, store)?))
 }
 
 /// The record in doubt is truncated again before the next one is appended, whether the truncation that failed took effect or not.
@@ -174,28 +191,50 @@ fn a_failed_truncation_is_tried_again(rt: HostRuntime) -> Result<(), Fail> {
     // second one.
     let cases: [(&[u64], bool); 2] = [(&[2, 3], false), (&[2], true)];
     for (calls, takes_effect) in cases {
-        let Answered {
-            first,
-            second,
-            third,
-            store,
-        } = answer_three(alloc, &issuer, calls, takes_effect)?;
-        assert!(rt;
-            first == Some(Answer::Refused(Refusal::StoreFault)),
-            "{takes_effect}"
+        assert_eq!(rt;
+            counts_after_three(alloc, &issuer, calls, takes_effect)?,
+            (2, (1, 31))
         );
-        assert!(rt;
-            second == Some(Answer::Refused(Refusal::StoreFault)),
-            "{takes_effect}"
-        );
-        assert!(rt;
-            third == Some(Answer::Set { shard: 0, place: 0 }),
-            "{takes_effect}"
-        );
-        assert_eq!(rt; store.faults, 2);
-        assert_eq!(rt; reloaded(alloc, &issuer, store)?, (1, 31));
     }
     Ok(())
+}
+
+/// Why a store with a torn last line isn't loaded, and the store then.
+fn stopped_load(
+    alloc: Global,
+    issuer: &Issuer,
+    calls: &[u64],
+    fails: bool,
+) -> Result<(LoadFault, Truncating), Fail>
+    requires { issuer.now.shards ≡ 1 }
+{
+    let mut old = over_text(alloc, "", &[], false)?;
+    let torn = over_text(alloc, TORN, calls, fails)?;
+    match load(alloc, issuer, &mut old, torn) {
+        Ok(shard) => {
+            shard.into_store();
+            Err("a fault".into())
+        }
+        Err(LoadBack { fault, store }) => Ok((fault, store)),
+    }
+}
+
+/// How many bytes a store with a torn last line has once its load failed at the store, and how many records and bytes
+/// once it is loaded again.
+fn counts_of_retry(
+    alloc: Global,
+    issuer: &Issuer,
+    calls: &[u64],
+    fails: bool,
+) -> Result<(u64, (u64, u64)), Fail>
+    requires { issuer.now.shards ≡ 1 }
+{
+    let (fault, store) = stopped_load(alloc, issuer, calls, fails)?;
+    if fault != LoadFault::StoreFault {
+        return Err("a fault of the store".into());
+    }
+    let length = store.len();
+    Ok((length, reloaded(alloc, issuer, store)?))
 }
 
 /// A load whose truncation fails leaves the torn last line or the records alone, and both load again.
@@ -206,24 +245,10 @@ fn a_load_whose_truncation_fails_can_be_tried_again(rt: HostRuntime) -> Result<(
     // The calls 0 and 1 are the load's reads, and 2 is its truncation.
     let cases: [(&[u64], bool, u64); 2] = [(&[2], false, 35), (&[], true, 31)];
     for (calls, takes_effect, length) in cases {
-        let text = format!(in alloc; "v2\n{STATUS}s 40")?;
-        let mut old = over_text(alloc, "", &[], false)?;
-        match load(
-            alloc,
-            &issuer,
-            &mut old,
-            over_text(alloc, &text, calls, takes_effect)?,
-        ) {
-            Ok(shard) => {
-                shard.into_store();
-                return Err("a fault".into());
-            }
-            Err(LoadBack { fault, store }) => {
-                assert_eq!(rt; fault, LoadFault::StoreFault);
-                assert_eq!(rt; store.len(), length);
-                assert_eq!(rt; reloaded(alloc, &issuer, store)?, (1, 31));
-            }
-        }
+        assert_eq!(rt;
+            counts_of_retry(alloc, &issuer, calls, takes_effect)?,
+            (length, (1, 31))
+        );
     }
     Ok(())
 }
