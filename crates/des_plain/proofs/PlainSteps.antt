@@ -1,16 +1,14 @@
 -- The steps of the reference implementation.
-use Rattle.std.proofs.Common.{ap₂, set, length-set, length-drop, length-take, append_assoc, append-nil, drop-drop, ◌≡◌, ℕ, zero, suc, ◌+◌, ◌-◌, ◌*◌, ◌/◌, ◌%◌}
+use Rattle.std.proofs.Common.{ap₂, set, length-set, append_assoc, append-nil, drop-drop, ◌≡◌, ℕ, ◌+◌, ◌-◌, ◌*◌, ◌/◌, ◌%◌}
 use Rattle.std.proofs.Common.{◌^◌, ◌<◌, ◌≤◌, Bool, true, false, List, [], ◌∷◌, ◌++◌, length, map, take, drop, slice_index, slice_index_or, bit_xor, bit_or}
-use Rattle.std.proofs.Common.{bit_and, refl, sym, ap, ◌∙◌, arith, pow_pos, pow_mono, mod-lt, length-append, length-take-le, fold, get_or}
-use Rattle.std.proofs.lemmas.Nat.{mod-pow-add, shr_high, or_shifted, and_mask, pow-add, xor_lt, shr-shr, shl_below}
+use Rattle.std.proofs.Common.{bit_and, refl, sym, ap, ◌∙◌, arith, pow_pos, pow_mono, mod-lt, length-take-le, fold, get_or}
+use Rattle.std.proofs.lemmas.Nat.{mod-pow-add, shr_high, or_shifted, and_mask, pow-add, xor_lt, shl_below}
 use Rattle.std.proofs.lemmas.List.{take_all, take_more_set, map-append, drop_all, map_more, drop_more}
-use Rattle.std.proofs.lemmas.List.FromFn.{get_or-map-range_with_len}
-use Rattle.std.specs.List.{range_with_len}
 use Rattle.des_block.specs.Bits.{bits, digit, number, picked, xor_bits}
 use Rattle.des_block.specs.Tables.{key_choice_left, key_choice_right, round_key_choice, rotations, expansion, box_permutation, initial_permutation}
 use Rattle.des_block.specs.Tables.{inverse_permutation, s_boxes}
 use Rattle.des_block.specs.Cipher.{Halves, halves, box_output, substituted, cipher_function, round, ciphered, turned, keys_from, round_keys}
-use Rattle.des_block.proofs.Digits.{bits_low, digit_of, digit_at, number-lt, number-bits, number-append, length-picked, length-bits, bits-number, take-bits}
+use Rattle.des_block.proofs.Digits.{digit_of, digit_at, number-lt, number-bits, number-append, length-picked, length-bits, bits-number, take-bits}
 use Rattle.des_block.proofs.Digits.{drop-bits, bits-xor, bits_mod, agree_below, bits-append}
 use Rattle.des_block.proofs.Lengths.{length-box_output, length-substituted, length-cipher_function, length-turned}
 

@@ -47,7 +47,8 @@ impl<S: Store> Host<S> {
 
         // The clauses of `pre_check`, for each line of which this is the look-up.
         ensures checks { (line : List ℕ) → IsLookUp self.now.issuer line found
-            → PreChecks self.now.issuer (reading self.now.issuer line) (claims_of pass.old) result (claims_of pass.new) }
+            → PreChecks self.now.issuer (reading self.now.issuer line)
+            (claims_of pass.old) result (claims_of pass.new) }
         ensures names { (claims_of pass.new).names ≡ (claims_of pass.old).names }
         ensures logs { logs_of pass.new ≡ logs_of pass.old }
         ensures asked { (line : List ℕ) → IsLookUp self.now.issuer line found

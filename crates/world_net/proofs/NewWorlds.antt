@@ -1,9 +1,7 @@
 -- A world before any event, and its cards.
-use Rattle.std.proofs.Common.{◌≡◌, ℕ, ◌+◌, ◌%◌, List, [], ◌∷◌, ◌++◌, length, map, Contains, replicate, refl, ap, sym, ◌∙◌, subst, inl, inr, Some, arith}
-use Rattle.std.specs.Prelude.{◌<◌, Option, None, is_some, IsTrue}
-use Rattle.std.proofs.lemmas.Bool.{cases_eq}
-use Rattle.std.proofs.lemmas.List.{length_push, length-map, get_or_push, get_or_append_left}
-use Rattle.std.proofs.lemmas.Option.{same_Some, slice_get_within, slice_get-get_or, slice_get-map, get_or_from_slice_get}
+use Rattle.std.proofs.Common.{◌≡◌, List, [], length, map, Contains, replicate, refl, ap, ◌∙◌, Some}
+use Rattle.std.proofs.lemmas.List.{length-map}
+use Rattle.std.proofs.lemmas.Option.{slice_get_within, slice_get-map, get_or_from_slice_get}
 use Rattle.std.specs.List.{slice_get}
 use Rattle.issuer_setup.specs.declared.card.CardInfo.{CardInfo}
 use Rattle.issuer_setup.specs.IssuerSetup.{Setup}
@@ -13,13 +11,11 @@ use Rattle.world_net.specs.declared.parts.OpenClaim.{OpenClaim}
 use Rattle.world_net.specs.declared.parts.Exchange.{Exchange}
 use Rattle.world_net.specs.WorldState.{ShardState, no_shard}
 use Rattle.world_net.specs.NewWorld.{AreUnder, AreFirst}
-use Rattle.world_net.specs.WorldRuns.{IsCardUnder, IsNewWorld}
+use Rattle.world_net.specs.WorldRuns.{IsNewWorld}
 use Rattle.issuer_base.specs.declared.request.Suite.{Suite}
-use Rattle.issuer_base.specs.declared.request.Suite.TheVariants.{TripleDes, Aes}
-use Rattle.key_derive.specs.declared.card.AesPair.{AesPair}
+use Rattle.issuer_base.specs.declared.request.Suite.TheVariants.{TripleDes}
 use Rattle.key_derive.specs.declared.card.KeySet.{KeySet}
-use Rattle.key_derive.specs.CardKey.{des_keys, aes_keys, card_keys}
-use Rattle.issuer_setup.specs.KeyList.{has_suite}
+use Rattle.key_derive.specs.CardKey.{des_keys}
 use Rattle.card_model.specs.CardSteps.{new_card}
 use Rattle.std.specs.Option.{option_map}
 
