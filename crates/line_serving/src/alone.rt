@@ -124,8 +124,28 @@ impl<S: Store> AloneHost<S> {
     }
 
     /// Answers all lines that wait, once their cryptograms were checked, together if they are many. The answers go into
-    /// the block. The gate is called with each line's number, before the line is answered and after it.
+    /// the block. The gate is called with each line's number, before the line is answered and after it. Where no line
+    /// waits, nothing is done.
     pub(crate) fn settle<R: Wait, G: Gate>(&mut self, rt: &R, gate: &G, block: &mut Block)
+        requires room { block.old.lines + length self.old.ahead ≤ BLOCK_LINES }
+        requires looked_up { (lines : List (List ℕ)) × AreLookUps self.old.host.issuer lines self.old.ahead }
+        ensures answered { (first : Solo S S.Store) (lines : List (List ℕ)) (text : List ℕ) (waiting : List (List ℕ))
+            → HasAnswered first lines text waiting self.old
+            → Settles (λ lines text waiting. HasAnswered first lines text waiting self.new) lines text waiting
+            block.old.text.items block.new.text.items }
+        ensures none { self.new.ahead ≡ [] }
+        ensures count { block.new.lines ≡ block.old.lines + length self.old.ahead }
+    {
+        if self.ahead.is_empty() {
+            return;
+        }
+        self.settle_waiting(rt, gate, block);
+    }
+
+    /// Answers all lines that wait, once their cryptograms were checked, together if they are many. The answers go into
+    /// the block. The gate is called with each line's number, before the line is answered and after it.
+    #[inline(never)]
+    fn settle_waiting<R: Wait, G: Gate>(&mut self, rt: &R, gate: &G, block: &mut Block)
         requires room { block.old.lines + length self.old.ahead ≤ BLOCK_LINES }
         requires looked_up { (lines : List (List ℕ)) × AreLookUps self.old.host.issuer lines self.old.ahead }
         ensures answered { (first : Solo S S.Store) (lines : List (List ℕ)) (text : List ℕ) (waiting : List (List ℕ))

@@ -4,7 +4,7 @@ use Rattle.line_checks.specs.LookedUp.{AreLookUps}
 use Rattle.one_caller.specs.declared.solo.Solo.{Solo}
 use Rattle.line_serving.specs.Hosts.{HasAnswered}
 use Rattle.line_serving.proofs.AloneSteps.{IsSettling}
-use Rattle.line_serving.proofs.alone.AloneHost.settle.Given as goal
+use Rattle.line_serving.proofs.alone.AloneHost.settle_waiting.Given as goal
 
 abbrev pub invariant-loop-found : goal.invariant-loop-found
 invariant-loop-found g l = record {
