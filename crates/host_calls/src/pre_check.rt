@@ -41,23 +41,24 @@ impl<S: Store> Host<S> {
     pub fn pre_check_found(
         &self,
         pass: &mut Pass,
-        found: Result<Sought, Refusal>,
+        found: &Result<Sought, Refusal>,
     ) -> Result<Checked, Refusal>
-        requires { IsFree self.now pass.old × ((line : List ℕ) × IsLookUp self.now.issuer line found) }
+        requires { IsFree self.now pass.old × ((line : List ℕ) × IsLookUp self.now.issuer line found.now) }
 
         // The clauses of `pre_check`, for each line of which this is the look-up.
-        ensures checks { (line : List ℕ) → IsLookUp self.now.issuer line found
+        ensures checks { (line : List ℕ) → IsLookUp self.now.issuer line found.now
             → PreChecks self.now.issuer (reading self.now.issuer line)
             (claims_of pass.old) result (claims_of pass.new) }
         ensures names { (claims_of pass.new).names ≡ (claims_of pass.old).names }
         ensures logs { logs_of pass.new ≡ logs_of pass.old }
-        ensures asked { (line : List ℕ) → IsLookUp self.now.issuer line found
+        ensures asked { (line : List ℕ) → IsLookUp self.now.issuer line found.now
             → IfOk result (IsAskedBy self.now.issuer (reading self.now.issuer line)) }
         ensures held { MatchResult result (Holds self.now pass.new) (λ _. IsFree self.now pass.new) }
     {
-        match found? {
-            Sought::Request(sought) => self.claim(pass, sought.check(&self.issuer)?),
-            Sought::Order(found) => Ok(Checked::Order(found)),
+        match found {
+            Ok(Sought::Request(sought)) => self.claim(pass, sought.check(&self.issuer)?),
+            Ok(Sought::Order(found)) => Ok(Checked::Order(found.copy())),
+            Err(refusal) => Err(*refusal),
         }
     }
 

@@ -1,5 +1,5 @@
 -- A request passes its check exactly where it is for an ARQC, has its keys and has the cryptogram that they give.
-use Rattle.std.proofs.Common.{◌≡◌, ℕ, Bool, true, false, if◌then◌else◌, refl, ap, ap₂, ◌∙◌}
+use Rattle.std.proofs.Common.{◌≡◌, ◌≢◌, ℕ, Bool, true, false, if◌then◌else◌, refl, ap, ap₂, ◌∙◌}
 use Rattle.std.proofs.Common.{Option, None, Some, Result, Ok, Err}
 use Rattle.std.proofs.lemmas.Slice.Eq.{bytes_eq-Decides}
 use Rattle.issuer_base.specs.declared.request.Request.{Request}
@@ -35,6 +35,11 @@ ac-right : (keys : CardKeys) (request : Request) (right : Bool) → is_right key
 unfolding either
 ac-right keys request true is passes = (bytes_eq-Decides request.ac (application_cryptogram keys request)).0 is
 ac-right keys request false is passes = absurd cc
+
+ac-wrong : (keys : CardKeys) (request : Request) (right : Bool) → is_right keys request ≡ right → request.ac ≢ application_cryptogram keys request
+    → right ≡ false
+ac-wrong keys request true is other = absurd (other ((bytes_eq-Decides request.ac (application_cryptogram keys request)).0 is))
+ac-wrong keys request false is other = refl
 
 module _ (issuer : Setup) (request : Request) where
   keys-facts : (number : ℕ) (arqc : Bool) (keys : Option CardKeys)
@@ -74,3 +79,13 @@ module _ (issuer : Setup) (request : Request) where
       ap (λ (found : Option ℕ). of_card issuer found request) its.number_is
       ∙ ap₂ (λ (arqc : Bool) (keys : Option CardKeys). on_arqc arqc keys request) arqc its.keys_are
       ∙ ap (λ (right : Bool). either right request) right
+
+  -- ---- with another cryptogram it doesn't
+
+  pub wrong-checked : (its : HasItsKeys issuer request) → is_arqc request ≡ true → request.ac ≢ application_cryptogram its.keys request
+      → checked issuer request ≡ Err BadCryptogram
+  unfolding either on_arqc
+  wrong-checked its arqc other =
+      ap (λ (found : Option ℕ). of_card issuer found request) its.number_is
+      ∙ ap₂ (λ (arqc : Bool) (keys : Option CardKeys). on_arqc arqc keys request) arqc its.keys_are
+      ∙ ap (λ (right : Bool). either right request) (ac-wrong its.keys request (is_right its.keys request) refl other)

@@ -1,5 +1,5 @@
 -- The session key of a cryptogram that is right is that of the card's keys.
-use Rattle.std.proofs.Common.{◌≡◌, ℕ, Bool, true, false, if◌then◌else◌, List, Option, Some, None, IfSome, refl, sym, ap, ◌∙◌, length, slice_get}
+use Rattle.std.proofs.Common.{◌≡◌, ◌≢◌, ℕ, Bool, true, false, if◌then◌else◌, List, Option, Some, None, refl, sym, ap, ◌∙◌, length, slice_get}
 use Rattle.std.proofs.lemmas.Option.{same_Some}
 use Rattle.std.specs.Option.{option_map}
 use Rattle.std.proofs.lemmas.Slice.Eq.{bytes_eq-Decides}
@@ -23,7 +23,7 @@ use Rattle.cryptogram_lanes.specs.Batch.{check_of, des_session, des_mac, right_s
 use Rattle.issuer_setup.specs.declared.card.CardInfo.{CardInfo}
 use Rattle.issuer_setup.specs.KeyList.{key_of}
 use Rattle.issuer_setup.specs.IssuerSetup.{Setup, keys_from, keys_of}
-use Rattle.line_checks.specs.LookedUp.{IsRightSession}
+use Rattle.line_checks.specs.LookedUp.{verdict_of, IsRightSession, IsVerdict}
 
 -- ---- the suite of a card's keys
 
@@ -63,9 +63,25 @@ session-right keys request session suite_is found =
       eight = ap length right ∙ length-retail_mac key (input request);
     }
 
--- or it gives none
-pub ahead-right : (keys : CardKeys) (request : Parts) (session : Option Key16) (check : DesCheck) → keys.suite ≡ TripleDes → check ≡ check_of keys.ac request
-    → session ≡ right_session check → IfSome session (λ session. IsRightSession keys request (record { suite = TripleDes; key = session.0 }))
-ahead-right keys request None check suite_is check_is is = tt
-ahead-right keys request (Some session) check suite_is check_is is =
+-- ---- and where it gives none
+
+untaken : (right : Bool) (key : Key16) → (if right then Some key else None) ≡ None → right ≡ true → ⊥
+untaken true key none is = cc
+untaken false key none is = cc
+
+session-wrong : (keys : CardKeys) (request : Parts) → keys.suite ≡ TripleDes → right_session (check_of keys.ac request) ≡ None
+    → request.ac ≢ application_cryptogram keys request
+unfolding right_session des_mac des_session application_cryptogram cryptogram_under mac_of
+session-wrong keys request suite_is none = λ is.
+    let key = session_ac TripleDes keys.ac.0 request.atc in
+    let mac = retail_mac key (input request) in
+    let mac_is : mac ≡ mac_of keys.suite (session_ac keys.suite keys.ac.0 request.atc) (input request) =
+    ap (λ (suite : Suite). mac_of suite (session_ac suite keys.ac.0 request.atc) (input request)) (sym suite_is) in
+    untaken (bytes_eq request.ac mac) (record { 0 = key }) none ((bytes_eq-Decides request.ac mac).1 (is ∙ sym mac_is))
+
+-- so it gives the verdict
+pub verdict-is : (keys : CardKeys) (request : Parts) (session : Option Key16) (check : DesCheck) → keys.suite ≡ TripleDes → check ≡ check_of keys.ac request
+    → session ≡ right_session check → IsVerdict keys request (verdict_of session)
+verdict-is keys request None check suite_is check_is is = session-wrong keys request suite_is (sym (is ∙ ap right_session check_is))
+verdict-is keys request (Some session) check suite_is check_is is =
     session-right keys request session suite_is (sym (is ∙ ap right_session check_is))

@@ -1,5 +1,5 @@
 -- What is looked up for a line before its cryptogram is checked.
-use Rattle.std.specs.Prelude.{◌≡◌, ◌≢◌, ℕ, List, length, Result, Ok, Err, Some, IfSome, true}
+use Rattle.std.specs.Prelude.{◌≡◌, ◌≢◌, ℕ, List, length, Option, None, Some, Result, Ok, Err, true}
 use Rattle.std.specs.List.{AllZip}
 use Rattle.issuer_base.specs.declared.answer.Refusal.{Refusal}
 use Rattle.issuer_base.specs.declared.answer.Refusal.TheVariants.{BadCryptogram}
@@ -10,6 +10,7 @@ use Rattle.card_history.specs.Records.{card_of}
 use Rattle.chip_request.specs.declared.line.LineKind.TheVariants.{Ask}
 use Rattle.chip_request.specs.LineParts.{line_of}
 use Rattle.chip_request.specs.Reading.{request_of}
+use Rattle.des_block.specs.declared.Key16.{Key16}
 use Rattle.key_derive.specs.declared.card.CardKeys.{CardKeys}
 use Rattle.key_derive.specs.SuiteKey.{SuiteKey}
 use Rattle.key_derive.specs.SessionKey.{session_of}
@@ -21,6 +22,8 @@ use Rattle.issuer_setup.specs.KeySlots.{keys_at, IsSlotOf}
 use Rattle.line_checks.specs.declared.sought.Sought.{Sought}
 use Rattle.line_checks.specs.declared.sought.Sought.TheVariants.{Request as IsRequest, Order}
 use Rattle.line_checks.specs.declared.sought.SoughtRequest.{SoughtRequest}
+use Rattle.line_checks.specs.declared.sought.Verdict.{Verdict}
+use Rattle.line_checks.specs.declared.sought.Verdict.TheVariants.{Unchecked, Right, Wrong}
 use Rattle.line_checks.specs.AtHand.{IsCardAtHand, IsOrderAtHand, order_asked}
 use Rattle.line_checks.specs.Reading.{reading}
 
@@ -36,14 +39,24 @@ pub record IsRightSession (keys : CardKeys) (request : Request) (session : Suite
   pub ac_is : request.ac ≡ application_cryptogram keys request
   pub eight : length request.ac ≡ 8
 
+-- what is known of the request's cryptogram under these keys: if it is right, this is the session key of triple DES
+abbrev pub IsVerdict : CardKeys → Request → Verdict → Type 0
+IsVerdict keys request Unchecked = Unit {0}
+IsVerdict keys request (Right key) = IsRightSession keys request (record { suite = TripleDes; key = key.0 })
+IsVerdict keys request Wrong = request.ac ≢ application_cryptogram keys request
+
+-- the verdict of a check that gave this session key, or none
+abbrev pub verdict_of : Option Key16 → Verdict
+verdict_of (Some key) = Right key
+verdict_of None = Wrong
+
 -- the request asks to go online; these are its card, and the slot of the card's master keys from the key set that the
--- request names; a session key that was found ahead is the one of triple DES under which its cryptogram is right
+-- request names; and what is known of its cryptogram is so under these keys
 pub record HasKeysAtHand (issuer : Setup) (sought : SoughtRequest) : Type 0 where
   pub card_is : IsCardAtHand issuer (card_of sought.request) sought.card
   pub online_is : is_arqc sought.request ≡ true
   pub slot_is : IsSlotOf issuer sought.card sought.request sought.slot
-  pub ahead_is : IfSome sought.ahead (λ session.
-      IsRightSession slot_is.keys sought.request (record { suite = TripleDes; key = session.0 }))
+  pub verdict_is : IsVerdict slot_is.keys sought.request sought.verdict
 
 -- what the line asks: a request with its card and keys, or an order that passed every check
 abbrev pub IsSought : Setup → List ℕ → Sought → Type 0
@@ -64,7 +77,7 @@ abbrev pub IsReady : Setup → Result Sought Refusal → Type 0
 IsReady issuer (Ok (IsRequest sought)) = HasKeysAtHand issuer sought
 IsReady issuer _ = Unit {0}
 
--- the look-up found the same: a request with its card and keys, of which the session key may be another one ahead
+-- the look-up found the same: a request with its card and keys, of whose cryptogram more may be known
 pub record IsRequestAgain (issuer : Setup) (old new : SoughtRequest) : Type 0 where
   pub request_is : new.request ≡ old.request
   pub card_is : new.card ≡ old.card

@@ -85,6 +85,16 @@ impl CheckedOrder {
         }
     }
 
+    /// A copy. It allocates nothing.
+    pub fn copy(&self) -> CheckedOrder
+        ensures { result ≡ self.now }
+    {
+        match self {
+            CheckedOrder::Command(found) => CheckedOrder::Command(found.copy()),
+            CheckedOrder::Status(found) => CheckedOrder::Status(found.copy()),
+        }
+    }
+
     /// The record that the order asks for.
     pub fn to_entry(&self) -> Entry
         ensures { result ≡ record_of self.now }
@@ -97,6 +107,18 @@ impl CheckedOrder {
 }
 
 impl CheckedCommand {
+    /// A copy. It allocates nothing.
+    fn copy(&self) -> CheckedCommand
+        ensures { result ≡ self.now }
+    {
+        CheckedCommand {
+            pan: self.pan.copy(),
+            psn: self.psn,
+            command: self.command.copy(),
+            card: self.card,
+        }
+    }
+
     /// The record of the command, once it is queued.
     pub fn to_entry(&self) -> Entry
         ensures { result ≡ Entry.Queued self.now.pan self.now.psn self.now.command }
@@ -110,6 +132,18 @@ impl CheckedCommand {
 }
 
 impl CheckedStatus {
+    /// A copy. It allocates nothing.
+    fn copy(&self) -> CheckedStatus
+        ensures { result ≡ self.now }
+    {
+        CheckedStatus {
+            pan: self.pan.copy(),
+            psn: self.psn,
+            status: self.status,
+            card: self.card,
+        }
+    }
+
     /// The record of the status, once it is set.
     pub fn to_entry(&self) -> Entry
         ensures { result ≡ Entry.Status self.now.pan self.now.psn self.now.status }

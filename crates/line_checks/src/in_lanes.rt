@@ -14,8 +14,8 @@ use issuer_base::{Refusal, Suite};
 use issuer_setup::Issuer;
 
 /// Checks the cryptograms of the requests among up to 128 results of look-ups together, if enough of them are of triple
-/// DES: [`FEWEST_IN_LANES`]. Each request whose cryptogram is right then has its session key ahead, and
-/// [`SoughtRequest::check`](crate::SoughtRequest::check) doesn't compute it again. It doesn't allocate.
+/// DES: [`FEWEST_IN_LANES`]. Each of these requests then has its verdict, and
+/// [`SoughtRequest::check`](crate::SoughtRequest::check) doesn't compute its cryptogram again. It doesn't allocate.
 pub fn check_in_lanes(issuer: &Issuer, found: &mut [Result<Sought, Refusal>])
     requires few { length found.old ≤ 128 }
     requires ready { All (IsReady issuer.now) found.old }
@@ -36,7 +36,7 @@ fn check_all(issuer: &Issuer, found: &mut [Result<Sought, Refusal>])
     let checks = checks_of(issuer, found);
     let sessions = right_sessions(checks.as_slice());
     for (i, element) in found.iter_mut().enumerate() {
-        keep_session(element, sessions.as_slice()[i]);
+        keep_verdict(element, sessions.as_slice()[i]);
     }
 }
 
@@ -75,12 +75,13 @@ fn check_of(issuer: &Issuer, found: &Result<Sought, Refusal>) -> DesCheck
     }
 }
 
-/// Keeps the session key that the check of a request gave, if its key is of triple DES.
-fn keep_session(found: &mut Result<Sought, Refusal>, session: Option<Key16>)
+/// Keeps the verdict of the check that gave this session key, or none, if it is that of a request whose key is of triple
+/// DES.
+fn keep_verdict(found: &mut Result<Sought, Refusal>, session: Option<Key16>)
     ensures { (issuer : Setup) (check : DesCheck) → IsReady issuer found.old → IsCheckOf issuer found.old check
         → session ≡ right_session check → IsLookedUpAgain issuer found.old found.new }
 {
     if let Ok(Sought::Request(sought)) = found {
-        sought.keep_session(session);
+        sought.keep_verdict(session);
     }
 }

@@ -15,4 +15,4 @@ pub use in_lanes::check_in_lanes;
 pub use line::{check_line, look_up};
 pub use lines_ahead::{LinesAhead, MOST_AHEAD};
 pub use request::{check_request, look_up_request, refusal_of};
-pub use sought::{Sought, SoughtRequest};
+pub use sought::{Sought, SoughtRequest, Verdict};

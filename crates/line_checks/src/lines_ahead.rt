@@ -1,5 +1,5 @@
 //! Lines that were looked up and wait for their turns.
-ghost use Rattle.std.specs.Prelude.{◌≡◌, ◌<◌, ◌≤◌, ◌==◌, ℕ, List, [], ◌∷◌, ◌++◌, length, IfOk, MatchOption};
+ghost use Rattle.std.specs.Prelude.{◌≡◌, ◌<◌, ◌≤◌, ◌==◌, ℕ, List, [], ◌∷◌, ◌++◌, length, drop, IfOk, MatchOption};
 ghost use Rattle.line_checks.specs.LookedUp.{AreLookUps};
 ghost use Rattle.line_checks.specs.declared.lines_ahead.TheConstants.{MOST_AHEAD};
 
@@ -87,11 +87,18 @@ impl LinesAhead {
         check_in_lanes(issuer, self.found.make_contiguous());
     }
 
-    /// Takes what the look-up of the first line gave; `None` if there is none.
-    pub fn take(&mut self) -> Option<Result<Sought, Refusal>>
-        ensures { MatchOption result ((self.old ≡ []) × (self.new ≡ [])) (λ found. self.old ≡ found ∷ self.new) }
+    /// What the look-up of the first line gave; `None` if there is none.
+    pub fn first(&self) -> Option<&Result<Sought, Refusal>>
+        ensures { MatchOption result (self.now ≡ []) (λ found. self.now ≡ found.now ∷ drop 1 self.now) }
     {
-        self.found.pop_front()
+        self.found.front()
+    }
+
+    /// Removes what the look-up of the first line gave, if there is one.
+    pub fn remove_first(&mut self)
+        ensures { self.new ≡ drop 1 self.old }
+    {
+        let _ = self.found.pop_front();
     }
 
     /// Removes all.

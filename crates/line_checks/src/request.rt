@@ -9,7 +9,7 @@ ghost use Rattle.line_checks.specs.AtHand.{IsRequestAtHand};
 ghost use Rattle.line_checks.specs.LookedUp.{HasKeysAtHand};
 
 use crate::checked::CheckedRequest;
-use crate::sought::SoughtRequest;
+use crate::sought::{SoughtRequest, Verdict};
 use chip_request::{RequestFault, read_request};
 use issuer_base::{MAX_CHIP_BYTES, Refusal, Request};
 use issuer_setup::Issuer;
@@ -73,6 +73,6 @@ pub fn look_up_request(issuer: &Issuer, request: Request) -> Result<SoughtReques
         request,
         card,
         slot,
-        ahead: None,
+        verdict: Verdict::Unchecked,
     })
 }

@@ -1,5 +1,5 @@
 //! What is looked up for a line before a key is used.
-ghost use Rattle.std.specs.Prelude.{◌≡◌, Some, IsSome, IfSome, IfOk};
+ghost use Rattle.std.specs.Prelude.{◌≡◌, IsSome, IfSome, IfOk};
 ghost use Rattle.std.specs.Result.{result_map_both};
 ghost use Rattle.card_history.specs.declared.decision.Asked.TheVariants.{Decide};
 ghost use Rattle.issuer_base.specs.declared.request.Suite.TheVariants.{TripleDes};
@@ -9,7 +9,7 @@ ghost use Rattle.cryptogram_lanes.specs.Batch.{right_session};
 ghost use Rattle.issuer_setup.specs.IssuerSetup.{Setup};
 ghost use Rattle.line_checks.specs.Reading.{checked};
 ghost use Rattle.line_checks.specs.AtHand.{IsRequestAtHand};
-ghost use Rattle.line_checks.specs.LookedUp.{HasKeysAtHand, IsCheckFor, IsRequestAgain};
+ghost use Rattle.line_checks.specs.LookedUp.{verdict_of, HasKeysAtHand, IsCheckFor, IsRequestAgain};
 
 use crate::checked::{CheckedOrder, CheckedRequest};
 use cryptogram_in::holds;
@@ -40,54 +40,65 @@ pub struct SoughtRequest {
     /// Where the issuer has the card's master keys from the key set that the request names.
     pub slot: KeySlot,
 
-    /// The session key of the request's ATC, if the request's cryptogram was found right ahead of its turn
-    /// ([`check_in_lanes`](crate::check_in_lanes)); only of triple DES.
-    pub ahead: Option<Key16>,
+    /// What is known of its cryptogram.
+    pub verdict: Verdict,
+}
+
+/// What is known of a request's cryptogram before its turn.
+#[derive(Clone, Copy)]
+pub enum Verdict {
+    /// Nothing: it is checked in its turn.
+    Unchecked,
+
+    /// It is right, and this is the session key of the request's ATC. The card's keys are of triple DES.
+    Right(Key16),
+
+    /// It is wrong.
+    Wrong,
 }
 
 impl SoughtRequest {
-    /// Checks the request's cryptogram under the card's keys, unless its session key is ahead. The key schedule of its
-    /// session key is computed once.
-    #[tactic(auto, unfolding(cryptogram_in::specs::Cryptogram::application_cryptogram))]
+    /// Checks the request's cryptogram under the card's keys, unless its verdict is known
+    /// ([`check_in_lanes`](crate::check_in_lanes)). The key schedule of its session key is computed once.
     #[inline(always)]
-    pub fn check(self, issuer: &Issuer) -> Result<CheckedRequest, Refusal>
-        requires { HasKeysAtHand issuer.now self }
+    pub fn check(&self, issuer: &Issuer) -> Result<CheckedRequest, Refusal>
+        requires { HasKeysAtHand issuer.now self.now }
         ensures request { result_map_both (λ found. Decide found.request) (λ refusal. refusal) result
-            ≡ checked issuer.now self.request }
+            ≡ checked issuer.now self.now.request }
         ensures at_hand { IfOk result (IsRequestAtHand issuer.now) }
     {
-        if let Some(key) = self.ahead {
-            let session = SessionKey::of(Suite::TripleDes, key);
-            return Ok(CheckedRequest {
-                request: self.request,
+        match self.verdict {
+            Verdict::Unchecked => self.check_alone(issuer),
+            Verdict::Right(key) => Ok(CheckedRequest {
+                request: self.request.copy(),
                 card: self.card,
                 keys: issuer.keys(self.slot),
-                session,
-            });
+                session: SessionKey::of(Suite::TripleDes, key),
+            }),
+            Verdict::Wrong => Err(Refusal::BadCryptogram),
         }
+    }
+
+    /// Checks the request's cryptogram under the card's keys.
+    #[tactic(auto, unfolding(cryptogram_in::specs::Cryptogram::application_cryptogram))]
+    #[inline(always)]
+    fn check_alone(&self, issuer: &Issuer) -> Result<CheckedRequest, Refusal>
+        requires { HasKeysAtHand issuer.now self.now }
+        ensures request { result_map_both (λ found. Decide found.request) (λ refusal. refusal) result
+            ≡ checked issuer.now self.now.request }
+        ensures at_hand { IfOk result (IsRequestAtHand issuer.now) }
+    {
         let secrets = issuer.secrets(self.slot);
         let session = secrets.session(self.slot.suite(), self.request.parts().atc);
         if !holds(&session, &self.request) {
             return Err(Refusal::BadCryptogram);
         }
         Ok(CheckedRequest {
-            request: self.request,
+            request: self.request.copy(),
             card: self.card,
             keys: issuer.keys(self.slot),
             session,
         })
-    }
-
-    /// A copy. It allocates nothing.
-    pub fn copy(&self) -> SoughtRequest
-        ensures { result ≡ self.now }
-    {
-        SoughtRequest {
-            request: self.request.copy(),
-            card: self.card,
-            slot: self.slot,
-            ahead: self.ahead,
-        }
     }
 
     /// The check of the request's cryptogram, if the card's key is of triple DES.
@@ -103,13 +114,23 @@ impl SoughtRequest {
         Some(DesCheck::of(key, &self.request))
     }
 
-    /// Keeps the session key that the check of the request's cryptogram gave, if the card's key is of triple DES.
-    pub(crate) fn keep_session(&mut self, session: Option<Key16>)
+    /// Keeps the verdict of the check that gave this session key, or none, if the card's key is of triple DES.
+    pub(crate) fn keep_verdict(&mut self, session: Option<Key16>)
         ensures { (issuer : Setup) (check : DesCheck) → HasKeysAtHand issuer self.old → IsCheckFor issuer self.old check
             → session ≡ right_session check → IsRequestAgain issuer self.old self.new }
     {
         if self.request.suite() == Suite::TripleDes {
-            self.ahead = session;
+            self.verdict = verdict_of(session);
         }
+    }
+}
+
+/// The verdict of a check that gave this session key, or none.
+fn verdict_of(session: Option<Key16>) -> Verdict
+    ensures { result ≡ verdict_of session }
+{
+    match session {
+        Some(key) => Verdict::Right(key),
+        None => Verdict::Wrong,
     }
 }

@@ -156,11 +156,12 @@ impl<S: Store> AloneHost<S> {
         ensures count { block.new.lines ≡ block.old.lines + length self.old.ahead }
     {
         self.ahead.check(self.host.issuer());
-        while let Some(found) = self.ahead.take() {
+        while let Some(found) = self.ahead.first() {
             gate.at(rt, self.first);
             let answer = self.host.answer(found);
             gate.done(rt, self.first);
             block.add(&answer);
+            self.ahead.remove_first();
             self.first = self.first.saturating_add(1);
         }
     }

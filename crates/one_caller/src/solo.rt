@@ -114,7 +114,7 @@ impl<S: Store> Solo<S> {
         ensures issuer { self.new.issuer ≡ self.old.issuer }
     {
         match look_up(&self.issuer, line, &mut self.data) {
-            Ok(Sought::Request(sought)) => self.check(sought),
+            Ok(Sought::Request(sought)) => self.check(&sought),
             Ok(Sought::Order(found)) => self.order(&found),
             Err(refusal) => Answer::Refused(refusal),
         }
@@ -134,16 +134,16 @@ impl<S: Store> Solo<S> {
     }
 
     /// The answer to a line that was looked up, as [`Solo::authorise`] gives it in the line's turn.
-    pub fn answer(&mut self, found: Result<Sought, Refusal>) -> Answer
-        requires { (line : List ℕ) × IsLookUp self.old.issuer line found }
+    pub fn answer(&mut self, found: &Result<Sought, Refusal>) -> Answer
+        requires { (line : List ℕ) × IsLookUp self.old.issuer line found.now }
 
         // The clauses of `authorise`, for each line of which this is the look-up.
-        ensures turn { (line : List ℕ) → IsLookUp self.old.issuer line found
+        ensures turn { (line : List ℕ) → IsLookUp self.old.issuer line found.now
             → (books : List Book) → Stand self.old.issuer self.old.shards.items books
             → (after : List Book) × Stand self.new.issuer self.new.shards.items after
             × Turn self.old.issuer books (reading self.old.issuer line) result after }
         ensures unchanged { tells_change result ≡ false → self.new.shards.items ≡ self.old.shards.items }
-        ensures room { (line : List ℕ) → IsLookUp self.old.issuer line found
+        ensures room { (line : List ℕ) → IsLookUp self.old.issuer line found.now
             → AnswersWithin self.old.issuer (reading self.old.issuer line) result
             self.old.shards.items self.new.shards.items }
         ensures crash { (books : List Book) → Stand self.old.issuer self.old.shards.items books
@@ -152,8 +152,8 @@ impl<S: Store> Solo<S> {
     {
         match found {
             Ok(Sought::Request(sought)) => self.check(sought),
-            Ok(Sought::Order(found)) => self.order(&found),
-            Err(refusal) => Answer::Refused(refusal),
+            Ok(Sought::Order(found)) => self.order(found),
+            Err(refusal) => Answer::Refused(*refusal),
         }
     }
 
@@ -206,12 +206,12 @@ impl<S: Store> Solo<S> {
     /// The answer to a request that was looked up. The card's key for cryptograms is cached before its use, whether the
     /// cryptogram is right or not.
     #[inline(always)]
-    fn check(&mut self, sought: SoughtRequest) -> Answer
-        requires { HasKeysAtHand self.old.issuer sought }
+    fn check(&mut self, sought: &SoughtRequest) -> Answer
+        requires { HasKeysAtHand self.old.issuer sought.now }
         ensures turn { (books : List Book) → Stand self.old.issuer self.old.shards.items books
             → (after : List Book) × Stand self.new.issuer self.new.shards.items after
-            × Turn self.old.issuer books (checked self.old.issuer sought.request) result after }
-        ensures room { AnswersWithin self.old.issuer (checked self.old.issuer sought.request) result
+            × Turn self.old.issuer books (checked self.old.issuer sought.now.request) result after }
+        ensures room { AnswersWithin self.old.issuer (checked self.old.issuer sought.now.request) result
             self.old.shards.items self.new.shards.items }
         ensures crash { (books : List Book) → Stand self.old.issuer self.old.shards.items books
             → LeaveBetween self.old.issuer books books self.old.shards.items self.new.shards.items }

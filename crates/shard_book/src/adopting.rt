@@ -77,7 +77,7 @@ impl Rows {
             → RowsStandFor issuer.now self.new (history ++ Entry.Decided sought.now.request reply.now ∷ []) }
         ensures same { AreSame self.old self.new }
     {
-        let Ok(found) = sought.copy().check(issuer) else {
+        let Ok(found) = sought.check(issuer) else {
             return false;
         };
         if issuer.shard_of(found.card) != self.shard() {

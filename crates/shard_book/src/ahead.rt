@@ -1,6 +1,7 @@
 //! Reads the records of a journal's next lines ahead, so that the cryptograms of their requests are checked together.
 ghost use Rattle.std.specs.Prelude.{◌≡◌, ◌≤◌, ◌<◌, ℕ, List, [], ◌∷◌, ◌++◌, length, take, drop, IfOk};
 ghost use Rattle.issuer_base.specs.declared.entry.Entry.{Entry};
+ghost use Rattle.line_checks.specs.declared.lines_ahead.TheConstants.{MOST_AHEAD};
 ghost use Rattle.shard_book.specs.LineAhead.{IsLineAhead};
 ghost use Rattle.shard_book.specs.ReadAhead.{IsLookedUp, AreLookedUp, AreNext, IsNoRecord};
 
@@ -9,13 +10,11 @@ use issuer_base::{Entry, NoMemory, Refusal};
 use issuer_setup::Issuer;
 use journal_rec::read_entry;
 use line_checks::{
-    CheckedCommand, CheckedOrder, CheckedStatus, Sought, check_in_lanes, look_up_request,
+    CheckedCommand, CheckedOrder, CheckedStatus, MOST_AHEAD, Sought, check_in_lanes,
+    look_up_request,
 };
 use std::alloc::Global;
 use std::marker::Model;
-
-/// How many lines are read ahead at most: as many as have their cryptograms checked together.
-const MOST_AHEAD: usize = 128;
 
 /// The records of lines that were read ahead, and what was looked up for each.
 ///
@@ -28,17 +27,18 @@ pub(crate) struct Ahead {
 
 impl Model for Ahead {
     ghost use Rattle.std.specs.Prelude.{◌≤◌, vec_capacity};
+    ghost use Rattle.line_checks.specs.declared.lines_ahead.TheConstants.{MOST_AHEAD};
     ghost use Rattle.shard_book.specs.ReadAhead.{ReadAhead};
 
     ghost Value = { ReadAhead };
 
     ghost view = { λ ahead. record { entries = ahead.entries.items; found = ahead.found.items } };
 
-    ghost invariant = { λ ahead. (128 ≤ vec_capacity ahead.entries) × (128 ≤ vec_capacity ahead.found) };
+    ghost invariant = { λ ahead. (MOST_AHEAD ≤ vec_capacity ahead.entries) × (MOST_AHEAD ≤ vec_capacity ahead.found) };
 }
 
 impl Ahead {
-    /// No records, and room for those of 128 lines. No other call allocates.
+    /// No records, and room for those of [`MOST_AHEAD`] lines. No other call allocates.
     pub(crate) fn new(alloc: Global) -> Result<Ahead, NoMemory> {
         let entries = Vec::with_capacity(alloc, MOST_AHEAD)?;
         let found = Vec::with_capacity(alloc, MOST_AHEAD)?;
@@ -66,8 +66,8 @@ impl Ahead {
         self.found.as_slice()
     }
 
-    /// Reads up to 128 whole lines of a text from an offset on, as far as they are those of records, in place of what was
-    /// read before. The card of each record is looked up, and the cryptograms of their requests are checked together.
+    /// Reads up to [`MOST_AHEAD`] whole lines of a text from an offset on, as far as they are those of records, in place of
+    /// what was read before. The card of each record is looked up, and the cryptograms of their requests are checked together.
     /// Returns the offset of their end.
     pub(crate) fn read(&mut self, issuer: &Issuer, text: &[u8], from: usize) -> usize
         requires { from ≤ length text.now }
@@ -89,7 +89,7 @@ impl Ahead {
         requires empty { (self.old.entries ≡ []) × (self.old.found ≡ []) }
         ensures next { AreNext text.now from self.new.entries result }
         ensures found { AreLookedUp issuer.now self.new }
-        ensures most { length self.new.entries ≤ 128 }
+        ensures most { length self.new.entries ≤ MOST_AHEAD }
         ensures none { self.new.entries ≡ [] → (count : ℕ) → IsLineAhead (drop from text.now) count
             → IsNoRecord (take count (drop from text.now)) }
     {
@@ -109,8 +109,8 @@ impl Ahead {
 
     /// Adds a record and what is looked up for it.
     fn add(&mut self, issuer: &Issuer, entry: Entry)
-        requires entries { length self.old.entries < 128 }
-        requires found { length self.old.found < 128 }
+        requires entries { length self.old.entries < MOST_AHEAD }
+        requires found { length self.old.found < MOST_AHEAD }
         ensures added { self.new.entries ≡ self.old.entries ++ entry ∷ [] }
         ensures found { AreLookedUp issuer.now self.old → AreLookedUp issuer.now self.new }
     {

@@ -133,9 +133,10 @@ impl Lane {
         self.ahead.clear();
         for place in 0..self.lines.len() {
             self.look_ahead(host, place);
-            let found = self.ahead.take();
+            let found = self.ahead.first();
             let line = self.lines.line(place);
             let answer = answer_line(rt, host, gate, &mut self.pass, self.number, line, found);
+            self.ahead.remove_first();
             self.answers.push_back_reserved(answer);
             self.number = self.number.saturating_add(self.step);
         }
@@ -183,10 +184,10 @@ fn answer_line<S: Store, R: Wait, G: Gate>(
     pass: &mut Pass,
     number: u64,
     line: &[u8],
-    found: Option<Result<Sought, Refusal>>,
+    found: Option<&Result<Sought, Refusal>>,
 ) -> Answer
     requires free { IsFree host.now pass.old }
-    requires found { IfSome found (IsLookUp host.now.issuer line.now) }
+    requires found { IfSome found (λ found. IsLookUp host.now.issuer line.now found.now) }
     ensures free { IsFree host.now pass.new }
     ensures answers { Authorises host.now.issuer (reading host.now.issuer line.now)
         (claims_of pass.old) (logs_of pass.old) result (claims_of pass.new) (logs_of pass.new) }
@@ -207,9 +208,9 @@ fn pre_check<S: Store>(
     host: &Host<S>,
     pass: &mut Pass,
     line: &[u8],
-    found: Option<Result<Sought, Refusal>>,
+    found: Option<&Result<Sought, Refusal>>,
 ) -> Result<Checked, Refusal>
-    requires { IsFree host.now pass.old × IfSome found (IsLookUp host.now.issuer line.now) }
+    requires { IsFree host.now pass.old × IfSome found (λ found. IsLookUp host.now.issuer line.now found.now) }
     ensures checks { PreChecks host.now.issuer (reading host.now.issuer line.now)
         (claims_of pass.old) result (claims_of pass.new) }
     ensures names { (claims_of pass.new).names ≡ (claims_of pass.old).names }

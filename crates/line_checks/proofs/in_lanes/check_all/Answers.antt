@@ -1,4 +1,4 @@
--- Each element is the same, or has its session key ahead.
+-- Each element is the same, or has its verdict.
 use Rattle.std.proofs.Common.{◌≡◌, ◌+◌, [], ℕ, List, None, Result, get_or, map, take, drop, length, ap, subst, sym, ◌∙◌, arith}
 use Rattle.std.proofs.Math.ListN.{length-set}
 use Rattle.std.proofs.lemmas.List.{drop-drop, drop-set-lt, get_or-map, length-map, take_more_set}
@@ -29,7 +29,7 @@ loop-i-preserved c =
     let i : ℕ = c.loop-i.i in
     let before : List (Result Sought Refusal) = c.args.found.now in
     let now : List (Result Sought Refusal) = c.loop-i.found in
-    let new = c.keep_session.new.found in
+    let new = c.keep_verdict.new.found in
     let old = c.index-found-i.result in
     let invariant = c.loop-i.invariant in
     let checks : List DesCheck = c.checks_of-checks.result.items in
@@ -49,7 +49,7 @@ loop-i-preserved c =
           subst (λ front. AllZip (IsLookedUpAgain issuer) (take (i + 1) before) front) (sym (take_more_set now i new (omega arith)))
           (zip_more (IsLookedUpAgain issuer) before i old (take i now) new (omega (arith, invariant.len)) place invariant.so_far
           (subst (λ found. IsLookedUpAgain issuer found new) (sym c.index-found-i.is)
-          (c.keep_session.ensures issuer (get_or checks i zero) (subst (IsReady issuer) c.index-found-i.is ready)
+          (c.keep_verdict.ensures issuer (get_or checks i zero) (subst (IsReady issuer) c.index-found-i.is ready)
           (subst (λ found. IsCheckOf issuer found (get_or checks i zero)) c.index-found-i.is its) session)));
       unchanged =
           drop-set-lt (i + 1) now i new (omega arith)

@@ -1,4 +1,4 @@
--- The elements so far are those of before, with their session keys, and the others are unchanged.
+-- The elements so far are those of before, with their verdicts, and the others are unchanged.
 use Rattle.std.proofs.Common.{◌≡◌, take, drop, length}
 use Rattle.std.specs.List.{AllZip}
 use Rattle.line_checks.specs.LookedUp.{IsLookedUpAgain}

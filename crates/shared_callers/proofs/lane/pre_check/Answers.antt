@@ -1,5 +1,5 @@
 -- What was found ahead is the look-up of the line.
-use Rattle.std.proofs.Common.{Option, Result, IfSome, subst}
+use Rattle.std.proofs.Common.{Bor, Option, Result, IfSome, subst}
 use Rattle.issuer_base.specs.declared.answer.Refusal.{Refusal}
 use Rattle.line_checks.specs.LookedUp.{IsLookUp}
 use Rattle.line_checks.specs.declared.sought.Sought.{Sought}
@@ -10,6 +10,7 @@ pre_check_found-requires g c = (
   c.requires.0,
   (
     c.args.line.now,
-    subst (λ (found : Option (Result Sought Refusal)). IfSome found (IsLookUp c.args.host.now.issuer c.args.line.now)) c.in-Some.is c.requires.1,
+    subst (λ (found : Option (Bor (Result Sought Refusal))). IfSome found (λ found. IsLookUp c.args.host.now.issuer c.args.line.now found.now)) c.in-Some.is
+        c.requires.1,
   ),
 )

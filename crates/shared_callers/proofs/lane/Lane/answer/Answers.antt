@@ -1,5 +1,5 @@
 -- One more line is answered, after the others.
-use Rattle.std.proofs.Common.{◌≡◌, ◌∷◌, [], ◌++◌, length, take, Some, ap, sym, subst, ◌∙◌, arith}
+use Rattle.std.proofs.Common.{◌≡◌, ◌∷◌, [], ◌++◌, length, take, drop, Some, refl, ap, sym, subst, ◌∙◌, arith}
 use Rattle.std.specs.List.{slice_get}
 use Rattle.std.proofs.lemmas.List.{length-append}
 use Rattle.host_calls.specs.Passes.{claims_of, logs_of}
@@ -13,8 +13,8 @@ use Rattle.shared_callers.proofs.lane.Lane.answer.Goals as goal
 
 pub answer_line-answer-requires-clause-found : goal.answer_line-answer-requires-clause-found
 answer_line-answer-requires-clause-found g c =
-    (first-ahead (IsLookUp c.args.host.now.issuer) c.loop-place.place c.look_ahead.new.self.lines.lines c.line-line.result.now c.take-found.result
-    c.look_ahead.new.self.ahead c.take-found.new.self c.take-found.ensures c.line-line.ensures c.look_ahead.ensures.ahead).0
+    (first-ahead (IsLookUp c.args.host.now.issuer) c.loop-place.place c.look_ahead.new.self.lines.lines c.line-line.result.now c.first-found.result
+    c.look_ahead.new.self.ahead (drop 1 c.look_ahead.new.self.ahead) c.first-found.ensures refl c.line-line.ensures c.look_ahead.ensures.ahead).0
 
 pub loop-place-preserved : goal.loop-place-preserved
 loop-place-preserved g c =
@@ -36,8 +36,8 @@ loop-place-preserved g c =
       lines = lines_are;
       room = same.3 ∙ before.room;
       count = ap length pushed ∙ omega (arith, length-append c.loop-place.self.answers.items (c.answer_line-answer.result ∷ []), before.count);
-      ahead = (first-ahead (IsLookUp issuer) place c.look_ahead.new.self.lines.lines line c.take-found.result
-          c.look_ahead.new.self.ahead c.take-found.new.self c.take-found.ensures c.line-line.ensures c.look_ahead.ensures.ahead).1;
+      ahead = (first-ahead (IsLookUp issuer) place c.look_ahead.new.self.lines.lines line c.first-found.result
+          c.look_ahead.new.self.ahead c.remove_first.new.self c.first-found.ensures c.remove_first.ensures c.line-line.ensures c.look_ahead.ensures.ahead).1;
       calls = calls-line issuer c.args.self.now.lines.lines place line c.loop-place.self.answers.items
           c.push_back_reserved.new.self.items c.answer_line-answer.result _ _ _ _ _ _ line_is pushed calls c.answer_line-answer.ensures.answers;
     }
