@@ -113,11 +113,8 @@ impl<S: Store> Solo<S> {
             → LeaveBetween self.old.issuer books books self.old.shards.items self.new.shards.items }
         ensures issuer { self.new.issuer ≡ self.old.issuer }
     {
-        match look_up(&self.issuer, line, &mut self.data) {
-            Ok(Sought::Request(sought)) => self.check(&sought),
-            Ok(Sought::Order(found)) => self.order(&found),
-            Err(refusal) => Answer::Refused(refusal),
-        }
+        let found = look_up(&self.issuer, line, &mut self.data);
+        self.answer(&found)
     }
 
     /// What the look-up of a line without its newline gives, ahead of the line's turn. It reads no shard. As in
@@ -151,8 +148,10 @@ impl<S: Store> Solo<S> {
         ensures issuer { self.new.issuer ≡ self.old.issuer }
     {
         match found {
-            Ok(Sought::Request(sought)) => self.check(sought),
-            Ok(Sought::Order(found)) => self.order(found),
+            Ok(sought) => match sought {
+                Sought::Request(sought) => self.check(sought),
+                Sought::Order(found) => self.order(found),
+            },
             Err(refusal) => Answer::Refused(*refusal),
         }
     }

@@ -1,9 +1,9 @@
 -- A line that was looked up is answered in a shard, and one that its look-up refuses calls none.
-use Rattle.std.proofs.Common.{◌+◌, List, Result, subst, sym}
-use Rattle.std.specs.Prelude.{Ok, Err}
+use Rattle.std.proofs.Common.{◌+◌, List, Result, ap, subst, sym, ◌∙◌}
+use Rattle.std.specs.Prelude.{Ok}
 use Rattle.issuer_base.specs.declared.answer.Refusal.{Refusal}
 use Rattle.card_history.specs.declared.decision.Asked.{Asked}
-use Rattle.line_checks.specs.LookedUp.{IsLookUp, IsSought}
+use Rattle.line_checks.specs.LookedUp.{IsLookUp}
 use Rattle.line_checks.specs.declared.sought.Sought.{Sought}
 use Rattle.line_checks.specs.declared.sought.Sought.TheVariants.{Order}
 use Rattle.one_caller.specs.Books.{Book}
@@ -26,11 +26,11 @@ returns-in-Err-clause-room g c line looked_up spare have =
     (sym read) have in
     (read-no_fault host.issuer line c.in-Err.refusal read, room-uncalled host.shards.items spare none)
 
-pub returns-in-Ok-Order-clause-turn : goal.returns-in-Ok-Order-clause-turn
-returns-in-Ok-Order-clause-turn g c line looked_up =
+pub returns-in-Order-clause-turn : goal.returns-in-Order-clause-turn
+returns-in-Order-clause-turn g c line looked_up =
     let host = c.args.self.now in
     let new = c.order.new.self in
-    let its = subst (IsSought host.issuer line) c.in-Ok-Order.field-0-is (subst (IsLookUp host.issuer line) c.in-Ok-Order.is looked_up) in
+    let its = subst (IsLookUp host.issuer line) (c.in-Ok.is ∙ ap (λ sought. Ok sought) c.in-Order.is) looked_up in
     subst (λ (says : Result Asked Refusal). (books : List Book) → Stand host.issuer host.shards.items books
     → (after : List Book) × Stand new.issuer new.shards.items after × Turn host.issuer books says c.order.result after)
     (sym its.0) c.order.ensures.turn

@@ -1,57 +1,31 @@
--- A line is answered in a shard, and one that its look-up refuses calls none.
-use Rattle.std.proofs.Common.{◌+◌, List, Result, subst, sym}
+-- A line is answered as its look-up is.
+use Rattle.std.proofs.Common.{Result, Ok, Err, IfOk, IfErr, ◌≡◌, ◌≢◌, List, ℕ}
 use Rattle.issuer_base.specs.declared.answer.Refusal.{Refusal}
-use Rattle.card_history.specs.declared.decision.Asked.{Asked}
-use Rattle.line_checks.specs.LookedUp.{IsSought}
+use Rattle.issuer_base.specs.declared.answer.Refusal.TheVariants.{BadCryptogram}
+use Rattle.issuer_setup.specs.IssuerSetup.{Setup}
+use Rattle.line_checks.specs.LookedUp.{IsLookUp, IsSought}
+use Rattle.line_checks.specs.Reading.{reading}
 use Rattle.line_checks.specs.declared.sought.Sought.{Sought}
-use Rattle.line_checks.proofs.LookUps.{carried}
-use Rattle.one_caller.specs.Books.{Book}
-use Rattle.one_caller.specs.Hosts.{Stand}
-use Rattle.one_caller.specs.Turns.{Turn}
-use Rattle.one_caller.specs.Room.{added_by, AnswersWithin, HaveRoom}
-use Rattle.one_caller.proofs.OneShard.{leave-uncalled}
-use Rattle.one_caller.proofs.Rooms.{read-no_fault, room-uncalled}
 use Rattle.one_caller.proofs.solo.Solo.authorise.Goals as goal
 
-pub returns-in-Err-clause-crash : goal.returns-in-Err-clause-crash
-returns-in-Err-clause-crash g c = leave-uncalled c.args.self.now.issuer c.args.self.now.shards.items c.args.self.now.are_shards
+-- what a look-up gives, by its two clauses
+look-up-is : (issuer : Setup) (line : List ℕ) (found : Result Sought Refusal) → IfOk found (IsSought issuer line)
+    → IfErr found (λ refusal. (reading issuer line ≡ Err refusal) × (refusal ≢ BadCryptogram)) → IsLookUp issuer line found
+look-up-is issuer line (Ok sought) its refused = its
+look-up-is issuer line (Err refusal) its refused = refused
 
-pub returns-in-Err-clause-room : goal.returns-in-Err-clause-room
-returns-in-Err-clause-room g c spare have =
-    let host = c.args.self.now in
-    let read = sym c.in-Err.ensures.refused.0 in
-    let none = subst (λ (asked : Result Asked Refusal). HaveRoom (λ number. added_by host.issuer asked number + spare number) host.shards.items)
-    (sym read) have in
-    (read-no_fault host.issuer c.args.line.now c.in-Err.refusal read, room-uncalled host.shards.items spare none)
+pub answer-requires : goal.answer-requires
+answer-requires g c = (
+  c.args.line.now,
+  look-up-is c.args.self.now.issuer c.args.line.now c.look_up-found.result c.look_up-found.ensures.sought c.look_up-found.ensures.refused,
+)
 
-pub returns-in-Ok-Request-clause-turn : goal.returns-in-Ok-Request-clause-turn
-returns-in-Ok-Request-clause-turn g c =
-    let host = c.args.self.now in
-    let new = c.check.new.self in
-    let its = subst (λ (sought : Sought). IsSought host.issuer c.args.line.now sought) c.in-Ok-Request.field-0-is c.in-Ok-Request.ensures.sought in
-    subst (λ (says : Result Asked Refusal). (books : List Book) → Stand host.issuer host.shards.items books
-    → (after : List Book) × Stand new.issuer new.shards.items after × Turn host.issuer books says c.check.result after)
-    (sym (carried host.issuer c.args.line.now c.in-Ok-Request.sought.request its.0)) c.check.ensures.turn
+pub returns-clause-turn : goal.returns-clause-turn
+returns-clause-turn g c =
+    c.answer.ensures.turn c.args.line.now
+    (look-up-is c.args.self.now.issuer c.args.line.now c.look_up-found.result c.look_up-found.ensures.sought c.look_up-found.ensures.refused)
 
-pub returns-in-Ok-Request-clause-room : goal.returns-in-Ok-Request-clause-room
-returns-in-Ok-Request-clause-room g c =
-    let host = c.args.self.now in
-    let its = subst (λ (sought : Sought). IsSought host.issuer c.args.line.now sought) c.in-Ok-Request.field-0-is c.in-Ok-Request.ensures.sought in
-    subst (λ (says : Result Asked Refusal). AnswersWithin host.issuer says c.check.result host.shards.items c.check.new.self.shards.items)
-    (sym (carried host.issuer c.args.line.now c.in-Ok-Request.sought.request its.0)) c.check.ensures.room
-
-pub returns-in-Ok-Order-clause-turn : goal.returns-in-Ok-Order-clause-turn
-returns-in-Ok-Order-clause-turn g c =
-    let host = c.args.self.now in
-    let new = c.order.new.self in
-    let its = subst (λ (sought : Sought). IsSought host.issuer c.args.line.now sought) c.in-Ok-Order.field-0-is c.in-Ok-Order.ensures.sought in
-    subst (λ (says : Result Asked Refusal). (books : List Book) → Stand host.issuer host.shards.items books
-    → (after : List Book) × Stand new.issuer new.shards.items after × Turn host.issuer books says c.order.result after)
-    (sym its.0) c.order.ensures.turn
-
-pub returns-in-Ok-Order-clause-room : goal.returns-in-Ok-Order-clause-room
-returns-in-Ok-Order-clause-room g c =
-    let host = c.args.self.now in
-    let its = subst (λ (sought : Sought). IsSought host.issuer c.args.line.now sought) c.in-Ok-Order.field-0-is c.in-Ok-Order.ensures.sought in
-    subst (λ (says : Result Asked Refusal). AnswersWithin host.issuer says c.order.result host.shards.items c.order.new.self.shards.items)
-    (sym its.0) c.order.ensures.room
+pub returns-clause-room : goal.returns-clause-room
+returns-clause-room g c =
+    c.answer.ensures.room c.args.line.now
+    (look-up-is c.args.self.now.issuer c.args.line.now c.look_up-found.result c.look_up-found.ensures.sought c.look_up-found.ensures.refused)
