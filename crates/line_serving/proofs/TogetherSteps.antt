@@ -1,5 +1,5 @@
 -- The host of several callers: a line more, and what it leaves.
-use Rattle.std.proofs.Common.{◌≡◌, ℕ, ◌+◌, ◌-◌, ◌≤◌, List, [], ◌∷◌, ◌++◌, length, map, Option, Some, Result, Ok, Err}
+use Rattle.std.proofs.Common.{◌≡◌, ℕ, ◌≤◌, List, [], ◌∷◌, ◌++◌, length, map, Option, Some, Result, Ok, Err}
 use Rattle.std.proofs.Common.{refl, sym, ap, subst, ◌∙◌, append-nil, append_assoc}
 use Rattle.std.specs.Prelude.{IfSome}
 use Rattle.std.proofs.lemmas.List.{map-append, nil_from_length}
@@ -305,16 +305,16 @@ module _ {S : Type 0} {G : Ghosts S} where
       held_before held_after result
   writes-last first old mid now was_due held_before held_after result lines text waiting so_far none_due one two more
       written = record {
-    more = flat_map printed more;
-    served = record {
-      same = same-again first old now so_far.same (same-again old mid now one two);
-      answers = so_far.answers ++ more;
-      due = [];
-      text_is =
-          ap (λ (t : List ℕ). t ++ flat_map printed more) so_far.text_is
-          ∙ sym (flat_map-append printed so_far.answers more);
-      served = written.0;
-    };
-    written = subst (λ (t : List ℕ). WritesAll held_before held_after result (t ++ flat_map printed more))
-        (sym none_due) written.1;
-  }
+        more = flat_map printed more;
+        served = record {
+          same = same-again first old now so_far.same (same-again old mid now one two);
+          answers = so_far.answers ++ more;
+          due = [];
+          text_is =
+              ap (λ (t : List ℕ). t ++ flat_map printed more) so_far.text_is
+              ∙ sym (flat_map-append printed so_far.answers more);
+          served = written.0;
+        };
+        written = subst (λ (t : List ℕ). WritesAll held_before held_after result (t ++ flat_map printed more))
+            (sym none_due) written.1;
+      }

@@ -1,5 +1,5 @@
 -- Rounds go on until no line waits, or the sink fails.
-use Rattle.std.proofs.Common.{[], refl, ◌∙◌, arith}
+use Rattle.std.proofs.Common.{refl, ◌∙◌, arith}
 use Rattle.std.proofs.lemmas.List.{nil_from_length}
 use Rattle.std.proofs.lemmas.Result.{err_from_is_err_and}
 use Rattle.line_serving.proofs.TogetherSteps.{none-waits, rounds-none, rounds-more, rounds-broken, rounds-end}
