@@ -12,7 +12,7 @@ use Rattle.issuer_base.proofs.ManyCalls.{CountsFaults-no_call, CountsFaults-then
 use Rattle.line_reader.specs.declared.window.Window.{Window}
 use Rattle.line_reader.specs.Lines.{IsUnbroken}
 use Rattle.line_reader.specs.Reading.{Reading, IsWithinLimits, StaysWithinLimits, PassesLimit}
-use Rattle.line_reader.specs.NextLine.{GivesLine, GivesRest, ReachesEnd, StopsAtFault, StopsAtLimit}
+use Rattle.line_reader.specs.NextLine.{GivesInHand, GivesLine, GivesRest, ReachesEnd, StopsAtFault, StopsAtLimit}
 use Rattle.line_reader.specs.Window.{ahead_of, line_of, HasPassed, PassesNewline, PassesAll, LacksRoom, Gives}
 
 -- ---- bytes without a newline
@@ -170,9 +170,9 @@ GivesLine-from was now f g old w next lines bytes room size count h p =
       };
     }
 
-pub StopsAtLimit-from : (was now : Option (List ℕ)) (f g : ℕ) (old : Reading) (w : Window) (lines bytes room size : ℕ) (new : Reading)
-    → InLine was now f g old w lines bytes room size → LacksRoom w (room - size) → new.lines ≡ lines → new.bytes ≡ bytes → StopsAtLimit was now old new
-StopsAtLimit-from was now f g old w lines bytes room size new h p same_lines same_bytes =
+pub StopsAtLimit-from : (was now : Option (List ℕ)) (f g : ℕ) (old : Reading) (w next : Window) (lines bytes room size : ℕ) (new : Reading)
+    → InLine was now f g old w lines bytes room size → LacksRoom w next (room - size) → new.lines ≡ lines → new.bytes ≡ bytes → StopsAtLimit was now old new
+StopsAtLimit-from was now f g old w next lines bytes room size new h p same_lines same_bytes =
     let split : room ≡ length h.passed + (room - size) = omega (arith, h.passed_size, h.fits) in
     let front : take room (old.ahead ++ h.given) ≡ h.passed ++ take (room - size) (ahead_of w) =
     ap (take room) h.seen ∙ ap (λ n. take n (h.passed ++ ahead_of w)) split ∙ take-append-add h.passed (ahead_of w) (room - size) in
@@ -236,3 +236,27 @@ GivesRest-from was now f g old w lines bytes room size h none at_end some =
         within = record { lines_within = omega (arith, within.lines_within); bytes_within = omega (arith, within.bytes_within) };
       };
     }
+
+-- ---- a line that is whole in memory
+
+-- its newline was found, within the room
+pub GivesInHand-from : (old : Reading) (w next : Window) (lines bytes room count : ℕ) → ahead_of w ≡ old.ahead → HasPassed w [] → lines ≡ old.lines
+    → bytes ≡ old.bytes → IsRoom old.lines old.bytes room → PassesNewline w next room count
+    → (line : List ℕ) × GivesInHand old line (record { ahead = ahead_of next; lines = lines + 1; bytes = bytes + (count + 1); line = line_of next })
+GivesInHand-from old w next lines bytes room count same passed same_lines same_bytes left p =
+    let all : bytes + (count + 1) ≡ old.bytes + (length p.more + 1) = omega (arith, p.counted) in
+    let one : lines + 1 ≡ old.lines + 1 = omega arith in
+    let within : IsWithinLimits (old.lines + 1) (old.bytes + (length p.more + 1)) =
+    IsWithinLimits-more old.lines old.bytes room (length p.more + 1) left (omega arith) (omega (arith, p.counted, p.fits)) in (
+      p.more,
+      record {
+        whole = sym same ∙ p.whole;
+        unbroken = p.unbroken;
+        counted = record {
+          in_hand = p.in_hand [] passed;
+          one_more = one;
+          more_bytes = all;
+          within = record { lines_within = omega (arith, within.lines_within); bytes_within = omega (arith, within.bytes_within) };
+        };
+      },
+    )

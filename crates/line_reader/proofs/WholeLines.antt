@@ -1,11 +1,11 @@
 -- A run of calls for the next line: which lines of the text were returned, and what each outcome says of the text read
 -- so far.
-use Rattle.std.proofs.Common.{◌≡◌, ℕ, ◌<◌, ◌⊎◌, inl, inr, ⊎_elim, List, [], ◌∷◌, ◌++◌, length, Option, refl, ap, subst, ◌∙◌, arith, append-nil}
+use Rattle.std.proofs.Common.{◌≡◌, ℕ, ◌<◌, ◌⊎◌, inl, inr, ⊎_elim, List, [], ◌∷◌, ◌++◌, length, Option, refl, sym, ap, subst, ◌∙◌, arith, append-nil, append_assoc}
 use Rattle.std.specs.List.{flat_map}
 use Rattle.std.proofs.lemmas.List.{length-append}
 use Rattle.line_reader.specs.Lines.{lines, ended, BeginsWithLines, IsLinesAndRest}
-use Rattle.line_reader.specs.Reading.{Reading, unread, HasGivenLines, PassesLimit}
-use Rattle.line_reader.specs.NextLine.{GivesLine, GivesRest, ReachesEnd, StopsAtFault, StopsAtLimit}
+use Rattle.line_reader.specs.Reading.{Reading, unread, HasGivenLines, IsWithinLimits, PassesLimit, TakesInHand}
+use Rattle.line_reader.specs.NextLine.{GivesInHand, GivesLine, GivesNone, GivesRest, ReachesEnd, StopsAtFault, StopsAtLimit}
 use Rattle.line_reader.proofs.LineLaws.{BeginsWithLines-none, BeginsWithLines-given, BeginsWithLines-line, last_line-some, lines-whole_and_rest, lines-begins}
 use Rattle.line_reader.proofs.LineLaws.{lines-some, length-ended_push, length-begins}
 
@@ -27,6 +27,42 @@ HasGivenLines-line was now old new text whole so_far h = record {
   bytes_counted = omega (arith, h.counted.more_bytes, so_far.bytes_counted, length-ended_push whole h.line);
   within = h.counted.within;
 }
+
+-- ---- lines that were whole in memory
+
+-- one was taken
+pub TakesInHand-line : (old : Reading) (line : List ℕ) (new : Reading) → GivesInHand old line new → TakesInHand old (line ∷ []) new
+TakesInHand-line old line new h = λ text whole so_far. record {
+  begins = subst (λ (t : List ℕ). BeginsWithLines t (whole ++ line ∷ []) new.ahead) (append-nil text)
+      (BeginsWithLines-line text whole old.ahead [] line new.ahead so_far.begins (append-nil old.ahead ∙ h.whole) h.unbroken);
+  lines_counted = omega (arith, h.counted.one_more, so_far.lines_counted, length-append whole (line ∷ []));
+  bytes_counted = omega (arith, h.counted.more_bytes, so_far.bytes_counted, length-ended_push whole line);
+  within = h.counted.within;
+}
+
+-- none was taken
+pub TakesInHand-none : (old new : Reading) → new.ahead ≡ old.ahead → GivesNone old new → TakesInHand old [] new
+TakesInHand-none old new same none = λ text whole so_far.
+    subst (HasGivenLines new text) (sym (append-nil whole))
+    (record {
+      begins = subst (BeginsWithLines text whole) (sym same) so_far.begins;
+      lines_counted = none.same_lines ∙ so_far.lines_counted;
+      bytes_counted = none.same_bytes ∙ so_far.bytes_counted;
+      within = subst (λ (n : ℕ). IsWithinLimits n new.bytes) (sym none.same_lines)
+          (subst (λ (n : ℕ). IsWithinLimits old.lines n) (sym none.same_bytes) so_far.within);
+    })
+
+-- no call was made
+pub TakesInHand-no_call : (reading : Reading) → TakesInHand reading [] reading
+TakesInHand-no_call reading = TakesInHand-none reading reading refl (record { same_lines = refl; same_bytes = refl })
+
+-- lines were taken, and then more lines
+pub TakesInHand-then : (first second third : Reading) (lines more : List (List ℕ)) → TakesInHand first lines second → TakesInHand second more third
+    → TakesInHand first (lines ++ more) third
+TakesInHand-then first second third lines more before after = λ text whole so_far.
+    subst (HasGivenLines third text) (append_assoc whole lines more) (after text (whole ++ lines) (before text whole so_far))
+
+-- ---- the ends
 
 -- the last line, which no newline ends: the text is read to its end, and these are its lines
 pub IsLinesAndRest-rest : (was now : Option (List ℕ)) (old new : Reading) (text : List ℕ) (whole : List (List ℕ)) → HasGivenLines old text whole

@@ -1,6 +1,6 @@
 -- The outcomes of a call for the next line: relations of what the source had left and of the reader, before and after.
 -- `was` and `now` are `None` for a source that doesn't report what it has left.
-use Rattle.std.specs.Prelude.{◌≡◌, ◌≢◌, ℕ, ◌+◌, Bool, true, false, List, [], ◌∷◌, ◌++◌, length, Option}
+use Rattle.std.specs.Prelude.{◌≡◌, ◌≢◌, ◌⊎◌, ℕ, ◌+◌, Bool, true, false, List, [], ◌∷◌, ◌++◌, length, Option}
 use Rattle.std.specs.Io.KnownBytes.{Consumes, IsAtEnd}
 use Rattle.line_reader.specs.declared.limits.TheConstants.{NEWLINE}
 use Rattle.line_reader.specs.declared.reader.NextLine.{NextLine}
@@ -28,6 +28,16 @@ pub record GivesLine (was now : Option (List ℕ)) (old new : Reading) : Type 0 
   pub whole : old.ahead ++ given ≡ line ++ NEWLINE ∷ new.ahead
   pub unbroken : IsUnbroken line
   pub counted : HasGiven old new line (length line + 1)
+
+-- the unread bytes were a line, its newline, and the bytes unread now
+pub record GivesInHand (old : Reading) (line : List ℕ) (new : Reading) : Type 0 where
+  pub whole : old.ahead ≡ line ++ NEWLINE ∷ new.ahead
+  pub unbroken : IsUnbroken line
+  pub counted : HasGiven old new line (length line + 1)
+
+-- the unread bytes have no newline, or the next line exceeds a limit
+abbrev pub IsNoneInHand : Reading → Type 0
+IsNoneInHand reading = IsUnbroken reading.ahead ⊎ PassesLimit reading.lines reading.bytes reading.ahead
 
 -- the unread bytes and those that the source gave are a last line that isn't empty, and the source is at its end
 pub record GivesRest (was now : Option (List ℕ)) (old new : Reading) : Type 0 where

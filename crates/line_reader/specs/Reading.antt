@@ -1,5 +1,5 @@
 -- What a reader of lines has returned and has in memory, and the limits of an input of lines.
-use Rattle.std.specs.Prelude.{◌≡◌, ◌≢◌, ℕ, ◌+◌, ◌-◌, ◌<◌, ◌≤◌, ◌⊎◌, List, [], length, take}
+use Rattle.std.specs.Prelude.{◌≡◌, ◌≢◌, ℕ, ◌+◌, ◌-◌, ◌<◌, ◌≤◌, ◌⊎◌, List, [], ◌++◌, length, take}
 use Rattle.std.specs.List.{flat_map}
 use Rattle.issuer_base.specs.declared.limits.TheConstants.{KEPT_BYTES}
 use Rattle.line_reader.specs.declared.limits.TheConstants.{MAX_LINES, MAX_BYTES}
@@ -47,3 +47,8 @@ pub record HasGivenLines (reading : Reading) (text : List ℕ) (whole : List (Li
   pub lines_counted : reading.lines ≡ length whole
   pub bytes_counted : reading.bytes ≡ length (flat_map ended whole)
   pub within : IsWithinLimits reading.lines reading.bytes
+
+-- these lines were taken of those that are whole in memory, without a read of the source
+abbrev pub TakesInHand : Reading → List (List ℕ) → Reading → Type 0
+TakesInHand was taken is =
+    (text : List ℕ) (whole : List (List ℕ)) → HasGivenLines was text whole → HasGivenLines is text (whole ++ taken)

@@ -39,16 +39,17 @@ pub record PassesAll (old new : Window) (room count : ℕ) : Type 0 where
   pub none_ahead : ahead_of new ≡ []
   pub passed_on : (passed : List ℕ) → HasPassed old passed → HasPassed new (passed ++ ahead_of old)
 
--- as many bytes as there is room for have no newline, and more are unread
-pub record LacksRoom (old : Window) (room : ℕ) : Type 0 where
+-- as many bytes as there is room for have no newline, and more are unread; they stay so
+pub record LacksRoom (old new : Window) (room : ℕ) : Type 0 where
   pub unbroken : IsUnbroken (take room (ahead_of old))
   pub more : room < length (ahead_of old)
+  pub same_ahead : ahead_of new ≡ ahead_of old
 
 -- what scanning the unread bytes did
 abbrev pub Passes : Window → Window → ℕ → Passed → Type 0
 Passes old new room (ToNewline count) = PassesNewline old new room count
 Passes old new room (All count) = PassesAll old new room count
-Passes old new room NoRoom = LacksRoom old room
+Passes old new room NoRoom = LacksRoom old new room
 
 -- a source gave the bytes unread now, as many as it says, and none only at its end
 pub record Gives (was now : Option (List ℕ)) (ahead : List ℕ) (count : ℕ) : Type 0 where

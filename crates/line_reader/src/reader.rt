@@ -1,9 +1,10 @@
 //! A reader of an input's lines, one at a time, within the limits of an input.
-ghost use Rattle.std.specs.Prelude.{◌≡◌, ℕ, ◌-◌, ◌<◌, ◌≤◌, IfOk, MatchBool, if◌then◌else◌, ◌==◌};
+ghost use Rattle.std.specs.Prelude.{◌≡◌, ℕ, ◌-◌, ◌<◌, ◌≤◌, List, true, false, IfOk, MatchBool, if◌then◌else◌, ◌==◌};
 ghost use Rattle.issuer_base.specs.OutsideFaults.{CountsFaults};
 ghost use Rattle.line_reader.specs.declared.limits.TheConstants.{MAX_BYTES, MAX_LINES};
 ghost use Rattle.line_reader.specs.Lines.{IsFirstNewline, IsUnbroken};
 ghost use Rattle.line_reader.specs.Reading.{unread};
+ghost use Rattle.line_reader.specs.NextLine.{GivesInHand, GivesNone, IsNoneInHand};
 ghost use Rattle.line_reader.specs.NextLine.{GivesLine, GivesRest, ReachesEnd, StopsAtFault, StopsAtLimit, is_fault};
 
 use crate::limits::{MAX_BYTES, MAX_LINES};
@@ -86,6 +87,28 @@ impl LineReader {
         ensures { MatchBool result ((place : ℕ) × IsFirstNewline self.now.ahead place) (IsUnbroken self.now.ahead) }
     {
         self.window.has_newline()
+    }
+
+    /// Takes the next line that is whole in the buffer, without a read of the source, if there is one and it is within
+    /// the limits.
+    pub fn take_in_hand(&mut self) -> bool
+        ensures taken { result ≡ true → (line : List ℕ) × GivesInHand self.old line self.new }
+        ensures none { result ≡ false → IsNoneInHand self.old × (self.new.ahead ≡ self.old.ahead)
+            × GivesNone self.old self.new }
+    {
+        if !self.window.has_newline() {
+            return false;
+        }
+        let room = room_after(self.lines, self.bytes);
+        self.window.begin_line();
+        match self.window.pass(room) {
+            Passed::ToNewline(count) => {
+                self.lines += 1;
+                self.bytes += count as u64 + 1;
+                true
+            }
+            Passed::All(_) | Passed::NoRoom => false,
+        }
     }
 
     /// Reads the next line.

@@ -2,6 +2,7 @@
 mod AnsweredBoth
 mod Turning
 mod Serving
+mod RoundSteps
 mod Seating
 mod Opening
 mod Joining

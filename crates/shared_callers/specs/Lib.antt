@@ -5,3 +5,4 @@ pub mod Turns
 pub mod Seated
 pub mod Joins
 pub mod Lanes
+pub mod Rounds

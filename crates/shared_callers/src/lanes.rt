@@ -1,5 +1,5 @@
 //! Several callers of one host, to which lines are dealt in turns.
-ghost use Rattle.std.specs.Prelude.{◌≡◌, ℕ, ◌<◌, ◌≤◌, ◌+◌, ◌∷◌, ◌++◌, [], List, length, false, MatchOption};
+ghost use Rattle.std.specs.Prelude.{◌≡◌, ℕ, ◌<◌, ◌≤◌, ◌+◌, ◌∷◌, ◌++◌, [], List, length, false, MatchBool, MatchOption};
 ghost use Rattle.issuer_base.specs.declared.answer.Answer.{Answer};
 ghost use Rattle.issuer_base.specs.declared.limits.TheConstants.{KEPT_BYTES};
 ghost use Rattle.shared_callers.specs.Seated.{AreSeated, IsPlain};
@@ -47,6 +47,13 @@ impl<S: Store> Lanes<S> {
         self.dealer.progress.waiting == self.dealer.room
     }
 
+    /// Whether a line waits.
+    pub fn waits(&self) -> bool
+        ensures { MatchBool result (0 < waiting_in self.now) (waiting_in self.now ≡ 0) }
+    {
+        self.dealer.progress.waiting > 0
+    }
+
     /// Deals the next line, without its newline, to the caller whose turn it is.
     pub fn deal(&mut self, line: &[u8])
         requires room { is_full_in self.old ≡ false }
@@ -78,7 +85,7 @@ impl<S: Store> Lanes<S> {
     }
 
     /// Takes the next answer in the order of the lines; `None` once all were taken.
-    pub fn next_answer(&mut self) -> Option<Answer>
+    pub(crate) fn next_answer(&mut self) -> Option<Answer>
         ensures served { (lines : List (List ℕ)) (answers due : List Answer) (waiting : List (List ℕ))
             → LanesServe self.old lines answers due waiting
             → MatchOption result (due ≡ []) (λ answer. (rest : List Answer) × (due ≡ answer ∷ rest)

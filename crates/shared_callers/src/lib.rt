@@ -7,6 +7,7 @@ mod dealer;
 mod lane;
 mod lanes;
 mod load;
+mod rounds;
 mod slots;
 
 pub use host_calls::{HostBack, LoadFault};

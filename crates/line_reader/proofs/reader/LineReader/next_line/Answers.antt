@@ -22,7 +22,7 @@ returns-in-ToNewline-clause-line g c =
     λ _. GivesLine-from _ _ _ _ _ _ c.pass.new.self _ _ _ _ c.in-ToNewline.count c.loop-count.invariant c.in-ToNewline.ensures
 
 pub returns-in-NoRoom-clause-too_long : goal.returns-in-NoRoom-clause-too_long
-returns-in-NoRoom-clause-too_long g c = λ _. StopsAtLimit-from _ _ _ _ _ _ _ _ _ _ _ c.loop-count.invariant c.in-NoRoom.ensures refl refl
+returns-in-NoRoom-clause-too_long g c = λ _. StopsAtLimit-from _ _ _ _ _ _ _ _ _ _ _ _ c.loop-count.invariant c.in-NoRoom.ensures refl refl
 
 pub returns-in-Err-clause-fault : goal.returns-in-Err-clause-fault
 returns-in-Err-clause-fault g c =
