@@ -129,6 +129,7 @@ fn fill<S: Store>(mut slots: Vec<Slot<S>>, olds: &mut Vec<S>, mut stores: Vec<S>
     ensures stores { map (λ slot. slot.store) result.items ≡ map (λ store. Some store) stores.items }
     ensures waiting { All (λ slot. IsWaiting slot) result.items }
     ensures emptied { (olds.new.items ≡ []) × (vec_len result ≤ vec_capacity olds.new) }
+    ensures count { vec_len result ≡ vec_len stores }
 {
     while let Some(store) = stores.pop() {
         slots.push_reserved(Slot {
@@ -206,11 +207,7 @@ fn take_shards<S: Store>(
 }
 
 /// The stores that loads left in slots, in their order. The old stores are returned.
-fn take_left<S: Store>(
-    mut slots: Vec<Slot<S>>,
-    olds: &mut Vec<S>,
-    mut back: Vec<S>,
-) -> Vec<S>
+fn take_left<S: Store>(mut slots: Vec<Slot<S>>, olds: &mut Vec<S>, mut back: Vec<S>) -> Vec<S>
     requires ended { All (λ slot. HasEnded slot) slots.items }
     requires olds { (olds.old.items ≡ []) × (vec_len slots ≤ vec_capacity olds.old) }
     requires back { (back.items ≡ []) × (vec_len slots ≤ vec_capacity back) }

@@ -14,6 +14,7 @@ loop-store-preserved g c =
     let one_old : length (option_to_list c.pop-in-Some.result) ≡ 1 = ap (λ popped. length (option_to_list popped)) c.unwrap.ensures in
     record {
       count = omega (arith, one, one_old, c.pop.ensures.len, c.pop-in-Some.ensures.len, before.count);
+      all = omega (arith, one, c.pop.ensures.len, c.push_reserved.ensures.len, before.all);
       olds = moved (λ slot. slot.old_store) c.loop-store.olds.items c.pop-in-Some.new.self.items c.unwrap.result c.loop-store.slots.items
           c.push_reserved.new.self.items _ c.args.olds.now.items
           (taken c.loop-store.olds.items c.pop-in-Some.new.self.items c.pop-in-Some.result c.unwrap.result c.pop-in-Some.ensures.items c.unwrap.ensures)

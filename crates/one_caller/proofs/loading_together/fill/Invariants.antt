@@ -7,6 +7,7 @@ use Rattle.one_caller.proofs.loading_together.fill.Given as goal
 abbrev pub invariant-loop-store : goal.invariant-loop-store
 invariant-loop-store g l = record {
   count : vec_len l.olds ≡ vec_len l.stores;
+  all : vec_len l.slots + vec_len l.stores ≡ vec_len l.initial.stores;
   olds : l.olds.items ++ map (λ slot. slot.old_store) (reverse l.slots.items) ≡ l.initial.olds.items;
   stores : map (λ store. Some store) l.stores.items ++ map (λ slot. slot.store) (reverse l.slots.items)
       ≡ map (λ store. Some store) l.initial.stores.items;
