@@ -10,7 +10,7 @@ use Rattle.shard_book.specs.declared.replay.LoadFault.TheVariants.{NoMemory}
 use Rattle.shard_book.specs.Shards.{IsJournalOf, IsLoadImage}
 use Rattle.shared_shards.specs.ShardLogs.{records_of}
 use Rattle.shared_shards.specs.Opening.{head_with, log_with}
-use Rattle.one_caller.specs.Loading.{IsGivenBack, ComeBack}
+use Rattle.one_caller.specs.Loading.{IsGivenBack, ComeBack, ComeBackTogether}
 use Rattle.claim_words.specs.declared.layout.TheConstants.{COUNTERS}
 use Rattle.claim_words.specs.declared.claim_words.ClaimWords.{ClaimWords}
 use Rattle.claim_words.specs.Seats.{recorded_in}
@@ -93,4 +93,10 @@ module _ {S : Type 0} (size : S → ℕ) (bytes : S → Option (List ℕ)) (disk
   abbrev pub HostComesBack : Setup → List S → List S → List S → ℕ → LoadFault → List S → Type 0
   HostComesBack issuer olds read stores failed fault back =
       ComeBack size bytes disk faults issuer olds read stores failed fault back
+      ⊎ AllComeBack bytes disk faults issuer olds read stores failed fault back
+
+  -- likewise, where the shards were loaded at once
+  abbrev pub HostComesBackTogether : Setup → List S → List S → List S → ℕ → LoadFault → List S → Type 0
+  HostComesBackTogether issuer olds read stores failed fault back =
+      ComeBackTogether size bytes disk faults issuer olds read stores failed fault back
       ⊎ AllComeBack bytes disk faults issuer olds read stores failed fault back

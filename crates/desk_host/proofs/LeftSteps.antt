@@ -26,7 +26,7 @@ use Rattle.shard_book.specs.declared.shard.Shard.{Shard}
 use Rattle.shard_book.specs.Shards.{store_in, IsCutToText, IsFailedImage, IsLoadImage, IsMigrated, IsTakenFor}
 use Rattle.shard_book.specs.Versions.{HasText, IsPartOf}
 use Rattle.shard_book.specs.Loads.{IsNotLoaded}
-use Rattle.one_caller.specs.Loading.{AreOnlyRead, ComeBack, IsGivenBack}
+use Rattle.one_caller.specs.Loading.{AreOnlyRead, ComeBack, ComeBackBy, ComeBackTogether, IsGivenBack, IsLeft}
 use Rattle.one_caller.proofs.Loads.{given-back}
 use Rattle.desk_host.specs.SeenStores.{Logged, SeenStore, store_seen, journals_seen}
 use Rattle.desk_host.specs.Journals.{old_name, journal_name, IsOpened, AreOpened, IsReady}
@@ -296,12 +296,15 @@ module _ {S : Type 0} (G : Ghosts S) (told : (store : S)
           (olds_opened number old.0 old.1) (opened number here.0 here.1));
     }
 
-    -- one couldn't be loaded
-    pub back-left : (issuer : Setup) (failed : ℕ) (fault : LoadFault) (read back : List S)
-        → AreOnlyRead G.size G.bytes G.disk G.room olds read
-        → ComeBack G.size G.bytes G.disk G.faults issuer olds read stores failed fault back
+    -- one couldn't be loaded, and those behind it are left so
+    back-left_by : (Behind : ℕ → S → S → S → S → Type 0) (issuer : Setup) (failed : ℕ) (fault : LoadFault)
+        (read back : List S) → AreOnlyRead G.size G.bytes G.disk G.room olds read
+        → ((number : ℕ) (old old_then store after : S) → IsOpened G (logs (old_name prefix number)) old
+        → IsOpened G (logs (journal_name prefix number)) store → Behind number old old_then store after
+        → LeavesJournal (logs (old_name prefix number)) (logs (journal_name prefix number)) (store_seen G after))
+        → ComeBackBy G.size G.bytes G.disk G.faults Behind issuer olds read stores failed fault back
         → LeaveJournals prefix logs (journals_seen G read back)
-    back-left issuer failed fault read back only come = record {
+    back-left_by Behind issuer failed fault read back only behind come = record {
       olds = olds-left olds read olds_opened only;
       stores = λ number seen is.
           let old_held = logs (old_name prefix number) in
@@ -325,16 +328,40 @@ module _ {S : Type 0} (G : Ghosts S) (told : (store : S)
           (λ apart.
           ⊎_elim
           (λ (past : failed < number).
-          let same : before.0 ≡ here.0 = (let both : Some before.0 ≡ Some here.0 = sym before.1
-          ∙ sym (come.behind number past).1 ∙ here.1 in cc) in
-          subst (λ (store : S). LeavesJournal old_held held (store_seen G store)) same
-          (untouched-left told old_held held old.0 before.0 old_log log))
+          behind number old.0 read_at.0 before.0 here.0 old_log log
+          (come.behind number old.0 read_at.0 before.0 here.0 past old.1 read_at.1 before.1 here.1))
           (λ (early : number < failed).
           given-left told old_held held old.0 before.0 old_log log issuer number read_at.0 here.0
           (come.before number old.0 read_at.0 before.0 here.0 early old.1 read_at.1 before.1 here.1))
           apart)
           (cases_order failed number));
     }
+
+    -- so they are where they were loaded one after another
+    pub back-left : (issuer : Setup) (failed : ℕ) (fault : LoadFault) (read back : List S)
+        → AreOnlyRead G.size G.bytes G.disk G.room olds read
+        → ComeBack G.size G.bytes G.disk G.faults issuer olds read stores failed fault back
+        → LeaveJournals prefix logs (journals_seen G read back)
+    back-left issuer failed fault read back only =
+        back-left_by (λ number old old_then store after. (old_then ≡ old) × (after ≡ store)) issuer failed fault read back
+        only
+        (λ number old old_then store after old_log log same.
+        let held = logs (journal_name prefix number) in
+        subst (λ (store : S). LeavesJournal (logs (old_name prefix number)) held (store_seen G store)) (sym same.1)
+        (untouched-left told (logs (old_name prefix number)) held old store old_log log))
+
+    -- and where they were loaded at once
+    pub back-left_together : (issuer : Setup) (failed : ℕ) (fault : LoadFault) (read back : List S)
+        → AreOnlyRead G.size G.bytes G.disk G.room olds read
+        → ComeBackTogether G.size G.bytes G.disk G.faults issuer olds read stores failed fault back
+        → LeaveJournals prefix logs (journals_seen G read back)
+    back-left_together issuer failed fault read back only =
+        back-left_by (IsLeft G.size G.bytes G.disk G.faults issuer) issuer failed fault read back only
+        (λ number old old_then store after old_log log.
+        let old_held = logs (old_name prefix number) in
+        let held = logs (journal_name prefix number) in
+        ⊎_elim (given-left told old_held held old store old_log log issuer number old_then after)
+        (λ not. failed-left told old_held held old store old_log log issuer number not.0 old_then after not.1))
 
 -- all were loaded, and are closed
 pub closed-left : {S : Type 0} {G : Ghosts S}

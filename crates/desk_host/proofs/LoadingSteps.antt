@@ -17,7 +17,7 @@ use Rattle.shard_book.specs.declared.replay.LoadFault.TheVariants.{StoreFault, N
 use Rattle.shard_book.specs.Loading.{StopsJournal, StopsText}
 use Rattle.shard_book.specs.Loads.{CountsBoth, IsNotLoaded}
 use Rattle.one_caller.specs.declared.loading.HostBack.{HostBack}
-use Rattle.one_caller.specs.Loading.{IsGivenBack, ComeBack}
+use Rattle.one_caller.specs.Loading.{IsGivenBack, ComeBackBy}
 use Rattle.desk_host.specs.SeenStores.{Logged, store_seen, journals_seen}
 use Rattle.desk_host.specs.Journals.{old_name, journal_name, IsOpened, AreOpened, HasAllOpened}
 use Rattle.desk_host.specs.Loading.{CannotOpen, DeskFaults, FailsAt, GivesNoHost, HasOpenedAll, HasLoaded}
@@ -83,8 +83,8 @@ one-failed old old_then new new_then old_new new_new counts =
 module _ {S : Type 0} (G : Ghosts S) (issuer : Setup) (prefix : List ℕ) (logs : Logged) (desk : DeskFaults)
     (olds read stores back : List S) (failed : ℕ)
     (opened : HasAllOpened G issuer prefix logs olds stores) (stood : desk.after ≡ desk.before) where
-  module _ (fault : LoadFault)
-      (come : ComeBack G.size G.bytes G.disk G.faults issuer olds read stores failed fault back) where
+  module _ (fault : LoadFault) {Behind : ℕ → S → S → S → S → Type 0}
+      (come : ComeBackBy G.size G.bytes G.disk G.faults Behind issuer olds read stores failed fault back) where
     all-opened : HasOpenedAll issuer desk (journals_seen G read back)
     all-opened = record {
       olds_are = mapped (store_seen G) read ∙ come.read_are ∙ opened.stores_count;
@@ -154,8 +154,8 @@ module _ {S : Type 0} (G : Ghosts S) (issuer : Setup) (prefix : List ℕ) (logs 
           (G.bytes old-before.0) (G.bytes before.0) fault old-log.bytes_are log.bytes_are not-loaded.stops;
     }
 
-  pub gives-no_host : (fault : LoadFault)
-      → ComeBack G.size G.bytes G.disk G.faults issuer olds read stores failed fault back
+  pub gives-no_host : (fault : LoadFault) {Behind : ℕ → S → S → S → S → Type 0}
+      → ComeBackBy G.size G.bytes G.disk G.faults Behind issuer olds read stores failed fault back
       → GivesNoHost issuer prefix logs desk (journals_seen G read back) (stop_of_load fault failed)
   gives-no_host StoreFault come =
       let new = log StoreFault come in

@@ -1,10 +1,11 @@
 //! The loading of a host of several callers.
-ghost use Rattle.std.specs.Prelude.{◌≡◌, ◌<◌, ◌≤◌, length, IfOk, IfErr};
+ghost use Rattle.std.specs.Prelude.{◌≡◌, ◌<◌, ◌≤◌, [], length, vec_capacity, IfOk, IfErr};
+ghost use Rattle.issuer_base.specs.declared.limits.TheConstants.{MAX_SHARDS};
 ghost use Rattle.issuer_setup.specs.IssuerSetup.{Setup};
 ghost use Rattle.shared_shards.specs.ShardSeats.{opening_in};
 ghost use Rattle.one_caller.specs.Loading.{AreLoaded, AreOnlyRead};
 ghost use Rattle.host_calls.specs.Loading.{IsFirstPass, IsShared};
-ghost use Rattle.call_steps.specs.OpeningLogs.{AreOpenedFrom, HostComesBack};
+ghost use Rattle.call_steps.specs.OpeningLogs.{AllComeBack, AreOpenedFrom, HostComesBack, HostComesBackTogether};
 
 use crate::host::{Host, StoreRoom};
 use crate::pass::Pass;
@@ -12,12 +13,13 @@ use crate::recorded::list_recorded;
 use claim_words::ClaimWords;
 use issuer_base::{MAX_SHARDS, Store};
 use issuer_setup::Issuer;
-use one_caller::{HostBack, Lists, load_all, take_lists, take_stores};
+use one_caller::{HostBack, Lists, load_all, load_together, take_lists, take_stores};
 use shard_book::{LoadFault, Shard};
 use shared_shards::ShardTurns;
 use std::alloc::Global;
 use std::snapshot::Snapshot;
 use std::sync::Mutex;
+use std::thread::Threads;
 
 /// What the callers of a host share, and the first pass.
 pub(crate) struct Shared<S: Store> {
@@ -58,30 +60,91 @@ impl<S: Store> Host<S> {
         issuer.keep_all();
         let old = Snapshot::of(&*olds);
         let before = Snapshot::of(&stores);
-        let Lists { shards, back } = load_all(alloc, &issuer, olds, stores, lists)?;
-        match share(alloc, &issuer, &old, olds, &before, shards) {
-            Ok(
-                Shared {
-                    claims,
-                    turns,
-                    pass,
-                },
-            ) => {
-                let room = Mutex::new(StoreRoom { list: back });
-                let host = Host {
-                    issuer,
-                    claims,
-                    turns,
-                    room,
-                };
-                Ok((host, pass))
-            }
-            Err(shards) => Err(HostBack {
+        let lists = load_all(alloc, &issuer, olds, stores, lists)?;
+        open(alloc, issuer, &old, olds, &before, lists)
+    }
+
+    /// Loads a host as [`load`](Host::load) does, but its shards at once, in at most so many threads. The first shard in
+    /// their order that can't be loaded is named. The stores behind it may have been loaded meanwhile.
+    pub fn load_together<R: Threads + Sync>(
+        rt: &R,
+        alloc: Global,
+        olds: &mut Vec<S>,
+        stores: Vec<S>,
+        mut issuer: Issuer,
+        callers: u8,
+    ) -> Result<(Host<S>, Pass), HostBack<S>>
+    where
+        S: Send,
+        requires count { (length olds.old.items ≡ issuer.shards) × (length stores.items ≡ issuer.shards) }
+        requires callers { 0 < callers }
+        ensures issuer { IfOk result (λ made. made.0.issuer ≡ issuer) }
+        ensures opening { IfOk result (λ made. AreOpenedFrom S.bytes S.disk S.faults issuer
+            olds.old.items olds.new.items stores.items (opening_in made.0.turns)) }
+        ensures olds { AreOnlyRead S.size S.bytes S.disk S.room olds.old.items olds.new.items }
+        ensures pass { IfOk result (λ made. IsFirstPass made.0 made.1) }
+        ensures stopped { IfErr result (λ back. HostComesBackTogether S.size S.bytes S.disk S.faults issuer
+            olds.old.items olds.new.items stores.items back.shard back.fault back.stores.items) }
+    {
+        let Ok(lists) = take_lists(alloc, usize::from(MAX_SHARDS)) else {
+            return Err(HostBack {
                 fault: LoadFault::NoMemory,
                 shard: 0,
-                stores: take_stores(shards, back),
-            }),
+                stores,
+            });
+        };
+        issuer.keep_all();
+        let old = Snapshot::of(&*olds);
+        let before = Snapshot::of(&stores);
+        let lists = load_together(rt, alloc, &issuer, olds, stores, lists, callers)?;
+        open(alloc, issuer, &old, olds, &before, lists)
+    }
+}
+
+/// Opens a host of shards that were loaded from these old stores, as they are now in `read`, and these stores. Only if
+/// an allocation fails, the stores come back in order.
+fn open<S: Store>(
+    alloc: Global,
+    issuer: Issuer,
+    olds: &Snapshot<Vec<S>>,
+    read: &Vec<S>,
+    stores: &Snapshot<Vec<S>>,
+    lists: Lists<S>,
+) -> Result<(Host<S>, Pass), HostBack<S>>
+    requires count { (length stores.now.value.items ≡ issuer.shards) × (0 < issuer.shards) }
+    requires loaded { AreLoaded issuer
+        olds.now.value.items read.now.items stores.now.value.items lists.shards.items }
+    requires back { (lists.back.items ≡ []) × (MAX_SHARDS ≤ vec_capacity lists.back) }
+    ensures issuer { IfOk result (λ made. made.0.issuer ≡ issuer) }
+    ensures opening { IfOk result (λ made. AreOpenedFrom S.bytes S.disk S.faults issuer
+        olds.now.value.items read.now.items stores.now.value.items (opening_in made.0.turns)) }
+    ensures pass { IfOk result (λ made. IsFirstPass made.0 made.1) }
+    ensures stopped { IfErr result (λ back. AllComeBack S.bytes S.disk S.faults issuer
+        olds.now.value.items read.now.items stores.now.value.items back.shard back.fault back.stores.items) }
+{
+    let Lists { shards, back } = lists;
+    match share(alloc, &issuer, olds, read, stores, shards) {
+        Ok(
+            Shared {
+                claims,
+                turns,
+                pass,
+            },
+        ) => {
+            let room = Mutex::new(StoreRoom { list: back });
+            let host = Host {
+                issuer,
+                claims,
+                turns,
+                room,
+            };
+            Ok((host, pass))
         }
+        Err(shards) => Err(HostBack {
+            fault: LoadFault::NoMemory,
+            shard: 0,
+            stores: take_stores(shards, back),
+        }),
     }
 }
 

@@ -6,6 +6,7 @@ pub mod TurnSteps
 pub mod LegalBooks
 pub mod OneRun
 pub mod Loads
+pub mod Together
 pub mod Rooms
 pub mod Shown
 pub mod Running

@@ -20,7 +20,7 @@ use Rattle.shard_book.specs.Shards.{store_in}
 use Rattle.shard_book.proofs.LoadCrash.{crash-read}
 use Rattle.one_caller.specs.Hosts.{AreShards}
 use Rattle.shard_book.specs.Loads.{IsLoadedFrom, IsNotLoaded, IsOnlyRead}
-use Rattle.one_caller.specs.Loading.{AreLoaded, AreOnlyRead, IsGivenBack, ComeBack}
+use Rattle.one_caller.specs.Loading.{AreLoaded, AreOnlyRead, IsGivenBack, ComeBack, ComeBackTogether}
 use Rattle.one_caller.proofs.Places.{read-written, read-other, read-within, read-front, read-behind, read-map}
 
 -- ---- stores that come back
@@ -239,12 +239,16 @@ module _ {S : Type 0} {G : Ghosts S} (issuer : Setup) where
               (same_Some store other (sym here ∙ is))
               (subst (λ (given : S). IsNotLoaded G.size G.bytes G.disk G.faults issuer (length shards) old store fault old_then given)
               (same_Some after given (sym here_back ∙ given_is)) not_loaded)));
-          behind = λ number past. (
-            let apart : number ≢ length shards = λ same. absurd (omega (arith, past, same)) in
-                read-other read (length shards) old_then number apart ∙ before.unread number (omega (arith, past)),
-            behind-alike first (map kept shards) store after ahead number (mapped ∙ count) (omega (arith, count, past))
-                ∙ ap (λ (stores : List S). slice_get stores number) (sym before.stores_are),
-          );
+          behind = λ number other_old other_then other given past other_old_is other_then_is is given_is.
+              let apart : number ≢ length shards = λ same. absurd (omega (arith, past, same)) in
+              let unread : slice_get now number ≡ slice_get olds number =
+              read-other read (length shards) old_then number apart ∙ before.unread number (omega (arith, past)) in
+              let uncalled : slice_get (map kept shards ++ after ∷ ahead) number ≡ slice_get stores number =
+              behind-alike first (map kept shards) store after ahead number (mapped ∙ count) (omega (arith, count, past))
+              ∙ ap (λ (stores : List S). slice_get stores number) (sym before.stores_are) in (
+                same_Some other_then other_old (sym other_then_is ∙ unread ∙ other_old_is),
+                same_Some given other (sym given_is ∙ uncalled ∙ is),
+              );
         }
 
   -- all are loaded
@@ -297,37 +301,67 @@ module _ {S : Type 0} {G : Ghosts S} (issuer : Setup) where
     undoubted = λ number shard is. (shard-of olds read stores shards loaded number shard is).from.undoubted;
   }
 
--- where memory is wanting no store was touched
-pub none-loaded : {S : Type 0} (G : Ghosts S) (issuer : Setup) (olds stores : List S) → length olds ≡ length stores → 0 < length stores
-    → ComeBack G.size G.bytes G.disk G.faults issuer olds olds stores 0 NoMemory stores
-none-loaded {S} G issuer olds stores long some =
-    let Fails : S → S → S → S → Type 0 =
-    λ old store old_then after. IsNotLoaded G.size G.bytes G.disk G.faults issuer 0 old store NoMemory old_then after in
-    record {
-      olds_are = long;
-      read_are = long;
-      count_is = refl;
-      within = some;
-      before = λ number old old_then store after below old_is then_is is after_is. absurd (omega arith);
-      at = λ old old_then store after old_is then_is is after_is.
-          subst (Fails old store old_then) (same_Some store after (sym is ∙ after_is))
-          (subst (λ (old_then : S). Fails old store old_then store) (same_Some old old_then (sym old_is ∙ then_is)) (record {
-            stops = tt;
-            kept = refl;
-            still = reads-none (G.disk store);
-            size_is = λ works. refl;
-            leaves = crash-read (G.bytes old) (G.disk store) (G.disk store) (reads-none (G.disk store));
-            counts = record {
-              first = false;
-              second = false;
-              first_counts = counts-none (G.faults old);
-              second_counts = counts-none (G.faults store);
-              either = refl;
-            };
-            untouched = λ wanting. (refl, refl);
-          }));
-      behind = λ number past. (refl, refl);
-    }
+-- ---- memory is wanting, and no store was touched
+
+module _ {S : Type 0} (G : Ghosts S) (issuer : Setup) where
+  -- stores that weren't touched weren't loaded, for want of memory
+  pub untouched : (number : ℕ) (old store : S)
+      → IsNotLoaded G.size G.bytes G.disk G.faults issuer number old store NoMemory old store
+  untouched number old store = record {
+    stops = tt;
+    kept = refl;
+    still = reads-none (G.disk store);
+    size_is = λ works. refl;
+    leaves = crash-read (G.bytes old) (G.disk store) (G.disk store) (reads-none (G.disk store));
+    counts = record {
+      first = false;
+      second = false;
+      first_counts = counts-none (G.faults old);
+      second_counts = counts-none (G.faults store);
+      either = refl;
+    };
+    untouched = λ wanting. (refl, refl);
+  }
+
+  -- nor were those that are what they were
+  untouched-same : (number : ℕ) (old old_then store after : S) → old_then ≡ old → after ≡ store
+      → IsNotLoaded G.size G.bytes G.disk G.faults issuer number old store NoMemory old_then after
+  untouched-same number old old_then store after old_same same =
+      subst (λ (after : S). IsNotLoaded G.size G.bytes G.disk G.faults issuer number old store NoMemory old_then after) (sym same)
+      (subst (λ (old_then : S). IsNotLoaded G.size G.bytes G.disk G.faults issuer number old store NoMemory old_then store) (sym old_same)
+      (untouched number old store))
+
+  pub none-loaded : (olds stores : List S) → length olds ≡ length stores → 0 < length stores
+      → ComeBack G.size G.bytes G.disk G.faults issuer olds olds stores 0 NoMemory stores
+  none-loaded olds stores long some = record {
+    olds_are = long;
+    read_are = long;
+    count_is = refl;
+    within = some;
+    before = λ number old old_then store after below old_is then_is is after_is. absurd (omega arith);
+    at = λ old old_then store after old_is then_is is after_is.
+        untouched-same 0 old old_then store after (same_Some old_then old (sym then_is ∙ old_is)) (same_Some after store (sym after_is ∙ is));
+    behind = λ number old old_then store after past old_is then_is is after_is. (
+      same_Some old_then old (sym then_is ∙ old_is),
+      same_Some after store (sym after_is ∙ is),
+    );
+  }
+
+  -- stores that come back where shards are loaded one after another may also do so where they are loaded at once
+  pub come-together : (olds read stores : List S) (failed : ℕ) (fault : LoadFault) (back : List S)
+      → ComeBack G.size G.bytes G.disk G.faults issuer olds read stores failed fault back
+      → ComeBackTogether G.size G.bytes G.disk G.faults issuer olds read stores failed fault back
+  come-together olds read stores failed fault back come = record {
+    olds_are = come.olds_are;
+    read_are = come.read_are;
+    count_is = come.count_is;
+    within = come.within;
+    before = come.before;
+    at = come.at;
+    behind = λ number old old_then store after past old_is then_is is after_is.
+        let same = come.behind number old old_then store after past old_is then_is is after_is in
+        inr (NoMemory, untouched-same number old old_then store after same.0 same.1);
+  }
 
 -- the store that was taken from the end is the next one
 pub next-ahead : {S : Type 0} (ahead left : List S) (taken : Option S) (store : S) → ahead ≡ left ++ option_to_list taken → taken ≡ Some store

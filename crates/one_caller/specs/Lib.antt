@@ -5,4 +5,5 @@ pub mod OneHistory
 pub mod Hosts
 pub mod Room
 pub mod Loading
+pub mod Slots
 pub mod Runs

@@ -1,5 +1,5 @@
 -- What loading the shards of a host makes of their stores: the old ones, of version 1, and those of their journals.
-use Rattle.std.specs.Prelude.{◌≡◌, ℕ, ◌<◌, false, List, length, slice_get, Option, Some}
+use Rattle.std.specs.Prelude.{◌≡◌, ◌⊎◌, ℕ, ◌<◌, false, List, length, slice_get, Option, Some}
 use Rattle.issuer_base.specs.OutsideFaults.{CountsFaults}
 use Rattle.issuer_base.specs.Stores.{BothTold, Disk, LeavesOnly}
 use Rattle.issuer_base.specs.Tells.{Tells}
@@ -52,10 +52,11 @@ module _ {S : Type 0} (bytes : S → Option (List ℕ)) (disk : S → Option Dis
 
 -- and by their sizes
 module _ {S : Type 0} (size : S → ℕ) (bytes : S → Option (List ℕ)) (disk : S → Option Disk) (faults : S → ℕ) where
-  -- the stores are returned in order: those before the one that failed as they were loaded, those after it unchanged;
-  -- so are the old stores
-  pub record ComeBack (issuer : Setup) (olds read stores : List S) (failed : ℕ) (fault : LoadFault) (back : List S)
-      : Type 0 where
+  -- the stores are returned in order: those before the one that failed as they were loaded, that one as it wasn't, and
+  -- those behind it as `Behind` says of a shard's stores, the old one and its own, before and after; so are the old
+  -- stores
+  pub record ComeBackBy (Behind : ℕ → S → S → S → S → Type 0) (issuer : Setup) (olds read stores : List S)
+      (failed : ℕ) (fault : LoadFault) (back : List S) : Type 0 where
     pub olds_are : length olds ≡ length stores
     pub read_are : length read ≡ length stores
     pub count_is : length back ≡ length stores
@@ -68,5 +69,21 @@ module _ {S : Type 0} (size : S → ℕ) (bytes : S → Option (List ℕ)) (disk
         → slice_get olds failed ≡ Some old → slice_get read failed ≡ Some old_then
         → slice_get stores failed ≡ Some store → slice_get back failed ≡ Some after
         → IsNotLoaded size bytes disk faults issuer failed old store fault old_then after
-    pub behind : (number : ℕ) → failed < number
-        → (slice_get read number ≡ slice_get olds number) × (slice_get back number ≡ slice_get stores number)
+    pub behind : (number : ℕ) (old old_then store after : S) → failed < number
+        → slice_get olds number ≡ Some old → slice_get read number ≡ Some old_then
+        → slice_get stores number ≡ Some store → slice_get back number ≡ Some after
+        → Behind number old old_then store after
+
+  -- where the shards were loaded one after another, the stores behind the one that failed are unchanged
+  abbrev pub ComeBack : Setup → List S → List S → List S → ℕ → LoadFault → List S → Type 0
+  ComeBack = ComeBackBy (λ number old old_then store after. (old_then ≡ old) × (after ≡ store))
+
+  -- what the load of one shard leaves of its stores: it was loaded, or it wasn't, for some fault
+  abbrev pub IsLeft : Setup → ℕ → S → S → S → S → Type 0
+  IsLeft issuer number old old_then store after =
+      IsGivenBack bytes disk faults issuer number old old_then store after
+      ⊎ ((fault : LoadFault) × IsNotLoaded size bytes disk faults issuer number old store fault old_then after)
+
+  -- where they were loaded at once, each store behind it is left by its own load
+  abbrev pub ComeBackTogether : Setup → List S → List S → List S → ℕ → LoadFault → List S → Type 0
+  ComeBackTogether issuer = ComeBackBy (IsLeft issuer) issuer

@@ -4,14 +4,16 @@
 //! it is the contract of [`every_run_is_one_history`]. `specs/Runs.antt` states what a crash may leave meanwhile.
 //!
 //! A host of several callers loads its shards, and returns their stores, by the calls of this crate too:
-//! [`take_lists`], [`load_all`] and [`take_stores`].
+//! [`take_lists`], [`load_all`] or [`load_together`], and [`take_stores`].
 #![tactic(auto)]
 
 mod law;
 mod loading;
+mod loading_together;
 mod solo;
 
 pub use law::every_run_is_one_history;
 pub use loading::{HostBack, Lists, load_all, take_lists, take_stores};
+pub use loading_together::load_together;
 pub use shard_book::LoadFault;
 pub use solo::Solo;

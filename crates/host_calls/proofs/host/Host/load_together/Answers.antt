@@ -1,0 +1,20 @@
+-- A host over the shards that were loaded at once, or the stores come back.
+use Rattle.std.proofs.Common.{inl, inr, rules, sym, ◌∙◌, ◌<◌, length}
+use Rattle.std.proofs.lemmas.Result.{MatchResult-weaker}
+use Rattle.shard_book.specs.declared.replay.LoadFault.TheVariants.{NoMemory}
+use Rattle.one_caller.proofs.Loads.{come-together, none-loaded, none-read}
+use Rattle.host_calls.proofs.host.Host.load_together.Goals as goal
+
+pub returns-in_default-clause-stopped : goal.returns-in_default-clause-stopped
+returns-in_default-clause-stopped g c =
+    let olds = c.args.olds.now.items in
+    let stores = c.args.stores.items in
+    inl (come-together g.S.Store c.args.issuer olds olds stores 0 NoMemory stores
+    (none-loaded g.S.Store c.args.issuer olds stores (c.requires.count.0 ∙ sym c.requires.count.1) (search rules)))
+
+pub returns-in_default-clause-olds : goal.returns-in_default-clause-olds
+returns-in_default-clause-olds g c = none-read g.S.Store c.args.olds.now.items
+
+pub returns-clause-stopped : goal.returns-clause-stopped
+returns-clause-stopped g c =
+    MatchResult-weaker c.open.result (rw c.keep_all.ensures at c.open.ensures.stopped) (λ made any. any) (λ back all. inr all)
