@@ -19,7 +19,7 @@ use des_block::Key16;
 use issuer_base::{Request, Suite};
 
 /// As many cryptograms of triple DES as take about the same time in lanes and one by one.
-pub const FEWEST_IN_LANES: usize = 24;
+pub const FEWEST_IN_LANES: usize = 16;
 
 /// A request, and the master key of its card for application cryptograms.
 #[derive(Drop)]
