@@ -93,10 +93,10 @@ fn answers(
     Ok((expected(requests), holds(requests)))
 }
 
-// With 23 and with 24 of triple DES, and a whole batch.
+// With 15 and with 16 of triple DES, and a whole batch.
 #[test]
 fn batches_have_the_cryptograms_of_another_program(rt: HostRuntime) -> Result<(), Fail> {
-    for count in [0, 1, 31, 32, 65, 128] {
+    for count in [0, 1, 20, 21, 65, 128] {
         let requests = batch(rt.alloc(), count, 128)?;
         let (cryptograms, right) = answers(requests.as_slice())?;
         assert_eq!(rt; cryptograms.len(), count);
