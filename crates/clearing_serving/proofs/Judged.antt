@@ -92,10 +92,10 @@ module _ (issuer : Setup) where
         all.0,
         takes-none (HasJudged issuer records now) lines text waiting due reader new held_before held_after result
             same_reader (record {
-          more = [];
-          served = judged-all records now lines text waiting judged;
-          written = subst (WritesAll held_before held_after result) (sym (append-nil due)) all.1;
-        }),
+              more = [];
+              served = judged-all records now lines text waiting judged;
+              written = subst (WritesAll held_before held_after result) (sym (append-nil due)) all.1;
+            }),
       ))
       (λ same. inr (same.0, same.1, same_reader, same.2, judged)) writes
 

@@ -16,7 +16,11 @@ impl<S: Store> Lanes<S> {
     ghost use Rattle.shared_callers.specs.Rounds.{AnswersRound, WritesAnswers};
 
     /// Writes the answers that are due, in the order of their lines, by a block that is empty before and after.
-    pub fn write_answers<W: Sink>(&mut self, block: &mut Block, out: &mut W) -> Result<(), WriteFault>
+    pub fn write_answers<W: Sink>(
+        &mut self,
+        block: &mut Block,
+        out: &mut W,
+    ) -> Result<(), WriteFault>
         requires { (block.old.text.items ≡ []) × (block.old.lines ≡ 0) }
         ensures served { (lines : List (List ℕ)) (answers due : List Answer) (waiting : List (List ℕ))
             → LanesServe self.old lines answers due waiting
