@@ -3,13 +3,13 @@ ghost use Rattle.std.specs.Prelude.{◌≡◌, ◌<◌, ◌≤◌, IfOk};
 ghost use Rattle.issuer_base.specs.declared.limits.TheConstants.{MAX_CALLERS};
 ghost use Rattle.shared_callers.specs.Lanes.{waiting_in, due_in};
 
-use crate::hosts::{empty_stores, sample};
+use crate::hosts::{empty_stores, sample, store};
 use crate::passes::{NINTH, SIXTH};
-use issuer_base::{Answer, KEPT_BYTES, OpenGate, Refusal};
+use issuer_base::{Answer, KEPT_BYTES, OpenGate, Refusal, Store};
 use line_blocks::BLOCK_LINES;
 use memory_edge::MemoryStore;
 use sample_issuer::REQUEST;
-use shared_callers::{HostBack, Lanes};
+use shared_callers::{HostBack, Lanes, LoadFault};
 use std::alloc::Global;
 use std::sync::Wait;
 use std::test::Fail;
@@ -31,15 +31,38 @@ const BAD: &str = "X";
 /// A card block for the second card.
 const COMMAND: &str = "Q 4000000000000010 00 84160000";
 
-/// `callers` callers of a host over empty stores, one for each shard.
-fn open(alloc: Global, callers: u8, shards: u8) -> Result<Lanes<MemoryStore>, Fail>
+/// `callers` callers of a host over these stores, of old journals and journals, or what its loading gives back.
+fn load<R: Threads + Sync>(
+    rt: &R,
+    alloc: Global,
+    callers: u8,
+    shards: u8,
+    olds: &mut Vec<MemoryStore>,
+    stores: Vec<MemoryStore>,
+) -> Result<Result<Lanes<MemoryStore>, HostBack<MemoryStore>>, Fail>
+    requires { (0 < callers) × (callers ≤ MAX_CALLERS) }
+    ensures { IfOk result (λ made. IfOk made (λ lanes. (waiting_in lanes ≡ 0) × (due_in lanes ≡ 0))) }
+{
+    let issuer = sample(alloc, shards)?;
+    if olds.len() != usize::from(shards) || stores.len() != usize::from(shards) {
+        return Err("two stores for each shard".into());
+    }
+    Ok(Lanes::load(rt, alloc, olds, stores, issuer, callers))
+}
+
+/// `callers` callers of a host over these stores.
+fn open_over<R: Threads + Sync>(
+    rt: &R,
+    alloc: Global,
+    callers: u8,
+    shards: u8,
+    stores: Vec<MemoryStore>,
+) -> Result<Lanes<MemoryStore>, Fail>
     requires { (0 < callers) × (callers ≤ MAX_CALLERS) }
     ensures { IfOk result (λ lanes. (waiting_in lanes ≡ 0) × (due_in lanes ≡ 0)) }
 {
-    let issuer = sample(alloc, shards)?;
     let mut olds = empty_stores(alloc, shards)?;
-    let stores = empty_stores(alloc, shards)?;
-    match Lanes::load(alloc, &mut olds, stores, issuer, callers) {
+    match load(rt, alloc, callers, shards, &mut olds, stores)? {
         Ok(lanes) => Ok(lanes),
         Err(
             HostBack {
@@ -49,6 +72,19 @@ fn open(alloc: Global, callers: u8, shards: u8) -> Result<Lanes<MemoryStore>, Fa
             },
         ) => Err("lanes".into()),
     }
+}
+
+/// `callers` callers of a host over empty stores, one for each shard.
+fn open<R: Threads + Sync>(
+    rt: &R,
+    alloc: Global,
+    callers: u8,
+    shards: u8,
+) -> Result<Lanes<MemoryStore>, Fail>
+    requires { (0 < callers) × (callers ≤ MAX_CALLERS) }
+    ensures { IfOk result (λ lanes. (waiting_in lanes ≡ 0) × (due_in lanes ≡ 0)) }
+{
+    open_over(rt, alloc, callers, shards, empty_stores(alloc, shards)?)
 }
 
 /// Deals `count` lines in all, these again and again, while the lanes have room. Then all callers answer them
@@ -93,7 +129,7 @@ fn letter(answer: &Answer) -> u8 {
 #[test]
 fn answers_come_in_the_order_of_lines(rt: HostRuntime) -> Result<(), Fail> {
     let mut answers = Vec::with_capacity(rt.alloc(), BLOCK_LINES)?;
-    let mut lanes = open(rt.alloc(), 3, 1)?;
+    let mut lanes = open(&rt, rt.alloc(), 3, 1)?;
     answer(
         &rt,
         &mut lanes,
@@ -113,7 +149,7 @@ fn answers_come_in_the_order_of_lines(rt: HostRuntime) -> Result<(), Fail> {
 #[test]
 fn full_lanes_are_answered(rt: HostRuntime) -> Result<(), Fail> {
     let mut answers = Vec::with_capacity(rt.alloc(), BLOCK_LINES)?;
-    let mut lanes = open(rt.alloc(), 3, 1)?;
+    let mut lanes = open(&rt, rt.alloc(), 3, 1)?;
     answer(&rt, &mut lanes, &STATUS, BLOCK_LINES, &mut answers);
     lanes.close();
     assert_eq!(rt; answers.len(), BLOCK_LINES / 3 * 3);
@@ -127,7 +163,7 @@ fn full_lanes_are_answered(rt: HostRuntime) -> Result<(), Fail> {
 #[test]
 fn callers_at_one_shard_decide_each_request_once(rt: HostRuntime) -> Result<(), Fail> {
     let mut answers = Vec::with_capacity(rt.alloc(), BLOCK_LINES)?;
-    let mut lanes = open(rt.alloc(), 4, 1)?;
+    let mut lanes = open(&rt, rt.alloc(), 4, 1)?;
     let lines = [
         REQUEST, REQUEST, REQUEST, REQUEST, STATUS[0], STATUS[0], STATUS[1], STATUS[2], NINTH,
         NINTH, NINTH, NINTH, SIXTH, SIXTH, SIXTH, SIXTH,
@@ -153,7 +189,7 @@ fn callers_at_one_shard_decide_each_request_once(rt: HostRuntime) -> Result<(), 
 #[test]
 fn callers_at_a_shard_each_fill_its_places(rt: HostRuntime) -> Result<(), Fail> {
     let mut answers = Vec::with_capacity(rt.alloc(), BLOCK_LINES)?;
-    let mut lanes = open(rt.alloc(), 4, 4)?;
+    let mut lanes = open(&rt, rt.alloc(), 4, 4)?;
     answer(&rt, &mut lanes, &STATUS, 800, &mut answers);
     lanes.close();
     assert_eq!(rt; answers.len(), 800);
@@ -163,6 +199,60 @@ fn callers_at_a_shard_each_fill_its_places(rt: HostRuntime) -> Result<(), Fail> 
             place: (index / 4) as u64,
         };
         assert!(rt; *answer == expected, "{index}");
+    }
+    Ok(())
+}
+
+/// A host that several callers loaded returns the replies of one that one caller loaded.
+#[test]
+fn callers_load_what_one_does(rt: HostRuntime) -> Result<(), Fail> {
+    let alloc = rt.alloc();
+    let mut answers = Vec::with_capacity(alloc, 8)?;
+    let mut lanes = open(&rt, alloc, 4, 4)?;
+    answer(&rt, &mut lanes, &[REQUEST, NINTH], 2, &mut answers);
+    let mut stores = lanes.close();
+    for callers in [1u8, 2, 4] {
+        let mut lanes = open_over(&rt, alloc, callers, 4, stores)?;
+        answer(&rt, &mut lanes, &[REQUEST, NINTH], 2, &mut answers);
+        stores = lanes.close();
+    }
+    assert_eq!(rt; answers.len(), 8);
+    let lines = answers.as_slice();
+    assert!(rt; letter(&lines[0]) == b'F' && letter(&lines[2]) == b'K');
+    assert!(rt; lines[2] == lines[4] && lines[3] == lines[5]);
+    assert!(rt; lines[2] == lines[6] && lines[3] == lines[7]);
+    Ok(())
+}
+
+/// Of two bad journals that are loaded at once the first is named, and the others are migrated or unchanged.
+#[test]
+fn callers_name_the_first_bad_journal(rt: HostRuntime) -> Result<(), Fail> {
+    let alloc = rt.alloc();
+    for callers in [1u8, 2, 4] {
+        let mut olds = empty_stores(alloc, 4)?;
+        let mut stores = Vec::new(alloc);
+        for text in ["", "v2\nx\n", "x\n", ""] {
+            stores.push(store(alloc, text, &[])?)?;
+        }
+        match load(&rt, alloc, callers, 4, &mut olds, stores)? {
+            Ok(lanes) => {
+                lanes.close();
+                return Err("no lanes".into());
+            }
+            Err(
+                HostBack {
+                    fault,
+                    shard,
+                    stores,
+                },
+            ) => {
+                assert!(rt; fault == LoadFault::BadLine(2) && shard == 1, "{callers}");
+                assert_eq!(rt; stores.len(), 4);
+                for (store, len) in stores.as_slice().iter().zip([3u64, 5, 2, 3]) {
+                    assert_eq!(rt; store.len(), len);
+                }
+            }
+        }
     }
     Ok(())
 }
