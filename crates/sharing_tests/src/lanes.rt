@@ -203,56 +203,63 @@ fn callers_at_a_shard_each_fill_its_places(rt: HostRuntime) -> Result<(), Fail> 
     Ok(())
 }
 
+/// The stores that `callers` callers of a host over these stores leave once they answered two requests of one card.
+fn answer_two<R: Threads + Wait + Sync>(
+    rt: &R,
+    alloc: Global,
+    callers: u8,
+    stores: Vec<MemoryStore>,
+    answers: &mut Vec<Answer>,
+) -> Result<Vec<MemoryStore>, Fail>
+    requires { (0 < callers) × (callers ≤ MAX_CALLERS) }
+{
+    let mut lanes = open_over(rt, alloc, callers, 4, stores)?;
+    answer(rt, &mut lanes, &[REQUEST, NINTH], 2, answers);
+    Ok(lanes.close())
+}
+
 /// A host that several callers loaded returns the replies of one that one caller loaded.
 #[test]
 fn callers_load_what_one_does(rt: HostRuntime) -> Result<(), Fail> {
     let alloc = rt.alloc();
     let mut answers = Vec::with_capacity(alloc, 8)?;
-    let mut lanes = open(&rt, alloc, 4, 4)?;
-    answer(&rt, &mut lanes, &[REQUEST, NINTH], 2, &mut answers);
-    let mut stores = lanes.close();
-    for callers in [1u8, 2, 4] {
-        let mut lanes = open_over(&rt, alloc, callers, 4, stores)?;
-        answer(&rt, &mut lanes, &[REQUEST, NINTH], 2, &mut answers);
-        stores = lanes.close();
-    }
-    assert_eq!(rt; answers.len(), 8);
-    let lines = answers.as_slice();
-    assert!(rt; letter(&lines[0]) == b'F' && letter(&lines[2]) == b'K');
-    assert!(rt; lines[2] == lines[4] && lines[3] == lines[5]);
-    assert!(rt; lines[2] == lines[6] && lines[3] == lines[7]);
+    let stores = answer_two(&rt, alloc, 4, empty_stores(alloc, 4)?, &mut answers)?;
+    let stores = answer_two(&rt, alloc, 1, stores, &mut answers)?;
+    answer_two(&rt, alloc, 4, stores, &mut answers)?;
+    assert_eq!(rt; answers.len(), 6);
+    let told = answers.as_slice();
+    assert!(rt; letter(&told[0]) == b'F' && letter(&told[2]) == b'K');
+    assert!(rt; told[2] == told[4] && told[3] == told[5]);
     Ok(())
 }
 
-/// Of two bad journals that are loaded at once the first is named, and the others are migrated or unchanged.
+/// Of two bad journals that are loaded at once the first is named. The others are migrated, and the bad ones unchanged.
 #[test]
 fn callers_name_the_first_bad_journal(rt: HostRuntime) -> Result<(), Fail> {
     let alloc = rt.alloc();
-    for callers in [1u8, 2, 4] {
-        let mut olds = empty_stores(alloc, 4)?;
-        let mut stores = Vec::new(alloc);
-        for text in ["", "v2\nx\n", "x\n", ""] {
-            stores.push(store(alloc, text, &[])?)?;
+    let mut olds = empty_stores(alloc, 4)?;
+    let mut stores = Vec::new(alloc);
+    for text in ["", "v2\nx\n", "x\n", ""] {
+        stores.push(store(alloc, text, &[])?)?;
+    }
+    match load(&rt, alloc, 4, 4, &mut olds, stores)? {
+        Ok(lanes) => {
+            lanes.close();
+            Err("no lanes".into())
         }
-        match load(&rt, alloc, callers, 4, &mut olds, stores)? {
-            Ok(lanes) => {
-                lanes.close();
-                return Err("no lanes".into());
+        Err(
+            HostBack {
+                fault,
+                shard,
+                stores,
+            },
+        ) => {
+            assert!(rt; fault == LoadFault::BadLine(2) && shard == 1);
+            assert_eq!(rt; stores.len(), 4);
+            for (store, len) in stores.as_slice().iter().zip([3u64, 5, 2, 3]) {
+                assert_eq!(rt; store.len(), len);
             }
-            Err(
-                HostBack {
-                    fault,
-                    shard,
-                    stores,
-                },
-            ) => {
-                assert!(rt; fault == LoadFault::BadLine(2) && shard == 1, "{callers}");
-                assert_eq!(rt; stores.len(), 4);
-                for (store, len) in stores.as_slice().iter().zip([3u64, 5, 2, 3]) {
-                    assert_eq!(rt; store.len(), len);
-                }
-            }
+            Ok(())
         }
     }
-    Ok(())
 }
