@@ -137,6 +137,7 @@ where
             None => run.show(issuer, config, names.journal, out),
             Some(requests) => {
                 match load_host(
+                    self.rt,
                     run.alloc,
                     &mut run.desk,
                     names.journal,

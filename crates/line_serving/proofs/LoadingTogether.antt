@@ -6,13 +6,13 @@ use Rattle.issuer_base.specs.declared.outside.store.Store.{Ghosts}
 use Rattle.issuer_setup.specs.IssuerSetup.{Setup}
 use Rattle.shard_book.specs.declared.replay.LoadFault.{LoadFault}
 use Rattle.one_caller.specs.Loading.{AreOnlyRead}
-use Rattle.call_steps.specs.OpeningLogs.{AllComeBack, HostComesBack}
+use Rattle.call_steps.specs.OpeningLogs.{AllComeBack, HostComesBackTogether}
 use Rattle.desk_host.specs.SeenStores.{Logged, journals_seen}
 use Rattle.desk_host.specs.Journals.{old_name, journal_name, HasAllOpened}
 use Rattle.desk_host.specs.Left.{LeavesJournal, LeaveJournals}
 use Rattle.desk_host.specs.Loading.{DeskFaults, GivesNoHost, stop_of_load}
 use Rattle.desk_host.proofs.SeenSteps.{at-place, seen-store}
-use Rattle.desk_host.proofs.LeftSteps.{given-left, back-left, olds-left}
+use Rattle.desk_host.proofs.LeftSteps.{given-left, back-left_together, olds-left}
 use Rattle.desk_host.proofs.LoadingSteps.{gives-no_host}
 
 module _ {S : Type 0} (G : Ghosts S) (told : (store : S)
@@ -41,18 +41,18 @@ module _ {S : Type 0} (G : Ghosts S) (told : (store : S)
   }
 
   pub host-left : (failed : ℕ) (fault : LoadFault) (back : List S)
-      → HostComesBack G.size G.bytes G.disk G.faults issuer olds read stores failed fault back
+      → HostComesBackTogether G.size G.bytes G.disk G.faults issuer olds read stores failed fault back
       → LeaveJournals prefix logs (journals_seen G read back)
   host-left failed fault back come =
       ⊎_elim
-      (back-left G told prefix logs olds stores opened.olds_are opened.stores_are issuer failed fault read back only)
+      (back-left_together G told prefix logs olds stores opened.olds_are opened.stores_are issuer failed fault read back only)
       (all-left failed fault back) come
 
 module _ {S : Type 0} (G : Ghosts S) (issuer : Setup) (prefix : List ℕ) (logs : Logged) (desk : DeskFaults)
     (olds read stores back : List S) (failed : ℕ)
     (opened : HasAllOpened G issuer prefix logs olds stores) (stood : desk.after ≡ desk.before) where
   pub gives-no_shared : (fault : LoadFault)
-      → HostComesBack G.size G.bytes G.disk G.faults issuer olds read stores failed fault back
+      → HostComesBackTogether G.size G.bytes G.disk G.faults issuer olds read stores failed fault back
       → GivesNoHost issuer prefix logs desk (journals_seen G read back) (stop_of_load fault failed)
   gives-no_shared fault come =
       ⊎_elim (gives-no_host G issuer prefix logs desk olds read stores back failed opened stood fault)

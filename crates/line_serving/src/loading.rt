@@ -13,18 +13,23 @@ use issuer_setup::Issuer;
 use line_checks::LinesAhead;
 use shared_callers::{Lanes, LoadFault};
 use std::alloc::Global;
+use std::thread::Threads;
 
 /// The host of an issuer with so many callers, 1 to 16, over the journals under these names: they are opened at the
 /// desk, and loaded.
 ///
 /// The first journal that can't be opened or loaded stops it: its fault comes back with the journals that were opened.
-pub fn load_host<D: Desk>(
+/// Those behind it may have been loaded meanwhile if there is more than one caller.
+pub fn load_host<R: Threads + Sync, D: Desk>(
+    rt: &R,
     alloc: Global,
     desk: &mut D,
     prefix: &str,
     issuer: Issuer,
     callers: u8,
 ) -> Result<Loaded<LineHost<D::Journal>, D::Journal>, NoHost<D::Journal>>
+where
+    D::Journal: Send,
     requires { (1 ≤ callers) × (callers ≤ MAX_CALLERS) }
     ensures ready { IfOk result (λ loaded. IsReady issuer prefix.now (D.logs desk.old) loaded.olds.items loaded.host) }
     ensures fresh { IfOk result (λ loaded. IsFresh callers loaded.host) }
@@ -40,20 +45,23 @@ pub fn load_host<D: Desk>(
         let host = LineHost::Alone(AloneHost::new(host, ahead));
         Ok(Loaded { host, olds })
     } else {
-        let Loaded { host, olds } = load_together(alloc, desk, prefix, issuer, callers)?;
+        let Loaded { host, olds } = load_together(rt, alloc, desk, prefix, issuer, callers)?;
         let host = LineHost::Together(host);
         Ok(Loaded { host, olds })
     }
 }
 
-/// The host of more than one caller, likewise.
-fn load_together<D: Desk>(
+/// The host of more than one caller, likewise. Its shards are loaded at once.
+fn load_together<R: Threads + Sync, D: Desk>(
+    rt: &R,
     alloc: Global,
     desk: &mut D,
     prefix: &str,
     issuer: Issuer,
     callers: u8,
 ) -> Result<Loaded<Lanes<D::Journal>, D::Journal>, NoHost<D::Journal>>
+where
+    D::Journal: Send,
     requires { (1 < callers) × (callers ≤ MAX_CALLERS) }
     ensures ready { IfOk result (λ loaded.
         IsReadyTogether issuer prefix.now (D.logs desk.old) loaded.olds.items loaded.host) }
@@ -63,7 +71,7 @@ fn load_together<D: Desk>(
     ensures kept { D.holds desk.new ≡ D.holds desk.old }
 {
     let Journals { mut olds, stores } = open_journals(alloc, desk, prefix, &issuer)?;
-    match Lanes::load(alloc, &mut olds, stores, issuer, callers) {
+    match Lanes::load(rt, alloc, &mut olds, stores, issuer, callers) {
         Ok(host) => Ok(Loaded { host, olds }),
         Err(back) => Err(no_host(back, olds)),
     }

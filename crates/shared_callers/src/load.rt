@@ -1,7 +1,7 @@
 //! The loading of a host for several callers.
 ghost use Rattle.std.specs.Prelude.{◌≡◌, ℕ, ◌<◌, ◌≤◌, ◌*◌, ◌/◌, [], length, vec_len, vec_capacity, All, IfOk, IfErr};
 ghost use Rattle.issuer_base.specs.declared.limits.TheConstants.{MAX_CALLERS};
-ghost use Rattle.call_steps.specs.OpeningLogs.{HostComesBack};
+ghost use Rattle.call_steps.specs.OpeningLogs.{HostComesBackTogether};
 ghost use Rattle.one_caller.specs.Loading.{AreOnlyRead};
 ghost use Rattle.shared_shards.specs.ShardSeats.{opening_in};
 ghost use Rattle.shared_callers.specs.OneLane.{IsNewLane};
@@ -16,6 +16,7 @@ use issuer_base::{NoMemory, Store};
 use issuer_setup::Issuer;
 use line_blocks::BLOCK_LINES;
 use std::alloc::Global;
+use std::thread::Threads;
 
 /// The memory of all lanes.
 struct AllRoom {
@@ -26,20 +27,24 @@ struct AllRoom {
 impl<S: Store> Lanes<S> {
     ghost use Rattle.shared_callers.specs.Lanes.{AreLoadedFrom};
 
-    /// Loads the host as `Host::load` does, for 1 to [`MAX_CALLERS`](issuer_base::MAX_CALLERS) callers. No later call
-    /// allocates. If an allocation for the lanes fails, the stores come back as they were, and the error names shard 0.
-    pub fn load(
+    /// Loads the host as `Host::load_together` does, for 1 to [`MAX_CALLERS`](issuer_base::MAX_CALLERS) callers and in
+    /// as many threads at most. No later call allocates. If an allocation for the lanes fails, the stores come back as
+    /// they were, and the error names shard 0.
+    pub fn load<R: Threads + Sync>(
+        rt: &R,
         alloc: Global,
         olds: &mut Vec<S>,
         stores: Vec<S>,
         issuer: Issuer,
         callers: u8,
     ) -> Result<Lanes<S>, HostBack<S>>
+    where
+        S: Send,
         requires count { (length olds.old.items ≡ issuer.shards) × (length stores.items ≡ issuer.shards) }
         requires callers { (0 < callers) × (callers ≤ MAX_CALLERS) }
         ensures loaded { IfOk result (AreLoadedFrom issuer callers olds.old.items olds.new.items stores.items) }
         ensures olds { AreOnlyRead S.size S.bytes S.disk S.room olds.old.items olds.new.items }
-        ensures stopped { IfErr result (λ back. HostComesBack S.size S.bytes S.disk S.faults issuer
+        ensures stopped { IfErr result (λ back. HostComesBackTogether S.size S.bytes S.disk S.faults issuer
             olds.old.items olds.new.items stores.items back.shard back.fault back.stores.items) }
     {
         let Ok(AllRoom { lanes, rooms }) = take_room(alloc, callers) else {
@@ -49,7 +54,7 @@ impl<S: Store> Lanes<S> {
                 stores,
             });
         };
-        let (host, mut first) = match Host::load(alloc, olds, stores, issuer) {
+        let (host, mut first) = match Host::load_together(rt, alloc, olds, stores, issuer, callers) {
             Ok(made) => made,
             Err(back) => {
                 lanes.destroy_empty();

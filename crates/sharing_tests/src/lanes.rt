@@ -3,13 +3,13 @@ ghost use Rattle.std.specs.Prelude.{◌≡◌, ◌<◌, ◌≤◌, [], IfOk};
 ghost use Rattle.issuer_base.specs.declared.limits.TheConstants.{MAX_CALLERS};
 ghost use Rattle.shared_callers.specs.Lanes.{waiting_in, due_in};
 
-use crate::hosts::{empty_stores, sample};
+use crate::hosts::{empty_stores, sample, store};
 use crate::passes::{NINTH, SIXTH};
-use issuer_base::{KEPT_BYTES, OpenGate};
+use issuer_base::{KEPT_BYTES, OpenGate, Store};
 use line_blocks::Block;
 use memory_edge::{MemorySink, MemoryStore};
 use sample_issuer::REQUEST;
-use shared_callers::{HostBack, Lanes};
+use shared_callers::{HostBack, Lanes, LoadFault};
 use std::alloc::Global;
 use std::sync::Wait;
 use std::test::Fail;
@@ -31,15 +31,38 @@ const BAD: &str = "X";
 /// A card block for the second card.
 const COMMAND: &str = "Q 4000000000000010 00 84160000";
 
-/// `callers` callers of a host over empty stores, one for each shard.
-fn open(alloc: Global, callers: u8, shards: u8) -> Result<Lanes<MemoryStore>, Fail>
+/// `callers` callers of a host over these stores, of old journals and journals, or what its loading gives back.
+fn load<R: Threads + Sync>(
+    rt: &R,
+    alloc: Global,
+    callers: u8,
+    shards: u8,
+    olds: &mut Vec<MemoryStore>,
+    stores: Vec<MemoryStore>,
+) -> Result<Result<Lanes<MemoryStore>, HostBack<MemoryStore>>, Fail>
+    requires { (0 < callers) × (callers ≤ MAX_CALLERS) }
+    ensures { IfOk result (λ made. IfOk made (λ lanes. (waiting_in lanes ≡ 0) × (due_in lanes ≡ 0))) }
+{
+    let issuer = sample(alloc, shards)?;
+    if olds.len() != usize::from(shards) || stores.len() != usize::from(shards) {
+        return Err("two stores for each shard".into());
+    }
+    Ok(Lanes::load(rt, alloc, olds, stores, issuer, callers))
+}
+
+/// `callers` callers of a host over these stores.
+fn open_over<R: Threads + Sync>(
+    rt: &R,
+    alloc: Global,
+    callers: u8,
+    shards: u8,
+    stores: Vec<MemoryStore>,
+) -> Result<Lanes<MemoryStore>, Fail>
     requires { (0 < callers) × (callers ≤ MAX_CALLERS) }
     ensures { IfOk result (λ lanes. (waiting_in lanes ≡ 0) × (due_in lanes ≡ 0)) }
 {
-    let issuer = sample(alloc, shards)?;
     let mut olds = empty_stores(alloc, shards)?;
-    let stores = empty_stores(alloc, shards)?;
-    match Lanes::load(alloc, &mut olds, stores, issuer, callers) {
+    match load(rt, alloc, callers, shards, &mut olds, stores)? {
         Ok(lanes) => Ok(lanes),
         Err(
             HostBack {
@@ -49,6 +72,19 @@ fn open(alloc: Global, callers: u8, shards: u8) -> Result<Lanes<MemoryStore>, Fa
             },
         ) => Err("lanes".into()),
     }
+}
+
+/// `callers` callers of a host over empty stores, one for each shard.
+fn open<R: Threads + Sync>(
+    rt: &R,
+    alloc: Global,
+    callers: u8,
+    shards: u8,
+) -> Result<Lanes<MemoryStore>, Fail>
+    requires { (0 < callers) × (callers ≤ MAX_CALLERS) }
+    ensures { IfOk result (λ lanes. (waiting_in lanes ≡ 0) × (due_in lanes ≡ 0)) }
+{
+    open_over(rt, alloc, callers, shards, empty_stores(alloc, shards)?)
 }
 
 /// Deals `count` lines in all, these again and again, while the lanes have room. Then all callers answer them
@@ -110,7 +146,7 @@ fn letter(answer: &str) -> u8 {
 fn answers_come_in_the_order_of_lines(rt: HostRuntime) -> Result<(), Fail> {
     let mut block = Block::new(rt.alloc())?;
     let mut sink = sink(rt.alloc())?;
-    let mut lanes = open(rt.alloc(), 3, 1)?;
+    let mut lanes = open(&rt, rt.alloc(), 3, 1)?;
     answer(
         &rt,
         &mut lanes,
@@ -133,7 +169,7 @@ fn answers_come_in_the_order_of_lines(rt: HostRuntime) -> Result<(), Fail> {
 fn full_lanes_are_answered(rt: HostRuntime) -> Result<(), Fail> {
     let mut block = Block::new(rt.alloc())?;
     let mut sink = sink(rt.alloc())?;
-    let mut lanes = open(rt.alloc(), 3, 1)?;
+    let mut lanes = open(&rt, rt.alloc(), 3, 1)?;
     answer(&rt, &mut lanes, &STATUS, 2_000, &mut block, &mut sink);
     lanes.close();
     let text = text(rt.alloc(), &sink)?;
@@ -150,7 +186,7 @@ fn full_lanes_are_answered(rt: HostRuntime) -> Result<(), Fail> {
 fn callers_at_one_shard_decide_each_request_once(rt: HostRuntime) -> Result<(), Fail> {
     let mut block = Block::new(rt.alloc())?;
     let mut sink = sink(rt.alloc())?;
-    let mut lanes = open(rt.alloc(), 4, 1)?;
+    let mut lanes = open(&rt, rt.alloc(), 4, 1)?;
     let lines = [
         REQUEST, REQUEST, REQUEST, REQUEST, STATUS[0], STATUS[0], STATUS[1], STATUS[2], NINTH,
         NINTH, NINTH, NINTH, SIXTH, SIXTH, SIXTH, SIXTH,
@@ -179,7 +215,7 @@ fn callers_at_one_shard_decide_each_request_once(rt: HostRuntime) -> Result<(), 
 fn callers_at_a_shard_each_fill_its_places(rt: HostRuntime) -> Result<(), Fail> {
     let mut block = Block::new(rt.alloc())?;
     let mut sink = sink(rt.alloc())?;
-    let mut lanes = open(rt.alloc(), 4, 4)?;
+    let mut lanes = open(&rt, rt.alloc(), 4, 4)?;
     answer(&rt, &mut lanes, &STATUS, 400, &mut block, &mut sink);
     answer(&rt, &mut lanes, &STATUS, 400, &mut block, &mut sink);
     lanes.close();
@@ -190,4 +226,72 @@ fn callers_at_a_shard_each_fill_its_places(rt: HostRuntime) -> Result<(), Fail> 
         assert_eq!(rt; answer, expected.as_str());
     }
     Ok(())
+}
+
+/// What `callers` callers of a host over these stores answer to two requests of one card is appended to the sink; the
+/// stores that they leave.
+fn answer_two<R: Threads + Wait + Sync>(
+    rt: &R,
+    alloc: Global,
+    callers: u8,
+    stores: Vec<MemoryStore>,
+    sink: &mut MemorySink,
+) -> Result<Vec<MemoryStore>, Fail>
+    requires { (0 < callers) × (callers ≤ MAX_CALLERS) }
+{
+    let mut block = Block::new(alloc)?;
+    let mut lanes = open_over(rt, alloc, callers, 4, stores)?;
+    answer(rt, &mut lanes, &[REQUEST, NINTH], 2, &mut block, sink);
+    Ok(lanes.close())
+}
+
+/// A host that several callers loaded returns the replies of one that one caller loaded.
+#[test]
+fn callers_load_what_one_does(rt: HostRuntime) -> Result<(), Fail> {
+    let alloc = rt.alloc();
+    let mut sink = sink(alloc)?;
+    let stores = answer_two(&rt, alloc, 4, empty_stores(alloc, 4)?, &mut sink)?;
+    let stores = answer_two(&rt, alloc, 1, stores, &mut sink)?;
+    answer_two(&rt, alloc, 4, stores, &mut sink)?;
+    let text = text(alloc, &sink)?;
+    let mut told = Vec::new(alloc);
+    for answer in text.as_str().lines() {
+        told.push(answer)?;
+    }
+    let told = told.as_slice();
+    assert_eq!(rt; told.len(), 6);
+    assert!(rt; letter(told[0]) == b'F' && letter(told[2]) == b'K');
+    assert!(rt; told[2] == told[4] && told[3] == told[5]);
+    Ok(())
+}
+
+/// Of two bad journals that are loaded at once the first is named. The others are migrated, and the bad ones unchanged.
+#[test]
+fn callers_name_the_first_bad_journal(rt: HostRuntime) -> Result<(), Fail> {
+    let alloc = rt.alloc();
+    let mut olds = empty_stores(alloc, 4)?;
+    let mut stores = Vec::new(alloc);
+    for text in ["", "v2\nx\n", "x\n", ""] {
+        stores.push(store(alloc, text, &[])?)?;
+    }
+    match load(&rt, alloc, 4, 4, &mut olds, stores)? {
+        Ok(lanes) => {
+            lanes.close();
+            Err("no lanes".into())
+        }
+        Err(
+            HostBack {
+                fault,
+                shard,
+                stores,
+            },
+        ) => {
+            assert!(rt; fault == LoadFault::BadLine(2) && shard == 1);
+            assert_eq!(rt; stores.len(), 4);
+            for (store, len) in stores.as_slice().iter().zip([3u64, 5, 2, 3]) {
+                assert_eq!(rt; store.len(), len);
+            }
+            Ok(())
+        }
+    }
 }

@@ -1,5 +1,7 @@
 -- What is shared is a host, or the stores of the shards come back.
-use Rattle.std.proofs.Common.{rules}
+use Rattle.std.proofs.Common.{◌≡◌, refl, subst, sym}
+use Rattle.claim_words.specs.declared.view.ClaimView.{ClaimView}
+use Rattle.host_calls.specs.Passes.{open_in}
 use Rattle.host_calls.proofs.Sharing.{all-come-back, opened-counted}
 use Rattle.host_calls.proofs.load.open.Goals as goal
 
@@ -17,3 +19,15 @@ invariant_of-host g c = record {
       c.in-Ok.ensures.shared.opening;
   recorded = c.in-Ok.ensures.shared.recorded;
 }
+
+pub returns-in-Ok-clause-pass : goal.returns-in-Ok-clause-pass
+returns-in-Ok-clause-pass g c =
+    let shared = c.in-Ok.ensures.shared in
+    record {
+      free = record {
+        of = record { claims_are = shared.claiming; turns_are = shared.turning };
+        settled = subst (λ (view : ClaimView). open_in view.claims ≡ 0) (sym shared.claims_are) refl;
+      };
+      claims_are = shared.claims_are;
+      logs_are = shared.logs_are;
+    }

@@ -12,4 +12,5 @@ returns-in_default-clause-olds g c = none-read g.S.Store c.args.olds.now.items
 
 pub returns-clause-stopped : goal.returns-clause-stopped
 returns-clause-stopped g c =
-    MatchResult-weaker c.open.result (rw c.keep_all.ensures at c.open.ensures.stopped) (λ made any. any) (λ back all. inr all)
+    MatchResult-weaker c.open.result (rw (c.keep_all.ensures, c.of-old.ensures, c.of-before.ensures) at c.open.ensures.stopped) (λ made any. any)
+    (λ back all. inr all)
