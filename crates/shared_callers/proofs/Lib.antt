@@ -1,4 +1,5 @@
 -- The lemmas of this crate.
+mod Lists
 mod AnsweredBoth
 mod Turning
 mod Serving
@@ -6,3 +7,7 @@ mod Seating
 mod Opening
 mod Joining
 mod LooksAhead
+mod Rounding
+mod HandingOver
+mod Writing
+mod Calling

@@ -1,6 +1,6 @@
 -- The first caller answered beside the others.
 use Rattle.shared_callers.proofs.AnsweredBoth.{answered-both}
-use Rattle.shared_callers.proofs.dealer.+lanes.Goals as goal
+use Rattle.shared_callers.proofs.round.+lanes.Goals as goal
 
 pub answer_at_once-returns : goal.answer_at_once-returns
 answer_at_once-returns g t c =

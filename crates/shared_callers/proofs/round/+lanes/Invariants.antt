@@ -1,5 +1,5 @@
 use Rattle.std.proofs.Common.{◌+◌, ◌-◌, ◌*◌, length}
-use Rattle.shared_callers.proofs.dealer.+lanes.Given as goal
+use Rattle.shared_callers.proofs.round.+lanes.Given as goal
 
 abbrev pub decreases-answer_at_once : goal.decreases-answer_at_once
 decreases-answer_at_once g l = 4 * length l.lanes.now
