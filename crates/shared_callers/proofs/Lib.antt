@@ -1,9 +1,13 @@
 -- The lemmas of this crate.
+mod Lists
 mod AnsweredBoth
 mod Turning
 mod Serving
-mod RoundSteps
 mod Seating
 mod Opening
 mod Joining
 mod LooksAhead
+mod Rounding
+mod HandingOver
+mod Writing
+mod Calling

@@ -1,7 +1,7 @@
 -- The passes of lanes as they are split off, and the initial state of the lanes.
 use Rattle.std.proofs.Common.{◌≡◌, ℕ, ◌*◌, ◌/◌, ◌<◌, ◌≤◌, List, [], ◌∷◌, ◌++◌, length, All, refl, sym, ap, subst, ◌∙◌, append-nil, arith}
 use Rattle.std.proofs.lemmas.List.Elements.{All-push}
-use Rattle.std.proofs.Math.Nat.{zero-mod, mul-div-le, le-div_iff_mul-le, one-le-mul}
+use Rattle.std.proofs.Math.Nat.{mul-div-le, le-div_iff_mul-le, one-le-mul}
 use Rattle.std.specs.List.{flat_map}
 use Rattle.issuer_base.specs.declared.outside.store.Store.{Ghosts}
 use Rattle.issuer_setup.specs.IssuerSetup.{Setup}
@@ -20,13 +20,14 @@ use Rattle.shared_shards.specs.ShardSeats.{opening_in}
 use Rattle.host_calls.specs.Passes.{claims_of, logs_of, IsFree}
 use Rattle.host_calls.specs.declared.host.Host.{Host}
 use Rattle.host_calls.specs.declared.pass.Pass.{Pass}
-use Rattle.shared_callers.specs.OneLane.{waiting_lines, due_answers, IsNewLane, HadLines}
+use Rattle.shared_callers.specs.Dealt.{HasDealt}
+use Rattle.shared_callers.specs.Halves.{HasDue, HasWaiting}
+use Rattle.shared_callers.specs.OneLane.{IsNewLane, HadLines, HaveAllHad}
 use Rattle.shared_callers.specs.Seated.{AreSeated}
-use Rattle.shared_callers.specs.Turns.{AreInTurns}
+use Rattle.shared_callers.specs.declared.half.Half.{Half}
 use Rattle.shared_callers.specs.declared.lane.Lane.{Lane}
-use Rattle.shared_callers.specs.declared.dealer.Progress.{Progress}
-use Rattle.answer_laws.proofs.HavingTurns.{turns-nothing}
-use Rattle.shared_callers.proofs.Serving.{AreServed, at-all}
+use Rattle.shared_callers.specs.declared.part.Part.{Part}
+use Rattle.shared_callers.proofs.Lists.{at-all}
 
 -- a pass that was split off was asked nothing
 pub new-served : (issuer : Setup) (opening : List (Log LogItem LogHead)) (first pass : Pass) → claims_of pass ≡ child_claims (claims_of first)
@@ -95,23 +96,22 @@ module _ {S : Type 0} {G : Ghosts S} (host : Host S G) where
         whole = subst IsWhole (sym all_names) (whole_seated (claims_of first).names (flat_map names lanes) named seated.whole);
       }
 
--- lanes that were asked nothing are in turn
-pub new-in-turns : (issuer : Setup) (opening : List (Log LogItem LogHead)) (lanes : List Lane) (progress : Progress) → All (IsNewLane issuer opening) lanes
-    → progress.next ≡ 0 → progress.from ≡ 0 → progress.waiting ≡ 0 → progress.due ≡ 0 → AreInTurns lanes progress [] [] [] []
-new-in-turns issuer opening lanes progress new next from waiting due = record {
-  answered = refl;
-  waiting_is = waiting;
-  due_is = due;
-  next_is = next ∙ sym (zero-mod (length lanes));
-  from_is = from ∙ sym (zero-mod (length lanes));
-  waits = turns-nothing waiting_lines lanes [] (λ number lane is. (at-all (IsNewLane issuer opening) lanes number lane new is).none_wait);
-  dues = turns-nothing due_answers lanes [] (λ number lane is. (at-all (IsNewLane issuer opening) lanes number lane new is).none_due);
-}
+-- the callers of lanes that were asked nothing were answered nothing
+pub new-all-had : (issuer : Setup) (opening : List (Log LogItem LogHead)) (lanes : List Lane) → All (IsNewLane issuer opening) lanes
+    → HaveAllHad issuer opening lanes [] []
+new-all-had issuer opening lanes new number lane is = at-all (IsNewLane issuer opening) lanes number lane new is
 
--- and their callers were answered nothing
-pub new-all-served : (issuer : Setup) (opening : List (Log LogItem LogHead)) (lanes : List Lane) → All (IsNewLane issuer opening) lanes
-    → AreServed issuer opening lanes [] []
-new-all-served issuer opening lanes new number lane is = (at-all (IsNewLane issuer opening) lanes number lane new is).served
+-- and so it is with the host's lanes and half
+pub new-dealt : (issuer : Setup) (opening : List (Log LogItem LogHead)) (lanes : List Lane) (half : Half) → HasWaiting half [] [] → HasDue half [] []
+    → All (IsNewLane issuer opening) lanes → HasDealt issuer opening lanes half [] [] [] []
+new-dealt issuer opening lanes half waits dues new = record {
+  taken = [];
+  answers_are = refl;
+  answered = refl;
+  waits = waits;
+  dues = dues;
+  had = new-all-had issuer opening lanes new;
+}
 
 -- so many lanes with room for their part of so many lines
 pub room-some : (lines count : ℕ) → 0 < count → count ≤ lines → 0 < count * (lines / count)
@@ -122,6 +122,7 @@ room-some lines count some fits =
 pub room-most : (lines count : ℕ) → count * (lines / count) ≤ lines
 room-most lines count = mul-div-le lines count
 
-pub rooms-all : (lanes : List Lane) (count each whole : ℕ) → whole ≡ count * each → All (λ (lane : Lane). lane.room ≡ each) lanes
-    → All (λ (lane : Lane). count * lane.room ≡ whole) lanes
-rooms-all lanes count each whole is all = λ number d below. ap (λ room. count * room) (all number d below) ∙ sym is
+-- each of the parts has the same room
+pub rooms-all : (parts : List Part) (count each : ℕ) → All (λ (part : Part). part.lines.room ≡ each) parts
+    → All (λ (part : Part). count * part.lines.room ≡ count * each) parts
+rooms-all parts count each all = λ number d below. ap (λ room. count * room) (all number d below)

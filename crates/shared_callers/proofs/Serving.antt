@@ -1,9 +1,8 @@
 -- The lines and answers of the lanes' callers after each step, and that their passes stay seated.
-use Rattle.std.proofs.Common.{◌≡◌, ℕ, ◌+◌, ◌*◌, ◌<◌, List, [], ◌∷◌, ◌++◌, length, take, drop, map, Some}
+use Rattle.std.proofs.Common.{◌≡◌, ℕ, ◌+◌, ◌<◌, List, [], ◌∷◌, ◌++◌, length, take, map, Some}
 use Rattle.std.proofs.Common.{All, get_or, refl, sym, ap, subst, ◌∙◌, arith}
-use Rattle.std.proofs.lemmas.List.{length-map, take_more}
+use Rattle.std.proofs.lemmas.List.{length-map, map-append, append_cancel_left, take_more}
 use Rattle.std.proofs.lemmas.List.Folds.{flat_map-map}
-use Rattle.std.proofs.lemmas.List.Elements.{All-get_or}
 use Rattle.std.proofs.lemmas.Option.{slice_get-get_or, slice_get_within, get_or_from_slice_get}
 use Rattle.std.specs.List.{slice_get, flat_map}
 use Rattle.issuer_base.specs.declared.answer.Answer.{Answer}
@@ -11,7 +10,7 @@ use Rattle.issuer_base.specs.declared.outside.store.Store.{Ghosts}
 use Rattle.issuer_setup.specs.IssuerSetup.{Setup}
 use Rattle.shared_seats.specs.SeatNames.{IsWhole}
 use Rattle.shared_seats.specs.declared.seat_name.SeatName.{SeatName}
-use Rattle.shared_seats.proofs.ManySeats.{flat_map-kept, lent_whole}
+use Rattle.shared_seats.proofs.ManySeats.{flat_map-kept}
 use Rattle.claim_words.specs.declared.view.ClaimView.{ClaimView}
 use Rattle.turn_book.specs.declared.logs.Log.{Log}
 use Rattle.turn_book.specs.declared.view.TurnView.{TurnView}
@@ -19,58 +18,54 @@ use Rattle.shared_shards.specs.declared.logs.LogItem.{LogItem}
 use Rattle.shared_shards.specs.declared.logs.LogHead.{LogHead}
 use Rattle.line_checks.specs.Reading.{reading}
 use Rattle.call_steps.specs.Authorising.{Authorises}
+use Rattle.answer_text.specs.AnswerText.{printed}
 use Rattle.host_calls.specs.Passes.{claims_of, logs_of, IsFree}
 use Rattle.host_calls.specs.declared.host.Host.{Host}
 use Rattle.host_calls.specs.declared.pass.Pass.{Pass}
-use Rattle.one_caller.proofs.Places.{read-map, read-mapped}
+use Rattle.one_caller.proofs.Places.{choose, read-within}
 use Rattle.answer_laws.specs.Callers.{Caller, AuthorisesAll, IsCaller}
+use Rattle.answer_laws.specs.Dealing.{every, HaveTurns}
+use Rattle.answer_laws.proofs.Every.{left, every-append}
+use Rattle.answer_laws.proofs.HavingTurns.{some-same, turns-answered}
+use Rattle.answer_laws.proofs.Merged.{left-alike, merged}
 use Rattle.answer_laws.proofs.MoreLines.{calls-more}
-use Rattle.answer_laws.specs.Dealing.{every}
-use Rattle.shared_callers.specs.OneLane.{waiting_lines, due_answers, HadLines, LaneAnswers, LanesAnswer}
+use Rattle.shared_callers.specs.OneLane.{waiting_lines, answer_texts, lane_rooms, passes_of, HadLines, HaveAllHad, LaneAnswers, LanesAnswer}
 use Rattle.shared_callers.specs.Seated.{AreSeated}
-use Rattle.shared_callers.specs.Turns.{AreInTurns, IsInTurn}
-use Rattle.shared_callers.specs.declared.dealer.Progress.{Progress}
 use Rattle.shared_callers.specs.declared.lane.Lane.{Lane}
-use Rattle.shared_callers.proofs.Turning.{in-turns-answered, still-answered}
+use Rattle.shared_callers.proofs.Lists.{all-at, at-all, every-map, maps-at, maps-from, maps-long}
 
 -- the lane's pass
 abbrev pub pass_of : Lane → Pass
 pass_of lane = lane.pass
 
--- the lanes' callers were asked and answered so
-abbrev pub AreServed : Setup → List (Log LogItem LogHead) → List Lane → List (List ℕ) → List Answer → Type 0
-AreServed issuer opening lanes lines answers =
-    (number : ℕ) (lane : Lane) → slice_get lanes number ≡ Some lane
-    → HadLines issuer opening lane.pass (every (length lanes) number lines) (every (length lanes) number answers)
-
 -- ---- lanes whose passes are the same
 
 -- the lane that had the same pass
-lane-before : (old new : List Lane) (number : ℕ) (lane : Lane) → map pass_of new ≡ map pass_of old → slice_get new number ≡ Some lane
+lane-before : (old new : List Lane) (number : ℕ) (lane : Lane) → passes_of new ≡ passes_of old → slice_get new number ≡ Some lane
     → (before : Lane) × (slice_get old number ≡ Some before) × (before.pass ≡ lane.pass)
-lane-before old new number lane same is =
-    read-mapped pass_of old number lane.pass (ap (λ (passes : List Pass). slice_get passes number) (sym same) ∙ read-map pass_of new number lane is)
+lane-before old new number lane same is = maps-at pass_of pass_of new old same number lane is
 
-pub same-length : (old new : List Lane) → map pass_of new ≡ map pass_of old → length new ≡ length old
-same-length old new same = sym (length-map new pass_of) ∙ ap (λ (passes : List Pass). length passes) same ∙ length-map old pass_of
+pub same-length : (old new : List Lane) → passes_of new ≡ passes_of old → length new ≡ length old
+same-length old new same = maps-long pass_of pass_of new old same
 
-pub served-alike : (issuer : Setup) (opening : List (Log LogItem LogHead)) (old new : List Lane) (lines : List (List ℕ)) (answers : List Answer)
-    → map pass_of new ≡ map pass_of old → AreServed issuer opening old lines answers → AreServed issuer opening new lines answers
-served-alike issuer opening old new lines answers same served number lane is =
+pub had-alike : (issuer : Setup) (opening : List (Log LogItem LogHead)) (old new : List Lane) (lines : List (List ℕ)) (answers : List Answer)
+    → passes_of new ≡ passes_of old → HaveAllHad issuer opening old lines answers → HaveAllHad issuer opening new lines answers
+had-alike issuer opening old new lines answers same had number lane is =
     let before = lane-before old new number lane same is in
     subst (λ (pass : Pass). HadLines issuer opening pass (every (length new) number lines) (every (length new) number answers)) before.2
     (subst (λ count. HadLines issuer opening before.0.pass (every count number lines) (every count number answers)) (sym (same-length old new same))
-    (served number before.0 before.1))
+    (had number before.0 before.1))
 
-all-at : {X : Type 0} (P : X → Type 0) (xs : List X) → ((number : ℕ) (x : X) → slice_get xs number ≡ Some x → P x) → All P xs
-all-at P xs each = λ number d below. each number (get_or xs number d) (slice_get-get_or xs number d below)
-
-pub at-all : {X : Type 0} (P : X → Type 0) (xs : List X) (number : ℕ) (x : X) → All P xs → slice_get xs number ≡ Some x → P x
-at-all P xs number x all is =
-    subst P (get_or_from_slice_get xs number x x is) (All-get_or P xs number x (slice_get_within xs number x is) all)
+module _ {S : Type 0} {G : Ghosts S} (host : Host S G) where
+  pub free-alike : (old new : List Lane) → passes_of new ≡ passes_of old → All (λ (lane : Lane). IsFree host lane.pass) old
+      → All (λ (lane : Lane). IsFree host lane.pass) new
+  free-alike old new same free =
+      all-at (λ (lane : Lane). IsFree host lane.pass) new (λ number lane is.
+      let before = lane-before old new number lane same is in
+      subst (IsFree host) before.2 (at-all (λ (lane : Lane). IsFree host lane.pass) old number before.0 free before.1))
 
 module _ {S : Type 0} {G : Ghosts S} (host : Host S G) (first : Pass) where
-  pub seated-alike : (old new : List Lane) → map pass_of new ≡ map pass_of old → AreSeated host first old → AreSeated host first new
+  pub seated-alike : (old new : List Lane) → passes_of new ≡ passes_of old → AreSeated host first old → AreSeated host first new
   seated-alike old new same seated =
       let names : Pass → List SeatName = λ pass. (claims_of pass).names in
       let all_names : flat_map (λ (lane : Lane). names lane.pass) old ≡ flat_map (λ (lane : Lane). names lane.pass) new =
@@ -79,9 +74,7 @@ module _ {S : Type 0} {G : Ghosts S} (host : Host S G) (first : Pass) where
         first_free = seated.first_free;
         untouched = seated.untouched;
         opened = seated.opened;
-        free = all-at (λ (lane : Lane). IsFree host lane.pass) new (λ number lane is.
-            let before = lane-before old new number lane same is in
-            subst (IsFree host) before.2 (at-all (λ (lane : Lane). IsFree host lane.pass) old number before.0 seated.free before.1));
+        free = free-alike host old new same seated.free;
         whole = subst (λ (others : List SeatName). IsWhole ((claims_of first).names ++ others)) all_names seated.whole;
       }
 
@@ -180,72 +173,131 @@ served-more issuer opening old new lines more answers told calls served =
       logs_are = refl;
     }
 
--- all callers answered what waited for them
-pub served-answered : {S : Type 0} {G : Ghosts S} (host : Host S G) (opening : List (Log LogItem LogHead)) (old new : List Lane) (lines waiting : List (List ℕ))
-    (answers more : List Answer) → LanesAnswer host old new
-    → ((number : ℕ) (lane : Lane) → slice_get old number ≡ Some lane
-    → every (length old) number (lines ++ waiting) ≡ every (length old) number lines ++ waiting_lines lane)
-    → ((number : ℕ) (lane : Lane) → slice_get new number ≡ Some lane
-    → every (length new) number (answers ++ more) ≡ every (length new) number answers ++ due_answers lane)
-    → AreServed host.issuer opening old lines answers → AreServed host.issuer opening new (lines ++ waiting) (answers ++ more)
-served-answered host opening old new lines waiting answers more answered waits dues served number lane is =
-    let within = slice_get_within new number lane is in
-    let before : Lane = get_or old number lane in
-    let before_is : slice_get old number ≡ Some before = slice_get-get_or old number lane (omega (arith, within, answered.count_is)) in
-    let all = served-more host.issuer opening before.pass lane.pass (every (length old) number lines) (waiting_lines before)
-    (every (length old) number answers) (due_answers lane) (answered.each number before lane before_is is).calls (served number before before_is) in
-    let all_lines : every (length old) number lines ++ waiting_lines before ≡ every (length new) number (lines ++ waiting) =
-    sym (waits number before before_is) ∙ ap (λ count. every count number (lines ++ waiting)) (sym answered.count_is) in
-    let all_answers : every (length old) number answers ++ due_answers lane ≡ every (length new) number (answers ++ more) =
-    ap (λ count. every count number answers ++ due_answers lane) (sym answered.count_is) ∙ sym (dues number lane is) in
-    subst (λ (lines : List (List ℕ)). HadLines host.issuer opening lane.pass lines (every (length new) number (answers ++ more))) all_lines
-    (subst (HadLines host.issuer opening lane.pass (every (length old) number lines ++ waiting_lines before)) all_answers all)
+-- ---- answers that are dealt in turns as the lines were
 
--- ---- lanes that were lent to threads
+-- each lane has so many answers as lines: they are dealt in turns as the lines were
+answered-turns : {L A B : Type 0} (items_of : L → List A) (lanes : List L) (told : List (List B)) (before items : List A) (answers : List B)
+    → 0 < length lanes → length told ≡ length lanes → length answers ≡ length before
+    → ((number : ℕ) (lane : L) (part : List B) → slice_get lanes number ≡ Some lane → slice_get told number ≡ Some part
+    → length part ≡ length (items_of lane))
+    → HaveTurns items_of lanes before items
+    → (more : List B) × (length more ≡ length items) × HaveTurns (λ (part : List B). part) told answers more
+answered-turns {L} {A} {B} items_of lanes told before items answers some long as_many same have =
+    let count : ℕ = length lanes in
+    let parts : ℕ → List B = λ number. get_or told number [] in
+    let fit : (number : ℕ) → number < count → length (parts number) ≡ length (every count (left count number answers) items) = λ number below.
+    let lane : (lane : L) × (slice_get lanes number ≡ Some lane) = read-within lanes number below in
+    let part_is : slice_get told number ≡ Some (parts number) = slice_get-get_or told number [] (omega (arith, below, long)) in
+    let mine : every count (left count number before) items ≡ items_of lane.0 =
+    append_cancel_left (every count number before) (every count (left count number before) items) (items_of lane.0)
+    (sym (every-append count number before items) ∙ have number lane.0 lane.1) in
+    same number lane.0 (parts number) lane.1 part_is ∙ sym (ap length mine)
+    ∙ ap (λ skip. length (every count skip items)) (sym (left-alike count number answers before as_many)) in
+    let all = merged count some items answers parts fit in (
+      all.0,
+      all.1,
+      λ number part part_is.
+          let within = slice_get_within told number part part_is in
+          let below : number < count = omega (arith, long, within) in
+          let here : parts number ≡ part = some-same (parts number) part (sym (slice_get-get_or told number [] within) ∙ part_is) in
+          subst (λ count. every count number (answers ++ all.0) ≡ every count number answers ++ part) (sym long)
+          (all.2 number below ∙ ap (λ (part : List B). every count number answers ++ part) here),
+    )
 
--- a list that was lent whole comes back
-back-whole : {X : Type 0} (count : ℕ) (old new : List X) → length old ≡ count → length new ≡ count → take count (new ++ drop (length new) old) ≡ new
-back-whole count old new long also = lent_whole count new old also long
+module _ {S : Type 0} {G : Ghosts S} (host : Host S G) (old new : List Lane) (answered : LanesAnswer host old new) where
+  -- these are the lane's answers
+  record Told (lane after : Lane) (answers : List Answer) : Type 0 where
+    calls : AuthorisesAll host.issuer (waiting_lines lane) answers (claims_of lane.pass) (logs_of lane.pass) (claims_of after.pass) (logs_of after.pass)
+    texts_are : answer_texts after ≡ map printed answers
 
-module _ {S : Type 0} {G : Ghosts S} (host : Host S G) (old lent new : List Lane) (count : ℕ) (is : lent ≡ old) (long : length old ≡ count)
-    (answered : LanesAnswer host lent new) where
-  all-answered : LanesAnswer host old new
-  all-answered = subst (λ (lanes : List Lane). LanesAnswer host lanes new) is answered
+  told-by : (number : ℕ) (lane after : Lane) → slice_get old number ≡ Some lane → slice_get new number ≡ Some after
+      → (answers : List Answer) × Told lane after answers
+  told-by number lane after lane_is after_is =
+      let its = answered.each number lane after lane_is after_is in (its.answers, record { calls = its.calls; texts_are = its.texts_are })
 
-  back : take count (new ++ drop (length new) old) ≡ new
-  back = back-whole count old new long (all-answered.count_is ∙ long)
+  as-many : (lane after : Lane) (answers : List Answer) → Told lane after answers → length answers ≡ length (waiting_lines lane)
+  as-many lane after answers told =
+      calls-length host.issuer (waiting_lines lane) answers (claims_of lane.pass) (logs_of lane.pass) (claims_of after.pass) (logs_of after.pass) told.calls
 
-  each-done : (number : ℕ) (lane other : Lane) → slice_get old number ≡ Some lane → slice_get new number ≡ Some other
-      → (waiting_lines other ≡ []) × (length (due_answers other) ≡ length (waiting_lines lane))
-  each-done number lane other lane_is other_is =
-      let its = all-answered.each number lane other lane_is other_is in (
-        its.none_wait,
-        calls-length host.issuer (waiting_lines lane) (due_answers other) (claims_of lane.pass) (logs_of lane.pass) (claims_of other.pass) (logs_of other.pass)
-            its.calls,
-      )
+  -- the answers of each lane
+  told-lists : (told : List (List Answer)) × (length told ≡ length old)
+      × ((number : ℕ) (lane : Lane) (part : List Answer) → slice_get old number ≡ Some lane → slice_get told number ≡ Some part
+      → (after : Lane) → slice_get new number ≡ Some after → Told lane after part)
+  told-lists = choose old (λ number lane part. (after : Lane) → slice_get new number ≡ Some after → Told lane after part) (λ number lane lane_is.
+      let within = slice_get_within old number lane lane_is in
+      let now : (after : Lane) × (slice_get new number ≡ Some after) = read-within new number (omega (arith, within, answered.count_is)) in
+      let its = told-by number lane now.0 lane_is now.1 in (
+        its.0,
+        λ after after_is. subst (λ (after : Lane). Told lane after its.0) (some-same now.0 after (sym now.1 ∙ after_is)) its.1,
+      ))
 
-  pub lent-answered : LanesAnswer host old (take count (new ++ drop (length new) old))
-  lent-answered = subst (LanesAnswer host old) (sym back) all-answered
+  -- the room is as before
+  pub rooms-answered : lane_rooms new ≡ lane_rooms old
+  rooms-answered = maps-from (λ (lane : Lane). lane.lines.room) (λ (lane : Lane). lane.lines.room) new old answered.count_is
+      (λ number after lane after_is lane_is. (answered.each number lane after lane_is after_is).room)
 
-  pub lent-rooms : (room : ℕ) → All (λ (lane : Lane). count * lane.room ≡ room) old
-      → All (λ (lane : Lane). count * lane.room ≡ room) (take count (new ++ drop (length new) old))
-  lent-rooms room all =
-      subst (All (λ (lane : Lane). count * lane.room ≡ room)) (sym back) (all-at (λ (lane : Lane). count * lane.room ≡ room) new (λ number lane lane_is.
-      let within = slice_get_within new number lane lane_is in
-      let before : Lane = get_or old number lane in
-      let before_is : slice_get old number ≡ Some before = slice_get-get_or old number lane (omega (arith, within, all-answered.count_is)) in
-      ap (λ room. count * room) (all-answered.each number before lane before_is lane_is).room
-      ∙ at-all (λ (lane : Lane). count * lane.room ≡ room) old number before all before_is))
+  module _ (some : 0 < length old) (lines waiting : List (List ℕ)) (have : HaveTurns waiting_lines old lines waiting) where
+    -- so the texts are
+    pub texts-answered : (texts : List (List ℕ)) × (length texts ≡ length waiting) × HaveTurns answer_texts new lines texts
+    texts-answered = turns-answered waiting_lines answer_texts old new lines waiting lines some answered.count_is refl
+        (λ number lane after lane_is after_is.
+        let its = told-by number lane after lane_is after_is in
+        ap (λ (texts : List (List ℕ)). length texts) its.1.texts_are ∙ length-map its.0 printed ∙ as-many lane after its.0 its.1) have
 
-  module _ (progress after : Progress) (some : 0 < length old) (none : after.waiting ≡ 0) (every_one : after.due ≡ progress.waiting)
-      (next : after.next ≡ progress.next) (from : after.from ≡ progress.from) where
-    pub lent-turns : (lines : List (List ℕ)) (answers : List Answer) (waiting : List (List ℕ)) → AreInTurns old progress lines answers [] waiting
-        → (more : List Answer) × AreInTurns (take count (new ++ drop (length new) old)) after (lines ++ waiting) answers more []
-    lent-turns lines answers waiting are =
-        let done = in-turns-answered old new progress after lines answers waiting some all-answered.count_is none every_one next from each-done are in
-        (done.0, subst (λ (lanes : List Lane). AreInTurns lanes after (lines ++ waiting) answers done.0 []) (sym back) done.1)
+    module _ (answers : List Answer) (told : length answers ≡ length lines) where
+      merges : (more : List Answer) × (length more ≡ length waiting) × HaveTurns (λ (part : List Answer). part) told-lists.0 answers more
+      merges = answered-turns waiting_lines old told-lists.0 lines waiting answers some told-lists.1 told (λ number lane part lane_is part_is.
+          let within = slice_get_within old number lane lane_is in
+          let now : (after : Lane) × (slice_get new number ≡ Some after) = read-within new number (omega (arith, within, answered.count_is)) in
+          as-many lane now.0 part (told-lists.2 number lane part lane_is part_is now.0 now.1)) have
 
-    pub lent-still : progress.due ≡ 0 → ∥ IsInTurn old progress ∥₁ → ∥ IsInTurn (take count (new ++ drop (length new) old)) after ∥₁
-    lent-still taken there =
-        subst (λ (lanes : List Lane). ∥ IsInTurn lanes after ∥₁) (sym back)
-        (still-answered old new progress after some all-answered.count_is taken none every_one next from each-done there)
+      -- the answers to the lines that waited
+      pub more-answers : List Answer
+      more-answers = merges.0
+
+      pub more-long : length more-answers ≡ length waiting
+      unfolding more-answers
+      more-long = merges.1
+
+      -- those of one lane
+      lane-told : (number : ℕ) (after : Lane) → slice_get new number ≡ Some after
+          → (lane : Lane) × (slice_get old number ≡ Some lane) × (part : List Answer) × Told lane after part
+          × (every (length new) number (answers ++ more-answers) ≡ every (length new) number answers ++ part)
+      unfolding more-answers
+      lane-told number after after_is =
+          let within = slice_get_within new number after after_is in
+          let lane : (lane : Lane) × (slice_get old number ≡ Some lane) = read-within old number (omega (arith, within, answered.count_is)) in
+          let part : (part : List Answer) × (slice_get told-lists.0 number ≡ Some part) =
+          read-within told-lists.0 number (omega (arith, within, answered.count_is, told-lists.1)) in (
+            lane.0,
+            lane.1,
+            part.0,
+            told-lists.2 number lane.0 part.0 lane.1 part.1 after after_is,
+            subst (λ count. every count number (answers ++ more-answers) ≡ every count number answers ++ part.0) (told-lists.1 ∙ sym answered.count_is)
+                (merges.2 number part.0 part.1),
+          )
+
+      pub more-texts : HaveTurns answer_texts new (map printed answers) (map printed more-answers)
+      more-texts number after after_is =
+          let its = lane-told number after after_is in
+          let count : ℕ = length new in
+          ap (every count number) (sym (map-append printed answers more-answers))
+          ∙ every-map printed count number (answers ++ more-answers)
+          ∙ ap (λ (answers : List Answer). map printed answers) its.4
+          ∙ map-append printed (every count number answers) its.2
+          ∙ ap (λ (texts : List (List ℕ)). texts ++ map printed its.2) (sym (every-map printed count number answers))
+          ∙ ap (λ (texts : List (List ℕ)). every count number (map printed answers) ++ texts) (sym its.3.texts_are)
+
+      pub had-more : (opening : List (Log LogItem LogHead)) → HaveAllHad host.issuer opening old lines answers
+          → HaveAllHad host.issuer opening new (lines ++ waiting) (answers ++ more-answers)
+      had-more opening had number after after_is =
+          let its = lane-told number after after_is in
+          let before : Lane = its.0 in
+          let all = served-more host.issuer opening before.pass after.pass (every (length old) number lines) (waiting_lines before)
+          (every (length old) number answers) its.2 its.3.calls (had number before its.1) in
+          let all_lines : every (length old) number lines ++ waiting_lines before ≡ every (length new) number (lines ++ waiting) =
+          sym (have number before its.1) ∙ ap (λ count. every count number (lines ++ waiting)) (sym answered.count_is) in
+          let all_answers : every (length old) number answers ++ its.2 ≡ every (length new) number (answers ++ more-answers) =
+          ap (λ count. every count number answers ++ its.2) (sym answered.count_is) ∙ sym its.4 in
+          subst (λ (lines : List (List ℕ)). HadLines host.issuer opening after.pass lines (every (length new) number (answers ++ more-answers))) all_lines
+          (subst (HadLines host.issuer opening after.pass (every (length old) number lines ++ waiting_lines before)) all_answers all)

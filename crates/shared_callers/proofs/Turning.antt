@@ -1,22 +1,18 @@
--- Whose turn it is, and what the lanes have, after each step of dealing.
-use Rattle.std.proofs.Common.{◌≡◌, ℕ, suc, ◌+◌, ◌*◌, ◌%◌, ◌<◌, List, [], ◌∷◌, ◌++◌, length, set, Some}
-use Rattle.std.proofs.Common.{get_or, inl, inr, refl, sym, ap, subst, ◌∙◌, arith}
-use Rattle.std.proofs.Common.{append_assoc, append-nil}
+-- Whose turn it is, and what the parts have, after each step of dealing and of writing.
+use Rattle.std.proofs.Common.{◌≡◌, ℕ, suc, ◌+◌, ◌*◌, ◌%◌, ◌<◌, List, [], ◌∷◌, ◌++◌, length, set, All, Some}
+use Rattle.std.proofs.Common.{inl, inr, refl, sym, ap, ◌∙◌, arith}
 use Rattle.std.proofs.lemmas.List.{length-append}
-use Rattle.std.proofs.lemmas.Option.{slice_get_within, slice_get-get_or}
 use Rattle.std.proofs.Math.Logic.{∥∥₁_elim, ∥∥₁_map}
+use Rattle.std.proofs.Math.Nat.{zero-mod}
 use Rattle.std.proofs.Props.{props}
 use Rattle.std.specs.List.{slice_get}
-use Rattle.issuer_base.specs.declared.answer.Answer.{Answer}
-use Rattle.one_caller.proofs.Places.{read-within}
-use Rattle.answer_laws.specs.Dealing.{HaveTurns}
-use Rattle.shared_callers.specs.OneLane.{waiting_lines, due_answers}
-use Rattle.shared_callers.specs.Turns.{AreInTurns, IsBehind, IsInTurn}
-use Rattle.shared_callers.specs.declared.lane.Lane.{Lane}
-use Rattle.shared_callers.specs.declared.dealer.Progress.{Progress}
 use Rattle.answer_laws.proofs.Every.{turn-next}
 use Rattle.answer_laws.proofs.HavingTurns.{length-same, turns-deal, turns-take, turns-none, turns-same}
-use Rattle.answer_laws.proofs.HavingTurns.{turns-nothing, turns-answered, turns-empty, turns-room}
+use Rattle.answer_laws.proofs.HavingTurns.{turns-nothing, turns-room}
+use Rattle.shared_callers.specs.Parts.{lines_of, texts_of}
+use Rattle.shared_callers.specs.Turns.{AreWaiting, AreDue, IsBehind, IsWaiting, IsDue}
+use Rattle.shared_callers.specs.declared.part.Part.{Part}
+use Rattle.shared_callers.proofs.Lists.{at-all}
 
 pub next-turn : (n count place next : ℕ) → 0 < count → place ≡ n % count → IsBehind count place next → next ≡ suc n % count
 next-turn n count place next some turn behind = elim (turn-next n count some) [
@@ -24,188 +20,145 @@ next-turn n count place next some turn behind = elim (turn-next n count some) [
   | inr last ↦ behind.1 (omega (arith, last.0, turn)) ∙ sym last.1
 ]
 
--- one line more was dealt
-pub in-turns-dealt : (lanes : List Lane) (progress after : Progress) (lines : List (List ℕ)) (taken due : List Answer) (waiting : List (List ℕ))
-    (old new : Lane) (line : List ℕ) → 0 < length lanes → slice_get lanes progress.next ≡ Some old
-    → waiting_lines new ≡ waiting_lines old ++ line ∷ [] → due_answers new ≡ due_answers old → after.waiting ≡ progress.waiting + 1
-    → after.due ≡ progress.due → IsBehind (length lanes) progress.next after.next → after.from ≡ progress.from
-    → AreInTurns lanes progress lines taken due waiting → AreInTurns (set lanes progress.next new) after lines taken due (waiting ++ line ∷ [])
-in-turns-dealt lanes progress after lines taken due waiting old new line some old_is grown kept more same next from are =
-    let count = length-same lanes progress.next new in
-    let one_more : length (lines ++ (waiting ++ line ∷ [])) ≡ suc (length (lines ++ waiting)) = omega (
-      arith,
-      length-append lines (waiting ++ line ∷ []),
-      length-append waiting (line ∷ []),
-      length-append lines waiting,
-    ) in
-    record {
-      answered = are.answered;
-      waiting_is = more ∙ omega (arith, are.waiting_is, length-append waiting (line ∷ []));
-      due_is = same ∙ are.due_is;
-      next_is =
-          next-turn (length (lines ++ waiting)) (length lanes) progress.next after.next some are.next_is next
-          ∙ ap (λ n. n % length lanes) (sym one_more)
-          ∙ ap (λ count. length (lines ++ (waiting ++ line ∷ [])) % count) (sym count);
-      from_is = from ∙ are.from_is ∙ ap (λ count. length taken % count) (sym count);
-      waits = turns-deal waiting_lines lanes lines waiting progress.next old new line old_is are.next_is grown are.waits;
-      dues = turns-same due_answers lanes taken due progress.next old new old_is kept are.dues;
-    }
+-- ---- one part changed
 
--- the next answer was taken
-pub in-turns-taken : (lanes : List Lane) (progress after : Progress) (lines : List (List ℕ)) (taken due : List Answer) (waiting : List (List ℕ))
-    (old new : Lane) (answer : Answer) → 0 < length lanes → slice_get lanes progress.from ≡ Some old
-    → due_answers old ≡ answer ∷ due_answers new → waiting_lines new ≡ waiting_lines old → after.waiting ≡ progress.waiting
-    → after.due + 1 ≡ progress.due → IsBehind (length lanes) progress.from after.from → after.next ≡ progress.next
-    → AreInTurns lanes progress lines taken due waiting
-    → (rest : List Answer) × (due ≡ answer ∷ rest) × AreInTurns (set lanes progress.from new) after lines (taken ++ answer ∷ []) rest waiting
-in-turns-taken lanes progress after lines taken due waiting old new answer some old_is shrunk kept same less from next are =
-    let count = length-same lanes progress.from new in
-    let taking = turns-take due_answers lanes taken due progress.from old new answer old_is are.from_is shrunk are.dues in
-    let rest : List Answer = taking.0 in
-    let whole : (taken ++ answer ∷ []) ++ rest ≡ taken ++ due =
-    append_assoc taken (answer ∷ []) rest ∙ ap (λ (due : List Answer). taken ++ due) (sym taking.1) in
-    let one_more : length (taken ++ answer ∷ []) ≡ suc (length taken) = omega (arith, length-append taken (answer ∷ [])) in (
-      rest,
-      taking.1,
+module _ (parts : List Part) (place : ℕ) (old new : Part) (old_is : slice_get parts place ≡ Some old) where
+  count-same : length (set parts place new) ≡ length parts
+  count-same = length-same parts place new
+
+  -- its lines are as before
+  pub waiting-same : lines_of new ≡ lines_of old → (first next count : ℕ) (before waiting : List (List ℕ))
+      → AreWaiting parts first next count before waiting → AreWaiting (set parts place new) first next count before waiting
+  waiting-same kept first next count before waiting are = record {
+    count_is = are.count_is;
+    first_is = are.first_is ∙ ap (λ n. length before % n) (sym count-same);
+    next_is = are.next_is ∙ ap (λ n. length (before ++ waiting) % n) (sym count-same);
+    turns = turns-same lines_of parts before waiting place old new old_is kept are.turns;
+  }
+
+  -- its texts are
+  pub due-same : texts_of new ≡ texts_of old → (from count : ℕ) (taken due : List (List ℕ)) → AreDue texts_of parts from count taken due
+      → AreDue texts_of (set parts place new) from count taken due
+  due-same kept from count taken due are = record {
+    count_is = are.count_is;
+    from_is = are.from_is ∙ ap (λ n. length taken % n) (sym count-same);
+    turns = turns-same texts_of parts taken due place old new old_is kept are.turns;
+  }
+
+  -- it got one line more
+  pub waiting-dealt : (first next count after more : ℕ) (before waiting : List (List ℕ)) (line : List ℕ) → place ≡ next → 0 < length parts
+      → lines_of new ≡ lines_of old ++ line ∷ [] → more ≡ count + 1 → IsBehind (length parts) next after
+      → AreWaiting parts first next count before waiting → AreWaiting (set parts place new) first after more before (waiting ++ line ∷ [])
+  waiting-dealt first next count after more before waiting line here some grown one behind are =
+      let one_more : length (before ++ (waiting ++ line ∷ [])) ≡ suc (length (before ++ waiting)) = omega (
+        arith,
+        length-append before (waiting ++ line ∷ []),
+        length-append waiting (line ∷ []),
+        length-append before waiting,
+      ) in
       record {
-        answered = ap (λ (answers : List Answer). length answers) whole ∙ are.answered;
-        waiting_is = same ∙ are.waiting_is;
-        due_is = omega (arith, less, are.due_is, ap (λ (due : List Answer). length due) taking.1);
-        next_is = next ∙ are.next_is ∙ ap (λ count. length (lines ++ waiting) % count) (sym count);
-        from_is =
-            next-turn (length taken) (length lanes) progress.from after.from some are.from_is from
-            ∙ ap (λ n. n % length lanes) (sym one_more)
-            ∙ ap (λ count. length (taken ++ answer ∷ []) % count) (sym count);
-        waits = turns-same waiting_lines lanes lines waiting progress.from old new old_is kept are.waits;
-        dues = taking.2;
-      },
-    )
-
--- the lane whose turn it is has no answer: none is due
-pub in-turns-none : (lanes : List Lane) (progress : Progress) (lines : List (List ℕ)) (taken due : List Answer) (waiting : List (List ℕ)) (lane : Lane)
-    → slice_get lanes progress.from ≡ Some lane → due_answers lane ≡ [] → AreInTurns lanes progress lines taken due waiting
-    → (due ≡ []) × (progress.due ≡ 0)
-in-turns-none lanes progress lines taken due waiting lane lane_is none are =
-    let nothing = turns-none due_answers lanes taken due progress.from lane lane_is are.from_is are.dues none in
-    (nothing, are.due_is ∙ ap (λ (due : List Answer). length due) nothing)
-
-none-length : {A : Type 0} (items : List A) → 0 ≡ length items → items ≡ []
-none-length [] long = refl
-none-length (item ∷ items) long = absurd (omega arith)
-
--- none is due where the count says so
-pub none-due : (lanes : List Lane) (progress : Progress) (lines : List (List ℕ)) (taken due : List Answer) (waiting : List (List ℕ))
-    → progress.due ≡ 0 → AreInTurns lanes progress lines taken due waiting → due ≡ []
-none-due lanes progress lines taken due waiting none are = none-length due (sym none ∙ are.due_is)
-
--- and then no lane has an answer
-pub in-turns-empty : (lanes : List Lane) (progress : Progress) (lines : List (List ℕ)) (taken due : List Answer) (waiting : List (List ℕ))
-    → progress.due ≡ 0 → AreInTurns lanes progress lines taken due waiting
-    → (number : ℕ) (lane : Lane) → slice_get lanes number ≡ Some lane → due_answers lane ≡ []
-in-turns-empty lanes progress lines taken due waiting none are =
-    turns-empty due_answers lanes taken
-    (subst (HaveTurns due_answers lanes taken) (none-due lanes progress lines taken due waiting none are) are.dues)
-
--- all lines that waited were answered
-pub in-turns-answered : (lanes others : List Lane) (progress after : Progress) (lines : List (List ℕ)) (answers : List Answer) (waiting : List (List ℕ))
-    → 0 < length lanes → length others ≡ length lanes → after.waiting ≡ 0 → after.due ≡ progress.waiting → after.next ≡ progress.next
-    → after.from ≡ progress.from
-    → ((number : ℕ) (lane other : Lane) → slice_get lanes number ≡ Some lane → slice_get others number ≡ Some other
-    → (waiting_lines other ≡ []) × (length (due_answers other) ≡ length (waiting_lines lane)))
-    → AreInTurns lanes progress lines answers [] waiting
-    → (more : List Answer) × AreInTurns others after (lines ++ waiting) answers more []
-in-turns-answered lanes others progress after lines answers waiting some long none all next from each are =
-    let told : length answers ≡ length lines = ap (λ (answers : List Answer). length answers) (sym (append-nil answers)) ∙ are.answered in
-    let merged = turns-answered waiting_lines due_answers lanes others lines waiting answers some long told
-    (λ number lane other lane_is other_is. (each number lane other lane_is other_is).1) are.waits in
-    let more : List Answer = merged.0 in (
-      more,
-      record {
-        answered = omega (arith, length-append answers more, length-append lines waiting, told, merged.1);
-        waiting_is = none;
-        due_is = all ∙ are.waiting_is ∙ sym merged.1;
+        count_is = one ∙ omega (arith, are.count_is, length-append waiting (line ∷ []));
+        first_is = are.first_is ∙ ap (λ n. length before % n) (sym count-same);
         next_is =
-            next ∙ are.next_is ∙ ap (λ (lines : List (List ℕ)). length lines % length lanes) (sym (append-nil (lines ++ waiting)))
-            ∙ ap (λ count. length ((lines ++ waiting) ++ []) % count) (sym long);
-        from_is = from ∙ are.from_is ∙ ap (λ count. length answers % count) (sym long);
-        waits = turns-nothing waiting_lines others (lines ++ waiting) (λ number other other_is.
-            let within = slice_get_within others number other other_is in
-            let lane = read-within lanes number (omega (arith, long, within)) in
-            (each number lane.0 other lane.1 other_is).0);
-        dues = merged.2;
-      },
-    )
+            next-turn (length (before ++ waiting)) (length parts) next after some are.next_is behind
+            ∙ ap (λ n. n % length parts) (sym one_more)
+            ∙ ap (λ n. length (before ++ (waiting ++ line ∷ [])) % n) (sym count-same);
+        turns = turns-deal lines_of parts before waiting place old new line old_is (here ∙ are.next_is) grown are.turns;
+      }
 
--- the lane whose turn it is has room for one line more where fewer wait than may
-pub lane-room : (lanes : List Lane) (progress : Progress) (room : ℕ) (lane : Lane) → ∥ IsInTurn lanes progress ∥₁ → slice_get lanes progress.next ≡ Some lane
-    → length lanes * lane.room ≡ room → progress.waiting < room → length (waiting_lines lane) < lane.room
-lane-room lanes progress room lane there lane_is all fits =
-    ∥∥₁_elim there (search props) (λ is.
-    turns-room waiting_lines lanes is.lines is.waiting progress.next lane.room lane lane_is is.are.next_is is.are.waits
-    (omega (arith, all, fits, is.are.waiting_is)))
+  -- its first text was taken
+  pub due-taken : (from count after less : ℕ) (taken due : List (List ℕ)) (text : List ℕ) → place ≡ from → 0 < length parts
+      → texts_of old ≡ text ∷ texts_of new → less + 1 ≡ count → IsBehind (length parts) from after → AreDue texts_of parts from count taken due
+      → (rest : List (List ℕ)) × (due ≡ text ∷ rest) × AreDue texts_of (set parts place new) after less (taken ++ text ∷ []) rest
+  due-taken from count after less taken due text here some shrunk one behind are =
+      let taking = turns-take texts_of parts taken due place old new text old_is (here ∙ are.from_is) shrunk are.turns in
+      let rest : List (List ℕ) = taking.0 in
+      let one_more : length (taken ++ text ∷ []) ≡ suc (length taken) = omega (arith, length-append taken (text ∷ [])) in (
+        rest,
+        taking.1,
+        record {
+          count_is = omega (arith, one, are.count_is, ap (λ (due : List (List ℕ)). length due) taking.1);
+          from_is =
+              next-turn (length taken) (length parts) from after some are.from_is behind
+              ∙ ap (λ n. n % length parts) (sym one_more)
+              ∙ ap (λ n. length (taken ++ text ∷ []) % n) (sym count-same);
+          turns = taking.2;
+        },
+      )
+
+  -- ---- and so it is for some lines and texts
+
+  pub still-waiting : lines_of new ≡ lines_of old → (first next count : ℕ) → ∥ IsWaiting parts first next count ∥₁
+      → ∥ IsWaiting (set parts place new) first next count ∥₁
+  still-waiting kept first next count there =
+      ∥∥₁_map there (λ is. record {
+        before = is.before;
+        waiting = is.waiting;
+        are = waiting-same kept first next count is.before is.waiting is.are;
+      })
+
+  pub still-due : texts_of new ≡ texts_of old → (from count : ℕ) → ∥ IsDue texts_of parts from count ∥₁
+      → ∥ IsDue texts_of (set parts place new) from count ∥₁
+  still-due kept from count there =
+      ∥∥₁_map there (λ is. record { taken = is.taken; due = is.due; are = due-same kept from count is.taken is.due is.are })
+
+  pub still-dealt : (first next count after more : ℕ) (line : List ℕ) → place ≡ next → 0 < length parts
+      → lines_of new ≡ lines_of old ++ line ∷ [] → more ≡ count + 1 → IsBehind (length parts) next after
+      → ∥ IsWaiting parts first next count ∥₁ → ∥ IsWaiting (set parts place new) first after more ∥₁
+  still-dealt first next count after more line here some grown one behind there =
+      ∥∥₁_map there (λ is. record {
+        before = is.before;
+        waiting = is.waiting ++ line ∷ [];
+        are = waiting-dealt first next count after more is.before is.waiting line here some grown one behind is.are;
+      })
+
+  pub still-taken : (from count after less : ℕ) (text : List ℕ) → place ≡ from → 0 < length parts → texts_of old ≡ text ∷ texts_of new
+      → less + 1 ≡ count → IsBehind (length parts) from after → ∥ IsDue texts_of parts from count ∥₁
+      → ∥ IsDue texts_of (set parts place new) after less ∥₁
+  still-taken from count after less text here some shrunk one behind there =
+      ∥∥₁_map there (λ is.
+      let taking = due-taken from count after less is.taken is.due text here some shrunk one behind is.are in
+      record { taken = is.taken ++ text ∷ []; due = taking.0; are = taking.2 })
+
+-- ---- what the part whose turn it is has
 
 some-length : {A : Type 0} (items : List A) → (items ≡ [] → ⊥) → 0 < length items
 some-length [] some = absurd (some refl)
 some-length (item ∷ items) some = omega arith
 
--- where an answer is due the lane whose turn it is has one
-pub lane-due : (lanes : List Lane) (progress : Progress) (lane : Lane) → ∥ IsInTurn lanes progress ∥₁ → slice_get lanes progress.from ≡ Some lane
-    → 0 < progress.due → 0 < length (due_answers lane)
-lane-due lanes progress lane there lane_is some =
+-- it has room for one line more where fewer wait than may
+pub part-room : (parts : List Part) (first next count room : ℕ) (part : Part) → ∥ IsWaiting parts first next count ∥₁
+    → slice_get parts next ≡ Some part → length parts * part.lines.room ≡ room → count < room → length (lines_of part) < part.lines.room
+part-room parts first next count room part there part_is all fits =
     ∥∥₁_elim there (search props) (λ is.
-    some-length (due_answers lane) (λ none.
-    let nothing = in-turns-none lanes progress is.lines is.taken is.due is.waiting lane lane_is none is.are in
-    absurd (omega (arith, nothing.1, some))))
+    turns-room lines_of parts is.before is.waiting next part.lines.room part part_is is.are.next_is is.are.turns
+    (omega (arith, all, fits, is.are.count_is)))
 
--- the lanes are still in turn
-pub still-dealt : (lanes : List Lane) (progress after : Progress) (old new : Lane) (line : List ℕ) → 0 < length lanes
-    → slice_get lanes progress.next ≡ Some old → waiting_lines new ≡ waiting_lines old ++ line ∷ [] → due_answers new ≡ due_answers old
-    → after.waiting ≡ progress.waiting + 1 → after.due ≡ progress.due → IsBehind (length lanes) progress.next after.next
-    → after.from ≡ progress.from → ∥ IsInTurn lanes progress ∥₁ → ∥ IsInTurn (set lanes progress.next new) after ∥₁
-still-dealt lanes progress after old new line some old_is grown kept more same next from there =
-    ∥∥₁_map there (λ is. record {
-      lines = is.lines;
-      taken = is.taken;
-      due = is.due;
-      waiting = is.waiting ++ line ∷ [];
-      are = in-turns-dealt lanes progress after is.lines is.taken is.due is.waiting old new line some old_is grown kept more same next from is.are;
-    })
+-- where a text is due it has one
+pub part-due : (parts : List Part) (from count : ℕ) (part : Part) → ∥ IsDue texts_of parts from count ∥₁ → slice_get parts from ≡ Some part
+    → 0 < count → 0 < length (texts_of part)
+part-due parts from count part there part_is some =
+    ∥∥₁_elim there (search props) (λ is.
+    some-length (texts_of part) (λ none.
+    let nothing = turns-none texts_of parts is.taken is.due from part part_is is.are.from_is is.are.turns none in
+    absurd (omega (arith, some, is.are.count_is, ap (λ (due : List (List ℕ)). length due) nothing))))
 
-pub still-taken : (lanes : List Lane) (progress after : Progress) (old new : Lane) (answer : Answer) → 0 < length lanes
-    → slice_get lanes progress.from ≡ Some old → due_answers old ≡ answer ∷ due_answers new → waiting_lines new ≡ waiting_lines old
-    → after.waiting ≡ progress.waiting → after.due + 1 ≡ progress.due → IsBehind (length lanes) progress.from after.from
-    → after.next ≡ progress.next → ∥ IsInTurn lanes progress ∥₁ → ∥ IsInTurn (set lanes progress.from new) after ∥₁
-still-taken lanes progress after old new answer some old_is shrunk kept same less from next there =
-    ∥∥₁_map there (λ is.
-    let taking = in-turns-taken lanes progress after is.lines is.taken is.due is.waiting old new answer some old_is shrunk kept same less from next is.are in
-    record { lines = is.lines; taken = is.taken ++ answer ∷ []; due = taking.0; waiting = is.waiting; are = taking.2 })
+-- ---- parts that have nothing
 
-pub still-answered : (lanes others : List Lane) (progress after : Progress) → 0 < length lanes → length others ≡ length lanes → progress.due ≡ 0
-    → after.waiting ≡ 0 → after.due ≡ progress.waiting → after.next ≡ progress.next → after.from ≡ progress.from
-    → ((number : ℕ) (lane other : Lane) → slice_get lanes number ≡ Some lane → slice_get others number ≡ Some other
-    → (waiting_lines other ≡ []) × (length (due_answers other) ≡ length (waiting_lines lane)))
-    → ∥ IsInTurn lanes progress ∥₁ → ∥ IsInTurn others after ∥₁
-still-answered lanes others progress after some long taken none all next from each there =
-    ∥∥₁_map there (λ is.
-    let nothing = none-due lanes progress is.lines is.taken is.due is.waiting taken is.are in
-    let are = subst (λ (due : List Answer). AreInTurns lanes progress is.lines is.taken due is.waiting) nothing is.are in
-    let done = in-turns-answered lanes others progress after is.lines is.taken is.waiting some long none all next from each are in
-    record { lines = is.lines ++ is.waiting; taken = is.taken; due = done.0; waiting = []; are = done.1 })
+module _ (parts : List Part) where
+  pub none-waiting : All (λ (part : Part). (lines_of part ≡ []) × (texts_of part ≡ [])) parts → AreWaiting parts 0 0 0 [] []
+  none-waiting none = record {
+    count_is = refl;
+    first_is = sym (zero-mod (length parts));
+    next_is = sym (zero-mod (length parts));
+    turns = turns-nothing lines_of parts []
+        (λ number part is. (at-all (λ (part : Part). (lines_of part ≡ []) × (texts_of part ≡ [])) parts number part none is).0);
+  }
 
--- no lane has an answer where none is due
-pub none-due-all : (lanes : List Lane) (progress : Progress) → ∥ IsInTurn lanes progress ∥₁ → progress.due ≡ 0 → (number : ℕ) (d : Lane)
-    → number < length lanes → due_answers (get_or lanes number d) ≡ []
-none-due-all lanes progress there none number d below =
-    let lane : Lane = get_or lanes number d in
-    let lane_is : slice_get lanes number ≡ Some lane = slice_get-get_or lanes number d below in
-    let few : length (due_answers lane) < 1 = ∥∥₁_elim there (search props) (λ is.
-    let nothing = ap (λ (answers : List Answer). length answers)
-    (in-turns-empty lanes progress is.lines is.taken is.due is.waiting none is.are number lane lane_is) in
-    omega (arith, nothing)) in
-    none-length (due_answers lane) (omega (arith, few))
-
-pub none-due-lent : (lanes lent : List Lane) (progress : Progress) → lent ≡ lanes → ∥ IsInTurn lanes progress ∥₁ → progress.due ≡ 0 → (number : ℕ) (d : Lane)
-    → number < length lent → (get_or lent number d).answers.items ≡ []
-none-due-lent lanes lent progress is there none =
-    subst (λ (lanes : List Lane). (number : ℕ) (d : Lane) → number < length lanes → (get_or lanes number d).answers.items ≡ []) (sym is)
-    (none-due-all lanes progress there none)
+  pub none-due : All (λ (part : Part). (lines_of part ≡ []) × (texts_of part ≡ [])) parts → AreDue texts_of parts 0 0 [] []
+  none-due none = record {
+    count_is = refl;
+    from_is = sym (zero-mod (length parts));
+    turns = turns-nothing texts_of parts []
+        (λ number part is. (at-all (λ (part : Part). (lines_of part ≡ []) × (texts_of part ≡ [])) parts number part none is).1);
+  }

@@ -1,5 +1,5 @@
 -- The lines and answers of one host's callers, and the lines that wait.
-use Rattle.std.specs.Prelude.{◌≡◌, ℕ, ◌==◌, Bool, List, [], ◌++◌, length, slice_get, Option, Some}
+use Rattle.std.specs.Prelude.{◌≡◌, ℕ, ◌==◌, Bool, List, [], length, Option}
 use Rattle.issuer_base.specs.Stores.{Disk}
 use Rattle.issuer_base.specs.declared.answer.Answer.{Answer}
 use Rattle.issuer_base.specs.declared.outside.store.Store.{Ghosts}
@@ -10,12 +10,9 @@ use Rattle.shared_shards.specs.declared.logs.LogItem.{LogItem}
 use Rattle.shared_shards.specs.declared.logs.LogHead.{LogHead}
 use Rattle.call_steps.specs.Closing.{AreClosed}
 use Rattle.call_steps.specs.OpeningLogs.{AreOpenedFrom}
-use Rattle.answer_laws.specs.Dealing.{every}
 use Rattle.answer_laws.specs.Laws.{AreLawfulShares}
-use Rattle.shared_callers.specs.OneLane.{HadLines}
 use Rattle.answer_laws.specs.Shares.{Share, AreDealt}
-use Rattle.shared_callers.specs.Turns.{AreInTurns}
-use Rattle.shared_callers.specs.declared.lane.Lane.{Lane}
+use Rattle.shared_callers.specs.Dealt.{HasDealt}
 use Rattle.shared_callers.specs.declared.lanes.Lanes.{Lanes}
 
 module _ {S : Type 0} {G : Ghosts S} where
@@ -29,19 +26,19 @@ module _ {S : Type 0} {G : Ghosts S} where
 
   -- how many callers there are
   abbrev pub callers_in : Lanes S G → ℕ
-  callers_in lanes = length lanes.dealer.lanes.items
+  callers_in lanes = length lanes.lanes.items
 
   -- how many lines wait
   abbrev pub waiting_in : Lanes S G → ℕ
-  waiting_in lanes = lanes.dealer.progress.waiting
+  waiting_in lanes = lanes.half.waiting
 
-  -- how many answers weren't taken yet
+  -- how many answers are due: their texts weren't written yet
   abbrev pub due_in : Lanes S G → ℕ
-  due_in lanes = lanes.dealer.progress.due
+  due_in lanes = lanes.half.due
 
   -- whether no more line fits
   abbrev pub is_full_in : Lanes S G → Bool
-  is_full_in lanes = waiting_in lanes == lanes.dealer.room
+  is_full_in lanes = waiting_in lanes == lanes.half.room
 
   -- the issuer, the opening logs and the callers are the same
   pub record HasSameHost (old new : Lanes S G) : Type 0 where
@@ -50,15 +47,10 @@ module _ {S : Type 0} {G : Ghosts S} where
     pub same_callers : callers_in new ≡ callers_in old
 
   -- since the host was loaded, its callers gave these answers to these lines; the answers `due`, which are the last,
-  -- weren't taken yet; these lines wait
+  -- weren't written yet; these lines wait
   pub record LanesServe (lanes : Lanes S G) (lines : List (List ℕ)) (answers due : List Answer)
       (waiting : List (List ℕ)) : Type 0 where
-    pub taken : List Answer
-    pub answers_are : answers ≡ taken ++ due
-    pub turns : AreInTurns lanes.dealer.lanes.items lanes.dealer.progress lines taken due waiting
-    pub served : (number : ℕ) (lane : Lane) → slice_get lanes.dealer.lanes.items number ≡ Some lane
-        → HadLines (issuer_in lanes) (opening_logs lanes) lane.pass (every (callers_in lanes) number lines)
-        (every (callers_in lanes) number answers)
+    pub dealt : HasDealt (issuer_in lanes) (opening_logs lanes) lanes.lanes.items lanes.half lines answers due waiting
 
   -- the lanes of an issuer with so many callers were loaded from these old stores, which were read then, and these
   -- stores: no line was answered, and none waits

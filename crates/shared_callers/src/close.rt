@@ -7,7 +7,6 @@ ghost use Rattle.host_calls.specs.Passes.{claims_of, IsFree};
 ghost use Rattle.shared_callers.specs.Joins.{HasJoined};
 ghost use Rattle.shared_callers.specs.Seated.{AreSeated};
 
-use crate::dealer::Dealer;
 use crate::lane::Lane;
 use crate::lanes::Lanes;
 use host_calls::{Host, Pass};
@@ -31,13 +30,9 @@ impl<S: Store> Lanes<S> {
         let Lanes {
             host,
             mut first,
-            dealer,
-        } = self;
-        let Dealer {
             lanes,
-            progress: _,
-            room: _,
-        } = dealer;
+            half: _,
+        } = self;
         join_all(&host, &mut first, lanes);
         host.close(first)
     }

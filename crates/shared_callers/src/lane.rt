@@ -1,111 +1,76 @@
-//! A caller with its pass, the lines that wait for it, and its answers.
-ghost use Rattle.std.specs.Prelude.{◌≡◌, ◌<◌, ◌≤◌, ◌+◌, [], ◌∷◌, ◌++◌, length, IfOk, IfSome, MatchResult};
-ghost use Rattle.std.specs.VecDeque.{deque_capacity};
+//! A caller with its pass, the lines that it answers, and the texts of its answers.
+ghost use Rattle.std.specs.Prelude.{◌≡◌, ◌≤◌, ◌+◌, length, IfOk, IfSome, MatchResult};
 ghost use Rattle.line_checks.specs.LookedUp.{AreLookUps, IsLookUp};
 ghost use Rattle.line_checks.specs.Reading.{reading};
 ghost use Rattle.line_checks.specs.declared.lines_ahead.TheConstants.{MOST_AHEAD};
 ghost use Rattle.call_steps.specs.Authorising.{Authorises};
 ghost use Rattle.call_steps.specs.PreChecks.{IsAskedBy, PreChecks};
 ghost use Rattle.host_calls.specs.Passes.{claims_of, logs_of, Holds, IsFree};
-ghost use Rattle.issuer_base.specs.declared.limits.TheConstants.{KEPT_BYTES};
 
+use crate::part::Part;
 use crate::slots::LineSlots;
+use crate::texts::TextSlots;
 use cryptogram_lanes::FEWEST_IN_LANES;
 use host_calls::{Checked, Host, Pass};
 use issuer_base::{Answer, Gate, MAX_CHIP_BYTES, NoMemory, Refusal, Store};
 use line_checks::{LinesAhead, MOST_AHEAD, Sought, look_up};
 use std::alloc::Global;
-use std::collections::VecDeque;
 use std::sync::Wait;
 
-/// The memory of a lane: room for `count` lines and their answers.
+/// The memory of a lane: room for lines and the texts of their answers.
 #[derive(Drop)]
 pub(crate) struct LaneRoom {
-    lines: LineSlots,
+    part: Part,
     ahead: LinesAhead,
-    answers: VecDeque<Answer>,
-    count: usize,
-    ghost none: { (lines.lines ≡ []) × (ahead ≡ []) × (answers.items ≡ []) },
-    ghost room: { (lines.room ≡ count) × (count ≤ deque_capacity answers) },
 }
 
 impl LaneRoom {
-    /// Allocates the memory.
+    ghost use Rattle.shared_callers.specs.OneLane.{places_in};
+
+    /// Allocates the memory, for `count` lines.
     pub(crate) fn new(alloc: Global, count: usize) -> Result<LaneRoom, NoMemory>
-        ensures { IfOk result (λ room. room.count ≡ count) }
+        ensures { IfOk result (λ room. places_in room ≡ count) }
     {
         Ok(LaneRoom {
-            lines: LineSlots::new(alloc, count)?,
+            part: Part::new(alloc, count)?,
             ahead: LinesAhead::new(alloc)?,
-            answers: VecDeque::with_capacity(alloc, count)?,
-            count,
         })
     }
 }
 
-/// A caller with its pass, the lines that wait for it, and its answers that weren't taken yet.
+/// A caller with its pass, the lines that it answers, and the texts of its answers.
 pub(crate) struct Lane {
     pub(crate) pass: Pass,
     pub(crate) lines: LineSlots,
 
     /// The look-ups of the next lines that wait, while they are answered; empty otherwise.
     ahead: LinesAhead,
-    pub(crate) answers: VecDeque<Answer>,
-
-    /// How many lines may wait, and how many answers.
-    pub(crate) room: usize,
+    pub(crate) texts: TextSlots,
 
     /// The number of the next line, counted from 1 in the run, and the stride between this caller's lines.
     number: u64,
     step: u64,
-    ghost room_is: { (lines.room ≡ room) × (room ≤ deque_capacity answers) },
+    ghost fits: { texts.room ≡ lines.room },
 }
 
 impl Lane {
-    ghost use Rattle.shared_callers.specs.OneLane.{waiting_lines, due_answers, looked_up_lines, LaneAnswers};
+    ghost use Rattle.shared_callers.specs.OneLane.{waiting_lines, looked_up_lines, LaneAnswers, places_in};
 
     /// A caller with this pass. `number` is that of its first line in the run, and `step` the stride between its lines.
     pub(crate) fn new(pass: Pass, room: LaneRoom, number: u64, step: u64) -> Lane
         ensures pass { result.pass ≡ pass }
-        ensures none { (result.lines.lines ≡ []) × (result.answers.items ≡ []) }
-        ensures room { result.room ≡ room.count }
+        ensures room { result.lines.room ≡ places_in room }
     {
-        let LaneRoom {
-            lines,
-            ahead,
-            answers,
-            count,
-        } = room;
+        let LaneRoom { part, ahead } = room;
+        let Part { lines, texts } = part;
         Lane {
             pass,
             lines,
             ahead,
-            answers,
-            room: count,
+            texts,
             number,
             step,
         }
-    }
-
-    /// Appends a line to those that wait.
-    pub(crate) fn add(&mut self, line: &[u8])
-        requires room { length (waiting_lines self.old) < self.old.room }
-        requires kept { length line.now ≤ KEPT_BYTES }
-        ensures waiting { waiting_lines self.new ≡ waiting_lines self.old ++ line.now ∷ [] }
-        ensures same { (self.new.pass ≡ self.old.pass) × (self.new.answers ≡ self.old.answers)
-            × (self.new.room ≡ self.old.room) }
-    {
-        self.lines.add(line);
-    }
-
-    /// Takes the first answer that wasn't taken yet.
-    pub(crate) fn take(&mut self) -> Answer
-        requires { 0 < length (due_answers self.old) }
-        ensures answers { due_answers self.old ≡ result ∷ due_answers self.new }
-        ensures same { (self.new.pass ≡ self.old.pass) × (self.new.lines ≡ self.old.lines)
-            × (self.new.room ≡ self.old.room) }
-    {
-        self.answers.pop_front().unwrap()
     }
 
     /// Ends the lane, and returns its pass.
@@ -116,31 +81,29 @@ impl Lane {
             pass,
             lines: _,
             ahead: _,
-            answers: _,
-            room: _,
+            texts: _,
             number: _,
             step: _,
         } = self;
         pass
     }
 
-    /// Answers the lines that wait, in their order.
+    /// Answers the lines that wait, in their order, and writes the texts of the answers, in place of those before.
     pub(crate) fn answer<S: Store, R: Wait, G: Gate>(&mut self, rt: &R, host: &Host<S>, gate: &G)
-        requires free { IsFree host.now self.old.pass }
-        requires none { self.old.answers.items ≡ [] }
+        requires { IsFree host.now self.old.pass }
         ensures { LaneAnswers host.now self.old self.new }
     {
         self.ahead.clear();
+        self.texts.clear();
         for place in 0..self.lines.len() {
             self.look_ahead(host, place);
             let found = self.ahead.first();
             let line = self.lines.line(place);
             let answer = answer_line(rt, host, gate, &mut self.pass, self.number, line, found);
             self.ahead.remove_first();
-            self.answers.push_back_reserved(answer);
+            self.texts.add(&answer);
             self.number = self.number.saturating_add(self.step);
         }
-        self.lines.clear();
     }
 
     /// Looks up lines ahead from this index on, unless some are. If too few are left to be checked together, none is.
@@ -149,7 +112,7 @@ impl Lane {
         requires ahead { AreLookUps host.now.issuer (looked_up_lines place self.old) self.old.ahead }
         ensures ahead { AreLookUps host.now.issuer (looked_up_lines place self.new) self.new.ahead }
         ensures same { (self.new.pass ≡ self.old.pass) × (self.new.lines ≡ self.old.lines)
-            × (self.new.answers ≡ self.old.answers) × (self.new.room ≡ self.old.room) }
+            × (self.new.texts ≡ self.old.texts) }
     {
         let count = MOST_AHEAD.min(self.lines.len() - place);
         if self.ahead.is_empty() && count >= FEWEST_IN_LANES {
@@ -164,7 +127,7 @@ impl Lane {
         requires none { length self.old.ahead ≡ 0 }
         ensures ahead { AreLookUps host.now.issuer (looked_up_lines place self.new) self.new.ahead }
         ensures same { (self.new.pass ≡ self.old.pass) × (self.new.lines ≡ self.old.lines)
-            × (self.new.answers ≡ self.old.answers) × (self.new.room ≡ self.old.room) }
+            × (self.new.texts ≡ self.old.texts) }
     {
         let mut data = [0; MAX_CHIP_BYTES];
         for index in place..end {

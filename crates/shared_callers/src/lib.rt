@@ -1,14 +1,17 @@
-//! Lines dealt in turns to several callers of one host, which answer them concurrently, and the answers in the order of
-//! the lines; and the laws of what several callers answer.
+//! Lines dealt in turns to several callers of one host, which answer them concurrently, and the texts of their answers
+//! in the order of the lines; and the laws of what several callers answer.
 #![tactic(auto)]
 
 mod close;
-mod dealer;
+mod half;
 mod lane;
 mod lanes;
 mod load;
-mod rounds;
+mod part;
+mod round;
 mod slots;
+mod texts;
 
+pub use half::HALF_LINES;
 pub use host_calls::{HostBack, LoadFault};
 pub use lanes::Lanes;

@@ -1,27 +1,29 @@
 //! The loading of a host for several callers.
-ghost use Rattle.std.specs.Prelude.{◌≡◌, ℕ, ◌<◌, ◌≤◌, ◌*◌, ◌/◌, [], length, vec_len, vec_capacity, All, IfOk, IfErr};
+ghost use Rattle.std.specs.Prelude.{◌≡◌, ℕ, ◌<◌, ◌≤◌, ◌/◌, [], length, vec_len, vec_capacity, All, IfOk, IfErr};
 ghost use Rattle.issuer_base.specs.declared.limits.TheConstants.{MAX_CALLERS};
 ghost use Rattle.call_steps.specs.OpeningLogs.{HostComesBackTogether};
 ghost use Rattle.one_caller.specs.Loading.{AreOnlyRead};
 ghost use Rattle.shared_shards.specs.ShardSeats.{opening_in};
-ghost use Rattle.shared_callers.specs.OneLane.{IsNewLane};
+ghost use Rattle.shared_callers.specs.OneLane.{IsNewLane, places_in};
+ghost use Rattle.shared_callers.specs.Parts.{lines_of, texts_of};
 ghost use Rattle.shared_callers.specs.Seated.{AreSeated};
-ghost use Rattle.line_blocks.specs.declared.block.TheConstants.{BLOCK_LINES};
+ghost use Rattle.shared_callers.specs.declared.half.TheConstants.{HALF_LINES};
 
-use crate::dealer::{Dealer, Progress};
+use crate::half::{HALF_LINES, Half};
 use crate::lane::{Lane, LaneRoom};
 use crate::lanes::Lanes;
+use crate::part::Part;
 use host_calls::{Host, HostBack, LoadFault, Pass};
 use issuer_base::{NoMemory, Store};
 use issuer_setup::Issuer;
-use line_blocks::BLOCK_LINES;
 use std::alloc::Global;
 use std::thread::Threads;
 
-/// The memory of all lanes.
+/// The memory of all lanes, and the parts of the half block that they don't have.
 struct AllRoom {
     lanes: Vec<Lane>,
     rooms: Vec<LaneRoom>,
+    parts: Vec<Part>,
 }
 
 impl<S: Store> Lanes<S> {
@@ -47,7 +49,14 @@ impl<S: Store> Lanes<S> {
         ensures stopped { IfErr result (λ back. HostComesBackTogether S.size S.bytes S.disk S.faults issuer
             olds.old.items olds.new.items stores.items back.shard back.fault back.stores.items) }
     {
-        let Ok(AllRoom { lanes, rooms }) = take_room(alloc, callers) else {
+        let Ok(
+            AllRoom {
+                lanes,
+                rooms,
+                parts,
+            },
+        ) = take_room(alloc, callers)
+        else {
             return Err(HostBack {
                 fault: LoadFault::NoMemory,
                 shard: 0,
@@ -62,39 +71,38 @@ impl<S: Store> Lanes<S> {
             }
         };
         let lanes = seat_all(&host, &mut first, lanes, rooms);
-        let room = lanes.len() * (BLOCK_LINES / lanes.len());
-        let dealer = Dealer {
-            lanes,
-            progress: Progress {
-                next: 0,
-                from: 0,
-                waiting: 0,
-                due: 0,
-            },
-            room,
-        };
+        let each = HALF_LINES / parts.len();
         Ok(Lanes {
             host,
             first,
-            dealer,
+            lanes,
+            half: Half::new(parts, each),
         })
     }
 }
 
-/// Allocates the memory of all lanes, one for each caller.
+/// Allocates the memory of all lanes, one for each caller, and of as many parts.
 fn take_room(alloc: Global, callers: u8) -> Result<AllRoom, NoMemory>
     requires { 0 < callers }
     ensures lanes { IfOk result (λ room. (room.lanes.items ≡ []) × (callers ≤ vec_capacity room.lanes)) }
-    ensures rooms { IfOk result (λ room. vec_len room.rooms ≡ callers) }
-    ensures count { IfOk result (λ room. All (λ lane. lane.count ≡ BLOCK_LINES / callers) room.rooms.items) }
+    ensures rooms { IfOk result (λ room. (vec_len room.rooms ≡ callers) × (vec_len room.parts ≡ callers)) }
+    ensures count { IfOk result (λ room. All (λ lane. places_in lane ≡ HALF_LINES / callers) room.rooms.items) }
+    ensures parts { IfOk result (λ room. All (λ part. part.lines.room ≡ HALF_LINES / callers) room.parts.items) }
+    ensures none { IfOk result (λ room. All (λ part. (lines_of part ≡ []) × (texts_of part ≡ [])) room.parts.items) }
 {
     let count = usize::from(callers);
     let mut rooms = Vec::with_capacity(alloc, count)?;
+    let mut parts = Vec::with_capacity(alloc, count)?;
     for _ in 0..count {
-        rooms.push_reserved(LaneRoom::new(alloc, BLOCK_LINES / count)?);
+        rooms.push_reserved(LaneRoom::new(alloc, HALF_LINES / count)?);
+        parts.push_reserved(Part::new(alloc, HALF_LINES / count)?);
     }
     let lanes = Vec::with_capacity(alloc, count)?;
-    Ok(AllRoom { lanes, rooms })
+    Ok(AllRoom {
+        lanes,
+        rooms,
+        parts,
+    })
 }
 
 /// Splits off a pass for each lane.
@@ -109,8 +117,8 @@ fn seat_all<S: Store>(
     ensures seated { AreSeated host.now first.new result.items }
     ensures new { All (IsNewLane host.now.issuer (opening_in host.now.turns)) result.items }
     ensures count { vec_len result ≡ vec_len rooms }
-    ensures room { (count : ℕ) → All (λ room. room.count ≡ count) rooms.items
-        → All (λ lane. lane.room ≡ count) result.items }
+    ensures room { (count : ℕ) → All (λ room. places_in room ≡ count) rooms.items
+        → All (λ lane. lane.lines.room ≡ count) result.items }
 {
     let step = rooms.len() as u64;
     let mut number = 0u64;

@@ -1,4 +1,4 @@
-//! The lines that wait for a caller, each in a slot that is reused in each block.
+//! The lines that wait for a caller, each in a slot that is reused in each half block.
 ghost use Rattle.std.specs.Prelude.{◌≡◌, ◌<◌, ◌≤◌, [], ◌∷◌, ◌++◌, length, slice_get, Some, vec_len, vec_capacity, IfOk};
 ghost use Rattle.issuer_base.specs.declared.limits.TheConstants.{KEPT_BYTES};
 

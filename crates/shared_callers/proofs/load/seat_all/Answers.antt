@@ -3,7 +3,7 @@ use Rattle.std.proofs.Common.{◌≡◌, rules, sym, ap, ◌∙◌, subst}
 use Rattle.std.proofs.lemmas.List.Elements.{All-pop, All-push}
 use Rattle.shared_shards.specs.ShardSeats.{opening_in}
 use Rattle.host_calls.specs.Passes.{claims_of, logs_of, IsFree}
-use Rattle.shared_callers.specs.OneLane.{IsNewLane}
+use Rattle.shared_callers.specs.OneLane.{IsNewLane, places_in}
 use Rattle.shared_callers.specs.declared.lane.Lane.{Lane}
 use Rattle.shared_callers.specs.declared.lane.LaneRoom.{LaneRoom}
 use Rattle.shared_callers.proofs.Seating.{new-served, seated-more}
@@ -23,20 +23,17 @@ loop-room-preserved g c =
       seated = rw c.push_reserved.ensures.items
           (seated-more host c.loop-room.first c.split-pass.new.pass lanes lane c.loop-room.first.claims.named c.split-pass.ensures.pass.0
           c.split-pass.ensures.pass.1 c.split-pass.ensures.pass.2 lane_free claims before.seated);
-      new = rw c.push_reserved.ensures.items (All-push (IsNewLane host.issuer (opening_in host.turns)) lanes lane before.new (record {
-        none_wait = c.new-lane.ensures.none.0;
-        none_due = c.new-lane.ensures.none.1;
-        served = new-served host.issuer (opening_in host.turns) c.loop-room.first lane.pass claims logs before.seated.opened;
-      }));
+      new = rw c.push_reserved.ensures.items (All-push (IsNewLane host.issuer (opening_in host.turns)) lanes lane before.new
+          (new-served host.issuer (opening_in host.turns) c.loop-room.first lane.pass claims logs before.seated.opened));
       count = search rules;
       number = search rules;
       capacity = search rules;
       rooms = λ count all.
-          (All-pop (λ (room : LaneRoom). room.count ≡ count) c.loop-room.rooms.items c.pop.new.self.items c.pop.result c.pop.ensures.items
+          (All-pop (λ (room : LaneRoom). places_in room ≡ count) c.loop-room.rooms.items c.pop.new.self.items c.pop.result c.pop.ensures.items
           (before.rooms count all)).0;
       room = λ count all.
-          let popped = All-pop (λ (room : LaneRoom). room.count ≡ count) c.loop-room.rooms.items c.pop.new.self.items c.pop.result c.pop.ensures.items
+          let popped = All-pop (λ (room : LaneRoom). places_in room ≡ count) c.loop-room.rooms.items c.pop.new.self.items c.pop.result c.pop.ensures.items
           (before.rooms count all) in
           rw c.push_reserved.ensures.items
-          (All-push (λ (lane : Lane). lane.room ≡ count) lanes lane (before.room count all) (c.new-lane.ensures.room ∙ rw c.in-Some.is at popped.1));
+          (All-push (λ (lane : Lane). lane.lines.room ≡ count) lanes lane (before.room count all) (c.new-lane.ensures.room ∙ rw c.in-Some.is at popped.1));
     }

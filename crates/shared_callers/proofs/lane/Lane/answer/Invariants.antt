@@ -1,9 +1,9 @@
--- The lines so far were answered in their order, the pass is free, and the next lines may be looked up.
-use Rattle.std.proofs.Common.{◌≡◌, length, take}
+-- The lines so far were answered in their order, with these texts; the pass is free, and the next lines may be looked up.
+use Rattle.std.proofs.Common.{◌≡◌, take}
 use Rattle.line_checks.specs.LookedUp.{AreLookUps}
 use Rattle.host_calls.specs.Passes.{claims_of, logs_of, IsFree}
-use Rattle.answer_laws.specs.Callers.{AuthorisesAll}
 use Rattle.shared_callers.specs.OneLane.{looked_up_lines}
+use Rattle.shared_callers.proofs.Calling.{HasCalled}
 use Rattle.shared_callers.proofs.lane.Lane.answer.Given as goal
 
 abbrev pub invariant-loop-place : goal.invariant-loop-place
@@ -11,9 +11,9 @@ invariant-loop-place g l = record {
   free : IsFree l.host l.self.pass;
   names : (claims_of l.self.pass).names ≡ (claims_of l.fn.self.pass).names;
   lines : l.self.lines ≡ l.fn.self.lines;
-  room : l.self.room ≡ l.fn.self.room;
-  count : length l.self.answers.items ≡ l.place;
+  room : l.self.texts.room ≡ l.fn.self.lines.room;
+  used : l.self.texts.used ≡ l.place;
   ahead : AreLookUps l.host.issuer (looked_up_lines l.place l.self) l.self.ahead;
-  calls : AuthorisesAll l.host.issuer (take l.place l.fn.self.lines.lines) l.self.answers.items (claims_of l.fn.self.pass)
+  called : HasCalled l.host.issuer (take l.place l.fn.self.lines.lines) l.self.texts.texts (claims_of l.fn.self.pass)
       (logs_of l.fn.self.pass) (claims_of l.self.pass) (logs_of l.self.pass);
 }

@@ -1,5 +1,5 @@
 -- One more line is looked up.
-use Rattle.std.proofs.Common.{◌≡◌, ◌+◌, List, Result, length, take, drop, ap, sym, subst, ◌∙◌, arith}
+use Rattle.std.proofs.Common.{List, Result, length, take, drop, ap, sym, subst, arith}
 use Rattle.std.specs.List.{AllZip}
 use Rattle.std.proofs.lemmas.List.{length-append}
 use Rattle.issuer_base.specs.declared.answer.Refusal.{Refusal}
@@ -26,6 +26,5 @@ loop-index-preserved g c =
       count = omega (arith, before.count, ap length c.add.ensures, length-append {A = Result Sought Refusal});
       pass = before.pass;
       lines = before.lines;
-      answers = before.answers;
-      room = before.room;
+      texts = before.texts;
     }

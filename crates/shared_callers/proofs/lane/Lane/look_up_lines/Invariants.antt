@@ -10,6 +10,5 @@ invariant-loop-index g l = record {
   count : l.index ≡ l.place + length l.self.ahead;
   pass : l.self.pass ≡ l.fn.self.pass;
   lines : l.self.lines ≡ l.fn.self.lines;
-  answers : l.self.answers ≡ l.fn.self.answers;
-  room : l.self.room ≡ l.fn.self.room;
+  texts : l.self.texts ≡ l.fn.self.texts;
 }

@@ -1,32 +1,69 @@
 -- The lines that waited were answered, and all passes are free and whole again.
-use Rattle.std.proofs.Common.{◌≡◌, List, [], refl, sym, subst, ◌∙◌, append-nil}
-use Rattle.issuer_base.specs.declared.answer.Answer.{Answer}
-use Rattle.shared_callers.specs.Turns.{AreInTurns}
-use Rattle.shared_callers.proofs.Serving.{served-answered, seated-answered}
+use Rattle.std.proofs.Common.{[], List, length, ◌++◌, refl, sym, ap, subst, ◌∙◌, rules, All}
+use Rattle.host_calls.specs.Passes.{IsFree}
+use Rattle.shared_shards.specs.ShardSeats.{opening_in}
+use Rattle.shared_callers.specs.Dealt.{HasDealt}
+use Rattle.shared_callers.specs.OneLane.{lane_rooms}
+use Rattle.shared_callers.specs.Seated.{AreSeated}
+use Rattle.shared_callers.specs.declared.lane.Lane.{Lane}
+use Rattle.shared_callers.proofs.HandingOver.{lanes-back}
+use Rattle.shared_callers.proofs.Lists.{maps-long}
 use Rattle.shared_callers.proofs.lanes.Lanes.answer.Goals as goal
+
+pub answer_lines-requires-clause-free : goal.answer_lines-requires-clause-free
+answer_lines-requires-clause-free g c lifetimes outlives =
+    let lanes = c.args.self.now in
+    subst (All (λ (lane : Lane). IsFree lanes.host lane.pass)) (sym c.as_mut_slice.ensures.value) lanes.seated.free
+
+pub answer_lines-requires-clause-rooms : goal.answer_lines-requires-clause-rooms
+answer_lines-requires-clause-rooms g c lifetimes outlives = ap lane_rooms c.as_mut_slice.ensures.value ∙ c.args.self.now.rooms
 
 pub invariant_of-self-clause-seated : goal.invariant_of-self-clause-seated
 invariant_of-self-clause-seated g c =
     let lanes = c.args.self.now in
-    seated-answered lanes.host lanes.first lanes.dealer.lanes.items c.answer.new.self.lanes.items c.answer.ensures.lanes lanes.seated
+    let done = c.answer_lines.ensures in
+    let back = lanes-back lanes.lanes.len lanes.lanes.items c.as_mut_slice.result.now c.answer_lines.new.lanes c.as_mut_slice.ensures.value (search rules)
+    done.rooms.0 in
+    subst (AreSeated lanes.host lanes.first) (sym back)
+    (done.seated lanes.first (subst (AreSeated lanes.host lanes.first) (sym c.as_mut_slice.ensures.value) lanes.seated))
+
+pub invariant_of-self-clause-rooms : goal.invariant_of-self-clause-rooms
+invariant_of-self-clause-rooms g c =
+    let lanes = c.args.self.now in
+    let done = c.answer_lines.ensures in
+    let back = lanes-back lanes.lanes.len lanes.lanes.items c.as_mut_slice.result.now c.answer_lines.new.lanes c.as_mut_slice.ensures.value (search rules)
+    done.rooms.0 in
+    ap lane_rooms back ∙ done.rooms.0 ∙ ap lane_rooms c.as_mut_slice.ensures.value ∙ lanes.rooms ∙ sym done.rooms.1.rooms
 
 pub returns-clause-served : goal.returns-clause-served
 returns-clause-served g c =
     λ lines answers waiting has.
     let lanes = c.args.self.now in
-    let all : has.taken ≡ answers = sym (append-nil has.taken) ∙ sym has.answers_are in
-    let turns : AreInTurns lanes.dealer.lanes.items lanes.dealer.progress lines answers [] waiting =
-    subst (λ (taken : List Answer). AreInTurns lanes.dealer.lanes.items lanes.dealer.progress lines taken [] waiting) all has.turns in
-    let done = c.answer.ensures.turns lines answers waiting turns in (
-      done.0,
+    let opening = opening_in lanes.host.turns in
+    let done = c.answer_lines.ensures in
+    let back = lanes-back lanes.lanes.len lanes.lanes.items c.as_mut_slice.result.now c.answer_lines.new.lanes c.as_mut_slice.ensures.value (search rules)
+    done.rooms.0 in
+    let dealt = done.dealt opening lines answers waiting
+    (subst (λ (old : List Lane). HasDealt lanes.host.issuer opening old lanes.half lines answers [] waiting) (sym c.as_mut_slice.ensures.value) has.dealt) in (
+      dealt.0,
       record {
-        taken = answers;
-        answers_are = refl;
-        turns = done.1;
-        served = served-answered lanes.host _ lanes.dealer.lanes.items c.answer.new.self.lanes.items lines waiting answers done.0 c.answer.ensures.lanes
-            turns.waits done.1.dues has.served;
+        dealt = subst
+            (λ (new : List Lane). HasDealt lanes.host.issuer opening new c.answer_lines.new.half (lines ++ waiting) (answers ++ dealt.0) dealt.0 [])
+            (sym back) dealt.1;
       },
     )
 
 pub returns-clause-host : goal.returns-clause-host
-returns-clause-host g c = record { same_issuer = refl; same_opening = refl; same_callers = c.answer.ensures.lanes.count_is }
+returns-clause-host g c =
+    let lanes = c.args.self.now in
+    let done = c.answer_lines.ensures in
+    let back = lanes-back lanes.lanes.len lanes.lanes.items c.as_mut_slice.result.now c.answer_lines.new.lanes c.as_mut_slice.ensures.value (search rules)
+    done.rooms.0 in
+    record {
+      same_issuer = refl;
+      same_opening = refl;
+      same_callers =
+          ap (λ (lanes : List Lane). length lanes) back
+          ∙ maps-long (λ lane. lane.lines.room) (λ lane. lane.lines.room) c.answer_lines.new.lanes c.as_mut_slice.result.now done.rooms.0
+          ∙ ap (λ (lanes : List Lane). length lanes) c.as_mut_slice.ensures.value;
+    }

@@ -1,10 +1,14 @@
 -- The lanes begin without lines, or the stores come back.
-use Rattle.std.proofs.Common.{◌≡◌, ◌*◌, ◌/◌, ◌<◌, ◌≤◌, [], vec_len, inl, rules, refl, sym, subst, ap, ◌∙◌}
+use Rattle.std.proofs.Common.{◌≡◌, ◌*◌, ◌/◌, ◌<◌, ◌≤◌, All, length, vec_len, inl, rules, sym, subst, ap, ◌∙◌}
 use Rattle.shared_shards.specs.ShardSeats.{opening_in}
 use Rattle.one_caller.proofs.Loads.{come-together, none-loaded, none-read}
-use Rattle.line_blocks.specs.declared.block.TheConstants.{BLOCK_LINES}
+use Rattle.shared_callers.specs.Parts.{rooms_of}
+use Rattle.shared_callers.specs.declared.half.TheConstants.{HALF_LINES}
+use Rattle.shared_callers.specs.declared.lane.Lane.{Lane}
+use Rattle.shared_callers.specs.declared.part.Part.{Part}
+use Rattle.shared_callers.proofs.Lists.{maps-alike}
 use Rattle.shared_callers.proofs.Opening.{opened-plain}
-use Rattle.shared_callers.proofs.Seating.{seated-none, new-in-turns, new-all-served, rooms-all, room-some, room-most}
+use Rattle.shared_callers.proofs.Seating.{seated-none, new-dealt, room-some, room-most}
 use Rattle.shared_callers.proofs.lanes.Lanes.load.Goals as goal
 
 pub returns-in_default-clause-stopped : goal.returns-in_default-clause-stopped
@@ -23,27 +27,15 @@ seat_all-lanes-requires-clause-first g c =
     let first = c.in-Ok-load_together.ensures.pass in
     seated-none made.0 made.1 first.free first.claims_are first.logs_are
 
-pub invariant_of-dealer-clause-each_room : goal.invariant_of-dealer-clause-each_room
-invariant_of-dealer-clause-each_room g c =
-    let lanes = c.seat_all-lanes.result in
-    let many : c.len.result ≡ vec_len lanes = search rules in
-    let count : c.len-2.result ≡ c.args.callers = search rules in
-    rooms-all lanes.items (vec_len lanes) (BLOCK_LINES / c.args.callers) _
-    (ap (λ n. n * (BLOCK_LINES / c.len-2.result)) many ∙ ap (λ n. vec_len lanes * (BLOCK_LINES / n)) count)
-    (c.seat_all-lanes.ensures.room (BLOCK_LINES / c.args.callers) c.in-Ok.ensures.count)
+pub new-requires-clause-room : goal.new-requires-clause-room
+new-requires-clause-room g c =
+    let count : c.len-each.result ≡ c.args.callers = search rules in
+    subst (λ n. All (λ (part : Part). part.lines.room ≡ HALF_LINES / n) c.in-Ok.field-0.parts.items) (sym count) c.in-Ok.ensures.parts
 
-pub invariant_of-dealer-clause-in_turn : goal.invariant_of-dealer-clause-in_turn
-invariant_of-dealer-clause-in_turn g c =
-    let host = c.in-Ok-load_together.made.0 in
-    ∣
-    record {
-      lines = [];
-      taken = [];
-      due = [];
-      waiting = [];
-      are = new-in-turns host.issuer (opening_in host.turns) c.seat_all-lanes.result.items _ c.seat_all-lanes.ensures.new refl refl refl refl;
-    }
-    ∣₁
+pub new-requires-clause-few : goal.new-requires-clause-few
+new-requires-clause-few g c =
+    let long : c.len-each.result ≡ vec_len c.in-Ok.field-0.parts = search rules in
+    subst (λ n. n * (HALF_LINES / c.len-each.result) ≤ HALF_LINES) long (room-most HALF_LINES c.len-each.result)
 
 pub invariant_of-result-clause-plain : goal.invariant_of-result-clause-plain
 invariant_of-result-clause-plain g c =
@@ -52,30 +44,32 @@ invariant_of-result-clause-plain g c =
 
 pub invariant_of-result-clause-some_room : goal.invariant_of-result-clause-some_room
 invariant_of-result-clause-some_room g c =
-    let same : c.len.result ≡ c.len-2.result = search rules in
-    let some : 0 < c.len-2.result = search rules in
-    let few : c.len-2.result ≤ BLOCK_LINES = search rules in
-    subst (λ n. 0 < n * (BLOCK_LINES / c.len-2.result)) (sym same) (room-some BLOCK_LINES c.len-2.result some few)
+    let long : c.len-each.result ≡ vec_len c.in-Ok.field-0.parts = search rules in
+    let some : 0 < c.len-each.result = search rules in
+    let few : c.len-each.result ≤ HALF_LINES = search rules in
+    let room : 0 < vec_len c.in-Ok.field-0.parts * (HALF_LINES / c.len-each.result) =
+    subst (λ n. 0 < n * (HALF_LINES / c.len-each.result)) long (room-some HALF_LINES c.len-each.result some few) in
+    subst (λ n. 0 < n) (sym c.new.ensures.parts.1) room
 
-pub invariant_of-result-clause-most : goal.invariant_of-result-clause-most
-invariant_of-result-clause-most g c =
-    let same : c.len.result ≡ c.len-2.result = search rules in
-    subst (λ n. n * (BLOCK_LINES / c.len-2.result) ≤ BLOCK_LINES) (sym same) (room-most BLOCK_LINES c.len-2.result)
+pub invariant_of-result-clause-rooms : goal.invariant_of-result-clause-rooms
+invariant_of-result-clause-rooms g c =
+    let lanes = c.seat_all-lanes.result in
+    let long : length lanes.items ≡ length c.in-Ok.field-0.parts.items = search rules in
+    maps-alike (λ (lane : Lane). lane.lines.room) (λ (part : Part). part.lines.room) lanes.items c.in-Ok.field-0.parts.items (HALF_LINES / c.args.callers) long
+    (c.seat_all-lanes.ensures.room (HALF_LINES / c.args.callers) c.in-Ok.ensures.count) c.in-Ok.ensures.parts
+    ∙ ap rooms_of (sym c.new.ensures.parts.0)
 
 pub returns-clause-loaded : goal.returns-clause-loaded
 returns-clause-loaded g c =
     let host = c.in-Ok-load_together.made.0 in
-    let lanes = c.seat_all-lanes.result.items in
     record {
       issuer_is = c.in-Ok-load_together.ensures.issuer;
       callers_are = search rules;
       opening = c.in-Ok-load_together.ensures.opening;
       served = record {
-        taken = [];
-        answers_are = refl;
-        turns = new-in-turns host.issuer (opening_in host.turns) lanes _ c.seat_all-lanes.ensures.new refl refl refl refl;
-        served = new-all-served host.issuer (opening_in host.turns) lanes c.seat_all-lanes.ensures.new;
+        dealt = new-dealt host.issuer (opening_in host.turns) c.seat_all-lanes.result.items c.new.result c.new.ensures.none.0 c.new.ensures.none.1
+            c.seat_all-lanes.ensures.new;
       };
-      none_wait = refl;
-      none_due = refl;
+      none_wait = c.new.ensures.none.0.count_is;
+      none_due = c.new.ensures.none.1.count_is;
     }
