@@ -4,8 +4,6 @@ use Rattle.std.specs.Prelude.{Ok}
 use Rattle.issuer_base.specs.declared.answer.Refusal.{Refusal}
 use Rattle.card_history.specs.declared.decision.Asked.{Asked}
 use Rattle.line_checks.specs.LookedUp.{IsLookUp}
-use Rattle.line_checks.specs.declared.sought.Sought.{Sought}
-use Rattle.line_checks.specs.declared.sought.Sought.TheVariants.{Order}
 use Rattle.one_caller.specs.Books.{Book}
 use Rattle.one_caller.specs.Hosts.{Stand}
 use Rattle.one_caller.specs.Turns.{Turn}
