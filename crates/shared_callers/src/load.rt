@@ -54,7 +54,9 @@ impl<S: Store> Lanes<S> {
                 stores,
             });
         };
-        let (host, mut first) = match Host::load_together(rt, alloc, olds, stores, issuer, callers) {
+        let (host, mut first) = match Host::load_together(
+            rt, alloc, olds, stores, issuer, callers,
+        ) {
             Ok(made) => made,
             Err(back) => {
                 lanes.destroy_empty();
