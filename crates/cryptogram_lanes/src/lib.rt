@@ -18,7 +18,8 @@ pub use checks::{DesCheck, right_sessions};
 use des_block::Key16;
 use issuer_base::{Request, Suite};
 
-/// As many cryptograms of triple DES as take about the same time in lanes and one by one.
+/// The fewest cryptograms of triple DES that are computed in lanes. So few take longer there than one by one, but lanes
+/// look up by no key.
 pub const FEWEST_IN_LANES: usize = 16;
 
 /// A request, and the master key of its card for application cryptograms.
