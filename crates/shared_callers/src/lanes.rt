@@ -1,5 +1,5 @@
 //! Several callers of one host, to which lines are dealt in turns.
-ghost use Rattle.std.specs.Prelude.{◌≡◌, ℕ, ◌<◌, ◌≤◌, ◌+◌, ◌∷◌, ◌++◌, [], List, length, false, is_err, MatchResult};
+ghost use Rattle.std.specs.Prelude.{◌≡◌, ℕ, ◌<◌, ◌≤◌, ◌+◌, ◌∷◌, ◌++◌, [], List, length, false, is_err, MatchBool, MatchResult};
 ghost use Rattle.issuer_base.specs.OutsideFaults.{CountsFaults};
 ghost use Rattle.issuer_base.specs.declared.answer.Answer.{Answer};
 ghost use Rattle.issuer_base.specs.declared.limits.TheConstants.{KEPT_BYTES};
@@ -53,6 +53,13 @@ impl<S: Store> Lanes<S> {
         ensures { result ≡ is_full_in self.now }
     {
         self.half.is_full()
+    }
+
+    /// Whether a line waits.
+    pub fn waits(&self) -> bool
+        ensures { MatchBool result (0 < waiting_in self.now) (waiting_in self.now ≡ 0) }
+    {
+        self.half.waiting > 0
     }
 
     /// Deals the next line, without its newline, to the caller whose turn it is.
