@@ -1,5 +1,5 @@
 -- The lines of a lane that were looked up ahead: one more of them, and the first of them.
-use Rattle.std.proofs.Common.{◌≡◌, ℕ, ◌+◌, zero, suc, List, [], ◌∷◌, ◌++◌, length, take, drop, Option, None, Some, IfSome, refl, sym, subst, arith, add-one}
+use Rattle.std.proofs.Common.{◌≡◌, ℕ, ◌+◌, zero, suc, List, [], ◌∷◌, ◌++◌, length, take, drop, Option, None, Some, IfSome, sym, subst, arith, add-one}
 use Rattle.std.proofs.lemmas.Option.{same_Some, none-some}
 use Rattle.std.specs.Prelude.{◌≢◌, MatchOption, IfOk, IfErr, Result, Ok, Err}
 use Rattle.std.specs.List.{slice_get, AllZip}

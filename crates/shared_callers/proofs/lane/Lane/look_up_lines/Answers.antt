@@ -1,5 +1,5 @@
 -- One more line is looked up.
-use Rattle.std.proofs.Common.{◌≡◌, ◌+◌, List, Result, length, take, drop, ap, sym, subst, ◌∙◌, arith}
+use Rattle.std.proofs.Common.{List, Result, length, take, drop, ap, sym, subst, arith}
 use Rattle.std.specs.List.{AllZip}
 use Rattle.std.proofs.lemmas.List.{length-append}
 use Rattle.issuer_base.specs.declared.answer.Refusal.{Refusal}
