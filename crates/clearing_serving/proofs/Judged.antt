@@ -10,11 +10,12 @@ use Rattle.issuer_base.specs.Sink.{AppendsFront, WritesAll}
 use Rattle.issuer_base.proofs.ManyCalls.{AppendsFront-after}
 use Rattle.issuer_setup.specs.IssuerSetup.{Setup}
 use Rattle.chip_request.proofs.LineLaws.{longest_line, line_of-kept}
-use Rattle.line_reader.specs.Reading.{kept}
+use Rattle.line_reader.specs.Reading.{Reading, kept}
 use Rattle.line_blocks.specs.declared.served.Served.{Served}
 use Rattle.line_blocks.specs.declared.served.Served.TheVariants.{All, ReadFault, WriteFault as SinkFault, TooLong}
 use Rattle.line_blocks.specs.Answered.{AreAllLines, AreFirstLines, AreLinesBefore, AreWholeLines}
 use Rattle.line_blocks.specs.Serving.{Finishes, Serves, ServesLines, TakesLine, WritesDue}
+use Rattle.line_blocks.proofs.ServingSteps.{takes-none}
 use Rattle.filed_records.specs.declared.filed.Filed.{Filed}
 use Rattle.clearing_check.specs.ClearingLine.{of_form, presented}
 use Rattle.clearing_check.specs.Verdicts.{after_line, records_after, verdict, verdict_on}
@@ -81,20 +82,22 @@ module _ (issuer : Setup) where
   -- ---- what is written
 
   pub writes-due : (records now : List Filed) (lines : List (List ℕ)) (text : List ℕ) (waiting : List (List ℕ))
-      (due left : List ℕ) (held_before held_after : Option (List ℕ)) (result : Result (Unit {0}) WriteFault)
+      (due left : List ℕ) (reader new : Reading) (held_before held_after : Option (List ℕ))
+      (result : Result (Unit {0}) WriteFault) → new ≡ reader
       → WritesBlock due left held_before held_after result → HasJudged issuer records now lines text waiting
-      → WritesDue (HasJudged issuer records now) lines text waiting due left held_before held_after result
-  writes-due records now lines text waiting due left held_before held_after result writes judged =
+      → WritesDue (HasJudged issuer records now) lines text waiting due left reader new held_before held_after result
+  writes-due records now lines text waiting due left reader new held_before held_after result same_reader writes judged =
       ⊎_elim
       (λ all. inl (
         all.0,
-        record {
-          more = [];
-          served = judged-all records now lines text waiting judged;
-          written = subst (WritesAll held_before held_after result) (sym (append-nil due)) all.1;
-        },
+        takes-none (HasJudged issuer records now) lines text waiting due reader new held_before held_after result
+            same_reader (record {
+              more = [];
+              served = judged-all records now lines text waiting judged;
+              written = subst (WritesAll held_before held_after result) (sym (append-nil due)) all.1;
+            }),
       ))
-      (λ same. inr (same.0, same.1, same.2, judged)) writes
+      (λ same. inr (same.0, same.1, same_reader, same.2, judged)) writes
 
   pub finishes : (records now : List Filed) (lines : List (List ℕ)) (text : List ℕ) (waiting : List (List ℕ))
       (due : List ℕ) (held_before held_after : Option (List ℕ)) (how ended : Served)

@@ -1,5 +1,5 @@
 -- Serving, one line more and to each of its ends.
-use Rattle.std.proofs.Common.{◌≡◌, ℕ, ◌+◌, ◌≤◌, List, [], ◌∷◌, ◌++◌, length, map, Option, None, Some, Ok, Err}
+use Rattle.std.proofs.Common.{◌≡◌, ℕ, ◌+◌, ◌≤◌, List, [], ◌∷◌, ◌++◌, length, map, Option, None, Some, Result, Ok, Err}
 use Rattle.std.proofs.Common.{refl, sym, ap, subst, ◌∙◌, arith, append-nil, append_assoc, ⊎_elim}
 use Rattle.std.proofs.lemmas.List.{length-append, length-take, map-append}
 use Rattle.std.specs.List.{flat_map}
@@ -11,17 +11,18 @@ use Rattle.issuer_base.specs.Sink.{AppendsFront}
 use Rattle.issuer_base.specs.Tells.{Tells}
 use Rattle.issuer_base.proofs.ManyCalls.{AppendsFront-after, Tells-whole}
 use Rattle.line_reader.specs.Lines.{lines, ended, BeginsWithLines}
-use Rattle.line_reader.specs.Reading.{Reading, HasGivenLines, IsWithinLimits, StaysWithinLimits, unread, kept}
+use Rattle.line_reader.specs.Reading.{Reading, HasGivenLines, IsWithinLimits, StaysWithinLimits, TakesInHand, unread}
+use Rattle.line_reader.specs.Reading.{kept}
 use Rattle.line_reader.specs.NextLine.{HasGiven, GivesLine, GivesRest, ReachesEnd, StopsAtFault, StopsAtLimit}
 use Rattle.line_reader.proofs.LineLaws.{lines-begins, length-begins, BeginsWithLines-given}
 use Rattle.line_reader.proofs.WholeLines.{HasGivenLines-unread, HasGivenLines-line, IsLinesAndRest-rest}
-use Rattle.line_reader.proofs.WholeLines.{IsLinesAndRest-end, IsLinesAndRest-fault}
+use Rattle.line_reader.proofs.WholeLines.{IsLinesAndRest-end, IsLinesAndRest-fault, TakesInHand-no_call}
 use Rattle.line_reader.proofs.WholeLines.{lines-rest_given, lines-end_reached, PassesLimit-stopped}
 use Rattle.line_blocks.proofs.InputFronts.{front-read}
 use Rattle.line_blocks.specs.declared.served.Served.{Served}
 use Rattle.line_blocks.specs.declared.served.Served.TheVariants.{All, ReadFault, TooLong}
 use Rattle.line_blocks.specs.Answered.{WasRead, AreWholeLines, AreLinesBefore, AreFirstLines}
-use Rattle.line_blocks.specs.Serving.{TakesLine, ServesLines, Serves, WritesDue, Finishes}
+use Rattle.line_blocks.specs.Serving.{TakesLine, ServesLines, Serves, WritesAnswers, TakesAndWrites, WritesDue, Finishes}
 
 -- ---- what an input had
 
@@ -127,36 +128,18 @@ module _ (Before After : List (List ℕ) → List ℕ → List (List ℕ) → Ty
       written = Appends-trans held_before held next taken.early (due ++ more) taken.written written;
     }
 
-  -- answers were written where that was due
-  pub taken-due : (next : Option (List ℕ)) (due left : List ℕ) (asked : List (List ℕ))
-      → AreTaken Before held_before held due asked
-      → ((answered : List (List ℕ)) (text : List ℕ) (waiting : List (List ℕ)) → Before answered text waiting
-      → WritesDue After answered text waiting due left held next (Ok tt))
-      → AreTaken After held_before next left asked
-  taken-due next due left asked taken writes =
-      ⊎_elim
-      (λ all. taken-written next due asked taken all.1.more all.1.served left all.0 all.1.written)
-      (λ same. record {
-        answered = taken.answered;
-        waiting = taken.waiting;
-        early = taken.early;
-        all = taken.all;
-        served = subst (λ (l : List ℕ). After taken.answered (taken.early ++ l) taken.waiting) (sym same.1) same.3;
-        written = subst (λ (h : Option (List ℕ)). Appends held_before h taken.early) (sym same.2) taken.written;
-      })
-      (writes taken.answered (taken.early ++ due) taken.waiting taken.served)
-
-  -- the sink failed there
-  pub broken-due : (next : Option (List ℕ)) (due left : List ℕ) (fault : WriteFault) (asked : List (List ℕ))
-      → AreTaken Before held_before held due asked
-      → ((answered : List (List ℕ)) (text : List ℕ) (waiting : List (List ℕ)) → Before answered text waiting
-      → WritesDue After answered text waiting due left held next (Err fault))
-      → AreFinished After (AppendsFront held_before next) asked
-  broken-due next due left fault asked taken writes =
-      ⊎_elim
-      (λ all. finished-front next due asked taken all.1.more all.1.served all.1.written)
-      (λ same. absurd (let e : Err fault ≡ Ok tt = same.0 in cc))
-      (writes taken.answered (taken.early ++ due) taken.waiting taken.served)
+  -- nothing was written
+  pub taken-same : (next : Option (List ℕ)) (due left : List ℕ) (asked : List (List ℕ)) → left ≡ due → next ≡ held
+      → (taken : AreTaken Before held_before held due asked)
+      → After taken.answered (taken.early ++ due) taken.waiting → AreTaken After held_before next left asked
+  taken-same next due left asked same_due same_held taken served = record {
+    answered = taken.answered;
+    waiting = taken.waiting;
+    early = taken.early;
+    all = taken.all;
+    served = subst (λ (l : List ℕ). After taken.answered (taken.early ++ l) taken.waiting) (sym same_due) served;
+    written = subst (λ (h : Option (List ℕ)). Appends held_before h taken.early) (sym same_held) taken.written;
+  }
 
 -- ---- which lines were answered
 
@@ -209,6 +192,33 @@ read-none HasServed was held reader due fresh new none = record {
     all = refl;
     served = subst (λ (t : List ℕ). HasServed [] t []) (sym none) fresh;
     written = Appends-nil held;
+  };
+}
+
+-- of any lines and any text
+abbrev pub Any : List (List ℕ) → List ℕ → List (List ℕ) → Type 0
+Any lines text waiting = Unit {0}
+
+-- lines were taken that were whole in memory, and wait behind those that waited; nothing is said of the host
+abbrev pub read-in_hand : (Before : List (List ℕ) → List ℕ → List (List ℕ) → Type 0)
+    (was now held_before held : Option (List ℕ)) (reader new : Reading) (due : List ℕ) (more : List (List ℕ))
+    → HasRead Before was now held_before held reader due → TakesInHand reader more new
+    → HasRead Any was now held_before held new due
+read-in_hand Before was now held_before held reader new due more so_far takes = record {
+  read = so_far.read;
+  whole = so_far.whole ++ more;
+  consumed = so_far.consumed;
+  given = takes so_far.read so_far.whole so_far.given;
+  taken = record {
+    answered = so_far.taken.answered;
+    waiting = so_far.taken.waiting ++ map kept more;
+    early = so_far.taken.early;
+    all =
+        sym (append_assoc so_far.taken.answered so_far.taken.waiting (map kept more))
+        ∙ ap (λ (ls : List (List ℕ)). ls ++ map kept more) so_far.taken.all
+        ∙ sym (map-append kept so_far.whole more);
+    served = tt;
+    written = so_far.taken.written;
   };
 }
 
@@ -320,21 +330,6 @@ module _ (Before After : List (List ℕ) → List ℕ → List (List ℕ) → Ty
   within_so_far = subst (λ (n : ℕ). IsWithinLimits n (length (flat_map ended so_far.whole))) so_far.given.lines_counted
       (subst (λ (n : ℕ). IsWithinLimits reader.lines n) so_far.given.bytes_counted so_far.given.within)
 
-  -- answers were written where that was due, and serving goes on
-  pub read-on : (new : Reading) (left : List ℕ) → new ≡ reader
-      → ((answered : List (List ℕ)) (text : List ℕ) (waiting : List (List ℕ)) → Before answered text waiting
-      → WritesDue After answered text waiting due left held next (Ok tt))
-      → HasRead After was now held_before next new left
-  read-on new left same writes =
-      subst (λ (r : Reading). HasRead After was now held_before next r left) (sym same)
-      (record {
-        read = so_far.read;
-        whole = so_far.whole;
-        consumed = so_far.consumed;
-        given = so_far.given;
-        taken = taken-due Before After held_before held next due left so_far.whole so_far.taken writes;
-      })
-
   -- the sink failed at the answers, once these bytes more were read
   serves-front : (given : List ℕ) (later : Option (List ℕ)) → Consumes now later given
       → AreFinished After (AppendsFront held_before next) so_far.whole
@@ -354,14 +349,6 @@ module _ (Before After : List (List ℕ) → List ℕ → List (List ℕ) → Ty
         answered = finished.answered;
         written = finished.written;
       }
-
-  pub serves-broken_line : (left : List ℕ) (fault : WriteFault)
-      → ((answered : List (List ℕ)) (text : List ℕ) (waiting : List (List ℕ)) → Before answered text waiting
-      → WritesDue After answered text waiting due left held next (Err fault))
-      → ServesLines AreFirstLines (AnswersAll After) (AppendsFront held_before next) was now
-  serves-broken_line left fault writes =
-      serves-front [] now (Consumes-nil now) (broken-due Before After held_before held next due left fault so_far.whole
-      so_far.taken writes)
 
   -- ---- the ends at a fault and at a limit
 
@@ -490,3 +477,62 @@ module _ (Before After : List (List ℕ) → List ℕ → List (List ℕ) → Ty
         written = finished.written;
       }))
       end.ends
+
+-- ---- what is written where that is due, while lines in hand are taken
+
+-- none was taken
+pub takes-none : (HasServed : List (List ℕ) → List ℕ → List (List ℕ) → Type 0) (lines : List (List ℕ)) (text : List ℕ)
+    (waiting : List (List ℕ)) (due : List ℕ) (reader new : Reading) (held_before held_after : Option (List ℕ))
+    (result : Result (Unit {0}) WriteFault) → new ≡ reader
+    → WritesAnswers HasServed lines text waiting due held_before held_after result
+    → TakesAndWrites HasServed lines text waiting due reader new held_before held_after result
+takes-none HasServed lines text waiting due reader new held_before held_after result same writes = record {
+  taken = [];
+  in_hand = subst (λ (r : Reading). TakesInHand reader [] r) (sym same) (TakesInHand-no_call reader);
+  writes = subst (λ (ls : List (List ℕ)). WritesAnswers HasServed lines text ls due held_before held_after result)
+      (sym (append-nil waiting)) writes;
+}
+
+module _ (Before After : List (List ℕ) → List ℕ → List (List ℕ) → Type 0)
+    (was now held_before held next : Option (List ℕ)) (reader new : Reading)
+    (due left : List ℕ) (so_far : HasRead Before was now held_before held reader due) where
+  -- serving goes on
+  pub read-on : ((answered : List (List ℕ)) (text : List ℕ) (waiting : List (List ℕ)) → Before answered text waiting
+      → WritesDue After answered text waiting due left reader new held next (Ok tt))
+      → HasRead After was now held_before next new left
+  read-on writes =
+      ⊎_elim
+      (λ all.
+      let all_read = read-in_hand Before was now held_before held reader new due all.1.taken so_far all.1.in_hand in
+      record {
+        read = all_read.read;
+        whole = all_read.whole;
+        consumed = all_read.consumed;
+        given = all_read.given;
+        taken = taken-written Any After held_before held next due all_read.whole all_read.taken all.1.writes.more
+            all.1.writes.served left all.0 all.1.writes.written;
+      })
+      (λ same. subst (λ (r : Reading). HasRead After was now held_before next r left) (sym same.2)
+      (record {
+        read = so_far.read;
+        whole = so_far.whole;
+        consumed = so_far.consumed;
+        given = so_far.given;
+        taken = taken-same Before After held_before held next due left so_far.whole same.1 same.3 so_far.taken same.4;
+      }))
+      (writes so_far.taken.answered (so_far.taken.early ++ due) so_far.taken.waiting so_far.taken.served)
+
+  -- the sink failed
+  pub serves-broken_line : (fault : WriteFault)
+      → ((answered : List (List ℕ)) (text : List ℕ) (waiting : List (List ℕ)) → Before answered text waiting
+      → WritesDue After answered text waiting due left reader new held next (Err fault))
+      → ServesLines AreFirstLines (AnswersAll After) (AppendsFront held_before next) was now
+  serves-broken_line fault writes =
+      ⊎_elim
+      (λ all.
+      let all_read = read-in_hand Before was now held_before held reader new due all.1.taken so_far all.1.in_hand in
+      serves-front Any After was now held_before held next new due all_read [] now (Consumes-nil now)
+      (finished-front Any After held_before held next due all_read.whole all_read.taken all.1.writes.more
+      all.1.writes.served all.1.writes.written))
+      (λ same. absurd (let e : Err fault ≡ Ok tt = same.0 in cc))
+      (writes so_far.taken.answered (so_far.taken.early ++ due) so_far.taken.waiting so_far.taken.served)

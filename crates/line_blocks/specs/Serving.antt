@@ -1,9 +1,10 @@
 -- What serving a file of request lines does, from its first line on.
-use Rattle.std.specs.Prelude.{◌≡◌, ◌⊎◌, ℕ, Bool, true, false, List, [], ◌∷◌, ◌++◌, Option, Result, Ok}
+use Rattle.std.specs.Prelude.{◌≡◌, ◌⊎◌, ℕ, Bool, true, false, List, [], ◌∷◌, ◌++◌, map, Option, Result, Ok}
 use Rattle.std.specs.Io.KnownBytes.{Appends}
 use Rattle.issuer_base.specs.declared.faults.WriteFault.{WriteFault}
 use Rattle.issuer_base.specs.Sink.{AppendsFront, WritesAll}
 use Rattle.issuer_base.specs.Tells.{Tells}
+use Rattle.line_reader.specs.Reading.{Reading, TakesInHand, kept}
 use Rattle.line_blocks.specs.declared.served.Served.{Served}
 use Rattle.line_blocks.specs.declared.served.Served.TheVariants.{All, ReadFault, WriteFault as SinkFault, TooLong}
 use Rattle.line_blocks.specs.Answered.{WasRead, AreAllLines, AreWholeLines, AreLinesBefore, AreFirstLines}
@@ -73,13 +74,24 @@ pub record WritesAnswers (HasServed : List (List ℕ) → List ℕ → List (Lis
   pub served : HasServed (lines ++ waiting) (text ++ more) []
   pub written : WritesAll held_before held_after result (due ++ more)
 
--- so it is, and no answer is due; or lines wait and answers are due as before
+-- meanwhile these lines were taken that were whole in the reader's buffer; so it is of all lines, these too
+pub record TakesAndWrites (HasServed : List (List ℕ) → List ℕ → List (List ℕ) → Type 0) (lines : List (List ℕ))
+    (text : List ℕ)
+    (waiting : List (List ℕ)) (due : List ℕ) (reader_was reader_is : Reading)
+    (held_before held_after : Option (List ℕ))
+    (result : Result (Unit {0}) WriteFault) : Type 0 where
+  pub taken : List (List ℕ)
+  pub in_hand : TakesInHand reader_was taken reader_is
+  pub writes : WritesAnswers HasServed lines text (waiting ++ map kept taken) due held_before held_after result
+
+-- so it is, and no answer is due; or lines wait and answers are due as before, and none was taken
 abbrev pub WritesDue : (List (List ℕ) → List ℕ → List (List ℕ) → Type 0) → List (List ℕ) → List ℕ → List (List ℕ)
-    → List ℕ → List ℕ
+    → List ℕ → List ℕ → Reading → Reading
     → Option (List ℕ) → Option (List ℕ) → Result (Unit {0}) WriteFault → Type 0
-WritesDue HasServed lines text waiting due left held_before held_after result =
-    ((left ≡ []) × WritesAnswers HasServed lines text waiting due held_before held_after result)
-    ⊎ ((result ≡ Ok tt) × (left ≡ due) × (held_after ≡ held_before) × HasServed lines text waiting)
+WritesDue HasServed lines text waiting due left reader_was reader_is held_before held_after result =
+    ((left ≡ []) × TakesAndWrites HasServed lines text waiting due reader_was reader_is held_before held_after result)
+    ⊎ ((result ≡ Ok tt) × (left ≡ due) × (reader_is ≡ reader_was) × (held_after ≡ held_before)
+    × HasServed lines text waiting)
 
 -- all lines are answered, and the answers that were left were written, and serving ended so; or the sink took a front
 -- of them and failed

@@ -11,7 +11,6 @@ use Rattle.line_serving.specs.declared.alone.AloneHost.{AloneHost}
 use Rattle.line_serving.specs.declared.hosts.LineHost.{LineHost}
 use Rattle.line_serving.specs.declared.hosts.LineHost.TheVariants.{Alone, Together}
 use Rattle.desk_host.specs.Journals.{IsReadySolo}
-use Rattle.line_blocks.specs.Serving.{TakesLine, Settles}
 use Rattle.host_closing.specs.Leaving.{LeavesAnswered}
 use Rattle.line_serving.specs.Hosts.{IsReadyTogether, HasAnswered, HaveAnswered}
 use Rattle.line_serving.specs.Hosts.{callers_of}
@@ -20,69 +19,36 @@ use Rattle.desk_host.specs.SeenStores.{Logged, journals_seen}
 use Rattle.desk_host.specs.Configuration.{HasSoundParts}
 
 module _ {S : Type 0} {G : Ghosts S} (first : LineHost S G) where
-  pub takes_alone : (old new : AloneHost S G) (line was_due is_due : List ℕ)
+  -- what holds of the host of one caller holds of either
+  pub of_alone : (old new : AloneHost S G)
+      (Holds : (List (List ℕ) → List ℕ → List (List ℕ) → Type 0) → List (List ℕ) → List ℕ → List (List ℕ) → Type 0)
       → ((first : Solo S G) (lines : List (List ℕ)) (text : List ℕ) (waiting : List (List ℕ))
       → HasAnswered first lines text waiting old
-      → TakesLine (λ lines text waiting. HasAnswered first lines text waiting new) lines text waiting line was_due
-      is_due)
+      → Holds (λ lines text waiting. HasAnswered first lines text waiting new) lines text waiting)
       → (lines : List (List ℕ)) (text : List ℕ) (waiting : List (List ℕ))
       → HasServed first lines text waiting (Alone old)
-      → TakesLine (λ lines text waiting. HasServed first lines text waiting (Alone new)) lines text waiting line was_due
-      is_due
-  takes_alone old new line was_due is_due takes lines text waiting =
+      → Holds (λ lines text waiting. HasServed first lines text waiting (Alone new)) lines text waiting
+  of_alone old new Holds holds lines text waiting =
       elim first as (λ first. HasServed first lines text waiting (Alone old)
-      → TakesLine (λ lines text waiting. HasServed first lines text waiting (Alone new)) lines text waiting line was_due
-      is_due) [
-        | Alone begun ↦ λ so_far. takes begun.host lines text waiting so_far
+      → Holds (λ lines text waiting. HasServed first lines text waiting (Alone new)) lines text waiting) [
+        | Alone begun ↦ λ so_far. holds begun.host lines text waiting so_far
         | Together begun ↦ λ so_far. absurd so_far
       ]
 
-  pub takes_together : (old new : Lanes S G) (line was_due is_due : List ℕ)
+  -- and so does what holds of that of several
+  pub of_together : (old new : Lanes S G)
+      (Holds : (List (List ℕ) → List ℕ → List (List ℕ) → Type 0) → List (List ℕ) → List ℕ → List (List ℕ) → Type 0)
       → ((first : Lanes S G) (lines : List (List ℕ)) (text : List ℕ) (waiting : List (List ℕ))
       → HaveAnswered first lines text waiting old
-      → TakesLine (λ lines text waiting. HaveAnswered first lines text waiting new) lines text waiting line was_due
-      is_due)
+      → Holds (λ lines text waiting. HaveAnswered first lines text waiting new) lines text waiting)
       → (lines : List (List ℕ)) (text : List ℕ) (waiting : List (List ℕ))
       → HasServed first lines text waiting (Together old)
-      → TakesLine (λ lines text waiting. HasServed first lines text waiting (Together new)) lines text waiting line
-      was_due is_due
-  takes_together old new line was_due is_due takes lines text waiting =
+      → Holds (λ lines text waiting. HasServed first lines text waiting (Together new)) lines text waiting
+  of_together old new Holds holds lines text waiting =
       elim first as (λ first. HasServed first lines text waiting (Together old)
-      → TakesLine (λ lines text waiting. HasServed first lines text waiting (Together new)) lines text waiting line
-      was_due is_due) [
-        | Alone host ↦ λ so_far. absurd so_far
-        | Together host ↦ λ so_far. takes host lines text waiting so_far
-      ]
-
-  pub settles_alone : (old new : AloneHost S G) (was_due is_due : List ℕ)
-      → ((first : Solo S G) (lines : List (List ℕ)) (text : List ℕ) (waiting : List (List ℕ))
-      → HasAnswered first lines text waiting old
-      → Settles (λ lines text waiting. HasAnswered first lines text waiting new) lines text waiting was_due is_due)
-      → (lines : List (List ℕ)) (text : List ℕ) (waiting : List (List ℕ))
-      → HasServed first lines text waiting (Alone old)
-      → Settles (λ lines text waiting. HasServed first lines text waiting (Alone new)) lines text waiting was_due is_due
-  settles_alone old new was_due is_due settles lines text waiting =
-      elim first as (λ first. HasServed first lines text waiting (Alone old)
-      → Settles (λ lines text waiting. HasServed first lines text waiting (Alone new)) lines text waiting was_due
-      is_due) [
-        | Alone begun ↦ λ so_far. settles begun.host lines text waiting so_far
-        | Together begun ↦ λ so_far. absurd so_far
-      ]
-
-  pub settles_together : (old new : Lanes S G) (was_due is_due : List ℕ)
-      → ((first : Lanes S G) (lines : List (List ℕ)) (text : List ℕ) (waiting : List (List ℕ))
-      → HaveAnswered first lines text waiting old
-      → Settles (λ lines text waiting. HaveAnswered first lines text waiting new) lines text waiting was_due is_due)
-      → (lines : List (List ℕ)) (text : List ℕ) (waiting : List (List ℕ))
-      → HasServed first lines text waiting (Together old)
-      → Settles (λ lines text waiting. HasServed first lines text waiting (Together new)) lines text waiting was_due
-      is_due
-  settles_together old new was_due is_due settles lines text waiting =
-      elim first as (λ first. HasServed first lines text waiting (Together old)
-      → Settles (λ lines text waiting. HasServed first lines text waiting (Together new)) lines text waiting was_due
-      is_due) [
-        | Alone host ↦ λ so_far. absurd so_far
-        | Together host ↦ λ so_far. settles host lines text waiting so_far
+      → Holds (λ lines text waiting. HasServed first lines text waiting (Together new)) lines text waiting) [
+        | Alone begun ↦ λ so_far. absurd so_far
+        | Together begun ↦ λ so_far. holds begun lines text waiting so_far
       ]
 
   -- ---- what they leave

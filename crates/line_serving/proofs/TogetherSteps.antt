@@ -1,25 +1,31 @@
 -- The host of several callers: a line more, and what it leaves.
-use Rattle.std.proofs.Common.{◌≡◌, ℕ, ◌+◌, ◌-◌, ◌≤◌, List, [], ◌∷◌, ◌++◌, length, map}
-use Rattle.std.proofs.Common.{Some}
+use Rattle.std.proofs.Common.{◌≡◌, ℕ, ◌≤◌, List, [], ◌∷◌, ◌++◌, length, map, Option, Some, Result, Ok, Err}
 use Rattle.std.proofs.Common.{refl, sym, ap, subst, ◌∙◌, append-nil, append_assoc}
 use Rattle.std.specs.Prelude.{IfSome}
-use Rattle.std.proofs.lemmas.List.{flat_map_more}
+use Rattle.std.proofs.lemmas.List.{map-append, nil_from_length}
 use Rattle.std.proofs.lemmas.Grind.{flat_map-append}
 use Rattle.std.specs.List.{flat_map}
+use Rattle.std.specs.Io.KnownBytes.{Appends}
+use Rattle.std.proofs.KnownBytes.{Appends-nil, Appends-trans}
+use Rattle.issuer_base.specs.Sink.{AppendsFront, WritesAll}
+use Rattle.issuer_base.specs.declared.faults.WriteFault.{WriteFault}
+use Rattle.issuer_base.proofs.ManyCalls.{AppendsFront-after, AppendsFront-more, WritesAll-after}
 use Rattle.issuer_base.specs.declared.answer.Answer.{Answer}
 use Rattle.issuer_base.specs.declared.outside.store.Store.{Ghosts}
 use Rattle.issuer_setup.specs.IssuerSetup.{Setup}
 use Rattle.line_reader.specs.declared.limits.TheConstants.{MAX_LINES}
-use Rattle.line_reader.specs.Reading.{kept}
+use Rattle.line_reader.specs.Reading.{Reading, TakesInHand, kept}
+use Rattle.line_reader.proofs.WholeLines.{TakesInHand-no_call, TakesInHand-then}
 use Rattle.answer_text.specs.AnswerText.{printed}
 use Rattle.turn_book.specs.declared.logs.Log.{Log}
 use Rattle.shared_shards.specs.declared.logs.LogItem.{LogItem}
 use Rattle.shared_shards.specs.declared.logs.LogHead.{LogHead}
 use Rattle.shared_callers.specs.declared.lanes.Lanes.{Lanes}
-use Rattle.shared_callers.specs.Lanes.{issuer_in, opening_logs, callers_in, HasSameHost, HasClosed}
+use Rattle.shared_callers.specs.Lanes.{issuer_in, opening_logs, callers_in, waiting_in, due_in, HasSameHost, HasClosed}
 use Rattle.shared_callers.specs.Lanes.{LanesServe}
+use Rattle.shared_callers.specs.Rounds.{AnswersRound}
 use Rattle.desk_host.specs.Configuration.{HasSoundParts}
-use Rattle.line_blocks.specs.Serving.{TakesLine, Settles}
+use Rattle.line_blocks.specs.Serving.{TakesLine, TakesAndWrites, WritesAnswers}
 use Rattle.line_serving.specs.Hosts.{IsReadyTogether, HaveAnswered}
 use Rattle.desk_host.specs.SeenStores.{Logged, journals_seen}
 use Rattle.host_closing.specs.Leaving.{LeavesAnswered, LeavesLoaded}
@@ -57,7 +63,7 @@ module _ {S : Type 0} {G : Ghosts S} (told_bytes : (store : S)
       → LeavesAnswered (callers_in first) issuer prefix told (journals_seen G olds back) asked text
   closes-together olds first now back ready sound asked text within so_far closes =
       let c = closed-under olds first now back ready so_far.same asked so_far.answers
-      (closes asked so_far.answers [] so_far.served) in
+      (closes asked so_far.answers so_far.due so_far.served) in
       leaves-together (callers_in first) issuer prefix told ready.old_stores olds ready.stores back
       (opening_logs first) c.logs ready.opened ready.only_read ready.opening c.same_count c.closed told_bytes
       ready.several sound asked so_far.answers c.shares c.dealt c.lawful within text so_far.text_is
@@ -90,6 +96,7 @@ module _ {S : Type 0} {G : Ghosts S} where
   answer-none host none = record {
     same = record { same_issuer = refl; same_opening = refl; same_callers = refl };
     answers = [];
+    due = [];
     text_is = refl;
     served = none;
   }
@@ -110,60 +117,204 @@ module _ {S : Type 0} {G : Ghosts S} where
     served = record {
       same = same-again first old new so_far.same same;
       answers = so_far.answers;
+      due = so_far.due;
       text_is = append-nil text ∙ so_far.text_is;
-      served = deals lines so_far.answers [] waiting so_far.served;
+      served = deals lines so_far.answers so_far.due waiting so_far.served;
     };
   }
 
-  -- the lines that waited are answered, and so many of the answers were taken
-  pub record AreBeingTaken (old now : Lanes S G) (was_due is_due : List ℕ) (lines : List (List ℕ))
-      (answers : List Answer)
-      (waiting : List (List ℕ)) : Type 0 where
-    pub same : HasSameHost old now
-    pub taken : List Answer
-    pub rest : List Answer
-    pub due : is_due ≡ was_due ++ flat_map printed taken
-    pub served : LanesServe now (lines ++ waiting) (answers ++ (taken ++ rest)) rest []
+  -- ---- what is due and what waits, by the counts
 
-  -- one more was taken
-  pub takes-answer : (old mid now : Lanes S G) (was_due due is_due : List ℕ) (answer : Answer) (lines : List (List ℕ))
-      (answers : List Answer)
-      (waiting : List (List ℕ)) (so_far : AreBeingTaken old mid was_due due lines answers waiting) → HasSameHost mid now
-      → ((rest : List Answer) × (so_far.rest ≡ answer ∷ rest)
-      × LanesServe now (lines ++ waiting) (answers ++ (so_far.taken ++ so_far.rest)) rest [])
-      → is_due ≡ due ++ printed answer → AreBeingTaken old now was_due is_due lines answers waiting
-  takes-answer old mid now was_due due is_due answer lines answers waiting so_far same next more = record {
-    same = same-again old mid now so_far.same same;
-    taken = so_far.taken ++ answer ∷ [];
-    rest = next.0;
-    due =
-        more ∙ ap (λ (t : List ℕ). t ++ printed answer) so_far.due
-        ∙ append_assoc was_due (flat_map printed so_far.taken) (printed answer)
-        ∙ ap (λ (t : List ℕ). was_due ++ t) (flat_map_more printed [] so_far.taken answer);
-    served = subst (λ (rest : List Answer). LanesServe now (lines ++ waiting) (answers ++ rest) next.0 [])
-        (ap (λ (rest : List Answer). so_far.taken ++ rest) next.1
-        ∙ sym (append_assoc so_far.taken (answer ∷ []) next.0)) next.2;
+  -- no answer is due
+  none-due : (host : Lanes S G) (lines : List (List ℕ)) (answers due : List Answer) (waiting : List (List ℕ))
+      → LanesServe host lines answers due waiting → due_in host ≡ 0 → due ≡ []
+  none-due host lines answers due waiting served none = nil_from_length due (sym served.turns.due_is ∙ none)
+
+  -- no line waits
+  pub none-waits : (host : Lanes S G) (lines : List (List ℕ)) (answers due : List Answer) (waiting : List (List ℕ))
+      → LanesServe host lines answers due waiting → waiting_in host ≡ 0 → waiting ≡ []
+  none-waits host lines answers due waiting served none = nil_from_length waiting (sym served.turns.waiting_is ∙ none)
+
+  -- the answers were all taken
+  pub all-taken : (first host : Lanes S G) (lines : List (List ℕ)) (text : List ℕ) (waiting : List (List ℕ))
+      (so_far : HaveAnswered first lines text waiting host) → due_in host ≡ 0
+      → LanesServe host lines so_far.answers [] waiting
+  all-taken first host lines text waiting so_far none =
+      subst (λ (due : List Answer). LanesServe host lines so_far.answers due waiting)
+      (none-due host lines so_far.answers so_far.due waiting so_far.served none) so_far.served
+
+  -- ---- rounds
+
+  -- since the lines waited, these lines were taken in hand; of all of them these were answered, and the others wait; of
+  -- the answers this text was written, and the others are due
+  pub record AreInRounds (first now : Lanes S G) (reader_was reader_is : Reading)
+      (held_before held_after : Option (List ℕ)) (lines : List (List ℕ)) (text : List ℕ) (waiting : List (List ℕ))
+      : Type 0 where
+    pub taken : List (List ℕ)
+    pub in_hand : TakesInHand reader_was taken reader_is
+    pub answered : List (List ℕ)
+    pub left : List (List ℕ)
+    pub all : answered ++ left ≡ lines ++ (waiting ++ map kept taken)
+    pub same : HasSameHost first now
+    pub answers : List Answer
+    pub due : List Answer
+    pub early : List ℕ
+    pub text_is : text ++ (early ++ flat_map printed due) ≡ flat_map printed answers
+    pub written : Appends held_before held_after early
+    pub served : LanesServe now answered answers due left
+
+  -- there was no round
+  pub rounds-none : (first now : Lanes S G) (reader : Reading) (held : Option (List ℕ)) (lines : List (List ℕ))
+      (text : List ℕ) (waiting : List (List ℕ)) → HaveAnswered first lines text waiting now → due_in now ≡ 0
+      → AreInRounds first now reader reader held held lines text waiting
+  rounds-none first now reader held lines text waiting so_far none = record {
+    taken = [];
+    in_hand = TakesInHand-no_call reader;
+    answered = lines;
+    left = waiting;
+    all = ap (λ (ls : List (List ℕ)). lines ++ ls) (sym (append-nil waiting));
+    same = so_far.same;
+    answers = so_far.answers;
+    due = [];
+    early = [];
+    text_is = append-nil text ∙ so_far.text_is;
+    written = Appends-nil held;
+    served = all-taken first now lines text waiting so_far none;
   }
 
-  -- all were taken
-  pub settles-together : (first old now : Lanes S G) (was_due is_due : List ℕ) (lines : List (List ℕ)) (text : List ℕ)
+  module _ (first old now : Lanes S G) (reader_was reader_mid reader_is : Reading)
+      (held_before held held_after : Option (List ℕ)) (lines : List (List ℕ)) (text : List ℕ)
       (waiting : List (List ℕ))
-      (so_far : HaveAnswered first lines text waiting old)
-      (taking : AreBeingTaken old now was_due is_due lines so_far.answers waiting)
-      → taking.rest ≡ []
-      → Settles (λ lines text waiting. HaveAnswered first lines text waiting now) lines text waiting was_due is_due
-  settles-together first old now was_due is_due lines text waiting so_far taking none = record {
-    more = flat_map printed taking.taken;
-    due = taking.due;
-    served = record {
-      same = same-again first old now so_far.same taking.same;
-      answers = so_far.answers ++ taking.taken;
-      text_is =
-          ap (λ (t : List ℕ). t ++ flat_map printed taking.taken) so_far.text_is
-          ∙ sym (flat_map-append printed so_far.answers taking.taken);
-      served = subst (λ (rest : List Answer). LanesServe now (lines ++ waiting) (so_far.answers ++ rest) [] [])
-          (append-nil taking.taken)
-          (subst (λ (rest : List Answer). LanesServe now (lines ++ waiting) (so_far.answers ++ (taking.taken ++ rest))
-          rest []) none taking.served);
-    };
-  }
+      (so_far : AreInRounds first old reader_was reader_mid held_before held lines text waiting)
+      (same : HasSameHost old now) where
+    same-first : HasSameHost first now
+    same-first = same-again first old now so_far.same same
+
+    -- the text of all answers, with those that came since
+    text-on : (more : List Answer)
+        → text ++ ((so_far.early ++ flat_map printed so_far.due) ++ flat_map printed more)
+        ≡ flat_map printed (so_far.answers ++ more)
+    text-on more =
+        sym (append_assoc text (so_far.early ++ flat_map printed so_far.due) (flat_map printed more))
+        ∙ ap (λ (t : List ℕ). t ++ flat_map printed more) so_far.text_is
+        ∙ sym (flat_map-append printed so_far.answers more)
+
+    -- one more round
+    pub rounds-more : AnswersRound now reader_mid reader_is held held_after (Ok tt) so_far.answered so_far.answers
+        so_far.due so_far.left
+        → AreInRounds first now reader_was reader_is held_before held_after lines text waiting
+    rounds-more round = record {
+      taken = so_far.taken ++ round.taken;
+      in_hand =
+          TakesInHand-then reader_was reader_mid reader_is so_far.taken round.taken so_far.in_hand round.in_hand;
+      answered = so_far.answered ++ so_far.left;
+      left = map kept round.taken;
+      all =
+          ap (λ (ls : List (List ℕ)). ls ++ map kept round.taken) so_far.all
+          ∙ append_assoc lines (waiting ++ map kept so_far.taken) (map kept round.taken)
+          ∙ ap (λ (ls : List (List ℕ)). lines ++ ls)
+          (append_assoc waiting (map kept so_far.taken) (map kept round.taken)
+          ∙ ap (λ (ls : List (List ℕ)). waiting ++ ls) (sym (map-append kept so_far.taken round.taken)));
+      same = same-first;
+      answers = so_far.answers ++ round.more;
+      due = round.more;
+      early = so_far.early ++ flat_map printed so_far.due;
+      text_is = text-on round.more;
+      written = Appends-trans held_before held held_after so_far.early (flat_map printed so_far.due) so_far.written
+          round.written;
+      served = round.served;
+    }
+
+    -- the sink failed in a round: the lines that waited in it are answered all the same
+    pub rounds-broken : (was_due : List ℕ) (fault : WriteFault) → was_due ≡ []
+        → AnswersRound now reader_mid reader_is held held_after (Err fault) so_far.answered so_far.answers so_far.due
+        so_far.left
+        → TakesAndWrites (λ lines text waiting. HaveAnswered first lines text waiting now) lines text waiting was_due
+        reader_was reader_is held_before held_after (Err fault)
+    rounds-broken was_due fault none_due round =
+        let text_due = so_far.early ++ flat_map printed so_far.due in
+        let in_round = subst (λ (ls : List (List ℕ)). TakesInHand reader_mid ls reader_is) round.failed round.in_hand in
+        let front = AppendsFront-more held_before held_after text_due (flat_map printed round.more)
+        (AppendsFront-after held_before held held_after so_far.early (flat_map printed so_far.due) so_far.written
+        round.written) in
+        record {
+          taken = so_far.taken;
+          in_hand = subst (λ (ls : List (List ℕ)). TakesInHand reader_was ls reader_is) (append-nil so_far.taken)
+              (TakesInHand-then reader_was reader_mid reader_is so_far.taken [] so_far.in_hand in_round);
+          writes = record {
+            more = text_due ++ flat_map printed round.more;
+            served = record {
+              same = same-first;
+              answers = so_far.answers ++ round.more;
+              due = round.more;
+              text_is = text-on round.more;
+              served =
+                  subst (λ (ls : List (List ℕ)). LanesServe now ls (so_far.answers ++ round.more) round.more [])
+                  so_far.all
+                  (subst (λ (ls : List (List ℕ)). LanesServe now (so_far.answered ++ so_far.left)
+                  (so_far.answers ++ round.more) round.more (map kept ls)) round.failed round.served);
+            };
+            written = subst (λ (t : List ℕ). AppendsFront held_before held_after
+                (t ++ (text_due ++ flat_map printed round.more))) (sym none_due) front;
+          };
+        }
+
+    -- no line waits any more, and the answers that were due are written
+    pub rounds-end : (was_due : List ℕ) (result : Result (Unit {0}) WriteFault) → was_due ≡ [] → so_far.left ≡ []
+        → reader_is ≡ reader_mid
+        → LanesServe now so_far.answered so_far.answers [] so_far.left
+        × WritesAll held held_after result (flat_map printed so_far.due)
+        → TakesAndWrites (λ lines text waiting. HaveAnswered first lines text waiting now) lines text waiting was_due
+        reader_was reader_is held_before held_after result
+    rounds-end was_due result none_due none_waits same_reader written =
+        let text_due = so_far.early ++ flat_map printed so_far.due in
+        let answered : so_far.answered ≡ lines ++ (waiting ++ map kept so_far.taken) =
+        sym (append-nil so_far.answered) ∙ ap (λ (ls : List (List ℕ)). so_far.answered ++ ls) (sym none_waits)
+        ∙ so_far.all in
+        record {
+          taken = so_far.taken;
+          in_hand = subst (TakesInHand reader_was so_far.taken) (sym same_reader) so_far.in_hand;
+          writes = record {
+            more = text_due;
+            served = record {
+              same = same-first;
+              answers = so_far.answers;
+              due = [];
+              text_is = so_far.text_is;
+              served =
+                  subst (λ (ls : List (List ℕ)). LanesServe now ls so_far.answers [] []) answered
+                  (subst (λ (ls : List (List ℕ)). LanesServe now so_far.answered so_far.answers [] ls) none_waits
+                  written.0);
+            };
+            written = subst (λ (t : List ℕ). WritesAll held_before held_after result (t ++ text_due)) (sym none_due)
+                (WritesAll-after held_before held held_after result so_far.early (flat_map printed so_far.due)
+                so_far.written written.1);
+          };
+        }
+
+  -- ---- the last lines
+
+  -- the lines that wait are answered, and then their answers are written
+  pub writes-last : (first old mid now : Lanes S G) (was_due : List ℕ) (held_before held_after : Option (List ℕ))
+      (result : Result (Unit {0}) WriteFault) (lines : List (List ℕ)) (text : List ℕ) (waiting : List (List ℕ))
+      (so_far : HaveAnswered first lines text waiting old) → was_due ≡ [] → HasSameHost old mid → HasSameHost mid now
+      → (more : List Answer)
+      → LanesServe now (lines ++ waiting) (so_far.answers ++ more) [] []
+      × WritesAll held_before held_after result (flat_map printed more)
+      → WritesAnswers (λ lines text waiting. HaveAnswered first lines text waiting now) lines text waiting was_due
+      held_before held_after result
+  writes-last first old mid now was_due held_before held_after result lines text waiting so_far none_due one two more
+      written = record {
+        more = flat_map printed more;
+        served = record {
+          same = same-again first old now so_far.same (same-again old mid now one two);
+          answers = so_far.answers ++ more;
+          due = [];
+          text_is =
+              ap (λ (t : List ℕ). t ++ flat_map printed more) so_far.text_is
+              ∙ sym (flat_map-append printed so_far.answers more);
+          served = written.0;
+        };
+        written = subst (λ (t : List ℕ). WritesAll held_before held_after result (t ++ flat_map printed more))
+            (sym none_due) written.1;
+      }

@@ -1,5 +1,5 @@
 -- The hosts that lines are served with: what is asked of each, and what the one of one caller is.
-use Rattle.std.specs.Prelude.{◌≡◌, ⊤, ℕ, ◌+◌, ◌<◌, ◌≤◌, false, List, [], ◌∷◌, ◌++◌, length}
+use Rattle.std.specs.Prelude.{◌≡◌, ℕ, ◌+◌, ◌<◌, ◌≤◌, false, List, [], length}
 use Rattle.std.specs.List.{flat_map}
 use Rattle.issuer_base.specs.declared.answer.Answer.{Answer}
 use Rattle.issuer_base.specs.declared.outside.store.Store.{Ghosts}
@@ -63,13 +63,15 @@ module _ {S : Type 0} {G : Ghosts S} where
     pub only_read : AreOnlyRead G.size G.bytes G.disk G.room old_stores olds
     pub none : LanesServe host [] [] [] []
 
-  -- since it was the first host, its callers answered these lines, with this text, and these wait
+  -- since it was the first host, its callers answered these lines, with this text, and these wait; the last of the
+  -- answers may be due
   pub record HaveAnswered (first : Lanes S G) (lines : List (List ℕ)) (text : List ℕ) (waiting : List (List ℕ))
       (now : Lanes S G) : Type 0 where
     pub same : HasSameHost first now
     pub answers : List Answer
+    pub due : List Answer
     pub text_is : text ≡ flat_map printed answers
-    pub served : LanesServe now lines answers [] waiting
+    pub served : LanesServe now lines answers due waiting
 
   -- all answers of its block were written, and none is to be taken; and another line may be taken
   pub record OwesNone (host : Lanes S G) (lines : ℕ) : Type 0 where

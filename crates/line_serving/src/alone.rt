@@ -1,5 +1,6 @@
 //! Lines that one caller answers: a line alone at once, and others once they were checked together.
-ghost use Rattle.std.specs.Prelude.{◌≡◌, ◌+◌, ◌<◌, ◌≤◌, ℕ, List, [], ◌∷◌, ◌++◌, length, map, false};
+ghost use Rattle.std.specs.Prelude.{◌≡◌, ◌+◌, ◌<◌, ◌≤◌, ℕ, List, [], ◌∷◌, ◌++◌, length, map, false, is_err};
+ghost use Rattle.issuer_base.specs.OutsideFaults.{CountsFaults};
 ghost use Rattle.issuer_setup.specs.IssuerSetup.{Setup};
 ghost use Rattle.line_checks.specs.LookedUp.{AreLookUps};
 ghost use Rattle.line_checks.specs.declared.lines_ahead.TheConstants.{MOST_AHEAD};
@@ -9,7 +10,7 @@ ghost use Rattle.desk_host.specs.Configuration.{HasSoundParts};
 ghost use Rattle.desk_host.specs.Journals.{IsReadySolo};
 ghost use Rattle.desk_host.specs.SeenStores.{Logged, journals_seen};
 
-use issuer_base::{Gate, Store};
+use issuer_base::{Gate, Sink, Store, WriteFault};
 use line_blocks::{BLOCK_LINES, Block};
 use line_checks::LinesAhead;
 use one_caller::Solo;
@@ -27,7 +28,7 @@ pub struct AloneHost<S: Store> {
 }
 
 impl<S: Store> AloneHost<S> {
-    ghost use Rattle.line_blocks.specs.Serving.{TakesLine, Settles};
+    ghost use Rattle.line_blocks.specs.Serving.{TakesLine, Settles, WritesAnswers};
     ghost use Rattle.host_closing.specs.Leaving.{LeavesAnswered, LeavesLoaded};
     ghost use Rattle.line_serving.specs.Hosts.{HasAnswered};
     ghost use Rattle.line_serving.specs.Hosts.{MaySettleAlone, TakesMoreAlone};
@@ -163,6 +164,28 @@ impl<S: Store> AloneHost<S> {
             block.add(&answer);
             self.first = self.first.saturating_add(1);
         }
+    }
+
+    /// Answers all lines that wait, and writes all answers of the block.
+    pub(crate) fn write<R: Wait, G: Gate, W: Sink>(
+        &mut self,
+        rt: &R,
+        gate: &G,
+        block: &mut Block,
+        out: &mut W,
+    ) -> Result<(), WriteFault>
+        requires { MaySettleAlone self.old block.old.lines }
+        ensures written { (first : Solo S S.Store) (lines : List (List ℕ)) (text : List ℕ) (waiting : List (List ℕ))
+            → HasAnswered first lines text waiting self.old
+            → WritesAnswers (λ lines text waiting. HasAnswered first lines text waiting self.new) lines text waiting
+            block.old.text.items (W.held out.old) (W.held out.new) result }
+        ensures none { block.new.text.items ≡ [] }
+        ensures room { TakesMoreAlone self.new block.new.lines }
+        ensures settled { self.new.ahead ≡ [] }
+        ensures count { CountsFaults (W.faults out.old) (W.faults out.new) (is_err result) }
+    {
+        self.settle(rt, gate, block);
+        block.write(out)
     }
 
     /// The stores of the host's journals, in the order of their shards.

@@ -1,5 +1,6 @@
 //! The hosts that lines are served with: that of one caller, and that of several.
-ghost use Rattle.std.specs.Prelude.{◌≡◌, ◌≤◌, ℕ, List, [], length, map, false};
+ghost use Rattle.std.specs.Prelude.{◌≡◌, ◌≤◌, ℕ, List, [], length, map, false, is_err, OnOk};
+ghost use Rattle.issuer_base.specs.OutsideFaults.{CountsFaults};
 ghost use Rattle.issuer_base.specs.declared.limits.TheConstants.{KEPT_BYTES};
 ghost use Rattle.issuer_setup.specs.IssuerSetup.{Setup};
 ghost use Rattle.line_reader.specs.declared.limits.TheConstants.{MAX_LINES};
@@ -8,9 +9,10 @@ ghost use Rattle.desk_host.specs.Configuration.{HasSoundParts};
 ghost use Rattle.desk_host.specs.SeenStores.{Logged, journals_seen};
 
 use crate::alone::AloneHost;
-use crate::together::{close_together, settle_together};
-use issuer_base::{Gate, Store};
+use crate::together::{close_together, write_last_together, write_together};
+use issuer_base::{Gate, Sink, Store, WriteFault};
 use line_blocks::Block;
+use line_reader::LineReader;
 use shared_callers::Lanes;
 use std::sync::Wait;
 use std::thread::Threads;
@@ -24,10 +26,10 @@ pub enum LineHost<S: Store> {
 }
 
 impl<S: Store> LineHost<S> {
-    ghost use Rattle.line_blocks.specs.Serving.{TakesLine, Settles};
+    ghost use Rattle.line_blocks.specs.Serving.{TakesLine, TakesAndWrites, WritesAnswers};
     ghost use Rattle.host_closing.specs.Leaving.{LeavesAnswered, LeavesLoaded};
     ghost use Rattle.line_serving.specs.Hosts.{callers_of, IsReady};
-    ghost use Rattle.line_serving.specs.Hosts.{HasServed, MaySettle, HasRoom, IsSettled};
+    ghost use Rattle.line_serving.specs.Hosts.{HasServed, MaySettle, HasRoom, IsSettled, IsIdle};
 
     /// Whether no other line is taken before the lines that wait are settled and the answers of the block are written.
     pub(crate) fn is_full(&self, block: &Block) -> bool
@@ -66,28 +68,63 @@ impl<S: Store> LineHost<S> {
         }
     }
 
-    /// Answers all lines that wait. Their answers go into the block.
-    pub(crate) fn settle<R: Threads + Wait + Sync, G: Gate + Sync>(
+    /// Answers all lines that wait, and writes all answers. Several callers meanwhile take the lines that are whole in the
+    /// reader's buffer, and answer them too.
+    pub(crate) fn write<R, W, G>(
+        &mut self,
+        rt: &R,
+        gate: &G,
+        reader: &mut LineReader,
+        block: &mut Block,
+        out: &mut W,
+    ) -> Result<(), WriteFault>
+    where
+        R: Threads + Wait + Sync,
+        S: Send,
+        W: Sink,
+        G: Gate + Sync,
+        requires { MaySettle self.old block.old.lines }
+        ensures written { (first : LineHost S S.Store) (lines : List (List ℕ)) (text : List ℕ)
+            (waiting : List (List ℕ))
+            → HasServed first lines text waiting self.old
+            → TakesAndWrites (λ lines text waiting. HasServed first lines text waiting self.new) lines text waiting
+            block.old.text.items reader.old reader.new (W.held out.old) (W.held out.new) result }
+        ensures none { block.new.text.items ≡ [] }
+        ensures settled { IsSettled self.new × OnOk result (IsIdle self.new block.new.lines) }
+        ensures reader { reader.old.lines ≤ reader.new.lines }
+        ensures count { CountsFaults (W.faults out.old) (W.faults out.new) (is_err result) }
+    {
+        match self {
+            LineHost::Alone(alone) => alone.write(rt, gate, block, out),
+            LineHost::Together(lanes) => write_together(lanes, rt, gate, reader, block, out),
+        }
+    }
+
+    /// Answers all lines that wait, and writes all answers. No other line is taken.
+    pub(crate) fn write_last<R, W, G>(
         &mut self,
         rt: &R,
         gate: &G,
         block: &mut Block,
-    )
+        out: &mut W,
+    ) -> Result<(), WriteFault>
     where
+        R: Threads + Wait + Sync,
         S: Send,
+        W: Sink,
+        G: Gate + Sync,
         requires { MaySettle self.old block.old.lines }
-        ensures answered { (first : LineHost S S.Store) (lines : List (List ℕ)) (text : List ℕ)
+        ensures written { (first : LineHost S S.Store) (lines : List (List ℕ)) (text : List ℕ)
             (waiting : List (List ℕ))
             → HasServed first lines text waiting self.old
-            → Settles (λ lines text waiting. HasServed first lines text waiting self.new) lines text waiting
-            block.old.text.items
-            block.new.text.items }
-        ensures room { HasRoom self.new 0 × MaySettle self.new 0 }
+            → WritesAnswers (λ lines text waiting. HasServed first lines text waiting self.new) lines text waiting
+            block.old.text.items (W.held out.old) (W.held out.new) result }
         ensures settled { IsSettled self.new }
+        ensures count { CountsFaults (W.faults out.old) (W.faults out.new) (is_err result) }
     {
         match self {
-            LineHost::Alone(alone) => alone.settle(rt, gate, block),
-            LineHost::Together(lanes) => settle_together(lanes, rt, gate, block),
+            LineHost::Alone(alone) => alone.write(rt, gate, block, out),
+            LineHost::Together(lanes) => write_last_together(lanes, rt, gate, block, out),
         }
     }
 

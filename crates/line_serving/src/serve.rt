@@ -20,9 +20,9 @@ pub struct Server {
 }
 
 impl Server {
-    ghost use Rattle.line_blocks.specs.Serving.{TakesLine, Serves, WritesAnswers, WritesDue, Finishes, read_failed};
+    ghost use Rattle.line_blocks.specs.Serving.{TakesLine, Serves, WritesDue, Finishes, read_failed};
     ghost use Rattle.line_blocks.specs.Serving.{write_failed};
-    ghost use Rattle.line_serving.specs.Hosts.{IsNew, HasServed, MaySettle, HasRoom, IsSettled, IsIdle};
+    ghost use Rattle.line_serving.specs.Hosts.{IsNew, HasServed, MaySettle, HasRoom, IsSettled};
 
     /// All the memory that serving takes.
     pub fn new(alloc: Global) -> Result<Self, NoMemory>
@@ -107,7 +107,8 @@ impl Server {
         );
     }
 
-    /// Settles the lines that wait and writes the answers, where that is due.
+    /// Answers the lines that wait and writes the answers, where that is due. Several callers meanwhile take the lines in
+    /// hand, and answer them too.
     fn write_due<R, T, W, G>(
         &mut self,
         rt: &R,
@@ -124,15 +125,15 @@ impl Server {
         ensures written { (first : LineHost T T.Store) (lines : List (List ℕ)) (text : List ℕ) (waiting : List (List ℕ))
             → HasServed first lines text waiting host.old
             → WritesDue (λ lines text waiting. HasServed first lines text waiting host.new) lines text waiting
-            self.old.block.text.items
-            self.new.block.text.items (W.held out.old) (W.held out.new) result }
+            self.old.block.text.items self.new.block.text.items self.old.reader self.new.reader (W.held out.old)
+            (W.held out.new) result }
         ensures room { OnOk result (HasRoom host.new self.new.block.lines × MaySettle host.new self.new.block.lines) }
         ensures settled { OnErr result (IsSettled host.new) }
-        ensures reader { self.new.reader ≡ self.old.reader }
+        ensures reader { self.old.reader.lines ≤ self.new.reader.lines }
         ensures count { CountsFaults (W.faults out.old) (W.faults out.new) (is_err result) }
     {
         if self.is_due(host) {
-            self.write(rt, gate, host, out)
+            host.write(rt, gate, &mut self.reader, &mut self.block, out)
         } else {
             Ok(())
         }
@@ -146,35 +147,7 @@ impl Server {
         host.is_full(&self.block) || !self.reader.has_line()
     }
 
-    /// Settles the lines that wait, and writes all answers.
-    fn write<R, T, W, G>(
-        &mut self,
-        rt: &R,
-        gate: &G,
-        host: &mut LineHost<T>,
-        out: &mut W,
-    ) -> Result<(), WriteFault>
-    where
-        R: Threads + Wait + Sync,
-        T: Store + Send,
-        W: Sink,
-        G: Gate + Sync,
-        requires open { MaySettle host.old self.old.block.lines }
-        ensures written { (first : LineHost T T.Store) (lines : List (List ℕ)) (text : List ℕ) (waiting : List (List ℕ))
-            → HasServed first lines text waiting host.old
-            → WritesAnswers (λ lines text waiting. HasServed first lines text waiting host.new) lines text waiting
-            self.old.block.text.items
-            (W.held out.old) (W.held out.new) result }
-        ensures none { self.new.block.text.items ≡ [] }
-        ensures idle { IsIdle host.new self.new.block.lines }
-        ensures reader { self.new.reader ≡ self.old.reader }
-        ensures count { CountsFaults (W.faults out.old) (W.faults out.new) (is_err result) }
-    {
-        host.settle(rt, gate, &mut self.block);
-        self.block.write(out)
-    }
-
-    /// Settles the lines that wait, writes the answers that are left, and says how serving ended.
+    /// Answers the lines that wait, writes the answers that are left, and says how serving ended.
     fn end<R, T, W, G>(
         &mut self,
         rt: &R,
@@ -199,7 +172,7 @@ impl Server {
             → CountsFaults (W.faults out.old) (W.faults out.new) (write_failed result) }
         ensures read { read_failed result ≡ true → read_failed served ≡ true }
     {
-        match self.write(rt, gate, host, out) {
+        match host.write_last(rt, gate, &mut self.block, out) {
             Ok(()) => served,
             Err(WriteFault) => Served::WriteFault,
         }

@@ -1,42 +1,79 @@
 //! Lines that several callers of one host answer at once, each its own.
-ghost use Rattle.std.specs.Prelude.{◌≡◌, ◌≤◌, ℕ, List, [], length, map};
+ghost use Rattle.std.specs.Prelude.{◌≡◌, ◌≤◌, ℕ, List, [], length, map, is_err, OnOk};
+ghost use Rattle.issuer_base.specs.OutsideFaults.{CountsFaults};
 ghost use Rattle.issuer_setup.specs.IssuerSetup.{Setup};
 ghost use Rattle.line_reader.specs.declared.limits.TheConstants.{MAX_LINES};
 ghost use Rattle.line_reader.specs.Reading.{kept};
 ghost use Rattle.shared_callers.specs.Lanes.{callers_in, waiting_in};
 ghost use Rattle.desk_host.specs.Configuration.{HasSoundParts};
-ghost use Rattle.line_blocks.specs.Serving.{Settles};
+ghost use Rattle.line_blocks.specs.Serving.{TakesAndWrites, WritesAnswers};
 ghost use Rattle.host_closing.specs.Leaving.{LeavesAnswered, LeavesLoaded};
 ghost use Rattle.line_serving.specs.Hosts.{IsReadyTogether, HaveAnswered};
 ghost use Rattle.line_serving.specs.Hosts.{OwesNone, TakesMore};
 ghost use Rattle.desk_host.specs.SeenStores.{Logged, journals_seen};
 
-use issuer_base::{Gate, Store};
+use issuer_base::{Gate, Sink, Store, WriteFault};
 use line_blocks::Block;
+use line_reader::LineReader;
 use shared_callers::Lanes;
 use std::sync::Wait;
 use std::thread::Threads;
 
-/// Lets all callers answer the lines that wait, and puts the answers into the block, in the order of the lines.
-pub(crate) fn settle_together<S: Store + Send, R: Threads + Wait + Sync, G: Gate + Sync>(
+/// Has all callers answer the lines that wait, and writes their answers, in the order of the lines. Meanwhile the lines
+/// that are whole in the reader's buffer are taken, and answered in their turn, until none is left there.
+pub(crate) fn write_together<S, R, W, G>(
+    host: &mut Lanes<S>,
+    rt: &R,
+    gate: &G,
+    reader: &mut LineReader,
+    block: &mut Block,
+    out: &mut W,
+) -> Result<(), WriteFault>
+where
+    S: Store + Send,
+    R: Threads + Wait + Sync,
+    W: Sink,
+    G: Gate + Sync,
+    requires { OwesNone host.old block.old.lines }
+    ensures written { (first : Lanes S S.Store) (lines : List (List ℕ)) (text : List ℕ) (waiting : List (List ℕ))
+        → HaveAnswered first lines text waiting host.old
+        → TakesAndWrites (λ lines text waiting. HaveAnswered first lines text waiting host.new) lines text waiting
+        block.old.text.items reader.old reader.new (W.held out.old) (W.held out.new) result }
+    ensures none { block.new.text.items ≡ [] }
+    ensures settled { (waiting_in host.new ≡ 0) × OnOk result (TakesMore host.new block.new.lines) }
+    ensures reader { reader.old.lines ≤ reader.new.lines }
+    ensures count { CountsFaults (W.faults out.old) (W.faults out.new) (is_err result) }
+{
+    while host.waits() {
+        host.answer_and_read(rt, gate, reader, block, out)?;
+    }
+    host.write_answers(block, out)
+}
+
+/// Has all callers answer the lines that wait, and writes their answers, in the order of the lines. No other line is
+/// taken.
+pub(crate) fn write_last_together<S, R, W, G>(
     host: &mut Lanes<S>,
     rt: &R,
     gate: &G,
     block: &mut Block,
-)
+    out: &mut W,
+) -> Result<(), WriteFault>
+where
+    S: Store + Send,
+    R: Threads + Wait + Sync,
+    W: Sink,
+    G: Gate + Sync,
     requires { OwesNone host.old block.old.lines }
-    ensures answered { (first : Lanes S S.Store) (lines : List (List ℕ)) (text : List ℕ) (waiting : List (List ℕ))
+    ensures written { (first : Lanes S S.Store) (lines : List (List ℕ)) (text : List ℕ) (waiting : List (List ℕ))
         → HaveAnswered first lines text waiting host.old
-        → Settles (λ lines text waiting. HaveAnswered first lines text waiting host.new) lines text waiting
-        block.old.text.items
-        block.new.text.items }
-    ensures room { TakesMore host.new 0 }
+        → WritesAnswers (λ lines text waiting. HaveAnswered first lines text waiting host.new) lines text waiting
+        block.old.text.items (W.held out.old) (W.held out.new) result }
     ensures settled { waiting_in host.new ≡ 0 }
+    ensures count { CountsFaults (W.faults out.old) (W.faults out.new) (is_err result) }
 {
     host.answer(rt, gate);
-    while let Some(answer) = host.next_answer() {
-        block.add(&answer);
-    }
+    host.write_answers(block, out)
 }
 
 /// The stores of the host's journals, in the order of their shards.

@@ -1,13 +1,13 @@
 //! Lines that are dealt to several callers in threads of their own, over stores in memory, and their answers in order.
-ghost use Rattle.std.specs.Prelude.{◌≡◌, ◌<◌, ◌≤◌, IfOk};
+ghost use Rattle.std.specs.Prelude.{◌≡◌, ◌<◌, ◌≤◌, [], IfOk};
 ghost use Rattle.issuer_base.specs.declared.limits.TheConstants.{MAX_CALLERS};
 ghost use Rattle.shared_callers.specs.Lanes.{waiting_in, due_in};
 
 use crate::hosts::{empty_stores, sample};
 use crate::passes::{NINTH, SIXTH};
-use issuer_base::{Answer, KEPT_BYTES, OpenGate, Refusal};
-use line_blocks::BLOCK_LINES;
-use memory_edge::MemoryStore;
+use issuer_base::{KEPT_BYTES, OpenGate};
+use line_blocks::Block;
+use memory_edge::{MemorySink, MemoryStore};
 use sample_issuer::REQUEST;
 use shared_callers::{HostBack, Lanes};
 use std::alloc::Global;
@@ -52,16 +52,19 @@ fn open(alloc: Global, callers: u8, shards: u8) -> Result<Lanes<MemoryStore>, Fa
 }
 
 /// Deals `count` lines in all, these again and again, while the lanes have room. Then all callers answer them
-/// concurrently, and their answers are appended while the list has room.
+/// concurrently, and their answers are written.
 fn answer<R: Threads + Wait + Sync>(
     rt: &R,
     lanes: &mut Lanes<MemoryStore>,
     lines: &[&str],
     count: usize,
-    answers: &mut Vec<Answer>,
+    block: &mut Block,
+    sink: &mut MemorySink,
 )
-    requires { due_in lanes.old ≡ 0 }
-    ensures { (due_in lanes.new ≡ 0) × (waiting_in lanes.new ≡ 0) }
+    requires due { due_in lanes.old ≡ 0 }
+    requires empty { (block.old.text.items ≡ []) × (block.old.lines ≡ 0) }
+    ensures due { (due_in lanes.new ≡ 0) × (waiting_in lanes.new ≡ 0) }
+    ensures empty { (block.new.text.items ≡ []) × (block.new.lines ≡ 0) }
 {
     for line in lines.iter().cycle().take(count) {
         if !lanes.is_full() && line.len() <= KEPT_BYTES {
@@ -69,42 +72,58 @@ fn answer<R: Threads + Wait + Sync>(
         }
     }
     lanes.answer(rt, &OpenGate);
-    while let Some(answer) = lanes.next_answer() {
-        if answers.len() < answers.capacity() {
-            answers.push_reserved(answer);
-        }
-    }
+    let _written = lanes.write_answers(block, sink);
+}
+
+/// A sink in memory with room for all answers of a test.
+fn sink(alloc: Global) -> Result<MemorySink, Fail> {
+    Ok(MemorySink::new(alloc, 262_144, Vec::new(alloc))?)
+}
+
+/// What was written.
+fn text(alloc: Global, sink: &MemorySink) -> Result<String, Fail> {
+    Ok(String::from_utf8(sink.bytes().to_vec(alloc)?)?)
 }
 
 /// The letter of an answer.
-fn letter(answer: &Answer) -> u8 {
-    match answer {
-        Answer::Fresh { .. } => b'F',
-        Answer::Kept { .. } => b'K',
-        Answer::Set { .. } => b'S',
-        Answer::Queued { .. } => b'Q',
-        Answer::Refused(Refusal::Pending) => b'P',
-        Answer::Refused(Refusal::UnknownCard) => b'U',
-        Answer::Refused(Refusal::BadLine(_)) => b'B',
-        Answer::Refused(_) => b'R',
+fn letter(answer: &str) -> u8 {
+    if answer.starts_with("fresh ") {
+        b'F'
+    } else if answer.starts_with("kept ") {
+        b'K'
+    } else if answer.starts_with("set ") {
+        b'S'
+    } else if answer.starts_with("queued ") {
+        b'Q'
+    } else if answer == "refused 12" {
+        b'P'
+    } else if answer == "refused 6" {
+        b'U'
+    } else if answer == "refused 1 1" {
+        b'B'
+    } else {
+        b'R'
     }
 }
 
 #[test]
 fn answers_come_in_the_order_of_lines(rt: HostRuntime) -> Result<(), Fail> {
-    let mut answers = Vec::with_capacity(rt.alloc(), BLOCK_LINES)?;
+    let mut block = Block::new(rt.alloc())?;
+    let mut sink = sink(rt.alloc())?;
     let mut lanes = open(rt.alloc(), 3, 1)?;
     answer(
         &rt,
         &mut lanes,
         &[BAD, STATUS[0], UNKNOWN, COMMAND],
         4,
-        &mut answers,
+        &mut block,
+        &mut sink,
     );
-    answer(&rt, &mut lanes, &[UNKNOWN, BAD], 2, &mut answers);
+    answer(&rt, &mut lanes, &[UNKNOWN, BAD], 2, &mut block, &mut sink);
     lanes.close();
-    assert_eq!(rt; answers.len(), 6);
-    for (answer, expected) in answers.as_slice().iter().zip(b"BSUQUB") {
+    let text = text(rt.alloc(), &sink)?;
+    assert_eq!(rt; text.as_str().lines().count(), 6);
+    for (answer, expected) in text.as_str().lines().zip(b"BSUQUB") {
         assert_eq!(rt; letter(answer), *expected);
     }
     Ok(())
@@ -112,13 +131,16 @@ fn answers_come_in_the_order_of_lines(rt: HostRuntime) -> Result<(), Fail> {
 
 #[test]
 fn full_lanes_are_answered(rt: HostRuntime) -> Result<(), Fail> {
-    let mut answers = Vec::with_capacity(rt.alloc(), BLOCK_LINES)?;
+    let mut block = Block::new(rt.alloc())?;
+    let mut sink = sink(rt.alloc())?;
     let mut lanes = open(rt.alloc(), 3, 1)?;
-    answer(&rt, &mut lanes, &STATUS, BLOCK_LINES, &mut answers);
+    answer(&rt, &mut lanes, &STATUS, 2_000, &mut block, &mut sink);
     lanes.close();
-    assert_eq!(rt; answers.len(), BLOCK_LINES / 3 * 3);
-    for answer in answers.as_slice() {
-        assert!(rt; matches!(answer, Answer::Set { shard: 0, .. }));
+    let text = text(rt.alloc(), &sink)?;
+    let count = text.as_str().lines().count();
+    assert!(rt; count > 500 && count % 3 == 0, "{count}");
+    for answer in text.as_str().lines() {
+        assert!(rt; answer.starts_with("set 0 "));
     }
     Ok(())
 }
@@ -126,18 +148,21 @@ fn full_lanes_are_answered(rt: HostRuntime) -> Result<(), Fail> {
 /// Four callers ask the same three requests again and again, and set a status in between.
 #[test]
 fn callers_at_one_shard_decide_each_request_once(rt: HostRuntime) -> Result<(), Fail> {
-    let mut answers = Vec::with_capacity(rt.alloc(), BLOCK_LINES)?;
+    let mut block = Block::new(rt.alloc())?;
+    let mut sink = sink(rt.alloc())?;
     let mut lanes = open(rt.alloc(), 4, 1)?;
     let lines = [
         REQUEST, REQUEST, REQUEST, REQUEST, STATUS[0], STATUS[0], STATUS[1], STATUS[2], NINTH,
         NINTH, NINTH, NINTH, SIXTH, SIXTH, SIXTH, SIXTH,
     ];
-    answer(&rt, &mut lanes, &lines, 800, &mut answers);
+    answer(&rt, &mut lanes, &lines, 400, &mut block, &mut sink);
+    answer(&rt, &mut lanes, &lines, 400, &mut block, &mut sink);
     lanes.close();
+    let text = text(rt.alloc(), &sink)?;
     let mut fresh = 0usize;
     let mut known = 0usize;
     let mut set = 0usize;
-    for answer in answers.as_slice() {
+    for answer in text.as_str().lines() {
         match letter(answer) {
             b'F' => fresh = fresh.saturating_add(1),
             b'K' | b'P' => known = known.saturating_add(1),
@@ -152,17 +177,17 @@ fn callers_at_one_shard_decide_each_request_once(rt: HostRuntime) -> Result<(), 
 /// Each of four callers sets the status of a card of its own shard.
 #[test]
 fn callers_at_a_shard_each_fill_its_places(rt: HostRuntime) -> Result<(), Fail> {
-    let mut answers = Vec::with_capacity(rt.alloc(), BLOCK_LINES)?;
+    let mut block = Block::new(rt.alloc())?;
+    let mut sink = sink(rt.alloc())?;
     let mut lanes = open(rt.alloc(), 4, 4)?;
-    answer(&rt, &mut lanes, &STATUS, 800, &mut answers);
+    answer(&rt, &mut lanes, &STATUS, 400, &mut block, &mut sink);
+    answer(&rt, &mut lanes, &STATUS, 400, &mut block, &mut sink);
     lanes.close();
-    assert_eq!(rt; answers.len(), 800);
-    for (index, answer) in answers.as_slice().iter().enumerate() {
-        let expected = Answer::Set {
-            shard: (index % 4) as u8,
-            place: (index / 4) as u64,
-        };
-        assert!(rt; *answer == expected, "{index}");
+    let text = text(rt.alloc(), &sink)?;
+    assert_eq!(rt; text.as_str().lines().count(), 800);
+    for (index, answer) in text.as_str().lines().enumerate() {
+        let expected = format!(in rt.alloc(); "set {} {}", index % 4, index / 4)?;
+        assert_eq!(rt; answer, expected.as_str());
     }
     Ok(())
 }

@@ -20,8 +20,9 @@ loop-self-preserved g c = record {
       let taken = read-line _ _ _ _ _ _ _ _ _ _ _ _ c.judge_line.ensures.reader c.loop-self.invariant.judged
       (λ lines text waiting. judged-more _ _ _ _ lines text waiting _ _ _ c.judge_line.ensures.text
       c.judge_line.ensures.book) (c.in-Line.ensures.line refl) in
-      read-on _ _ _ _ _ _ _ _ _ taken _ _ c.in-Ok.ensures.reader
-      (λ lines text waiting. writes-due _ _ _ lines text waiting _ _ _ _ _ c.in-Ok.ensures.written);
+      read-on _ _ _ _ _ _ _ _ _ _ _ taken
+      (λ lines text waiting. writes-due _ _ _ lines text waiting _ _ _ _ _ _ _ c.in-Ok.ensures.reader
+      c.in-Ok.ensures.written);
   room = c.in-Ok.ensures.room;
   source_stood = c.in-Line.ensures.count.counted ∙ c.loop-self.invariant.source_stood;
   sink_stood = c.in-Ok.ensures.count.counted ∙ c.loop-self.invariant.sink_stood;
@@ -32,8 +33,9 @@ returns-in-Err-clause-served g c =
     let taken = read-line _ _ _ _ _ _ _ _ _ _ _ _ c.judge_line.ensures.reader c.loop-self.invariant.judged
     (λ lines text waiting. judged-more _ _ _ _ lines text waiting _ _ _ c.judge_line.ensures.text
     c.judge_line.ensures.book) (c.in-Line.ensures.line refl) in
-    serves-broken_line _ _ _ _ _ _ _ _ _ taken _ _
-    (λ lines text waiting. writes-due _ _ _ lines text waiting _ _ _ _ _ c.in-Err.ensures.written)
+    serves-broken_line _ _ _ _ _ _ _ _ _ _ _ taken _
+    (λ lines text waiting. writes-due _ _ _ lines text waiting _ _ _ _ _ _ _ c.in-Err.ensures.reader
+    c.in-Err.ensures.written)
 
 pub returns-in-Rest-clause-served : goal.returns-in-Rest-clause-served
 returns-in-Rest-clause-served g c =

@@ -25,7 +25,7 @@ loop-self-preserved g c = record {
       let taken = read-line _ _ _ _ _ _ _ _ _ _ _ _ c.take_line.ensures.reader
       (c.loop-self.invariant.served first starts)
       (c.take_line.ensures.taken first) (c.in-Line.ensures.line refl) in
-      read-on _ _ _ _ _ _ _ _ _ taken _ _ c.in-Ok.ensures.reader (c.in-Ok.ensures.written first);
+      read-on _ _ _ _ _ _ _ _ _ _ _ taken (c.in-Ok.ensures.written first);
   room = c.in-Ok.ensures.room;
   source_stood = c.in-Line.ensures.count.counted ∙ c.loop-self.invariant.source_stood;
   sink_stood = c.in-Ok.ensures.count.counted ∙ c.loop-self.invariant.sink_stood;
@@ -35,7 +35,7 @@ pub returns-in-Err-clause-served : goal.returns-in-Err-clause-served
 returns-in-Err-clause-served g c = λ first starts.
     let taken = read-line _ _ _ _ _ _ _ _ _ _ _ _ c.take_line.ensures.reader (c.loop-self.invariant.served first starts)
     (c.take_line.ensures.taken first) (c.in-Line.ensures.line refl) in
-    serves-broken_line _ _ _ _ _ _ _ _ _ taken _ _ (c.in-Err.ensures.written first)
+    serves-broken_line _ _ _ _ _ _ _ _ _ _ _ taken _ (c.in-Err.ensures.written first)
 
 pub returns-in-Rest-clause-served : goal.returns-in-Rest-clause-served
 returns-in-Rest-clause-served g c = λ first starts.

@@ -1,0 +1,21 @@
+-- Rounds, one after another.
+use Rattle.std.proofs.Common.{◌≡◌, ◌+◌, ◌≤◌, List, [], ℕ, length}
+use Rattle.shared_callers.specs.Lanes.{waiting_in}
+use Rattle.shared_callers.specs.declared.lanes.Lanes.{Lanes}
+use Rattle.line_serving.specs.Hosts.{HaveAnswered}
+use Rattle.line_serving.proofs.TogetherSteps.{AreInRounds}
+use Rattle.line_serving.proofs.together.write_together.Given as goal
+
+abbrev pub invariant-loop-host : goal.invariant-loop-host
+invariant-loop-host g l = record {
+  rounds : (first : Lanes g.row.S.Denot g.S.Store) (lines : List (List ℕ)) (text : List ℕ) (waiting : List (List ℕ))
+      → HaveAnswered first lines text waiting l.fn.host
+      → AreInRounds first l.host l.fn.reader l.reader (g.W.Sink.held l.initial.out) (g.W.Sink.held l.out) lines text
+      waiting;
+  empty : (l.block.text.items ≡ []) × (l.block.lines ≡ 0);
+  read : l.fn.reader.lines ≤ l.reader.lines;
+  sink_stood : g.W.Sink.faults l.out ≡ g.W.Sink.faults l.initial.out;
+}
+
+abbrev pub decreases-loop-host : goal.decreases-loop-host
+decreases-loop-host g l = waiting_in l.host + length l.reader.ahead
