@@ -1,6 +1,6 @@
 //! The half block that this thread has in hand: it deals lines into it, and writes the answers that came back in it.
 ghost use Rattle.std.specs.Prelude.{◌≡◌, ℕ, ◌+◌, ◌*◌, ◌<◌, ◌≤◌, List, [], ◌∷◌, ◌++◌, length, vec_len, All, is_err};
-ghost use Rattle.std.specs.Prelude.{◌==◌, map, IfOk, MatchResult, OnErr};
+ghost use Rattle.std.specs.Prelude.{◌==◌, map};
 ghost use Rattle.std.specs.List.{flat_map};
 ghost use Rattle.issuer_base.specs.OutsideFaults.{CountsFaults};
 ghost use Rattle.issuer_base.specs.Sink.{WritesAll};
