@@ -26,7 +26,7 @@ use Rattle.shard_book.specs.declared.shard.Shard.{Shard}
 use Rattle.shard_book.specs.Shards.{store_in, IsCutToText, IsFailedImage, IsLoadImage, IsMigrated, IsTakenFor}
 use Rattle.shard_book.specs.Versions.{HasText, IsPartOf}
 use Rattle.shard_book.specs.Loads.{IsNotLoaded}
-use Rattle.one_caller.specs.Loading.{AreOnlyRead, ComeBack, ComeBackBy, ComeBackTogether, IsGivenBack, IsLeft}
+use Rattle.one_caller.specs.Loading.{AreOnlyRead, ComeBack, ComeBackBy, ComeBackTogether, IsGivenBack, IsLeftByLoad}
 use Rattle.one_caller.proofs.Loads.{given-back}
 use Rattle.desk_host.specs.SeenStores.{Logged, SeenStore, store_seen, journals_seen}
 use Rattle.desk_host.specs.Journals.{old_name, journal_name, IsOpened, AreOpened, IsReady}
@@ -356,7 +356,7 @@ module _ {S : Type 0} (G : Ghosts S) (told : (store : S)
         → ComeBackTogether G.size G.bytes G.disk G.faults issuer olds read stores failed fault back
         → LeaveJournals prefix logs (journals_seen G read back)
     back-left_together issuer failed fault read back only =
-        back-left_by (IsLeft G.size G.bytes G.disk G.faults issuer) issuer failed fault read back only
+        back-left_by (IsLeftByLoad G.size G.bytes G.disk G.faults issuer) issuer failed fault read back only
         (λ number old old_then store after old_log log.
         let old_held = logs (old_name prefix number) in
         let held = logs (journal_name prefix number) in

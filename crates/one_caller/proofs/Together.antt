@@ -14,7 +14,7 @@ use Rattle.shard_book.specs.Loading.{is_store_failure}
 use Rattle.shard_book.specs.Loads.{IsLoadedFrom, IsNotLoaded, IsOnlyRead}
 use Rattle.shard_book.specs.Shards.{store_in}
 use Rattle.one_caller.specs.declared.loading_together.Slot.{Slot}
-use Rattle.one_caller.specs.Loading.{AreLoaded, AreOnlyRead, ComeBackTogether, IsGivenBack, IsLeft}
+use Rattle.one_caller.specs.Loading.{AreLoaded, AreOnlyRead, ComeBackTogether, IsGivenBack, IsLeftByLoad}
 use Rattle.one_caller.specs.Room.{StoresHaveRoom}
 use Rattle.one_caller.specs.Slots.{Came, HasEnded, HasTried, HaveTried, IsFirstFailed, fault_in, fault_of, left_in, loaded_as, store_of}
 use Rattle.one_caller.proofs.Loads.{given-back}
@@ -89,7 +89,7 @@ module _ {S : Type 0} {G : Ghosts S} (issuer : Setup) where
 
   -- and one or the other is so
   left-so : (number : ℕ) (old old_then store after : S) (outcome : Result (Shard S G) (LoadBack S)) → Came issuer number old old_then store outcome
-      → store_of outcome ≡ after → IsLeft G.size G.bytes G.disk G.faults issuer number old old_then store after
+      → store_of outcome ≡ after → IsLeftByLoad G.size G.bytes G.disk G.faults issuer number old old_then store after
   left-so number old old_then store after (Ok shard) from same = inl (given-so number old old_then store after (Ok shard) from refl same)
   left-so number old old_then store after (Err back) from same =
       inr (back.fault, failed-so number old old_then store after (Err back) back.fault from refl same)

@@ -79,11 +79,11 @@ module _ {S : Type 0} (size : S → ℕ) (bytes : S → Option (List ℕ)) (disk
   ComeBack = ComeBackBy (λ number old old_then store after. (old_then ≡ old) × (after ≡ store))
 
   -- what the load of one shard leaves of its stores: it was loaded, or it wasn't, for some fault
-  abbrev pub IsLeft : Setup → ℕ → S → S → S → S → Type 0
-  IsLeft issuer number old old_then store after =
+  abbrev pub IsLeftByLoad : Setup → ℕ → S → S → S → S → Type 0
+  IsLeftByLoad issuer number old old_then store after =
       IsGivenBack bytes disk faults issuer number old old_then store after
       ⊎ ((fault : LoadFault) × IsNotLoaded size bytes disk faults issuer number old store fault old_then after)
 
   -- where they were loaded at once, each store behind it is left by its own load
   abbrev pub ComeBackTogether : Setup → List S → List S → List S → ℕ → LoadFault → List S → Type 0
-  ComeBackTogether issuer = ComeBackBy (IsLeft issuer) issuer
+  ComeBackTogether issuer = ComeBackBy (IsLeftByLoad issuer) issuer
