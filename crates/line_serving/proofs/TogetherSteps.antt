@@ -2,7 +2,7 @@
 use Rattle.std.proofs.Common.{◌≡◌, ℕ, ◌≤◌, List, [], ◌∷◌, ◌++◌, length, map, Option, Some, Result, Ok, Err}
 use Rattle.std.proofs.Common.{refl, sym, ap, subst, ◌∙◌, append-nil, append_assoc}
 use Rattle.std.specs.Prelude.{IfSome}
-use Rattle.std.proofs.lemmas.List.{map-append, nil_from_length}
+use Rattle.std.proofs.lemmas.List.{length-map, map-append, nil_from_length}
 use Rattle.std.proofs.lemmas.Grind.{flat_map-append}
 use Rattle.std.specs.List.{flat_map}
 use Rattle.std.specs.Io.KnownBytes.{Appends}
@@ -128,12 +128,12 @@ module _ {S : Type 0} {G : Ghosts S} where
   -- no answer is due
   none-due : (host : Lanes S G) (lines : List (List ℕ)) (answers due : List Answer) (waiting : List (List ℕ))
       → LanesServe host lines answers due waiting → due_in host ≡ 0 → due ≡ []
-  none-due host lines answers due waiting served none = nil_from_length due (sym served.turns.due_is ∙ none)
+  none-due host lines answers due waiting served none = nil_from_length due (sym (length-map due printed) ∙ sym served.dealt.dues.count_is ∙ none)
 
   -- no line waits
   pub none-waits : (host : Lanes S G) (lines : List (List ℕ)) (answers due : List Answer) (waiting : List (List ℕ))
       → LanesServe host lines answers due waiting → waiting_in host ≡ 0 → waiting ≡ []
-  none-waits host lines answers due waiting served none = nil_from_length waiting (sym served.turns.waiting_is ∙ none)
+  none-waits host lines answers due waiting served none = nil_from_length waiting (sym served.dealt.waits.count_is ∙ none)
 
   -- the answers were all taken
   pub all-taken : (first host : Lanes S G) (lines : List (List ℕ)) (text : List ℕ) (waiting : List (List ℕ))

@@ -131,5 +131,6 @@ exchanged-failed old new reading held_before held_after was fault (Err other) wa
   dealt = λ before are. ([], waits before [] are, TakesInHand-no_call reading, refl);
   none_due = none;
   fewer = none_waits;
+  read = omega arith;
   rooms = rooms;
 }

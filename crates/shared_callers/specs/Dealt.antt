@@ -1,5 +1,5 @@
 -- The lines that were dealt to all callers, and their answers.
-use Rattle.std.specs.Prelude.{◌≡◌, ℕ, List, [], ◌++◌, length, map, Option, Result, OnErr}
+use Rattle.std.specs.Prelude.{◌≡◌, ℕ, ◌≤◌, List, [], ◌++◌, length, map, Option, Result, OnErr}
 use Rattle.std.specs.List.{flat_map}
 use Rattle.issuer_base.specs.Sink.{WritesAll}
 use Rattle.issuer_base.specs.declared.faults.WriteFault.{WriteFault}
@@ -38,3 +38,4 @@ pub record DealsRound (issuer : Setup) (lanes_was lanes_is : List Lane) (half_wa
       × TakesInHand input_was taken input_is
       × WritesAll held_before held_after result (flat_map printed due)
       × OnErr result (taken ≡ [])
+  pub read : input_was.lines ≤ input_is.lines

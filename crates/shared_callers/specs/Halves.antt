@@ -32,4 +32,5 @@ pub record HasExchanged (old new : Half) (input_was input_is : Reading) (held_be
   pub none_due : new.due ≡ 0
   pub fewer : MatchResult result (λ _. new.waiting + length input_is.ahead ≤ length input_was.ahead)
       (λ _. new.waiting ≡ 0)
+  pub read : input_was.lines ≤ input_is.lines
   pub rooms : HasSameRooms old new

@@ -154,7 +154,8 @@ impl Half {
             × TakesInHand reader.old taken reader.new }
         ensures due { (taken due : List (List ℕ)) → HasDue self.old taken due → HasDue self.new taken due }
         ensures counts { (self.new.due ≡ self.old.due)
-            × (self.new.waiting + length reader.new.ahead ≤ self.old.waiting + length reader.old.ahead) }
+            × (self.new.waiting + length reader.new.ahead ≤ self.old.waiting + length reader.old.ahead)
+            × (reader.old.lines ≤ reader.new.lines) }
         ensures rooms { HasSameRooms self.old self.new }
     {
         while !self.is_full() {

@@ -119,6 +119,7 @@ impl<S: Store> Lanes<S> {
         ensures counts { MatchResult result
             (λ _. waiting_in self.new + length reader.new.ahead ≤ length reader.old.ahead)
             (λ _. waiting_in self.new ≡ 0) }
+        ensures reader { reader.old.lines ≤ reader.new.lines }
         ensures host { HasSameHost self.old self.new }
         ensures block { (block.new.text.items ≡ []) × (block.new.lines ≡ 0) }
         ensures faults { CountsFaults (W.faults out.old) (W.faults out.new) (is_err result) }

@@ -70,6 +70,7 @@ returns-clause-dealt g c = record {
             (flat_map-map (λ (text : List ℕ). text) printed due) wrote.1,
         lines_dealt.3,
       );
+  read = c.exchange_beside-written.ensures.exchanged.read;
 }
 
 pub returns-clause-seated : goal.returns-clause-seated

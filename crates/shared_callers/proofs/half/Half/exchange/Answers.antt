@@ -22,5 +22,6 @@ returns-clause-exchanged g c =
           (all.0, all.1, all.2, tt);
       none_due = c.take_lines.ensures.counts.0 ∙ wrote.counts.0;
       fewer = omega (arith, c.take_lines.ensures.counts.1, wrote.counts.1, c.requires.none);
+      read = c.take_lines.ensures.counts.2;
       rooms = same-rooms c.args.self.now c.write_due.new.self c.take_lines.new.self wrote.rooms c.take_lines.ensures.rooms;
     }

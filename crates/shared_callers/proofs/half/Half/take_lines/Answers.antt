@@ -14,6 +14,7 @@ loop-reader-init c = record {
   due = λ taken due are. are;
   same = refl;
   fewer = omega arith;
+  read = omega arith;
   rooms = record { rooms = refl; room = refl };
 }
 
@@ -42,6 +43,7 @@ loop-reader-preserved c =
         ap length gives.1.whole,
         length-append gives.0 (10 ∷ c.take_in_hand.new.self.ahead),
       );
+      read = omega (arith, before.read, gives.1.counted.one_more);
       rooms = same-rooms c.args.self.now c.loop-reader.self c.deal.new.self before.rooms c.deal.ensures.rooms;
     }
 
@@ -58,3 +60,12 @@ returns-clause-taken c =
     λ before waiting are.
     let all = c.loop-reader.invariant.taken before waiting are in
     (all.taken, all.waits, all.in_hand)
+
+pub returns-then-not-take_in_hand-clause-counts : goal.returns-then-not-take_in_hand-clause-counts
+returns-then-not-take_in_hand-clause-counts c =
+    let before = c.loop-reader.invariant in
+    let none = c.take_in_hand.ensures.none c.if-not-take_in_hand.true in (
+      before.same,
+      omega (arith, before.fewer, ap length none.1),
+      omega (arith, before.read, none.2.same_lines),
+    )

@@ -10,6 +10,7 @@ invariant-loop-reader l = record {
   due : (taken due : List (List ℕ)) → HasDue l.fn.self taken due → HasDue l.self taken due;
   same : l.self.due ≡ l.fn.self.due;
   fewer : l.self.waiting + length l.reader.ahead ≤ l.fn.self.waiting + length l.fn.reader.ahead;
+  read : l.fn.reader.lines ≤ l.reader.lines;
   rooms : HasSameRooms l.fn.self l.self;
 }
 

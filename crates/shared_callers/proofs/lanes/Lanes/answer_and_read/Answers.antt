@@ -73,3 +73,6 @@ returns-clause-host g c =
           ∙ maps-long (λ lane. lane.lines.room) (λ lane. lane.lines.room) c.answer_and_exchange.new.lanes c.as_mut_slice.result.now done.rooms.0
           ∙ ap (λ (lanes : List Lane). length lanes) c.as_mut_slice.ensures.value;
     }
+
+pub returns-clause-reader : goal.returns-clause-reader
+returns-clause-reader g c = c.answer_and_exchange.ensures.dealt.read
