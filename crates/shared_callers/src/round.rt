@@ -82,21 +82,101 @@ where
     ensures faults { CountsFaults (W.faults out.old) (W.faults out.new) (is_err result) }
 {
     let given = half.give_lines(lanes);
-    let written = exchange_beside(rt, host, gate, lanes, half, reader, block, out);
+    let written = exchange_beside(rt, host, gate, half, reader, block, out, lanes);
     half.take_texts(lanes, given);
     written
 }
 
-/// Has a thread of its own have all callers answer, while this thread exchanges what the half has.
+/// Has a thread of its own answer for each caller, while this thread exchanges what the half has. This thread spawns all
+/// the others.
+#[cycle(round)]
 fn exchange_beside<S, R, G, W>(
     rt: &R,
     host: &Host<S>,
     gate: &G,
-    lanes: &mut [Lane],
     half: &mut Half,
     reader: &mut LineReader,
     block: &mut Block,
     out: &mut W,
+    lanes: &mut [Lane],
+) -> Result<(), WriteFault>
+where
+    S: Store + Send,
+    R: Threads + Wait + Sync,
+    G: Gate + Sync,
+    W: Sink,
+    requires free { All (λ lane. IsFree host.now lane.pass) lanes.old × (0 < length lanes.old) }
+    requires none { half.old.waiting ≡ 0 }
+    requires block { (block.old.text.items ≡ []) × (block.old.lines ≡ 0) }
+    ensures lanes { LanesAnswer host.now lanes.old lanes.new }
+    ensures exchanged { HasExchanged half.old half.new reader.old reader.new (W.held out.old) (W.held out.new) result }
+    ensures block { (block.new.text.items ≡ []) × (block.new.lines ≡ 0) }
+    ensures faults { CountsFaults (W.faults out.old) (W.faults out.new) (is_err result) }
+{
+    if lanes.len() == 1 {
+        return exchange_beside_one(rt, host, gate, half, reader, block, out, lanes);
+    }
+    let (first, others) = lanes.split_at_mut(1);
+    exchange_beside_both(rt, host, gate, half, reader, block, out, first, others)
+}
+
+/// Has a thread of its own answer for the first caller, while this thread spawns one for each of the others, and then
+/// exchanges what the half has.
+#[cycle(round)]
+fn exchange_beside_both<S, R, G, W>(
+    rt: &R,
+    host: &Host<S>,
+    gate: &G,
+    half: &mut Half,
+    reader: &mut LineReader,
+    block: &mut Block,
+    out: &mut W,
+    first: &mut [Lane],
+    others: &mut [Lane],
+) -> Result<(), WriteFault>
+where
+    S: Store + Send,
+    R: Threads + Wait + Sync,
+    G: Gate + Sync,
+    W: Sink,
+    requires free { All (λ lane. IsFree host.now lane.pass) first.old
+        × All (λ lane. IsFree host.now lane.pass) others.old }
+    requires some { (length first.old ≡ 1) × (0 < length others.old) }
+    requires half { (half.old.waiting ≡ 0) × (block.old.text.items ≡ []) × (block.old.lines ≡ 0) }
+    ensures lanes { LanesAnswer host.now first.old first.new × LanesAnswer host.now others.old others.new }
+    ensures exchanged { HasExchanged half.old half.new reader.old reader.new (W.held out.old) (W.held out.new) result }
+    ensures after { (block.new.text.items ≡ []) × (block.new.lines ≡ 0)
+        × CountsFaults (W.faults out.old) (W.faults out.new) (is_err result) }
+{
+    let mut front = ||
+        requires { IsSync R.row × IsSync G.row × IsSend S.row × (length first.now ≡ 1)
+            × All (λ lane. IsFree host.now lane.pass) first.now }
+        ensures { LanesAnswer host.entry.now first.entry.now first.exit.now }
+    { answer_at_once(rt, host, gate, first) };
+    let mut back = || -> Result<(), WriteFault>
+        requires { IsSync R.row × IsSync G.row × IsSend S.row × (half.now.waiting ≡ 0)
+            × (block.now.text.items ≡ []) × (block.now.lines ≡ 0) × (0 < length others.now)
+            × All (λ lane. IsFree host.now lane.pass) others.now }
+        ensures { LanesAnswer host.entry.now others.entry.now others.exit.now
+            × HasExchanged half.entry.now half.exit.now reader.entry.now reader.exit.now (W.held out.entry.now)
+            (W.held out.exit.now) result
+            × (block.exit.now.text.items ≡ []) × (block.exit.now.lines ≡ 0)
+            × CountsFaults (W.faults out.entry.now) (W.faults out.exit.now) (is_err result) }
+    { exchange_beside(rt, host, gate, half, reader, block, out, others) };
+    let (_, written) = thread::join_mut(rt, &mut front, &mut back);
+    written
+}
+
+/// Has a thread of its own answer for one caller, while this thread exchanges what the half has.
+fn exchange_beside_one<S, R, G, W>(
+    rt: &R,
+    host: &Host<S>,
+    gate: &G,
+    half: &mut Half,
+    reader: &mut LineReader,
+    block: &mut Block,
+    out: &mut W,
+    lanes: &mut [Lane],
 ) -> Result<(), WriteFault>
 where
     S: Store + Send,
