@@ -73,7 +73,17 @@ impl Block {
         ensures text { self.new.text.items ≡ self.old.text.items ++ line.now.items }
         ensures lines { self.new.lines ≡ self.old.lines + 1 }
     {
-        self.text.extend_from_slice(line.as_slice()).unwrap();
+        self.add_text(line.as_slice());
+    }
+
+    /// Puts the text of a line behind those that are there.
+    pub fn add_text(&mut self, text: &[u8])
+        requires room { self.old.lines < BLOCK_LINES }
+        requires short { length text.now ≤ LINE_ROOM }
+        ensures text { self.new.text.items ≡ self.old.text.items ++ text.now }
+        ensures lines { self.new.lines ≡ self.old.lines + 1 }
+    {
+        self.text.extend_from_slice(text).unwrap();
         self.lines += 1;
     }
 

@@ -10,4 +10,4 @@ pub const MAX_LINES: u32 = 1_048_576;
 pub const MAX_BYTES: u64 = 2_147_483_648;
 
 /// The size in bytes of the buffer: no more of the input is in memory.
-pub const BUFFER_BYTES: usize = 524_288;
+pub const BUFFER_BYTES: usize = 2_097_152;

@@ -1,5 +1,6 @@
 -- The lemmas of this crate.
 mod Lists
+mod Packing
 mod AnsweredBoth
 mod Turning
 mod Serving

@@ -6,13 +6,15 @@ ghost use Rattle.line_checks.specs.declared.lines_ahead.TheConstants.{MOST_AHEAD
 ghost use Rattle.call_steps.specs.Authorising.{Authorises};
 ghost use Rattle.call_steps.specs.PreChecks.{IsAskedBy, PreChecks};
 ghost use Rattle.host_calls.specs.Passes.{claims_of, logs_of, Holds, IsFree};
+ghost use Rattle.shared_callers.specs.declared.half.TheConstants.{HALF_LINES};
 
+use crate::packed::PackedLines;
 use crate::part::Part;
-use crate::slots::LineSlots;
-use crate::texts::TextSlots;
+use crate::texts::AnswerTexts;
+use crossbeam_utils::CachePadded;
 use cryptogram_lanes::FEWEST_IN_LANES;
 use host_calls::{Checked, Host, Pass};
-use issuer_base::{Answer, Gate, MAX_CHIP_BYTES, NoMemory, Refusal, Store};
+use issuer_base::{Answer, Gate, KEPT_BYTES, MAX_CHIP_BYTES, NoMemory, Refusal, Store};
 use line_checks::{LinesAhead, MOST_AHEAD, Sought, look_up};
 use std::alloc::Global;
 use std::sync::Wait;
@@ -29,6 +31,7 @@ impl LaneRoom {
 
     /// Allocates the memory, for `count` lines.
     pub(crate) fn new(alloc: Global, count: usize) -> Result<LaneRoom, NoMemory>
+        requires { count ≤ HALF_LINES }
         ensures { IfOk result (λ room. places_in room ≡ count) }
     {
         Ok(LaneRoom {
@@ -41,15 +44,18 @@ impl LaneRoom {
 /// A caller with its pass, the lines that it answers, and the texts of its answers.
 pub(crate) struct Lane {
     pub(crate) pass: Pass,
-    pub(crate) lines: LineSlots,
+    pub(crate) lines: PackedLines<KEPT_BYTES>,
 
     /// The look-ups of the next lines that wait, while they are answered; empty otherwise.
     ahead: LinesAhead,
-    pub(crate) texts: TextSlots,
+    pub(crate) texts: AnswerTexts,
 
     /// The number of the next line, counted from 1 in the run, and the stride between this caller's lines.
     number: u64,
     step: u64,
+
+    /// Keeps the callers in a list off each other's cache lines.
+    apart: CachePadded<()>,
     ghost fits: { texts.room ≡ lines.room },
 }
 
@@ -70,6 +76,7 @@ impl Lane {
             texts,
             number,
             step,
+            apart: CachePadded::new(()),
         }
     }
 
@@ -84,6 +91,7 @@ impl Lane {
             texts: _,
             number: _,
             step: _,
+            apart: _,
         } = self;
         pass
     }

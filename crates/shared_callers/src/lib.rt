@@ -7,9 +7,9 @@ mod half;
 mod lane;
 mod lanes;
 mod load;
+mod packed;
 mod part;
 mod round;
-mod slots;
 mod texts;
 
 pub use half::HALF_LINES;

@@ -1,10 +1,11 @@
 //! What this thread exchanges with one caller: lines that wait for it, and the texts of its answers.
-ghost use Rattle.std.specs.Prelude.{◌≡◌, [], IfOk};
+ghost use Rattle.std.specs.Prelude.{◌≡◌, ◌≤◌, [], IfOk};
+ghost use Rattle.shared_callers.specs.declared.half.TheConstants.{HALF_LINES};
 
 use crate::lane::Lane;
-use crate::slots::LineSlots;
-use crate::texts::TextSlots;
-use issuer_base::NoMemory;
+use crate::packed::PackedLines;
+use crate::texts::AnswerTexts;
+use issuer_base::{KEPT_BYTES, NoMemory};
 use std::alloc::Global;
 use std::mem;
 
@@ -12,8 +13,8 @@ use std::mem;
 /// lines.
 #[derive(Drop)]
 pub(crate) struct Part {
-    pub(crate) lines: LineSlots,
-    pub(crate) texts: TextSlots,
+    pub(crate) lines: PackedLines<KEPT_BYTES>,
+    pub(crate) texts: AnswerTexts,
     ghost fits: { texts.room ≡ lines.room },
 }
 
@@ -23,12 +24,13 @@ impl Part {
 
     /// No lines and no texts, and room for `room` of each.
     pub(crate) fn new(alloc: Global, room: usize) -> Result<Part, NoMemory>
+        requires { room ≤ HALF_LINES }
         ensures none { IfOk result (λ part. (lines_of part ≡ []) × (texts_of part ≡ [])) }
         ensures room { IfOk result (λ part. part.lines.room ≡ room) }
     {
         Ok(Part {
-            lines: LineSlots::new(alloc, room)?,
-            texts: TextSlots::new(alloc, room)?,
+            lines: PackedLines::new(alloc, room)?,
+            texts: AnswerTexts::new(alloc, room)?,
         })
     }
 

@@ -1,9 +1,11 @@
-//! The texts of a caller's answers, each in a slot that is reused in each half block.
-ghost use Rattle.std.specs.Prelude.{◌≡◌, ◌+◌, ◌<◌, [], ◌∷◌, ◌++◌, length, vec_len, vec_capacity, IfOk};
+//! The texts of a caller's answers.
+ghost use Rattle.std.specs.Prelude.{◌≡◌, ◌+◌, ◌<◌, ◌≤◌, [], ◌∷◌, ◌++◌, length, IfOk};
 ghost use Rattle.answer_text.specs.AnswerText.{printed};
 ghost use Rattle.line_blocks.specs.declared.block.TheConstants.{BLOCK_LINES};
 ghost use Rattle.shared_callers.specs.DueTexts.{MovesFirst};
+ghost use Rattle.shared_callers.specs.declared.half.TheConstants.{HALF_LINES};
 
+use crate::packed::PackedLines;
 use answer_text::{LINE_ROOM, write_answer};
 use arrayvec::ArrayVec;
 use issuer_base::{Answer, NoMemory};
@@ -11,53 +13,51 @@ use line_blocks::Block;
 use std::alloc::Global;
 use std::marker::Model;
 
-/// The text of an answer.
-type AnswerText = ArrayVec<u8, LINE_ROOM>;
-
 /// The texts that are due, in their order, and room for more.
 ///
-/// A contract sees the texts, how many slots are used, and how many there are.
+/// A contract sees the texts, how many there are with those that were removed, and how many there may be of both.
 #[derive(Drop)]
-pub(crate) struct TextSlots {
-    slots: Vec<AnswerText>,
+pub(crate) struct AnswerTexts {
+    lines: PackedLines<LINE_ROOM>,
 
-    /// The slots of the texts that are due: from this one on, before that one.
-    start: usize,
-    end: usize,
+    /// The index of the first text that is due.
+    first: usize,
+
+    /// The last text that was written.
+    line: ArrayVec<u8, LINE_ROOM>,
 }
 
-impl Model for TextSlots {
-    ghost use Rattle.std.specs.Prelude.{◌≤◌, length, map, take, drop};
+impl Model for AnswerTexts {
+    ghost use Rattle.std.specs.Prelude.{◌≤◌, length, drop};
+    ghost use Rattle.shared_callers.specs.declared.half.TheConstants.{HALF_LINES};
     ghost use Rattle.shared_callers.specs.DueTexts.{DueTexts};
 
     ghost Value = { DueTexts };
 
     ghost view = { λ texts. record {
-      texts = map (λ text. text.items) (drop texts.start (take texts.end texts.slots.items));
-      used = texts.end;
-      room = length texts.slots.items;
+      texts = drop texts.first texts.lines.lines;
+      used = length texts.lines.lines;
+      room = texts.lines.room;
     } };
 
-    ghost invariant = { λ texts. (texts.start ≤ texts.end) × (texts.end ≤ length texts.slots.items) };
+    ghost invariant = { λ texts. (texts.first ≤ length texts.lines.lines)
+        × (length texts.lines.lines ≤ texts.lines.room) × (texts.lines.room ≤ HALF_LINES) };
 }
 
-impl TextSlots {
+impl AnswerTexts {
     /// No texts, and room for `room` texts. Only this call allocates.
-    pub(crate) fn new(alloc: Global, room: usize) -> Result<TextSlots, NoMemory>
-        ensures { IfOk result (λ slots. slots ≡ record { texts = []; used = 0; room = room }) }
+    pub(crate) fn new(alloc: Global, room: usize) -> Result<AnswerTexts, NoMemory>
+        requires { room ≤ HALF_LINES }
+        ensures { IfOk result (λ texts. texts ≡ record { texts = []; used = 0; room = room }) }
     {
-        let mut slots = Vec::with_capacity(alloc, room)?;
-        for _ in 0..room {
-            slots.push_reserved(AnswerText::new());
-        }
-        Ok(TextSlots {
-            slots,
-            start: 0,
-            end: 0,
+        Ok(AnswerTexts {
+            lines: PackedLines::new(alloc, room)?,
+            first: 0,
+            line: ArrayVec::new(),
         })
     }
 
-    /// Writes the text of an answer into the next slot.
+    /// Appends the text of an answer.
     pub(crate) fn add(&mut self, answer: &Answer)
         requires { self.old.used < self.old.room }
         ensures { self.new ≡ record {
@@ -66,8 +66,8 @@ impl TextSlots {
           room = self.old.room;
         } }
     {
-        write_answer(answer, &mut self.slots[self.end]);
-        self.end += 1;
+        write_answer(answer, &mut self.line);
+        self.lines.add(self.line.as_slice());
     }
 
     /// Appends the first text to a block, and removes it.
@@ -77,15 +77,15 @@ impl TextSlots {
         ensures moved { MovesFirst self.old self.new block.old.text.items block.new.text.items }
         ensures lines { block.new.lines ≡ block.old.lines + 1 }
     {
-        block.add_line(&self.slots[self.start]);
-        self.start += 1;
+        block.add_text(self.lines.line(self.first));
+        self.first += 1;
     }
 
-    /// Removes all texts, so that all slots can be used.
+    /// Removes all texts, so that there is room for as many as may be.
     pub(crate) fn clear(&mut self)
         ensures { self.new ≡ record { texts = []; used = 0; room = self.old.room } }
     {
-        self.start = 0;
-        self.end = 0;
+        self.lines.clear();
+        self.first = 0;
     }
 }

@@ -3,7 +3,7 @@ use Rattle.std.proofs.Common.{◌≡◌, length, get_or, arith, sym, ◌∙◌, 
 use Rattle.std.proofs.Math.Seq.{map-set_same}
 use Rattle.shared_callers.specs.OneLane.{answer_texts}
 use Rattle.shared_callers.specs.Parts.{lines_of, texts_of}
-use Rattle.shared_callers.specs.WaitingLines.{WaitingLines}
+use Rattle.shared_callers.specs.KeptLines.{KeptLines}
 use Rattle.shared_callers.proofs.HandingOver.{left-there, moved-all, places-more, rooms-kept, rooms-there}
 use Rattle.shared_callers.proofs.Lists.{left-more, maps-long, moved-more}
 use Rattle.shared_callers.proofs.round.take_each.Goals as goal
@@ -21,10 +21,10 @@ loop-index-preserved c =
     let took = c.take_texts.ensures in
     let lane = c.index-lanes-index.result in
     let part = c.index-parts-index.result in
-    let same = ap (λ (lines : WaitingLines). lines.lines) took.lines in
+    let same = ap (λ (lines : KeptLines). lines.lines) took.lines in
     record {
       places = places-more now.parts now.lanes now.index lane c.take_texts.new.lane part c.take_texts.new.self c.args.parts.now c.args.lanes.now took.pass
-          took.room (ap (λ (lines : WaitingLines). lines.room) took.lines) before.places;
+          took.room (ap (λ (lines : KeptLines). lines.room) took.lines) before.places;
       lines = map-set_same lines_of now.parts now.index c.take_texts.new.self part same ∙ before.lines;
       texts = moved-more texts_of answer_texts now.index now.parts c.args.lanes.now c.take_texts.new.self (get_or now.lanes now.index lane)
           (left-there now.index now.lanes c.args.lanes.now lane (omega (arith, c.loop-index-test.true, now.auto.lanes)) before.left) took.taken before.texts;

@@ -1,22 +1,23 @@
 -- One more line waits in the part whose turn it was, and the next part has the turn.
-use Rattle.std.proofs.Common.{◌≡◌, ◌*◌, length, get_or, Some, rules, refl, ap, ◌∙◌}
+use Rattle.std.proofs.Common.{◌≡◌, ◌*◌, length, get_or, Some, rules, refl, ap, ◌∙◌, lit<}
 use Rattle.std.proofs.lemmas.List.Elements.{All-set}
 use Rattle.std.proofs.lemmas.Option.{slice_get_read}
 use Rattle.std.proofs.Math.Seq.{map-set_same}
 use Rattle.std.specs.List.{slice_get}
-use Rattle.shared_callers.specs.WaitingLines.{WaitingLines}
+use Rattle.shared_callers.specs.KeptLines.{KeptLines}
 use Rattle.shared_callers.specs.declared.part.Part.{Part}
 use Rattle.shared_callers.proofs.Turning.{part-room, waiting-dealt, due-same, still-dealt, still-due}
 use Rattle.shared_callers.proofs.half.Half.deal.Goals as goal
 
-pub add-requires-clause-room : goal.add-requires-clause-room
-add-requires-clause-room c =
+pub add-requires : goal.add-requires
+add-requires c =
     let half = c.args.self.now in
     let part : Part = c.index_mut.result.now in
     let part_is : slice_get half.parts.items half.next ≡ Some part =
     slice_get_read half.parts.items half.parts.len half.next part (search rules) half.within.1 (search rules) in
     let all : length half.parts.items * part.lines.room ≡ half.room = search rules in
-    part-room half.parts.items half.first half.next half.waiting half.room part half.waits part_is all c.requires.room
+    let room = part-room half.parts.items half.first half.next half.waiting half.room part half.waits part_is all c.requires.room in
+    (lit< tt, (room, c.requires.kept))
 
 pub returns-clause-waiting : goal.returns-clause-waiting
 returns-clause-waiting c =
@@ -44,7 +45,7 @@ returns-clause-rooms c =
     let here : part ≡ get_or half.parts.items half.next part = search rules in
     record {
       rooms = map-set_same (λ (part : Part). part.lines.room) half.parts.items half.next _ part
-          (ap (λ (lines : WaitingLines). lines.room) c.add.ensures ∙ ap (λ (part : Part). part.lines.room) here);
+          (ap (λ (lines : KeptLines). lines.room) c.add.ensures ∙ ap (λ (part : Part). part.lines.room) here);
       room = refl;
     }
 
@@ -54,7 +55,7 @@ invariant_of-self-clause-each_room c =
     let part : Part = c.index_mut.result.now in
     let all : half.parts.len * part.lines.room ≡ half.room = search rules in
     All-set (λ (part : Part). half.parts.len * part.lines.room ≡ half.room) half.parts.items half.next _
-    (ap (λ (lines : WaitingLines). half.parts.len * lines.room) c.add.ensures ∙ all) half.each_room
+    (ap (λ (lines : KeptLines). half.parts.len * lines.room) c.add.ensures ∙ all) half.each_room
 
 pub invariant_of-self-clause-waits : goal.invariant_of-self-clause-waits
 invariant_of-self-clause-waits c =

@@ -6,7 +6,7 @@ use Rattle.host_calls.specs.Passes.{claims_of, logs_of}
 use Rattle.host_calls.specs.declared.pass.Pass.{Pass}
 use Rattle.line_checks.specs.LookedUp.{IsLookUp}
 use Rattle.shared_callers.specs.DueTexts.{DueTexts}
-use Rattle.shared_callers.specs.WaitingLines.{WaitingLines}
+use Rattle.shared_callers.specs.KeptLines.{KeptLines}
 use Rattle.shared_callers.proofs.Calling.{HasCalled, called-line}
 use Rattle.shared_callers.proofs.LooksAhead.{first-ahead}
 use Rattle.shared_callers.proofs.lane.Lane.answer.Goals as goal
@@ -14,7 +14,7 @@ use Rattle.shared_callers.proofs.lane.Lane.answer.Goals as goal
 pub answer_line-answer-requires-clause-found : goal.answer_line-answer-requires-clause-found
 answer_line-answer-requires-clause-found g c =
     (first-ahead (IsLookUp c.args.host.now.issuer) c.loop-place.place c.look_ahead.new.self.lines.lines c.line-line.result.now c.first-found.result
-    c.look_ahead.new.self.ahead (drop 1 c.look_ahead.new.self.ahead) c.first-found.ensures refl c.line-line.ensures c.look_ahead.ensures.ahead).0
+    c.look_ahead.new.self.ahead (drop 1 c.look_ahead.new.self.ahead) c.first-found.ensures refl c.line-line.ensures.line c.look_ahead.ensures.ahead).0
 
 pub loop-place-preserved : goal.loop-place-preserved
 loop-place-preserved g c =
@@ -24,7 +24,7 @@ loop-place-preserved g c =
     let same = c.look_ahead.ensures.same in
     let lines_are = same.1 ∙ before.lines in
     let line = c.line-line.result.now in
-    let line_is = subst (λ (lines : WaitingLines). slice_get lines.lines place ≡ Some line) lines_are c.line-line.ensures in
+    let line_is = subst (λ (lines : KeptLines). slice_get lines.lines place ≡ Some line) lines_are c.line-line.ensures.line in
     let first = c.args.self.now.pass in
     let called = subst (λ (pass : Pass). HasCalled issuer (take place c.args.self.now.lines.lines) c.loop-place.self.texts.texts (claims_of first)
     (logs_of first) (claims_of pass) (logs_of pass)) (sym same.0) before.called in
@@ -37,7 +37,7 @@ loop-place-preserved g c =
       room = ap (λ (due : DueTexts). due.room) c.add.ensures ∙ ap (λ (due : DueTexts). due.room) same.2 ∙ before.room;
       used = ap (λ (due : DueTexts). due.used) c.add.ensures ∙ omega (arith, ap (λ (due : DueTexts). due.used) same.2, before.used);
       ahead = (first-ahead (IsLookUp issuer) place c.look_ahead.new.self.lines.lines line c.first-found.result
-          c.look_ahead.new.self.ahead c.remove_first.new.self c.first-found.ensures c.remove_first.ensures c.line-line.ensures c.look_ahead.ensures.ahead).1;
+          c.look_ahead.new.self.ahead c.remove_first.new.self c.first-found.ensures c.remove_first.ensures c.line-line.ensures.line c.look_ahead.ensures.ahead).1;
       called = called-line issuer c.args.self.now.lines.lines (claims_of first) (logs_of first) place line c.loop-place.self.texts.texts
           c.add.new.self.texts c.answer_line-answer.result _ _ _ _ line_is texts called c.answer_line-answer.ensures.answers;
     }

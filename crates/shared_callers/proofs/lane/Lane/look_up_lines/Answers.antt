@@ -22,7 +22,7 @@ loop-index-preserved g c =
     record {
       ahead = subst (λ (ahead : List (Result Sought Refusal)). AllZip (IsLookUp issuer) (take (length ahead) (drop c.args.place lines)) ahead)
           (sym c.add.ensures)
-          (next-ahead (IsLookUp issuer) c.args.place c.loop-index.index lines line old found before.count c.line.ensures before.ahead its);
+          (next-ahead (IsLookUp issuer) c.args.place c.loop-index.index lines line old found before.count c.line.ensures.line before.ahead its);
       count = omega (arith, before.count, ap length c.add.ensures, length-append {A = Result Sought Refusal});
       pass = before.pass;
       lines = before.lines;
