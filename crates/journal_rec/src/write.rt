@@ -15,8 +15,8 @@ use issuer_base::{Command, Entry, MAX_BODY_BYTES, MAX_REPLY_BYTES, Pan, Parts, R
 
 const NEWLINE: u8 = b'\n';
 
-/// The most digits of a word of a line: those of the longest reply.
-const WORD_DIGITS: usize = 2 * MAX_REPLY_BYTES;
+/// What stands for the digits of a word until they are written: as many as the longest reply has.
+const BLANKS: [u8; 2 * MAX_REPLY_BYTES] = [0; 2 * MAX_REPLY_BYTES];
 
 /// The text of a record: its line, and the newline that ends it. The reply of a decided request must not be empty. A
 /// sequence number must be two decimal digits, a queued command one that the host sends, and a status 0 to 9.
@@ -119,11 +119,10 @@ fn put_word(line: &mut ArrayVec<u8, RECORD_ROOM>, bytes: &[u8])
     ensures room { array_vec_len line.new ≡ array_vec_len line.old + (2 * length bytes.now + 1) }
     ensures bytes { IsBytes bytes.now }
 {
-    let mut digits = [0; WORD_DIGITS];
-    let digits = &mut digits[..2 * bytes.len()];
-    encode_into(bytes, digits);
     line.push(b' ');
-    put(line, digits);
+    let start = line.len();
+    put(line, &BLANKS[..2 * bytes.len()]);
+    encode_into(bytes, &mut line.as_mut_slice()[start..]);
 }
 
 /// Appends these bytes.
