@@ -5,6 +5,7 @@ ghost use Rattle.hex.specs.Hex.{encode_lower};
 ghost use Rattle.arrayvec.specs.ArrayVec.{array_vec_len};
 ghost use Rattle.tlv_objects.specs.Writing.{tag_bytes};
 
+use crate::digits::encode_into;
 use arrayvec::ArrayVec;
 use itoa::Buffer;
 use tlv_objects::tag_bytes;
@@ -12,7 +13,8 @@ use tlv_objects::tag_bytes;
 /// The capacity in bytes of the buffer of a line; the longest line has 360.
 pub const LINE_ROOM: usize = 512;
 
-const HEX_DIGITS: &[u8; 16] = b"0123456789abcdef";
+/// What stands for digits until they are written.
+const BLANKS: [u8; LINE_ROOM] = [0; LINE_ROOM];
 
 /// Appends the text. The line needs room for it.
 pub fn put(out: &mut ArrayVec<u8, LINE_ROOM>, text: &[u8])
@@ -50,19 +52,9 @@ pub(crate) fn put_digits(out: &mut ArrayVec<u8, LINE_ROOM>, bytes: &[u8])
     ensures text { out.new.items ≡ out.old.items ++ encode_lower bytes.now }
     ensures room { array_vec_len out.new ≡ array_vec_len out.old + 2 * length bytes.now }
 {
-    for byte in bytes {
-        put_byte(out, *byte);
-    }
-}
-
-#[tactic(auto, unfolding(hex::specs::Hex::encode_with))]
-fn put_byte(out: &mut ArrayVec<u8, LINE_ROOM>, byte: u8)
-    requires { array_vec_len out.old + 2 ≤ LINE_ROOM }
-    ensures text { out.new.items ≡ out.old.items ++ encode_lower (byte ∷ []) }
-    ensures room { array_vec_len out.new ≡ array_vec_len out.old + 2 }
-{
-    out.push(HEX_DIGITS[usize::from(byte / 16)]);
-    out.push(HEX_DIGITS[usize::from(byte % 16)]);
+    let start = out.len();
+    put(out, &BLANKS[..2 * bytes.len()]);
+    encode_into(bytes, &mut out.as_mut_slice()[start..]);
 }
 
 /// Appends a space, and the tag's bytes in hexadecimal digits, without leading zero bytes.
