@@ -79,9 +79,27 @@ pub(crate) fn decode<const CAP: usize>(digits: &[u8]) -> Option<ArrayVec<u8, CAP
     Some(bytes)
 }
 
-/// Encodes the bytes as digits. Digits are computed by sums, not read from a table, so that the compiler can vectorise
-/// the loop.
+/// How many bytes the compiler encodes at once.
+const LANES: usize = 8;
+
+/// Encodes the bytes as digits. If their number is no multiple of eight, the last eight are encoded together, some of
+/// them for the second time, since that takes less time than the remainder one byte at a time.
 pub(crate) fn encode_into(bytes: &[u8], out: &mut [u8])
+    requires { length out.old ≡ 2 * length bytes.now }
+    ensures digits { out.new ≡ encode_lower bytes.now }
+    ensures bytes { IsBytes bytes.now }
+{
+    let whole = bytes.len() - bytes.len() % LANES;
+    encode_each(&bytes[..whole], &mut out[..2 * whole]);
+    if whole < bytes.len() {
+        let last = bytes.len().saturating_sub(LANES);
+        encode_each(&bytes[last..], &mut out[2 * last..]);
+    }
+}
+
+/// Encodes the bytes one after another. Digits are computed by sums, not read from a table, so that the compiler can
+/// vectorise the loop.
+fn encode_each(bytes: &[u8], out: &mut [u8])
     requires { length out.old ≡ 2 * length bytes.now }
     ensures digits { out.new ≡ encode_lower bytes.now }
     ensures bytes { IsBytes bytes.now }

@@ -1,14 +1,12 @@
--- Each byte adds two digits.
-use Rattle.std.proofs.Common.{ℕ, arith, slice_index, ap, ◌∙◌}
-use Rattle.std.proofs.lemmas.Nat.{and_mask}
-use Rattle.hex.specs.Hex.{lower_digits}
-use Rattle.hex.proofs.Pairs.{encode_step, encode_done}
+-- The last bytes are encoded over the end of the others' digits.
+use Rattle.std.proofs.Common.{ap, ◌∙◌, arith}
+use Rattle.std.proofs.lemmas.List.{take_rest}
+use Rattle.hex.specs.Hex.{encode_lower}
+use Rattle.journal_rec.proofs.Overlap.{encode_lower-over}
 use Rattle.journal_rec.proofs.digits.encode_into.Goals as goal
 
-pub bytes-preserved : goal.bytes-preserved
-bytes-preserved c =
-    encode_step lower_digits c.args.bytes.now c.bytes.out c.bytes.i _ _ (omega arith) (omega arith) c.digit-high.ensures
-    (c.digit-low.ensures ∙ ap (λ (k : ℕ). slice_index lower_digits k) (and_mask (slice_index c.args.bytes.now c.bytes.i) 4)) c.bytes.invariant
-
-pub returns-clause-digits : goal.returns-clause-digits
-returns-clause-digits c = encode_done _ _ _ c.bytes.i (omega arith) (omega arith) c.bytes.invariant
+pub returns-then-whole-bytes-clause-digits : goal.returns-then-whole-bytes-clause-digits
+returns-then-whole-bytes-clause-digits c =
+    encode_lower-over c.args.bytes.now _ _ c.args.out.now _ c.saturating_sub-last.result (omega arith) (omega arith)
+    c.encode_each.ensures.digits
+    (c.encode_each-then-whole-bytes.ensures.digits ∙ ap encode_lower (take_rest c.args.bytes.now c.saturating_sub-last.result))
