@@ -5,7 +5,6 @@ mod answer_line;
 mod bytes_line;
 mod card_words;
 mod count_line;
-mod digits;
 mod queue_line;
 mod stop_line;
 mod words;

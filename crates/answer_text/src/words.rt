@@ -5,8 +5,8 @@ ghost use Rattle.hex.specs.Hex.{encode_lower};
 ghost use Rattle.arrayvec.specs.ArrayVec.{array_vec_len};
 ghost use Rattle.tlv_objects.specs.Writing.{tag_bytes};
 
-use crate::digits::encode_into;
 use arrayvec::ArrayVec;
+use hex_lower::encode_into;
 use itoa::Buffer;
 use tlv_objects::tag_bytes;
 

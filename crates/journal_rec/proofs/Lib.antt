@@ -5,7 +5,6 @@ pub mod PanLemmas
 pub mod Joined
 pub mod Exact
 pub mod HexText
-pub mod Overlap
 pub mod PanText
 pub mod Words
 pub mod Parts

@@ -1,6 +1,5 @@
 //! Hexadecimal digits in lower case.
-ghost use Rattle.std.specs.Prelude.{◌≡◌, ◌<◌, ◌≤◌, ◌*◌, length, slice_index, if◌then◌else◌, option_map, unwrap_or};
-ghost use Rattle.hex.specs.Hex.{encode_lower, lower_digits, IsBytes};
+ghost use Rattle.std.specs.Prelude.{◌≡◌, ◌≤◌, ◌*◌, length, if◌then◌else◌, option_map, unwrap_or};
 ghost use Rattle.journal_rec.specs.Reading.{byte_of, digit_value, spelled, spelled_within};
 
 use arrayvec::ArrayVec;
@@ -77,46 +76,4 @@ pub(crate) fn decode<const CAP: usize>(digits: &[u8]) -> Option<ArrayVec<u8, CAP
         return None;
     }
     Some(bytes)
-}
-
-/// How many bytes the compiler encodes at once.
-const LANES: usize = 8;
-
-/// Encodes the bytes as digits. If their number is no multiple of eight, the last eight are encoded together, some of
-/// them for the second time, since that takes less time than the remainder one byte at a time.
-pub(crate) fn encode_into(bytes: &[u8], out: &mut [u8])
-    requires { length out.old ≡ 2 * length bytes.now }
-    ensures digits { out.new ≡ encode_lower bytes.now }
-    ensures bytes { IsBytes bytes.now }
-{
-    let whole = bytes.len() - bytes.len() % LANES;
-    encode_each(&bytes[..whole], &mut out[..2 * whole]);
-    if whole < bytes.len() {
-        let last = bytes.len().saturating_sub(LANES);
-        encode_each(&bytes[last..], &mut out[2 * last..]);
-    }
-}
-
-/// Encodes the bytes one after another. Digits are computed by sums, not read from a table, so that the compiler can
-/// vectorise the loop.
-fn encode_each(bytes: &[u8], out: &mut [u8])
-    requires { length out.old ≡ 2 * length bytes.now }
-    ensures digits { out.new ≡ encode_lower bytes.now }
-    ensures bytes { IsBytes bytes.now }
-{
-    'bytes: for i in 0..bytes.len() {
-        let high = digit(bytes[i] >> 4);
-        let low = digit(bytes[i] & 0x0F);
-        out[2 * i] = high;
-        out[2 * i + 1] = low;
-    }
-}
-
-/// The digit of a value.
-fn digit(value: u8) -> u8
-    requires { value < 16 }
-    ensures { result ≡ slice_index lower_digits value }
-{
-    let letters = if value < 10 { 0 } else { b'a' - b'0' - 10 };
-    b'0' + value + letters
 }

@@ -7,10 +7,10 @@ ghost use Rattle.issuer_base.specs.CardNumber.{is_pan};
 ghost use Rattle.journal_rec.specs.RecordText.{pan_bytes, request_bytes, request_fields, text_of};
 ghost use Rattle.journal_rec.specs.Record.{IsCommand, IsRecord, IsReply, IsRequest, is_record, request_sizes};
 
-use crate::digits::encode_into;
 use crate::limits::{COMMAND_BYTES, RECORD_ROOM, REQUEST_BYTES};
 use crate::pan::pan_bytes;
 use arrayvec::ArrayVec;
+use hex_lower::encode_into;
 use issuer_base::{Command, Entry, MAX_BODY_BYTES, MAX_REPLY_BYTES, Pan, Parts, Reply, Request};
 
 const NEWLINE: u8 = b'\n';

@@ -2,8 +2,8 @@
 use Rattle.std.proofs.Common.{ap, ◌∙◌, arith}
 use Rattle.std.proofs.lemmas.List.{take_rest}
 use Rattle.hex.specs.Hex.{encode_lower}
-use Rattle.journal_rec.proofs.Overlap.{encode_lower-over}
-use Rattle.journal_rec.proofs.digits.encode_into.Goals as goal
+use Rattle.hex_lower.proofs.Overlap.{encode_lower-over}
+use Rattle.hex_lower.proofs.encoding.encode_into.Goals as goal
 
 pub returns-then-whole-bytes-clause-digits : goal.returns-then-whole-bytes-clause-digits
 returns-then-whole-bytes-clause-digits c =

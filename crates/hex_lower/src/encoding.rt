@@ -1,15 +1,16 @@
-//! Hexadecimal digits in lower case.
+//! The encoding of bytes.
 ghost use Rattle.std.specs.Prelude.{◌≡◌, ◌<◌, ◌*◌, length, slice_index};
-ghost use Rattle.hex.specs.Hex.{encode_lower, lower_digits};
+ghost use Rattle.hex.specs.Hex.{encode_lower, lower_digits, IsBytes};
 
 /// How many bytes the compiler encodes at once.
 const LANES: usize = 8;
 
 /// Encodes the bytes as digits. If their number is no multiple of eight, the last eight are encoded together, some of
 /// them for the second time, since that takes less time than the remainder one byte at a time.
-pub(crate) fn encode_into(bytes: &[u8], out: &mut [u8])
+pub fn encode_into(bytes: &[u8], out: &mut [u8])
     requires { length out.old ≡ 2 * length bytes.now }
-    ensures { out.new ≡ encode_lower bytes.now }
+    ensures digits { out.new ≡ encode_lower bytes.now }
+    ensures bytes { IsBytes bytes.now }
 {
     let whole = bytes.len() - bytes.len() % LANES;
     encode_each(&bytes[..whole], &mut out[..2 * whole]);
@@ -23,7 +24,8 @@ pub(crate) fn encode_into(bytes: &[u8], out: &mut [u8])
 /// vectorise the loop.
 fn encode_each(bytes: &[u8], out: &mut [u8])
     requires { length out.old ≡ 2 * length bytes.now }
-    ensures { out.new ≡ encode_lower bytes.now }
+    ensures digits { out.new ≡ encode_lower bytes.now }
+    ensures bytes { IsBytes bytes.now }
 {
     'bytes: for i in 0..bytes.len() {
         let high = digit(bytes[i] >> 4);

@@ -1,7 +1,7 @@
 -- The invariant of the loop over bytes.
 use Rattle.std.proofs.Common.{◌≡◌, ◌*◌, ◌++◌, take, drop}
 use Rattle.hex.specs.Hex.{encode_lower}
-use Rattle.journal_rec.proofs.digits.encode_each.Given as goal
+use Rattle.hex_lower.proofs.encoding.encode_each.Given as goal
 
 -- the digits so far and those of the other bytes
 abbrev pub invariant-bytes : goal.invariant-bytes

@@ -3,7 +3,7 @@ use Rattle.std.proofs.Common.{ℕ, arith, slice_index, ap, ◌∙◌}
 use Rattle.std.proofs.lemmas.Nat.{and_mask}
 use Rattle.hex.specs.Hex.{lower_digits}
 use Rattle.hex.proofs.Pairs.{encode_step, encode_done}
-use Rattle.journal_rec.proofs.digits.encode_each.Goals as goal
+use Rattle.hex_lower.proofs.encoding.encode_each.Goals as goal
 
 pub bytes-preserved : goal.bytes-preserved
 bytes-preserved c =

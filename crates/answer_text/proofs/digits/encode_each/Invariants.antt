@@ -1,8 +1,0 @@
--- The invariant of the loop over bytes.
-use Rattle.std.proofs.Common.{◌≡◌, ◌*◌, ◌++◌, take, drop}
-use Rattle.hex.specs.Hex.{encode_lower}
-use Rattle.answer_text.proofs.digits.encode_each.Given as goal
-
--- the digits so far and those of the other bytes
-abbrev pub invariant-bytes : goal.invariant-bytes
-invariant-bytes l = take (2 * l.i) l.out ++ encode_lower (drop l.i l.bytes) ≡ encode_lower l.bytes
