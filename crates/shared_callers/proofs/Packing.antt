@@ -23,12 +23,6 @@ module _ (most : ℕ) (bytes line : List ℕ) where
       (λ number span other is other_is.
       line-stays span (at-all (LiesIn most bytes) spans number span lie is) ∙ ap (line_at bytes) (some-same span other (sym is ∙ other_is)))
 
-  -- they lie in the longer buffer
-  pub all-lie : (spans : List Span) → All (LiesIn most bytes) spans → All (LiesIn most (bytes ++ line)) spans
-  all-lie spans lie = λ k d below.
-      let lies = lie k d below in
-      record { in_order = lies.in_order; within = omega (arith, length-append bytes line, lies.within); short = lies.short }
-
   -- and the bytes that follow are the last line
   pub last-line : (span : Span) → span.start ≡ length bytes → span.end ≡ length (bytes ++ line) → line_at (bytes ++ line) span ≡ line
   last-line span from to =

@@ -87,8 +87,8 @@ where
     written
 }
 
-/// Has a thread of its own answer for each caller, while this thread exchanges what the half has. This thread spawns all
-/// the others.
+/// Has a thread of its own answer for each caller but the last. This thread spawns these threads, then exchanges what
+/// the half has, and then answers for the last caller. So there are as many threads as callers.
 #[cycle(round)]
 fn exchange_beside<S, R, G, W>(
     rt: &R,
@@ -114,14 +114,15 @@ where
     ensures faults { CountsFaults (W.faults out.old) (W.faults out.new) (is_err result) }
 {
     if lanes.len() == 1 {
-        return exchange_beside_one(rt, host, gate, half, reader, block, out, lanes);
+        let written = half.exchange(reader, block, out);
+        lanes[0].answer(rt, host, gate);
+        return written;
     }
     let (first, others) = lanes.split_at_mut(1);
     exchange_beside_both(rt, host, gate, half, reader, block, out, first, others)
 }
 
-/// Has a thread of its own answer for the first caller, while this thread spawns one for each of the others, and then
-/// exchanges what the half has.
+/// Has a thread of its own answer for the first caller, while this thread does what is left, as [`exchange_beside`] says.
 #[cycle(round)]
 fn exchange_beside_both<S, R, G, W>(
     rt: &R,
@@ -164,46 +165,6 @@ where
             × CountsFaults (W.faults out.entry.now) (W.faults out.exit.now) (is_err result) }
     { exchange_beside(rt, host, gate, half, reader, block, out, others) };
     let (_, written) = thread::join_mut(rt, &mut front, &mut back);
-    written
-}
-
-/// Has a thread of its own answer for one caller, while this thread exchanges what the half has.
-fn exchange_beside_one<S, R, G, W>(
-    rt: &R,
-    host: &Host<S>,
-    gate: &G,
-    half: &mut Half,
-    reader: &mut LineReader,
-    block: &mut Block,
-    out: &mut W,
-    lanes: &mut [Lane],
-) -> Result<(), WriteFault>
-where
-    S: Store + Send,
-    R: Threads + Wait + Sync,
-    G: Gate + Sync,
-    W: Sink,
-    requires free { All (λ lane. IsFree host.now lane.pass) lanes.old × (0 < length lanes.old) }
-    requires none { half.old.waiting ≡ 0 }
-    requires block { (block.old.text.items ≡ []) × (block.old.lines ≡ 0) }
-    ensures lanes { LanesAnswer host.now lanes.old lanes.new }
-    ensures exchanged { HasExchanged half.old half.new reader.old reader.new (W.held out.old) (W.held out.new) result }
-    ensures block { (block.new.text.items ≡ []) × (block.new.lines ≡ 0) }
-    ensures faults { CountsFaults (W.faults out.old) (W.faults out.new) (is_err result) }
-{
-    let mut answer = ||
-        requires { IsSync R.row × IsSync G.row × IsSend S.row × (0 < length lanes.now)
-            × All (λ lane. IsFree host.now lane.pass) lanes.now }
-        ensures { LanesAnswer host.entry.now lanes.entry.now lanes.exit.now }
-    { answer_at_once(rt, host, gate, lanes) };
-    let mut exchange = || -> Result<(), WriteFault>
-        requires { (half.now.waiting ≡ 0) × (block.now.text.items ≡ []) × (block.now.lines ≡ 0) }
-        ensures { HasExchanged half.entry.now half.exit.now reader.entry.now reader.exit.now (W.held out.entry.now)
-            (W.held out.exit.now) result
-            × (block.exit.now.text.items ≡ []) × (block.exit.now.lines ≡ 0)
-            × CountsFaults (W.faults out.entry.now) (W.faults out.exit.now) (is_err result) }
-    { half.exchange(reader, block, out) };
-    let (_, written) = thread::join_mut(rt, &mut answer, &mut exchange);
     written
 }
 
