@@ -1,7 +1,7 @@
 -- All slots computed from the open ones, and how a stored decision changes them.
-use Rattle.std.proofs.Common.{◌≡◌, ℕ, ◌+◌, ◌-◌, ◌<◌, ◌≤◌, List, [], ◌∷◌, ◌++◌, length, replicate, set, get_or, Option, None, refl, ap, sym, ◌∙◌, arith}
+use Rattle.std.proofs.Common.{◌≡◌, ℕ, ◌+◌, ◌-◌, ◌<◌, ◌≤◌, List, [], ◌++◌, length, replicate, set, get_or, Option, None, refl, ap, sym, ◌∙◌, arith}
 use Rattle.std.proofs.Common.{append_assoc}
-use Rattle.std.proofs.lemmas.List.{get_or_default, get_or_append_left, get_or-append_right, set-append_left, set-append_right, replicate-append-replicate}
+use Rattle.std.proofs.lemmas.List.{get_or_default, get_or_append_left, get_or-append_right, set-append_left, replicate-append-replicate}
 use Rattle.std.proofs.lemmas.List.{length-append, length-set, length-replicate}
 use Rattle.issuer_base.specs.declared.limits.TheConstants.{WINDOW}
 use Rattle.card_history.specs.declared.decision.Decision.{Decision}
@@ -49,29 +49,13 @@ all_slots-more opened more few =
     ∙ append_assoc opened (replicate more no_decision) (replicate (WINDOW - (length opened + more)) no_decision)
     ∙ ap (λ slots. opened ++ slots) (replicate-append-replicate more (WINDOW - (length opened + more)) no_decision ∙ ap (λ n. replicate n no_decision) rest)
 
--- the first slot that isn't open is opened with this in it
-pub all_slots-push : (opened : List (Option Decision)) (value : Option Decision) → length opened < WINDOW
-    → all_slots (opened ++ value ∷ []) ≡ set (all_slots opened) (length opened) value
-unfolding all_slots
-all_slots-push opened value few =
-    let long : length (opened ++ value ∷ []) ≡ length opened + 1 = length-append opened (value ∷ []) in
-    let one : 1 + (WINDOW - (length opened + 1)) ≡ WINDOW - length opened = omega arith in
-    let at : length opened - length opened ≡ 0 = omega arith in
-    ap (λ n. (opened ++ value ∷ []) ++ replicate (WINDOW - n) no_decision) long
-    ∙ append_assoc opened (value ∷ []) (replicate (WINDOW - (length opened + 1)) no_decision)
-    ∙ sym (ap (λ n. set (opened ++ replicate n no_decision) (length opened) value) (sym one)
-    ∙ ap (λ slots. set (opened ++ slots) (length opened) value) (sym (replicate-append-replicate 1 (WINDOW - (length opened + 1)) no_decision))
-    ∙ set-append_right opened (no_decision ∷ replicate (WINDOW - (length opened + 1)) no_decision) (length opened) (length opened) value refl (omega arith)
-    ∙ ap (λ n. opened ++ set (no_decision ∷ replicate (WINDOW - (length opened + 1)) no_decision) n value) at)
-
--- a decision is kept in a slot that isn't open
-pub all_slots-kept : (opened before after : List (Option Decision)) (slot : ℕ) (value : Option Decision) → length opened ≤ slot → slot < WINDOW
-    → before ≡ opened ++ replicate (slot - length opened) no_decision → after ≡ before ++ value ∷ []
-    → all_slots after ≡ set (all_slots opened) slot value
-all_slots-kept opened before after slot value ahead few grown pushed =
-    let long : length before ≡ slot = ap length grown ∙ length-append opened (replicate (slot - length opened) no_decision)
-    ∙ omega (arith, length-replicate (slot - length opened) no_decision) in
-    ap all_slots pushed
-    ∙ all_slots-push before value (omega arith)
-    ∙ ap (λ n. set (all_slots before) n value) long
-    ∙ ap (λ slots. set slots slot value) (ap all_slots grown ∙ all_slots-more opened (slot - length opened) (omega arith))
+-- a slot is filled once the slots up to it are opened
+pub all_slots-filled : (opened grown : List (Option Decision)) (slot : ℕ) (value : Option Decision) → length opened ≤ WINDOW → slot < WINDOW
+    → grown ≡ opened ++ replicate (slot + 1 - length opened) no_decision
+    → all_slots (set grown slot value) ≡ set (all_slots opened) slot value
+all_slots-filled opened grown slot value within few is =
+    let more = slot + 1 - length opened in
+    let long : length grown ≡ length opened + (slot + 1 - length opened) = ap length is ∙ length-append opened (replicate more no_decision)
+    ∙ ap (λ n. length opened + n) (length-replicate more no_decision) in
+    all_slots-set grown slot value (omega (arith, long))
+    ∙ ap (λ slots. set slots slot value) (ap all_slots is ∙ all_slots-more opened more (omega arith))

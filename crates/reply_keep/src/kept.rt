@@ -1,9 +1,10 @@
 //! The slots of a card's decisions.
-ghost use Rattle.std.specs.Prelude.{◌≡◌, ◌+◌, ◌-◌, ◌≤◌, ◌++◌, None, length, replicate, vec_capacity, IfOk, option_copied};
+ghost use Rattle.std.specs.Prelude.{◌≡◌, ◌+◌, ◌-◌, ◌<◌, [], ◌++◌, None, Some, length, replicate, vec_capacity, IfOk, option_copied};
 ghost use Rattle.reply_keep.specs.ReplySlots.{none_kept, in_slot, kept_on, with_kept, all_slots};
 
 use crate::KeptEntry;
-use issuer_base::{NoMemory, WINDOW};
+use arrayvec::ArrayVec;
+use issuer_base::{NoMemory, Reply, Request, WINDOW};
 use std::alloc::Global;
 use std::marker::Model;
 
@@ -46,17 +47,15 @@ impl Kept {
         found.filter(|decision| decision.request.parts().atc == counter)
     }
 
-    /// Stores a decision in its ATC's slot, and overwrites what is there.
-    pub fn keep(&mut self, item: KeptEntry)
-        ensures { self.new ≡ with_kept item self.old }
+    /// Stores a decision in its ATC's slot, and overwrites what is there: this reply to this request, with its record
+    /// at this index.
+    #[inline(always)]
+    pub fn keep(&mut self, request: &Request, reply: &Reply, place: u64)
+        ensures { self.new ≡ with_kept (record { request = request.now; reply = reply.now; place = place }) self.old }
     {
-        let slot = usize::from(item.request.parts().atc % WINDOW);
-        if slot < self.opened.len() {
-            self.opened[slot] = Some(item);
-            return;
-        }
-        open_before(&mut self.opened, slot);
-        self.opened.push_reserved(Some(item));
+        let slot = usize::from(request.parts().atc % WINDOW);
+        open_to(&mut self.opened, slot);
+        fill(&mut self.opened[slot], request, reply, place);
     }
 
     /// Removes all decisions. The room for one in each slot stays.
@@ -78,14 +77,56 @@ fn in_slot(opened: &[Option<KeptEntry>], slot: usize) -> Option<&KeptEntry>
     }
 }
 
-/// Opens the slots before this one, which are empty.
-fn open_before(opened: &mut Vec<Option<KeptEntry>>, slot: usize)
-    requires ahead { length opened.old.items ≤ slot }
-    requires room { slot ≤ vec_capacity opened.old }
-    ensures grown { opened.new.items ≡ opened.old.items ++ replicate (slot - length opened.old.items) None }
+/// Opens the slots up to this one, which are empty.
+fn open_to(opened: &mut Vec<Option<KeptEntry>>, slot: usize)
+    requires { slot < vec_capacity opened.old }
+    ensures grown { opened.new.items ≡ opened.old.items ++ replicate (slot + 1 - length opened.old.items) None }
     ensures room { vec_capacity opened.new ≡ vec_capacity opened.old }
 {
-    for _ in opened.len()..slot {
+    if slot < opened.len() {
+        return;
+    }
+    for _ in opened.len()..slot + 1 {
         opened.push_reserved(None);
     }
+}
+
+/// Stores a decision in a slot. The bytes of its reply are copied once, straight into the slot.
+fn fill(slot: &mut Option<KeptEntry>, request: &Request, reply: &Reply, place: u64)
+    ensures { slot.new ≡ Some (record { request = request.now; reply = reply.now; place = place }) }
+{
+    begin(slot, request, reply, place);
+    if let Some(entry) = slot {
+        let bytes = &mut entry.reply.bytes;
+        bytes.try_extend_from_slice(reply.bytes.as_slice()).unwrap();
+    }
+}
+
+/// Stores a decision in a slot, but for the bytes of its reply: there are none yet.
+fn begin(slot: &mut Option<KeptEntry>, request: &Request, reply: &Reply, place: u64)
+    ensures { slot.new ≡ Some (record {
+      request = request.now;
+      reply = record { arc = reply.now.arc; approve = reply.now.approve; bytes = record { items = [] } };
+      place = place;
+    }) }
+{
+    let Some(entry) = slot else {
+        let bytes = ArrayVec::new();
+        let reply = Reply {
+            arc: reply.arc,
+            approve: reply.approve,
+            bytes,
+        };
+        *slot = Some(KeptEntry {
+            request: request.copy(),
+            reply,
+            place,
+        });
+        return;
+    };
+    entry.request = request.copy();
+    entry.reply.arc = reply.arc;
+    entry.reply.approve = reply.approve;
+    entry.reply.bytes.clear();
+    entry.place = place;
 }
