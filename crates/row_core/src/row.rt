@@ -28,7 +28,7 @@ use issuer_base::{
     Request, WINDOW,
 };
 use key_derive::{LazyKeys, SessionKey};
-use reply_keep::{Kept, KeptEntry};
+use reply_keep::Kept;
 use script_queue::Queue;
 use std::alloc::Global;
 use std::marker::Model;
@@ -187,6 +187,7 @@ impl Row {
 
     /// Applies the decision that a plan on this row, unchanged since, gave for this request: its reply, with the launch
     /// of its batch. Its record is at this index.
+    #[inline(always)]
     pub fn apply(&mut self, request: &Request, reply: &Reply, launch: Option<Launch>, place: u64)
         requires { IsLaunchFor self.old request.now launch }
         ensures { (card : CardInfo) (history : List Entry) → StandsFor card self.old history
@@ -195,11 +196,7 @@ impl Row {
             (record { request = request.now; reply = reply.now; place = place })) }
     {
         self.take_off(request, launch);
-        self.kept.keep(KeptEntry {
-            request: request.copy(),
-            reply: reply.copy(),
-            place,
-        });
+        self.kept.keep(request, reply, place);
     }
 
     /// Queues a command for the card, and returns its number in the card's queue, from 0. If the queue accepts no more,

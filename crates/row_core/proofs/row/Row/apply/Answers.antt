@@ -1,9 +1,6 @@
 -- The row's scripts change by the decision, which is stored in its ATC's slot.
-use Rattle.std.proofs.Common.{ap₂, sym, ◌∙◌, subst}
-use Rattle.issuer_base.specs.declared.request.Request.{Request}
-use Rattle.issuer_base.specs.declared.answer.Reply.{Reply}
+use Rattle.std.proofs.Common.{sym, subst}
 use Rattle.card_history.specs.declared.decision.Decision.{Decision}
-use Rattle.reply_keep.specs.ReplySlots.{with_kept}
 use Rattle.row_core.specs.CardRow.{CardRow}
 use Rattle.row_core.specs.Launching.{TakesOff}
 use Rattle.row_core.proofs.RowLemmas.{stands-next}
@@ -13,9 +10,8 @@ pub returns : goal.returns
 returns c = λ card history stands next.
     let before = c.args.self.now in
     let decision : Decision = record { request = c.args.request.now; reply = c.args.reply.now; place = c.args.place } in
-    let kept_as : Request → Reply → Decision = λ request reply. record { request = request; reply = reply; place = c.args.place } in
     stands-next card before _ history decision c.keep.new.self
     (subst (λ (after : CardRow). TakesOff before after c.args.request.now) (sym c.self.view_is) c.take_off.ensures)
-    (c.keep.ensures ∙ ap₂ (λ (request : Request) (reply : Reply). with_kept (kept_as request reply) c.self.inside.kept) c.copy.ensures c.copy-2.ensures)
+    c.keep.ensures
     stands
     next
