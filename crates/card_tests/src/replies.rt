@@ -2,7 +2,7 @@
 
 use arrayvec::ArrayVec;
 use issuer_base::Reply;
-use reply_keep::{Kept, KeptEntry};
+use reply_keep::Kept;
 use sample_issuer::purchase;
 use std::test::Fail;
 
@@ -16,11 +16,7 @@ fn finds_what_was_kept_last_in_a_slot(rt: HostRuntime) -> Result<(), Fail> {
             approve: true,
             bytes: ArrayVec::new(),
         };
-        kept.keep(KeptEntry {
-            request,
-            reply,
-            place,
-        });
+        kept.keep(&request, &reply, place);
     }
     for (name, counter, expected) in [
         ("the counter 0", 0, Some(5)),
