@@ -1,7 +1,7 @@
 -- What the definitions of an issuer's cards state: where a name is found, and which lists are valid.
 use Rattle.std.proofs.Common.{◌≡◌, ◌≢◌, ℕ, zero, suc, ◌+◌, ◌<◌, ◌≤◌, if◌then◌else◌, true, false, ◌&&◌, ◌||◌, leb, List, [], ◌∷◌, ◌++◌, length, get_or}
 use Rattle.std.proofs.Common.{take, drop, refl, ap, sym, ◌∙◌, subst, inl, inr, ◌⊎◌, Option, None, Some, length-append, add-zero, append-nil}
-use Rattle.std.proofs.Common.{append_assoc, All, IsTrue, arith}
+use Rattle.std.proofs.Common.{append_assoc, All, IsTrue, arith, cond, is_some}
 use Rattle.std.proofs.lemmas.Bool.{and_parts, and_from, and_left, and_right, leb-true, le-leb, lt-leb, cond-true, cond-false, cases_Bool, not-true}
 use Rattle.std.proofs.lemmas.Bool.{not_from_false, not_from_true}
 use Rattle.std.proofs.lemmas.List.{at_drop_more, at_drop_all, take_more, length-take-le}
@@ -15,8 +15,7 @@ use Rattle.issuer_base.specs.declared.limits.TheConstants.{MAX_CARDS}
 use Rattle.card_history.specs.Records.{CardName}
 use Rattle.issuer_setup.specs.declared.card.CardInfo.{CardInfo}
 use Rattle.issuer_setup.specs.CardList.{name_of, is_named, number_of, may_follow, first_bad, bad_card, AreCards}
-use Rattle.issuer_setup.specs.CardOrder.{name_at}
-use Rattle.issuer_setup.proofs.Names.{is_named-own, is_named-same, is_named-other, name_at-get_or}
+use Rattle.issuer_setup.proofs.Names.{name_at, is_named-own, is_named-same, is_named-other, name_at-get_or}
 
 number_from : (start : ℕ) (name : CardName) (cards : List CardInfo) (number : ℕ) → number < length cards → name_at cards number ≡ name
     → ((before : ℕ) → before < number → name_at cards before ≡ name → ⊥) → position_from (is_named name) start cards ≡ Some (start + number)
@@ -28,23 +27,43 @@ number_from start name (card ∷ cards) (suc number) below here first =
     let place : start + 1 + number ≡ start + suc number = omega arith in
     cond-false (is_named name card) _ _ other ∙ rest ∙ ap Some place
 
-none_from : (start : ℕ) (name : CardName) (cards : List CardInfo) → ((number : ℕ) → number < length cards → name_at cards number ≡ name → ⊥)
-    → position_from (is_named name) start cards ≡ None
-none_from start name [] absent = refl
-none_from start name (card ∷ cards) absent =
-    cond-false (is_named name card) _ _ (is_named-other name card (absent 0 (omega arith)))
-    ∙ none_from (start + 1) name cards (λ number below. absent (suc number) (omega arith))
-
 -- the first card with a name has the number that the name tells
 pub number_of-first : (name : CardName) (cards : List CardInfo) (number : ℕ) → number < length cards → name_at cards number ≡ name
     → ((before : ℕ) → before < number → name_at cards before ≡ name → ⊥) → number_of name cards ≡ Some number
 number_of-first name cards number below here first = number_from 0 name cards number below here first
     ∙ ap Some (let same : 0 + number ≡ number = omega arith in same)
 
--- a name that no card has tells no number
-pub number_of-none : (name : CardName) (cards : List CardInfo) → ((number : ℕ) → number < length cards → name_at cards number ≡ name → ⊥)
-    → number_of name cards ≡ None
-number_of-none name cards absent = none_from 0 name cards absent
+-- a name has a number if one of the cards has it
+pub is_some-number_from : (name : CardName) (start : ℕ) (cards : List CardInfo)
+    → is_some (position_from (is_named name) start cards) ≡ list_any (is_named name) cards
+is_some-number_from name start [] = refl
+is_some-number_from name start (card ∷ cards) =
+    let rest = is_some-number_from name (start + 1) cards in
+    elim (is_named name card) as
+    (λ named. is_some (cond named (Some start) (position_from (is_named name) (start + 1) cards)) ≡ (named || list_any (is_named name) cards)) [
+      | true ↦ refl
+      | false ↦ rest
+    ]
+
+-- a card of another name changes no number
+pub number_from-other : (name : CardName) (start : ℕ) (cards : List CardInfo) (card : CardInfo) → is_named name card ≡ false
+    → position_from (is_named name) start (cards ++ card ∷ []) ≡ position_from (is_named name) start cards
+number_from-other name start [] card other = cond-false (is_named name card) _ _ other
+number_from-other name start (first ∷ cards) card other =
+    ap (λ rest. cond (is_named name first) (Some start) rest) (number_from-other name (start + 1) cards card other)
+
+-- a card with a new name gives it its number
+pub number_from-own : (name : CardName) (start : ℕ) (cards : List CardInfo) (card : CardInfo) → is_named name card ≡ true
+    → position_from (is_named name) start cards ≡ None → position_from (is_named name) start (cards ++ card ∷ []) ≡ Some (start + length cards)
+number_from-own name start [] card own none = cond-true (is_named name card) _ _ own ∙ ap Some (sym (add-zero start))
+number_from-own name start (first ∷ cards) card own none =
+    elim (cases_Bool (is_named name first)) [
+      | inl named ↦ absurd (let some : Some start ≡ None = sym (cond-true (is_named name first) _ _ named) ∙ none in cc)
+      | inr other ↦
+          let rest = number_from-own name (start + 1) cards card own (sym (cond-false (is_named name first) _ _ other) ∙ none) in
+          let place : start + 1 + length cards ≡ start + length (first ∷ cards) = omega arith in
+          cond-false (is_named name first) _ _ other ∙ rest ∙ ap Some place
+    ]
 
 record IsFound (start : ℕ) (name : CardName) (cards : List CardInfo) (number : ℕ) : Type 0 where
   index : ℕ
@@ -75,21 +94,13 @@ number_of-found name cards number found =
     (it.card, subst (λ (n : ℕ). slice_get cards n ≡ Some it.card) same it.card_is, it.named)
 
 -- a name among some cards
-pub named-some : (name : CardName) (cards : List CardInfo) (number : ℕ) → number < length cards → name_at cards number ≡ name
+named-some : (name : CardName) (cards : List CardInfo) (number : ℕ) → number < length cards → name_at cards number ≡ name
     → list_any (is_named name) cards ≡ true
 named-some name [] number below here = absurd (omega arith)
 named-some name (card ∷ cards) zero below here = grind (arith, is_named-own name card here)
 named-some name (card ∷ cards) (suc number) below here =
     let rest = named-some name cards number (omega arith) here in
     elim (is_named name card) as (λ named. (named || list_any (is_named name) cards) ≡ true) [ true ↦ refl | false ↦ rest ]
-
-pub named-none : (name : CardName) (cards : List CardInfo) → ((number : ℕ) → number < length cards → name_at cards number ≡ name → ⊥)
-    → list_any (is_named name) cards ≡ false
-named-none name [] absent = refl
-named-none name (card ∷ cards) absent =
-    let rest = named-none name cards (λ number below. absent (suc number) (omega arith)) in
-    let first : is_named name card ≡ false = is_named-other name card (absent 0 (omega arith)) in
-    ap (λ named. named || list_any (is_named name) cards) first ∙ rest
 
 -- the cards so far are good
 record AreGood (cards : List CardInfo) : Type 0 where

@@ -2,7 +2,7 @@
 pub mod Shards
 pub mod KeyList
 pub mod CardList
-pub mod CardOrder
+pub mod CardIds
 pub mod KeptKeys
 pub mod IssuerSetup
 pub mod KeySlots

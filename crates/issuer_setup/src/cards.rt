@@ -1,11 +1,13 @@
 //! The cards of an issuer, each with its number.
 ghost use Rattle.std.specs.Prelude.{◌≡◌, None, IfOk, IfErr};
+ghost use Rattle.issuer_setup.specs.CardIds.{AreNumbersOf};
 ghost use Rattle.issuer_setup.specs.CardList.{number_of, bad_card, IsCardsFault, AreCards};
 
 use crate::card::CardInfo;
-use crate::card_order::{accounts_of, find_card, order_by_name};
-use issuer_base::Pan;
+use crate::card_id::CardId;
+use issuer_base::{MAX_CARDS, Pan, is_decimal};
 use std::alloc::{AllocError, Global};
+use std::collections::HashMap;
 use std::marker::Model;
 
 /// Why a list of cards is refused.
@@ -15,7 +17,7 @@ pub enum CardsFault {
     /// number of an earlier card; or, at 0, there is no card or there are more than 4,096.
     Card(u32),
 
-    /// Out of memory: the order of the cards could not be allocated.
+    /// Out of memory: the map of the cards' numbers could not be allocated.
     NoMemory,
 }
 
@@ -38,40 +40,33 @@ impl From<AllocError> for CardsFault {
 pub struct Cards {
     kept: Vec<CardInfo>,
 
-    /// The numbers of the cards, in the order of the cards' names.
-    by_name: Vec<u32>,
-
-    /// The cards' account numbers as integers, in the order of the cards' numbers.
-    accounts: Vec<u64>,
+    /// The number of each card by its name.
+    numbers: HashMap<CardId, u32>,
 }
 
 impl Model for Cards {
-    ghost use Rattle.std.specs.Prelude.{◌≡◌, List, None, length, map};
+    ghost use Rattle.std.specs.Prelude.{◌≡◌, List, None};
     ghost use Rattle.issuer_setup.specs.declared.card.CardInfo.{CardInfo};
+    ghost use Rattle.issuer_setup.specs.CardIds.{AreNumbersOf};
     ghost use Rattle.issuer_setup.specs.CardList.{bad_card};
-    ghost use Rattle.issuer_setup.specs.CardOrder.{IsOrder, account_of};
 
     ghost Value = { List CardInfo };
 
     ghost view = { λ cards. cards.kept.items };
 
-    ghost invariant = { λ cards. (bad_card cards.kept.items ≡ None)
-        × IsOrder cards.kept.items (length cards.kept.items) cards.by_name.items
-        × (cards.accounts.items ≡ map account_of cards.kept.items) };
+    ghost invariant = { λ cards. (bad_card cards.kept.items ≡ None) × AreNumbersOf cards.kept.items cards.numbers };
 }
 
 impl Cards {
-    /// These cards, or the first that isn't valid after those before it. Allocates the order of their names.
+    /// These cards, or the first that isn't valid after those before it. Allocates the map of their numbers.
     pub fn new(alloc: Global, cards: Vec<CardInfo>) -> Result<Cards, CardsFault>
         ensures same { IfOk result (λ kept. (bad_card cards.items ≡ None) × (kept ≡ cards.items)) }
         ensures refused { IfErr result (IsCardsFault cards.items) }
     {
-        let accounts = accounts_of(alloc, cards.as_slice())?;
-        let by_name = order_by_name(alloc, cards.as_slice(), accounts.as_slice())?;
+        let numbers = number_by_name(alloc, cards.as_slice())?;
         Ok(Cards {
             kept: cards,
-            by_name,
-            accounts,
+            numbers,
         })
     }
 
@@ -88,12 +83,28 @@ impl Cards {
         ensures number { result ≡ number_of (record { pan = pan.now; psn = psn }) self.now }
         ensures valid { AreCards self.now }
     {
-        find_card(
-            self.kept.as_slice(),
-            self.accounts.as_slice(),
-            self.by_name.as_slice(),
-            pan,
-            psn,
-        )
+        self.numbers.get(&CardId::new(pan, psn)).copied()
     }
+}
+
+/// The number of each card by its name, or the first card that isn't valid after those before it.
+fn number_by_name(alloc: Global, cards: &[CardInfo]) -> Result<HashMap<CardId, u32>, CardsFault>
+    ensures ok { IfOk result (λ numbers. (bad_card cards.now ≡ None) × AreNumbersOf cards.now numbers) }
+    ensures refused { IfErr result (IsCardsFault cards.now) }
+{
+    if cards.is_empty() || cards.len() > MAX_CARDS {
+        return Err(CardsFault::Card(0));
+    }
+    let mut numbers = HashMap::with_capacity(alloc, cards.len())?;
+    for (index, card) in cards.iter().enumerate() {
+        if !is_decimal(card.psn) {
+            return Err(CardsFault::Card(index as u32));
+        }
+        match numbers.insert(CardId::new(&card.pan, card.psn), index as u32) {
+            Ok(None) => {}
+            Ok(Some(_)) => return Err(CardsFault::Card(index as u32)),
+            Err(_) => return Err(CardsFault::NoMemory),
+        }
+    }
+    Ok(numbers)
 }

@@ -36,7 +36,7 @@ pub enum IssuerFault {
     /// number of an earlier card; or, at 0, there is no card or there are more than 4,096.
     Card(u32),
 
-    /// Out of memory: the order of the cards or their master keys could not be allocated.
+    /// Out of memory: the map of the cards' numbers or their master keys could not be allocated.
     NoMemory,
 }
 

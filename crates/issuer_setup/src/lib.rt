@@ -2,7 +2,7 @@
 #![tactic(auto)]
 
 mod card;
-mod card_order;
+mod card_id;
 mod cards;
 mod issuer;
 mod kept_keys;
