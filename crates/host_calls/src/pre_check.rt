@@ -1,5 +1,6 @@
 //! The check of a line before its turn.
 ghost use Rattle.std.specs.Prelude.{◌≡◌, ℕ, List, IfOk, MatchResult};
+ghost use Rattle.std.specs.Result.{result_map_both};
 ghost use Rattle.line_checks.specs.LookedUp.{IsLookUp};
 ghost use Rattle.line_checks.specs.Reading.{reading};
 ghost use Rattle.host_calls.specs.Passes.{claims_of, logs_of, IsFree, Holds};
@@ -11,6 +12,7 @@ ghost use Rattle.call_steps.specs.declared.checked.Checked.TheVariants.{Decide};
 use crate::host::Host;
 use crate::pass::Pass;
 use call_steps::Checked;
+use claim_words::Claim;
 use issuer_base::{Refusal, Store, WINDOW};
 use line_checks::{self, CheckedRequest, Sought, check_line};
 
@@ -31,10 +33,12 @@ impl<S: Store> Host<S> {
         // If it refuses the line, the pass is still free; otherwise the pass holds what was checked.
         ensures held { MatchResult result (Holds self.now pass.new) (λ _. IsFree self.now pass.new) }
     {
-        match check_line(&self.issuer, line)? {
-            line_checks::Checked::Decide(found) => self.claim(pass, found),
-            line_checks::Checked::Order(found) => Ok(Checked::Order(found)),
-        }
+        let found = match check_line(&self.issuer, line)? {
+            line_checks::Checked::Decide(found) => found,
+            line_checks::Checked::Order(found) => return Ok(Checked::Order(found)),
+        };
+        let claim = self.claim(pass, &found)?;
+        Ok(Checked::Decide { found, claim })
     }
 
     /// Checks a line that was looked up ahead, as [`Host::pre_check`] does.
@@ -55,22 +59,26 @@ impl<S: Store> Host<S> {
             → IfOk result (IsAskedBy self.now.issuer (reading self.now.issuer line)) }
         ensures held { MatchResult result (Holds self.now pass.new) (λ _. IsFree self.now pass.new) }
     {
-        match found {
-            Ok(Sought::Request(sought)) => self.claim(pass, sought.check(&self.issuer)?),
-            Ok(Sought::Order(found)) => Ok(Checked::Order(found.copy())),
-            Err(refusal) => Err(*refusal),
-        }
+        let sought = match found {
+            Ok(Sought::Request(sought)) => sought,
+            Ok(Sought::Order(found)) => return Ok(Checked::Order(found.copy())),
+            Err(refusal) => return Err(*refusal),
+        };
+        let found = sought.check(&self.issuer)?;
+        let claim = self.claim(pass, &found)?;
+        Ok(Checked::Decide { found, claim })
     }
 
     /// Claims the ATC of a checked request, unless it is below the window of its card's top.
-    fn claim(&self, pass: &mut Pass, found: CheckedRequest) -> Result<Checked, Refusal>
+    fn claim(&self, pass: &mut Pass, found: &CheckedRequest) -> Result<Claim, Refusal>
         requires free { IsFree self.now pass.old }
-        requires passed { HasPassed self.now.issuer (Decide found Won) }
-        ensures checks { ChecksRequest found.card found.request.atc (claims_of pass.old) result (claims_of pass.new) }
+        requires passed { HasPassed self.now.issuer (Decide found.now Won) }
+        ensures checks { ChecksRequest found.now.card found.now.request.atc (claims_of pass.old)
+            (result_map_both (Decide found.now) (λ refusal. refusal) result) (claims_of pass.new) }
         ensures names { (claims_of pass.new).names ≡ (claims_of pass.old).names }
         ensures logs { logs_of pass.new ≡ logs_of pass.old }
-        ensures found { IfOk result (λ checked. (claim : Claim) × (checked ≡ Decide found claim)) }
-        ensures held { MatchResult result (Holds self.now pass.new) (λ _. IsFree self.now pass.new) }
+        ensures held { MatchResult result (λ claim. Holds self.now pass.new (Decide found.now claim))
+            (λ _. IsFree self.now pass.new) }
     {
         let counter = found.request.parts().atc;
         if let Some(top) = self.claims.top(&mut pass.claims, found.card) {
@@ -78,7 +86,6 @@ impl<S: Store> Host<S> {
                 return Err(Refusal::Below(top));
             }
         }
-        let claim = self.claims.claim(&mut pass.claims, found.card, counter);
-        Ok(Checked::Decide { found, claim })
+        Ok(self.claims.claim(&mut pass.claims, found.card, counter))
     }
 }

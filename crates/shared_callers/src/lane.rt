@@ -189,8 +189,8 @@ fn pre_check<S: Store>(
     ensures asked { IfOk result (IsAskedBy host.now.issuer (reading host.now.issuer line.now)) }
     ensures held { MatchResult result (Holds host.now pass.new) (λ _. IsFree host.now pass.new) }
 {
-    match found {
-        Some(found) => host.pre_check_found(pass, found),
-        None => host.pre_check(pass, line),
+    if let Some(found) = found {
+        return host.pre_check_found(pass, found);
     }
+    host.pre_check(pass, line)
 }

@@ -1,5 +1,5 @@
 -- A host over the shards that were loaded at once, or the stores come back.
-use Rattle.std.proofs.Common.{inl, inr, rules, sym, ◌∙◌, ◌<◌, length}
+use Rattle.std.proofs.Common.{inl, inr, rules, sym, ◌∙◌}
 use Rattle.std.proofs.lemmas.Result.{MatchResult-weaker}
 use Rattle.shard_book.specs.declared.replay.LoadFault.TheVariants.{NoMemory}
 use Rattle.one_caller.proofs.Loads.{come-together, none-loaded, none-read}
