@@ -1,5 +1,6 @@
 //! Lines that were looked up and wait for their turns.
-ghost use Rattle.std.specs.Prelude.{◌≡◌, ◌<◌, ◌≤◌, ◌==◌, ℕ, List, [], ◌∷◌, ◌++◌, length, drop, IfOk, MatchOption};
+ghost use Rattle.std.specs.Prelude.{◌≡◌, ◌<◌, ◌≤◌, ◌==◌, ℕ, List, [], ◌∷◌, ◌++◌, length, drop, slice_get, IfOk, MatchOption};
+ghost use Rattle.std.specs.Option.{option_map};
 ghost use Rattle.line_checks.specs.LookedUp.{AreLookUps};
 ghost use Rattle.line_checks.specs.declared.lines_ahead.TheConstants.{MOST_AHEAD};
 
@@ -92,6 +93,13 @@ impl LinesAhead {
         ensures { MatchOption result (self.now ≡ []) (λ found. self.now ≡ found.now ∷ drop 1 self.now) }
     {
         self.found.front()
+    }
+
+    /// What the look-up of the line with this index gave; `None` if there are not as many.
+    pub fn get(&self, index: usize) -> Option<&Result<Sought, Refusal>>
+        ensures { option_map (λ found. found.now) result ≡ slice_get self.now index }
+    {
+        self.found.get(index)
     }
 
     /// Removes what the look-up of the first line gave, if there is one.
