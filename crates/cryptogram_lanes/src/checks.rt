@@ -113,7 +113,8 @@ pub(crate) fn macs_of(sessions: &LaneKeys, checks: &[DesCheck]) -> ArrayVec<[u8;
         → key_in lane sessions.now ≡ slice_index_or (map des_session checks.now) lane [] }
     ensures { result.items ≡ map des_mac checks.now }
 {
-    let inputs = inputs_of(checks);
+    let mut inputs = ArrayVec::new();
+    add_inputs(checks, &mut inputs);
     sessions.macs(inputs.as_slice()).first(checks.len())
 }
 
@@ -141,14 +142,13 @@ fn counters_of(checks: &[DesCheck]) -> ArrayVec<u16, 128>
     counters
 }
 
-/// The data of each check.
-fn inputs_of(checks: &[DesCheck]) -> ArrayVec<[u8; 65], 128>
-    requires { length checks.now ≤ 128 }
-    ensures { result.items ≡ map (λ check. check.input) checks.now }
+/// Adds the data of each check.
+fn add_inputs(checks: &[DesCheck], inputs: &mut ArrayVec<[u8; 65], 128>)
+    requires few { length checks.now ≤ 128 }
+    requires empty { inputs.old.items ≡ [] }
+    ensures { inputs.new.items ≡ map (λ check. check.input) checks.now }
 {
-    let mut inputs = ArrayVec::new();
     for check in checks {
         inputs.push(check.input);
     }
-    inputs
 }

@@ -45,18 +45,15 @@ impl SessionKey {
         SessionKey::of(keys.suite, session_ac(keys.suite, &keys.ac, atc))
     }
 
-    /// The session key of this suite with these sixteen bytes. Computes its key schedules. Each suite has a path of its
-    /// own, on which the compiler copies the key schedules once.
-    #[inline(always)]
+    /// The session key of this suite with these sixteen bytes. Computes its key schedules.
     pub fn of(suite: Suite, key: Key16) -> SessionKey
         ensures { result ≡ record { suite = suite; key = key.0 } }
     {
-        if let Suite::Aes = suite {
-            let mac = MacKey::new(Suite::Aes, &key);
-            return SessionKey { suite, key, mac };
+        SessionKey {
+            suite,
+            key,
+            mac: MacKey::new(suite, &key),
         }
-        let mac = MacKey::new(Suite::TripleDes, &key);
-        SessionKey { suite, key, mac }
     }
 
     /// The suite of the key.

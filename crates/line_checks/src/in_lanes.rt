@@ -1,5 +1,5 @@
 //! Checks of many requests' cryptograms at once, ahead of each request's turn.
-ghost use Rattle.std.specs.Prelude.{◌≡◌, ◌≤◌, length, All};
+ghost use Rattle.std.specs.Prelude.{◌≡◌, ◌≤◌, [], length, All};
 ghost use Rattle.std.specs.List.{AllZip};
 ghost use Rattle.cryptogram_lanes.specs.declared.checks.DesCheck.{DesCheck};
 ghost use Rattle.cryptogram_lanes.specs.Batch.{right_session};
@@ -33,7 +33,8 @@ fn check_all(issuer: &Issuer, found: &mut [Result<Sought, Refusal>])
     requires ready { All (IsReady issuer.now) found.old }
     ensures { AllZip (IsLookedUpAgain issuer.now) found.old found.new }
 {
-    let checks = checks_of(issuer, found);
+    let mut checks = ArrayVec::new();
+    add_checks(issuer, found, &mut checks);
     let sessions = right_sessions(checks.as_slice());
     for (i, element) in found.iter_mut().enumerate() {
         keep_verdict(element, sessions.as_slice()[i]);
@@ -52,27 +53,30 @@ fn is_in_lanes(found: &Result<Sought, Refusal>) -> bool {
     }
 }
 
-/// The check of each request of triple DES, at the index of the request. At each other index is a check of zeros.
-fn checks_of(issuer: &Issuer, found: &[Result<Sought, Refusal>]) -> ArrayVec<DesCheck, 128>
+/// Adds the check of each request of triple DES, at the index of the request. At each other index is a check of zeros.
+fn add_checks(
+    issuer: &Issuer,
+    found: &[Result<Sought, Refusal>],
+    checks: &mut ArrayVec<DesCheck, 128>,
+)
     requires few { length found.now ≤ 128 }
     requires ready { All (IsReady issuer.now) found.now }
-    ensures { AllZip (IsCheckOf issuer.now) found.now result.items }
+    requires empty { checks.old.items ≡ [] }
+    ensures { AllZip (IsCheckOf issuer.now) found.now checks.new.items }
 {
-    let mut checks = ArrayVec::new();
     for element in found {
         checks.push(check_of(issuer, element));
     }
-    checks
 }
 
 fn check_of(issuer: &Issuer, found: &Result<Sought, Refusal>) -> DesCheck
     requires { IsReady issuer.now found.now }
     ensures { IsCheckOf issuer.now found.now result }
 {
-    match found {
-        Ok(Sought::Request(sought)) => sought.check_ahead(issuer).unwrap_or_default(),
-        _ => DesCheck::default(),
-    }
+    let Ok(Sought::Request(sought)) = found else {
+        return DesCheck::default();
+    };
+    sought.check_ahead(issuer)
 }
 
 /// Keeps the verdict of the check that gave this session key, or none, if it is that of a request whose key is of triple

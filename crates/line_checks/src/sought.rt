@@ -1,5 +1,5 @@
 //! What is looked up for a line before a key is used.
-ghost use Rattle.std.specs.Prelude.{◌≡◌, IsSome, IfSome, IfOk};
+ghost use Rattle.std.specs.Prelude.{◌≡◌, IfOk};
 ghost use Rattle.std.specs.Result.{result_map_both};
 ghost use Rattle.card_history.specs.declared.decision.Asked.TheVariants.{Decide};
 ghost use Rattle.issuer_base.specs.declared.request.Suite.TheVariants.{TripleDes};
@@ -60,28 +60,29 @@ pub enum Verdict {
 impl SoughtRequest {
     /// Checks the request's cryptogram under the card's keys, unless its verdict is known
     /// ([`check_in_lanes`](crate::check_in_lanes)). The key schedule of its session key is computed once.
-    #[inline(always)]
+    #[inline]
     pub fn check(&self, issuer: &Issuer) -> Result<CheckedRequest, Refusal>
         requires { HasKeysAtHand issuer.now self.now }
         ensures request { result_map_both (λ found. Decide found.request) (λ refusal. refusal) result
             ≡ checked issuer.now self.now.request }
         ensures at_hand { IfOk result (IsRequestAtHand issuer.now) }
     {
-        match self.verdict {
-            Verdict::Unchecked => self.check_alone(issuer),
-            Verdict::Right(key) => Ok(CheckedRequest {
-                request: self.request.copy(),
-                card: self.card,
-                keys: issuer.keys(self.slot),
-                session: SessionKey::of(Suite::TripleDes, key),
-            }),
-            Verdict::Wrong => Err(Refusal::BadCryptogram),
-        }
+        let key = match self.verdict {
+            Verdict::Unchecked => return self.check_alone(issuer),
+            Verdict::Wrong => return Err(Refusal::BadCryptogram),
+            Verdict::Right(key) => key,
+        };
+        Ok(CheckedRequest {
+            request: self.request.copy(),
+            card: self.card,
+            keys: issuer.keys(self.slot),
+            session: SessionKey::of(Suite::TripleDes, key),
+        })
     }
 
     /// Checks the request's cryptogram under the card's keys.
     #[tactic(auto, unfolding(cryptogram_in::specs::Cryptogram::application_cryptogram))]
-    #[inline(always)]
+    #[inline(never)]
     fn check_alone(&self, issuer: &Issuer) -> Result<CheckedRequest, Refusal>
         requires { HasKeysAtHand issuer.now self.now }
         ensures request { result_map_both (λ found. Decide found.request) (λ refusal. refusal) result
@@ -101,17 +102,18 @@ impl SoughtRequest {
         })
     }
 
-    /// The check of the request's cryptogram, if the card's key is of triple DES.
-    pub(crate) fn check_ahead(&self, issuer: &Issuer) -> Option<DesCheck>
+    /// The check of the request's cryptogram, if the card's key is of triple DES; otherwise a check of zeros.
+    pub(crate) fn check_ahead(&self, issuer: &Issuer) -> DesCheck
         requires { HasKeysAtHand issuer.now self.now }
-        ensures some { suite_of self.now.request ≡ TripleDes → IsSome result }
-        ensures check { IfSome result (IsCheckFor issuer.now self.now) }
+        ensures { IsCheckFor issuer.now self.now result }
     {
         if self.request.suite() != Suite::TripleDes {
-            return None;
+            return DesCheck::default();
         }
-        let key = issuer.secrets(self.slot).ac(self.slot.suite())?;
-        Some(DesCheck::of(key, &self.request))
+        let Some(key) = issuer.secrets(self.slot).ac(self.slot.suite()) else {
+            return DesCheck::default();
+        };
+        DesCheck::of(key, &self.request)
     }
 
     /// Keeps the verdict of the check that gave this session key, or none, if the card's key is of triple DES.

@@ -23,14 +23,13 @@ pub enum MacKey {
 
 impl MacKey {
     /// Computes the key schedules of a key in this suite.
-    #[inline(always)]
     pub fn new(suite: Suite, key: &Key16) -> MacKey
         ensures { HasMacKey result suite key.now.0 }
     {
-        match suite {
-            Suite::TripleDes => MacKey::TripleDes(Tdes::new(key)),
-            Suite::Aes => MacKey::Aes(cmac_key(key)),
+        if let Suite::Aes = suite {
+            return MacKey::Aes(cmac_key(key));
         }
+        MacKey::TripleDes(Tdes::new(key))
     }
 
     /// The MAC of a text, eight bytes.

@@ -13,7 +13,7 @@ unfolding des_mac
 returns c =
     let checks : List DesCheck = c.args.checks.now in
     let text : DesCheck → List ℕ = λ check. check.input in
-    let texts = c.as_slice.ensures.value ∙ c.inputs_of-inputs.ensures in
+    let texts = c.as_slice.ensures.value ∙ c.add_inputs.ensures in
     c.first.ensures
     ∙ lanes_are checks des_session text [] [] retail_mac (λ lane. block_in lane c.macs.result) 0
     (λ i below.

@@ -14,11 +14,11 @@ use Rattle.line_checks.proofs.in_lanes.check_all.Goals as goal
 
 pub bounds-as_slice-i : goal.bounds-as_slice-i
 bounds-as_slice-i c =
-    let checks : List DesCheck = c.checks_of-checks.result.items in
+    let checks : List DesCheck = c.add_checks.new.checks.items in
     omega (
       arith,
       c.loop-i.invariant.len,
-      AllZip-long (IsCheckOf c.args.issuer.now) c.args.found.now checks c.checks_of-checks.ensures,
+      AllZip-long (IsCheckOf c.args.issuer.now) c.args.found.now checks c.add_checks.ensures,
       length-map checks right_session,
       ap length (c.as_slice-in-loop-i.ensures.value ∙ c.right_sessions-sessions.ensures ∙ ap (map right_session) c.as_slice.ensures.value),
     )
@@ -32,14 +32,14 @@ loop-i-preserved c =
     let new = c.keep_verdict.new.found in
     let old = c.index-found-i.result in
     let invariant = c.loop-i.invariant in
-    let checks : List DesCheck = c.checks_of-checks.result.items in
+    let checks : List DesCheck = c.add_checks.new.checks.items in
     let zero : DesCheck = record { key = record { 0 = [] }; atc = 0; input = []; ac = [] } in
-    let long = AllZip-long (IsCheckOf issuer) before checks c.checks_of-checks.ensures in
+    let long = AllZip-long (IsCheckOf issuer) before checks c.add_checks.ensures in
     let place : old ≡ get_or before i old = c.index-found-i.is ∙ same-from now before i old invariant.unchanged in
     let ready : IsReady issuer old = subst (IsReady issuer) (sym place) (c.requires.ready i old (omega (arith, invariant.len))) in
     let its : IsCheckOf issuer old (get_or checks i zero) =
     subst (λ found. IsCheckOf issuer found (get_or checks i zero)) (sym place)
-    (zip-at (IsCheckOf issuer) before checks i old zero c.checks_of-checks.ensures (omega (arith, invariant.len))) in
+    (zip-at (IsCheckOf issuer) before checks i old zero c.add_checks.ensures (omega (arith, invariant.len))) in
     let session : get_or c.as_slice-in-loop-i.result.now i None ≡ right_session (get_or checks i zero) =
     ap (λ xs. get_or xs i None)
     (c.as_slice-in-loop-i.ensures.value ∙ c.right_sessions-sessions.ensures ∙ ap (map right_session) c.as_slice.ensures.value)

@@ -1,7 +1,7 @@
 -- The data so far, and those of the checks after them.
 use Rattle.std.proofs.Common.{◌≡◌, ◌++◌, map, drop}
 use Rattle.arrayvec.specs.ArrayVec.{array_vec_len}
-use Rattle.cryptogram_lanes.proofs.checks.inputs_of.Given as goal
+use Rattle.cryptogram_lanes.proofs.checks.add_inputs.Given as goal
 
 abbrev pub invariant-loop-check : goal.invariant-loop-check
 invariant-loop-check l = record {

@@ -3,7 +3,7 @@ use Rattle.std.proofs.Common.{arith, sym, subst, ◌+◌, take}
 use Rattle.std.specs.List.{AllZip}
 use Rattle.line_checks.specs.LookedUp.{IsCheckOf}
 use Rattle.line_checks.proofs.Again.{zip_more}
-use Rattle.line_checks.proofs.in_lanes.checks_of.Goals as goal
+use Rattle.line_checks.proofs.in_lanes.add_checks.Goals as goal
 
 pub loop-element-preserved : goal.loop-element-preserved
 loop-element-preserved c =

@@ -3,7 +3,7 @@ use Rattle.std.proofs.Common.{◌≡◌, take}
 use Rattle.std.specs.List.{AllZip}
 use Rattle.arrayvec.specs.ArrayVec.{array_vec_len}
 use Rattle.line_checks.specs.LookedUp.{IsCheckOf}
-use Rattle.line_checks.proofs.in_lanes.checks_of.Given as goal
+use Rattle.line_checks.proofs.in_lanes.add_checks.Given as goal
 
 abbrev pub invariant-loop-element : goal.invariant-loop-element
 invariant-loop-element l = record {
