@@ -30,35 +30,60 @@ pub fn tag_bytes(tag: u32) -> ArrayVec<u8, 4>
     ArrayVec::try_from(&bytes[zeros..]).unwrap()
 }
 
-// The bytes before a value: a tag of up to three and a length of up to three.
-type Head = ArrayVec<u8, 6>;
-
-fn head_of(tag: u32, length: usize) -> Head
-    requires tag { IsTrue (is_tag_number tag) }
-    requires length { length ≤ 65535 }
-    ensures { result.items ≡ tag_bytes tag ++ length_bytes length }
+/// How many bytes a tag has.
+fn tag_size(tag: u32) -> usize
+    requires { IsTrue (is_tag_number tag) }
+    ensures { result ≡ length (tag_bytes tag) }
 {
-    let mut head = Head::new();
-    head.try_extend_from_slice(tag_bytes(tag).as_slice())
-        .unwrap();
-    push_length(&mut head, length);
-    head
+    match tag {
+        0x00..=0xFF => 1,
+        0x100..=0xFFFF => 2,
+        _ => 3,
+    }
 }
 
-fn push_length(head: &mut Head, length: usize)
-    requires room { array_vec_len head.old ≤ 3 }
-    requires length { length ≤ 65535 }
-    ensures { head.new.items ≡ head.old.items ++ length_bytes length }
+/// How many bytes the shortest encoding of a length has.
+fn length_size(count: usize) -> usize
+    requires { count ≤ 65535 }
+    ensures { result ≡ length (length_bytes count) }
 {
-    match length {
+    match count {
+        0x00..=0x7F => 1,
+        0x80..=0xFF => 2,
+        _ => 3,
+    }
+}
+
+/// Appends the bytes of a tag.
+fn push_tag(out: &mut ArrayVec<u8, ROOM>, tag: u32)
+    requires tag { IsTrue (is_tag_number tag) }
+    requires room { array_vec_len out.old + length (tag_bytes tag) ≤ ROOM }
+    ensures { out.new.items ≡ out.old.items ++ tag_bytes tag }
+{
+    if tag > 0xFFFF {
+        out.push((tag / 0x1_0000) as u8);
+    }
+    if tag > 0xFF {
+        out.push((tag / 0x100 % 0x100) as u8);
+    }
+    out.push((tag % 0x100) as u8);
+}
+
+/// Appends the shortest encoding of a length.
+fn push_length(out: &mut ArrayVec<u8, ROOM>, count: usize)
+    requires length { count ≤ 65535 }
+    requires room { array_vec_len out.old + length (length_bytes count) ≤ ROOM }
+    ensures { out.new.items ≡ out.old.items ++ length_bytes count }
+{
+    match count {
         0x00..=0x7F => {}
-        0x80..=0xFF => head.push(0x81),
+        0x80..=0xFF => out.push(0x81),
         _ => {
-            head.push(0x82);
-            head.push((length / 0x100) as u8);
+            out.push(0x82);
+            out.push((count / 0x100) as u8);
         }
     }
-    head.push((length % 0x100) as u8);
+    out.push((count % 0x100) as u8);
 }
 
 /// Appends an object in its shortest encoding. If it doesn't fit, nothing changes.
@@ -74,11 +99,12 @@ pub fn put(out: &mut ArrayVec<u8, ROOM>, tag: u32, value: &[u8]) -> Result<(), F
     ensures alone { objects_of (object_text tag value.now)
         ≡ in_front (record { tag = tag; value = value.now; at = 0 }) no_more }
 {
-    let head = head_of(tag, value.len());
-    if out.remaining_capacity() < head.len() + value.len() {
+    let size = tag_size(tag) + length_size(value.len()) + value.len();
+    if out.remaining_capacity() < size {
         return Err(Full);
     }
-    out.try_extend_from_slice(head.as_slice()).unwrap();
+    push_tag(out, tag);
+    push_length(out, value.len());
     out.try_extend_from_slice(value).unwrap();
     Ok(())
 }
