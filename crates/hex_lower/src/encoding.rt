@@ -1,5 +1,5 @@
 //! The encoding of bytes.
-ghost use Rattle.std.specs.Prelude.{◌≡◌, ◌<◌, ◌*◌, length, slice_index};
+ghost use Rattle.std.specs.Prelude.{◌≡◌, ◌*◌, ◌/◌, ◌%◌, length, slice_index};
 ghost use Rattle.hex.specs.Hex.{encode_lower, lower_digits, IsBytes};
 
 /// How many bytes the compiler encodes at once.
@@ -28,18 +28,20 @@ fn encode_each(bytes: &[u8], out: &mut [u8])
     ensures bytes { IsBytes bytes.now }
 {
     'bytes: for i in 0..bytes.len() {
-        let high = digit(bytes[i] >> 4);
-        let low = digit(bytes[i] & 0x0F);
+        let [high, low] = digits(bytes[i]);
         out[2 * i] = high;
         out[2 * i + 1] = low;
     }
 }
 
-/// The digit of a value.
-fn digit(value: u8) -> u8
-    requires { value < 16 }
-    ensures { result ≡ slice_index lower_digits value }
+/// The two digits of a byte, computed together as the halves of a number.
+fn digits(byte: u8) -> [u8; 2]
+    ensures high { slice_index result 0 ≡ slice_index lower_digits (byte / 16) }
+    ensures low { slice_index result 1 ≡ slice_index lower_digits (byte % 16) }
 {
-    let letters = if value < 10 { 0 } else { b'a' - b'0' - 10 };
-    b'0' + value + letters
+    let values = u16::from(byte / 16) + 256 * u16::from(byte % 16);
+
+    // 6 more carries where a value is above 9.
+    let letters = ((values + 0x0606) / 16) & 0x0101;
+    (values + 0x3030 + u16::from(b'a' - b'0' - 10) * letters).to_le_bytes()
 }
