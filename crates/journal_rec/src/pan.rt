@@ -54,18 +54,15 @@ pub(crate) fn pan_bytes(pan: &Pan) -> [u8; PAN_BYTES]
     ensures size { length result ≡ PAN_BYTES }
     ensures valid { IsTrue (is_pan pan.now) }
 {
-    packed(filled(pan.digits()).as_slice())
+    packed(&filled(pan.digits()))
 }
 
-fn filled(digits: &[u8]) -> ArrayVec<u8, PAN_DIGITS>
+fn filled(digits: &[u8]) -> [u8; PAN_DIGITS]
     requires { length digits.now ≤ PAN_DIGITS }
-    ensures { result.items ≡ digits.now ++ replicate (PAN_DIGITS - length digits.now) 0x0F }
+    ensures { result ≡ digits.now ++ replicate (PAN_DIGITS - length digits.now) 0x0F }
 {
-    let filling = [0x0F; PAN_DIGITS];
-    let mut nibbles = ArrayVec::try_from(digits).unwrap();
-    nibbles
-        .try_extend_from_slice(&filling[digits.len()..])
-        .unwrap();
+    let mut nibbles = [0x0F; PAN_DIGITS];
+    nibbles[..digits.len()].copy_from_slice(digits);
     nibbles
 }
 

@@ -1,5 +1,5 @@
 -- The digits of an account number and its padding are nibbles.
-use Rattle.std.proofs.Common.{◌<◌, All, IsTrue, length, subst, sym, ap, ◌∙◌, arith}
+use Rattle.std.proofs.Common.{◌<◌, All, IsTrue, length, subst, sym, ap, arith}
 use Rattle.issuer_base.specs.CardNumber.{is_pan}
 use Rattle.issuer_base.proofs.CardNumberLemmas.{length-pan}
 use Rattle.journal_rec.proofs.PanLemmas.{nibbles-below}
@@ -11,4 +11,4 @@ filled-requires c = omega (arith, ap length c.digits.ensures.same, (length-pan c
 pub packed-requires-clause-nibbles : goal.packed-requires-clause-nibbles
 packed-requires-clause-nibbles c =
     let valid : IsTrue (is_pan c.digits.result.now) = rw c.digits.ensures.same c.digits.ensures.valid in
-    subst (All (λ nibble. nibble < 16)) (sym (c.as_slice.ensures.value ∙ c.filled.ensures)) (nibbles-below c.digits.result.now _ valid)
+    subst (All (λ nibble. nibble < 16)) (sym c.filled.ensures) (nibbles-below c.digits.result.now _ valid)
