@@ -1,5 +1,5 @@
 //! The words of a line, each appended to what is written already.
-ghost use Rattle.std.specs.Prelude.{◌≡◌, ◌+◌, ◌*◌, ◌≤◌, [], ◌∷◌, ◌++◌, length};
+ghost use Rattle.std.specs.Prelude.{◌≡◌, ◌+◌, ◌*◌, ◌<◌, ◌≤◌, [], ◌∷◌, ◌++◌, length};
 ghost use Rattle.std.specs.Fmt.{decimal};
 ghost use Rattle.hex.specs.Hex.{encode_lower};
 ghost use Rattle.arrayvec.specs.ArrayVec.{array_vec_len};
@@ -32,8 +32,28 @@ pub fn put_number(out: &mut ArrayVec<u8, LINE_ROOM>, number: u64)
     ensures room { array_vec_len out.new ≤ array_vec_len out.old + 21 }
 {
     out.push(b' ');
+    if number < 1000 {
+        put_short(out, number);
+        return;
+    }
     let mut buffer = Buffer::new();
     put(out, buffer.format(number).as_bytes());
+}
+
+/// Appends a number of at most three decimal digits.
+fn put_short(out: &mut ArrayVec<u8, LINE_ROOM>, number: u64)
+    requires short { number < 1000 }
+    requires room { array_vec_len out.old + 3 ≤ LINE_ROOM }
+    ensures text { out.new.items ≡ out.old.items ++ decimal number }
+    ensures room { array_vec_len out.new ≤ array_vec_len out.old + 3 }
+{
+    if number >= 100 {
+        out.push(b'0' + (number / 100) as u8);
+    }
+    if number >= 10 {
+        out.push(b'0' + (number / 10 % 10) as u8);
+    }
+    out.push(b'0' + (number % 10) as u8);
 }
 
 /// Appends a space, and the bytes in hexadecimal digits.
