@@ -34,8 +34,18 @@ pub fn put_number(out: &mut ArrayVec<u8, LINE_ROOM>, number: u64)
     out.push(b' ');
     if number < 1000 {
         put_short(out, number);
-        return;
+    } else {
+        put_long(out, number);
     }
+}
+
+/// Appends a number of any size; apart from [`put_number`], so that a short number takes no buffer.
+#[inline(never)]
+fn put_long(out: &mut ArrayVec<u8, LINE_ROOM>, number: u64)
+    requires { array_vec_len out.old + 20 ≤ LINE_ROOM }
+    ensures text { out.new.items ≡ out.old.items ++ decimal number }
+    ensures room { array_vec_len out.new ≤ array_vec_len out.old + 20 }
+{
     let mut buffer = Buffer::new();
     put(out, buffer.format(number).as_bytes());
 }
