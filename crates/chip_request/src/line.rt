@@ -1,8 +1,9 @@
 //! The three forms of an input line, and the column of the first error in any other line.
-ghost use Rattle.std.specs.Prelude.{◌≡◌, ◌≤◌, Result, ℕ, IfOk, true, length};
+ghost use Rattle.std.specs.Prelude.{◌≡◌, ◌≤◌, Result, Err, ℕ, IfOk, true, length, take};
 ghost use Rattle.std.specs.Result.{result_map_both};
 ghost use Rattle.chip_request.specs.Lines.{ReadsAs};
-ghost use Rattle.chip_request.specs.LineParts.{kind_at, line_of, queue_at};
+ghost use Rattle.chip_request.specs.LineParts.{kind_at, line_of, ask_at, queue_at, set_at};
+ghost use Rattle.chip_request.specs.declared.line.LineKind.TheVariants.{Ask, Set};
 ghost use Rattle.chip_request.specs.InBuffer.{kind_in, is_within};
 
 use crate::line_parts::{read_byte, read_card, read_data, read_last_digit};
@@ -77,15 +78,36 @@ pub fn read_line(line: &[u8]) -> Result<LineKind, u32>
 
 /// As [`read_line`], with the line's data written to the start of the caller's buffer. The other bytes of the buffer
 /// don't matter.
+#[tactic(auto, unfolding(crate::specs::LineParts::kind_at, crate::specs::LineParts::line_of))]
 #[inline(always)]
 pub fn read_line_into(line: &[u8], bytes: &mut [u8; MAX_CHIP_BYTES]) -> Result<LineForm, u32>
     ensures same { result_map_both (kind_in bytes.new) (λ column. column) result ≡ line_of line.now }
     ensures within { IfOk result (λ form. is_within form ≡ true) }
 {
-    match form_of(line, bytes) {
-        Ok(form) => Ok(form),
-        Err(rest) => Err((line.len() - rest.len() + 1) as u32),
+    // Each arm returns by itself: the value of a `match` would be one more copy of the form.
+    match line {
+        [b'A', text @ ..] => match ask_count(text, bytes) {
+            Ok(count) => return Ok(LineForm::Ask { count }),
+            Err(rest) => return Err(column_of(line, rest)),
+        },
+        [b'Q', text @ ..] => match queue_form(text, bytes) {
+            Ok(form) => return Ok(form),
+            Err(rest) => return Err(column_of(line, rest)),
+        },
+        [b'S', text @ ..] => match read_status(text) {
+            Ok((pan, psn, status)) => return Ok(LineForm::Set { pan, psn, status }),
+            Err(rest) => return Err(column_of(line, rest)),
+        },
+        _ => return Err(column_of(line, line)),
     }
+}
+
+// The column of a line's first error, where the remainder of the line begins.
+fn column_of(line: &[u8], rest: &[u8]) -> u32
+    requires { kind_at line.now ≡ Err rest.now }
+    ensures { Err result ≡ line_of line.now }
+{
+    (line.len() - rest.len() + 1) as u32
 }
 
 // The line's kind, with its data copied out of the buffer.
@@ -111,31 +133,19 @@ fn vector_of<const N: usize>(bytes: &[u8]) -> ArrayVec<u8, N>
     ArrayVec::try_from(bytes).unwrap()
 }
 
-// What a line asks for, or the remainder from the first byte that no line has at its offset.
-#[tactic(auto, unfolding(crate::specs::LineParts::kind_at))]
+// The count of the data bytes of an `A` line, from the text after its letter.
 #[inline(always)]
-fn form_of<'a>(line: &'a [u8], bytes: &mut [u8; MAX_CHIP_BYTES]) -> Result<LineForm, &'a [u8]>
-    ensures same { result_map_both (kind_in bytes.new) (λ rest. rest.now) result ≡ kind_at line.now }
-    ensures within { IfOk result (λ form. is_within form ≡ true) }
+fn ask_count<'a>(text: &'a [u8], bytes: &mut [u8; MAX_CHIP_BYTES]) -> Result<usize, &'a [u8]>
+    ensures same { result_map_both (λ count. Ask (record { items = take count bytes.new })) (λ rest. rest.now) result
+        ≡ ask_at text.now }
+    ensures within { IfOk result (λ count. count ≤ MAX_CHIP_BYTES) }
 {
-    match line {
-        [b'A', rest @ ..] => {
-            let rest = read_byte(rest, b' ')?;
-            let count = read_data(rest, MAX_CHIP_BYTES, bytes)?;
-            Ok(LineForm::Ask { count })
-        }
-        [b'Q', rest @ ..] => queue_form(rest, bytes),
-        [b'S', rest @ ..] => {
-            let (pan, psn, rest) = read_card(rest)?;
-            let status = read_last_digit(rest)?;
-            Ok(LineForm::Set { pan, psn, status })
-        }
-        _ => Err(line),
-    }
+    let rest = read_byte(text, b' ')?;
+    read_data(rest, MAX_CHIP_BYTES, bytes)
 }
 
 // What a `Q` line asks for, from the text after its letter. In a function of its own, its memory isn't cleared for the
-// lines of requests.
+// lines of requests; so it is with `read_status`.
 #[inline(never)]
 fn queue_form<'a>(text: &'a [u8], bytes: &mut [u8; MAX_CHIP_BYTES]) -> Result<LineForm, &'a [u8]>
     ensures same { result_map_both (kind_in bytes.new) (λ rest. rest.now) result ≡ queue_at text.now }
@@ -144,4 +154,15 @@ fn queue_form<'a>(text: &'a [u8], bytes: &mut [u8; MAX_CHIP_BYTES]) -> Result<Li
     let (pan, psn, rest) = read_card(text)?;
     let count = read_data(rest, MAX_QUEUE_BYTES, bytes)?;
     Ok(LineForm::Queue { pan, psn, count })
+}
+
+// The card and the status of an `S` line, from the text after its letter.
+#[inline(never)]
+fn read_status(text: &[u8]) -> Result<(Pan, u8, u8), &[u8]>
+    ensures same { result_map_both (λ found. Set found.0 found.1 found.2) (λ rest. rest.now) result ≡ set_at text.now }
+    ensures within { IfOk result (λ found. found.2 ≤ 9) }
+{
+    let (pan, psn, rest) = read_card(text)?;
+    let status = read_last_digit(rest)?;
+    Ok((pan, psn, status))
 }

@@ -1,10 +1,9 @@
 //! The parser of a request's chip data.
-ghost use Rattle.std.specs.Prelude.{◌≡◌, ◌≤◌, ◌<◌, ◌+◌, ◌^◌, ℕ, None, if◌then◌else◌, length, map, OnOk, IfErr};
-ghost use Rattle.std.specs.List.{list_all};
+ghost use Rattle.std.specs.Prelude.{◌≡◌, ◌≤◌, ◌<◌, ◌+◌, ◌^◌, ℕ, None, length, map, OnOk, IfErr};
 ghost use Rattle.tlv_objects.specs.Tlv.{objects_of, objects_ahead};
 ghost use Rattle.chip_request.specs.Fields.{fields};
 ghost use Rattle.chip_request.specs.Reading.{request_of};
-ghost use Rattle.chip_request.specs.Slots.{fault_among, is_right, request_in, unfound, with_objects};
+ghost use Rattle.chip_request.specs.Slots.{fault_among, request_in, unfound, with_objects};
 ghost use Rattle.chip_request.specs.SlotViews.{founds_in};
 
 use crate::form::account_number;
@@ -35,24 +34,12 @@ pub fn read_request(bytes: &[u8]) -> Result<Request, RequestFault>
 {
     let mut slots = Slots::unfound();
     note_all(&mut slots, Objects::new(bytes))?;
-    match right_request(&slots) {
-        Some(request) => Ok(request),
-        None => Err(first_fault(&slots).unwrap()),
+    if slots.are_single() && slots.have_sizes() {
+        if let Some(request) = request_in(&slots) {
+            return Ok(request);
+        }
     }
-}
-
-/// The request in the slots, if every field is right. Building it checks the forms of the values.
-#[inline(always)]
-fn right_request(slots: &Slots<'_>) -> Option<Request>
-    ensures { result ≡ if list_all is_right (founds_in slots.now) then request_in (founds_in slots.now) else None }
-{
-    if !slots.are_single() {
-        return None;
-    }
-    if !slots.have_sizes() {
-        return None;
-    }
-    request_in(slots)
+    Err(first_fault(&slots).unwrap())
 }
 
 /// The first fault of the fields in the slots.

@@ -8,9 +8,9 @@ ghost use Rattle.line_checks.specs.LookedUp.{IsSought};
 
 use crate::card::{check_command, check_status};
 use crate::checked::Checked;
-use crate::request::look_up_data;
-use crate::sought::Sought;
-use chip_request::{LineForm, read_line_into};
+use crate::request::{find_keys, refusal_of};
+use crate::sought::{Sought, SoughtRequest, Verdict};
+use chip_request::{LineForm, read_line_into, read_request};
 use issuer_base::{MAX_CHIP_BYTES, Refusal};
 use issuer_setup::Issuer;
 
@@ -39,18 +39,32 @@ pub fn look_up(
     ensures refused { IfErr result (λ refusal. (reading issuer.now line.now ≡ Err refusal)
         × (refusal ≢ BadCryptogram)) }
 {
-    match read_line_into(line, data).map_err(Refusal::BadLine)? {
+    let form = match read_line_into(line, data) {
+        Ok(form) => form,
+        Err(column) => return Err(Refusal::BadLine(column)),
+    };
+    // Each arm returns by itself: the value of a `match` would be one more copy of the request.
+    match form {
         LineForm::Ask { count } => {
-            let sought = look_up_data(issuer, &data[..count])?;
-            Ok(Sought::Request(sought))
+            let request = match read_request(&data[..count]) {
+                Ok(request) => request,
+                Err(fault) => return Err(refusal_of(fault)),
+            };
+            let (card, slot) = find_keys(issuer, &request)?;
+            return Ok(Sought::Request(SoughtRequest {
+                request,
+                card,
+                slot,
+                verdict: Verdict::Unchecked,
+            }));
         }
         LineForm::Queue { pan, psn, count } => {
             let found = check_command(issuer, pan, psn, &data[..count])?;
-            Ok(Sought::Order(found))
+            return Ok(Sought::Order(found));
         }
         LineForm::Set { pan, psn, status } => {
             let found = check_status(issuer, pan, psn, status)?;
-            Ok(Sought::Order(found))
+            return Ok(Sought::Order(found));
         }
     }
 }

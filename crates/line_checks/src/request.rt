@@ -1,31 +1,18 @@
 //! The look-up of the request in chip data.
-ghost use Rattle.std.specs.Prelude.{◌≡◌, ◌≢◌, ◌≤◌, length, Ok, Err, IfOk, IfErr};
+ghost use Rattle.std.specs.Prelude.{◌≡◌, ◌≢◌, Err, IfOk, IfErr};
 ghost use Rattle.std.specs.Result.{result_map_both};
 ghost use Rattle.card_history.specs.declared.decision.Asked.TheVariants.{Decide};
 ghost use Rattle.issuer_base.specs.declared.answer.Refusal.TheVariants.{BadCryptogram};
-ghost use Rattle.chip_request.specs.Reading.{request_of};
-ghost use Rattle.line_checks.specs.Reading.{refusal_of, checked, checked_data};
+ghost use Rattle.line_checks.specs.Reading.{refusal_of, checked};
 ghost use Rattle.line_checks.specs.AtHand.{IsRequestAtHand};
 ghost use Rattle.line_checks.specs.LookedUp.{HasKeysAtHand};
+ghost use Rattle.line_checks.specs.declared.sought.Verdict.TheVariants.{Unchecked};
 
 use crate::checked::CheckedRequest;
 use crate::sought::{SoughtRequest, Verdict};
-use chip_request::{RequestFault, read_request};
-use issuer_base::{MAX_CHIP_BYTES, Refusal, Request};
-use issuer_setup::Issuer;
-
-/// Parses chip data as a request, and looks up its card and key set.
-#[inline(always)]
-pub(crate) fn look_up_data(issuer: &Issuer, bytes: &[u8]) -> Result<SoughtRequest, Refusal>
-    requires { length bytes.now ≤ MAX_CHIP_BYTES }
-    ensures request { IfOk result (λ sought. request_of bytes.now ≡ Ok sought.request) }
-    ensures known { IfOk result (HasKeysAtHand issuer.now) }
-    ensures refused { IfErr result (λ refusal.
-        (checked_data issuer.now (request_of bytes.now) ≡ Err refusal) × (refusal ≢ BadCryptogram)) }
-{
-    let request = read_request(bytes).map_err(refusal_of)?;
-    look_up_request(issuer, request)
-}
+use chip_request::RequestFault;
+use issuer_base::{Refusal, Request};
+use issuer_setup::{Issuer, KeySlot};
 
 /// The refusal of a line for a fault in its chip data.
 pub fn refusal_of(fault: RequestFault) -> Refusal
@@ -59,6 +46,24 @@ pub fn look_up_request(issuer: &Issuer, request: Request) -> Result<SoughtReques
     ensures known { IfOk result (HasKeysAtHand issuer.now) }
     ensures refused { IfErr result (λ refusal. (checked issuer.now request ≡ Err refusal) × (refusal ≢ BadCryptogram)) }
 {
+    let (card, slot) = find_keys(issuer, &request)?;
+    Ok(SoughtRequest {
+        request,
+        card,
+        slot,
+        verdict: Verdict::Unchecked,
+    })
+}
+
+/// The number of a request's card, and the slot of the card's keys from the key set that the request names. The request
+/// must ask to go online.
+#[inline(always)]
+pub(crate) fn find_keys(issuer: &Issuer, request: &Request) -> Result<(u32, KeySlot), Refusal>
+    ensures known { IfOk result (λ found. HasKeysAtHand issuer.now
+        (record { request = request.now; card = found.0; slot = found.1; verdict = Unchecked })) }
+    ensures refused { IfErr result (λ refusal. (checked issuer.now request.now ≡ Err refusal)
+        × (refusal ≢ BadCryptogram)) }
+{
     let parts = request.parts();
     let Some(card) = issuer.card(&parts.pan, parts.psn) else {
         return Err(Refusal::UnknownCard);
@@ -66,13 +71,8 @@ pub fn look_up_request(issuer: &Issuer, request: Request) -> Result<SoughtReques
     if !request.is_arqc() {
         return Err(Refusal::NotArqc);
     }
-    let Some(slot) = issuer.key_slot(card, &request) else {
+    let Some(slot) = issuer.key_slot(card, request) else {
         return Err(Refusal::UnknownKey(request.dki()));
     };
-    Ok(SoughtRequest {
-        request,
-        card,
-        slot,
-        verdict: Verdict::Unchecked,
-    })
+    Ok((card, slot))
 }

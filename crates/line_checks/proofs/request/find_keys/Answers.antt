@@ -4,10 +4,10 @@ use Rattle.card_history.specs.Records.{card_of}
 use Rattle.issuer_setup.specs.CardList.{number_of}
 use Rattle.issuer_base.specs.declared.request.Parts.{Parts}
 use Rattle.line_checks.proofs.Numbers.{number-within}
-use Rattle.line_checks.proofs.request.look_up_request.Goals as goal
+use Rattle.line_checks.proofs.request.find_keys.Goals as goal
 
 pub key_slot-requires : goal.key_slot-requires
 key_slot-requires c =
     let cards = c.args.issuer.now.cards in
     let known = ap (λ (parts : Parts). number_of (card_of parts) cards) (sym c.parts-parts.ensures.same) ∙ sym c.in-Some.ensures.number in
-    number-within cards (card_of c.args.request) c.in-Some.card known
+    number-within cards (card_of c.args.request.now) c.in-Some.card known
