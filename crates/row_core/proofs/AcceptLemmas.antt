@@ -6,13 +6,12 @@ use Rattle.issuer_base.specs.declared.entry.Entry.{Entry}
 use Rattle.issuer_base.specs.declared.limits.TheConstants.{WINDOW}
 use Rattle.issuer_base.specs.declared.request.Request.{Request}
 use Rattle.key_derive.specs.declared.card.CardKeys.{CardKeys}
-use Rattle.card_history.specs.declared.decision.Decision.{Decision}
 use Rattle.card_history.specs.Records.{CardName, card_of, decided, greatest, IsBelow, IsBelowBy}
 use Rattle.card_history.specs.Scripts.{Scripts, scripts_of}
 use Rattle.card_history.specs.Turns.{IsUnused}
 use Rattle.issuer_setup.specs.declared.card.CardInfo.{CardInfo}
 use Rattle.issuer_setup.specs.CardList.{name_of}
-use Rattle.row_core.specs.CardRow.{CardRow, KeepsScripts, KeepsWindow, StandsFor}
+use Rattle.row_core.specs.CardRow.{CardRow, KeepsScripts, StandsFor}
 use Rattle.row_core.specs.Accepting.{IsMade, IsValidSuccessor}
 use Rattle.row_core.proofs.RowLemmas.{keeps-scripts}
 
@@ -24,8 +23,7 @@ below-narrower window (Some top) counter narrower below = omega (arith, narrower
 -- a decision on an unused ATC is a valid successor exactly if the issuer makes its reply with the row's scripts
 pub follows-made : (card : CardInfo) (row : CardRow) (keys : CardKeys) (history : List Entry) (request : Request) (reply : Reply)
     (unused made : Bool)
-    → ((decisions : List Decision) → row.hi ≡ greatest decisions → KeepsWindow row.slots decisions
-    → (IsTrue unused ↔ IsUnused decisions request))
+    → (IsTrue unused ↔ IsUnused (decided (name_of card) history) request)
     → ((scripts : Scripts) → KeepsScripts row scripts → (IsTrue made ↔ IsMade row.method keys scripts request reply))
     → IsTrue unused
     → StandsFor card row history
@@ -34,7 +32,7 @@ pub follows-made : (card : CardInfo) (row : CardRow) (keys : CardKeys) (history 
 follows-made card row keys history request reply unused made says_unused says_made free stands named =
     let is_unused : IsUnused (decided (card_of request) history) request =
     subst (λ (name : CardName). IsUnused (decided name history) request) (sym named)
-    ((says_unused (decided (name_of card) history) stands.hi_is stands.window_is).0 free) in
+    (says_unused.0 free) in
     let is_made : IsTrue made ↔ IsMade card.method keys (scripts_of (card_of request) history) request reply =
     subst (λ (name : CardName). IsTrue made ↔ IsMade card.method keys (scripts_of name history) request reply) (sym named)
     (subst (λ (method : Method). IsTrue made ↔ IsMade method keys (scripts_of (name_of card) history) request reply) stands.method_is

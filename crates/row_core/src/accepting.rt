@@ -1,14 +1,13 @@
 //! Whether a recorded decision is a valid successor, and how the row adopts it.
 ghost use Rattle.std.specs.Prelude.{◌≡◌, ◌↔◌, ◌++◌, List, [], ◌∷◌, length, slice_index, false, IsTrue};
 ghost use Rattle.issuer_base.specs.declared.entry.Entry.{Entry};
-ghost use Rattle.card_history.specs.declared.decision.Decision.{Decision};
-ghost use Rattle.card_history.specs.Records.{card_of, greatest};
+ghost use Rattle.card_history.specs.Records.{card_of, decided};
 ghost use Rattle.card_history.specs.Scripts.{Scripts};
 ghost use Rattle.card_history.specs.Turns.{IsUnused};
 ghost use Rattle.key_derive.specs.SessionKey.{session_of};
 ghost use Rattle.issuer_setup.specs.declared.card.CardInfo.{CardInfo};
 ghost use Rattle.issuer_setup.specs.CardList.{name_of};
-ghost use Rattle.row_core.specs.CardRow.{KeepsWindow, KeepsScripts, StandsFor};
+ghost use Rattle.row_core.specs.CardRow.{KeepsScripts, StandsFor};
 ghost use Rattle.row_core.specs.Accepting.{told_update, says_approval, IsMade, IsValidSuccessor};
 ghost use Rattle.row_core.specs.Launching.{IsLaunchFor};
 ghost use Rattle.issuer_base.specs.declared.limits.TheConstants.{OLD_WINDOW, WINDOW};
@@ -113,8 +112,8 @@ impl Row {
 
     /// Whether the request's ATC is in the window and unused.
     fn is_unused(&self, request: &Request) -> bool
-        ensures { (decisions : List Decision) → self.now.hi ≡ greatest decisions → KeepsWindow self.now.slots decisions
-            → (IsTrue result ↔ IsUnused decisions request.now) }
+        ensures { (card : CardInfo) (history : List Entry) → StandsFor card self.now history
+            → (IsTrue result ↔ IsUnused (decided (name_of card) history) request.now) }
     {
         self.known(request).is_none()
     }

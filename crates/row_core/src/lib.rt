@@ -7,5 +7,5 @@ mod row;
 mod scripts;
 
 pub use issuer_setup::{CardInfo, Cards, CardsFault, Issuer, IssuerFault, KeySets, ShardCount};
-pub use row::{Outcome, Row};
+pub use row::{Known, Outcome, Row};
 pub use scripts::Launch;

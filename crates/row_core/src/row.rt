@@ -1,20 +1,19 @@
 //! The row of a card: the plan for a request, and the decisions of the card's window.
-ghost use Rattle.std.specs.Prelude.{◌≡◌, ◌↔◌, ℕ, ◌+◌, ◌≤◌, ◌++◌, List, [], length, Some, MatchOption, IfOk, IfSome, IsOk, OnErr, IsTrue};
+ghost use Rattle.std.specs.Prelude.{◌≡◌, ◌↔◌, ℕ, ◌+◌, ◌≤◌, ◌++◌, List, [], length, Some, MatchOption, IfOk, IsOk, OnErr, IsTrue};
 ghost use Rattle.issuer_base.specs.declared.entry.Entry.{Entry};
 ghost use Rattle.issuer_base.specs.ScriptCommand.{is_command};
-ghost use Rattle.card_history.specs.declared.decision.Decision.{Decision};
 ghost use Rattle.card_history.specs.CardViews.{card_shown};
-ghost use Rattle.card_history.specs.Records.{greatest, IsBelow, IsBelowBy};
+ghost use Rattle.card_history.specs.Records.{card_of, decided, IsBelowBy};
 ghost use Rattle.card_history.specs.Scripts.{Scripts, with_newest, in_flight, first_of, is_newest};
 ghost use Rattle.card_history.specs.Turns.{IsUnused};
 ghost use Rattle.script_queue.specs.CommandQueue.{TakesOneMore};
 ghost use Rattle.key_derive.specs.SessionKey.{session_of};
 ghost use Rattle.issuer_setup.specs.CardList.{name_of};
 ghost use Rattle.issuer_setup.specs.declared.card.CardInfo.{CardInfo};
-ghost use Rattle.row_core.specs.CardRow.{KeepsWindow, KeepsScripts, StandsFor};
+ghost use Rattle.row_core.specs.CardRow.{KeepsScripts, StandsFor};
 ghost use Rattle.row_core.specs.Known.{IsKnown};
 ghost use Rattle.row_core.specs.Launching.{IsLaunch, IsLaunchFor, TakesOff};
-ghost use Rattle.row_core.specs.Replying.{script_bytes, reply_bytes, decided_reply};
+ghost use Rattle.row_core.specs.Replying.{script_bytes, reply_bytes, reply_after};
 ghost use Rattle.row_core.specs.Plan.{IsPlan, IsStep, IsStepped, IsNext, with_record, with_command_for, with_status_for};
 
 use crate::reply::{write_answer, write_scripts};
@@ -40,6 +39,19 @@ pub enum Outcome<'a> {
     /// the ATC is the newest.
     Fresh(Reply, Option<Launch>),
 
+    /// The request was decided before: its reply, borrowed from the row, and the index of its record.
+    Kept(&'a Reply, u64),
+
+    /// Its ATC is below the window of this greatest ATC.
+    Below(u16),
+
+    /// Another request with its ATC was decided, and has its record at this index.
+    Taken(u64),
+}
+
+/// What the window's decisions say of a request whose ATC is used or below the window.
+#[derive(Drop)]
+pub enum Known<'a> {
     /// The request was decided before: its reply, borrowed from the row, and the index of its record.
     Kept(&'a Reply, u64),
 
@@ -178,11 +190,74 @@ impl Row {
         // Whatever history the row stands for, a planned reply is whole, and its launch is that of this row.
         ensures step { IsStepped self.now request.now result }
     {
-        if let Some(outcome) = self.known(request) {
-            return outcome;
+        match self.known(request) {
+            Some(Known::Kept(reply, place)) => return Outcome::Kept(reply, place),
+            Some(Known::Below(greatest)) => return Outcome::Below(greatest),
+            Some(Known::Taken(place)) => return Outcome::Taken(place),
+            None => {}
         }
-        let (reply, launch) = self.decide(session, keys, table, request);
+        let mut reply = Reply {
+            arc: [0; 2],
+            approve: false,
+            bytes: ArrayVec::new(),
+        };
+        let launch = self.decide(session, keys, table, request, &mut reply);
         Outcome::Fresh(reply, launch)
+    }
+
+    /// What is known of a request of the row's card whose ATC is used or below the window. `None` if its ATC is in the
+    /// window and unused: then it may be decided.
+    #[inline(always)]
+    pub fn known(&self, request: &Request) -> Option<Known<'_>>
+        ensures { (card : CardInfo) (history : List Entry) → StandsFor card self.now history
+            → MatchOption result (IsUnused (decided (name_of card) history) request.now)
+            (IsKnown (decided (name_of card) history) request.now) }
+    {
+        let counter = request.parts().atc;
+        if let Some(greatest) = greatest_above(self.hi, counter, WINDOW) {
+            return Some(Known::Below(greatest));
+        }
+        let entry = self.kept.find(counter)?;
+        if !entry.request.is_same(request) {
+            return Some(Known::Taken(entry.place));
+        }
+        Some(Known::Kept(&entry.reply, entry.place))
+    }
+
+    /// Decides a request of the row's card whose ATC is in the window and unused: makes of a reply without bytes the
+    /// one that the table decides. Returns the launch of its batch, if the ATC is the newest.
+    ///
+    /// `session` and `keys` are those that [`Row::plan`] takes.
+    #[inline(always)]
+    pub fn decide(
+        &self,
+        session: &SessionKey,
+        keys: &LazyKeys,
+        table: &Table,
+        request: &Request,
+        reply: &mut Reply,
+    ) -> Option<Launch>
+        requires session { session.now ≡ session_of keys.now request.now.atc }
+        requires empty { reply.old.bytes.items ≡ [] }
+        ensures reply { (card : CardInfo) (history : List Entry) → StandsFor card self.now history
+            → card_of request.now ≡ name_of card
+            → reply.new ≡ reply_after card.method keys.now table.now history request.now }
+        ensures step { IsStep self.now request.now reply.new result }
+    {
+        let row = decide(table, self.status, request);
+        let launch = self.launch(request);
+        reply.arc = row.arc;
+        reply.approve = row.approve;
+        self.write_reply(
+            &mut reply.bytes,
+            session,
+            keys,
+            request,
+            launch,
+            row.arc,
+            row.csu,
+        );
+        launch
     }
 
     /// Applies the decision that a plan on this row, unchanged since, gave for this request: its reply, with the launch
@@ -257,39 +332,6 @@ impl Row {
         self.hi = Some(counter);
     }
 
-    /// The reply to a request with an unused ATC, and the launch of its batch.
-    #[inline(always)]
-    fn decide(
-        &self,
-        session: &SessionKey,
-        keys: &LazyKeys,
-        table: &Table,
-        request: &Request,
-    ) -> (Reply, Option<Launch>)
-        requires { session.now ≡ session_of keys.now request.now.atc }
-        ensures reply { (scripts : Scripts) → KeepsScripts self.now scripts
-            → result.0 ≡ decided_reply self.now.method keys.now table.now scripts self.now.status request.now }
-        ensures step { IsStep self.now request.now result.0 result.1 }
-    {
-        let row = decide(table, self.status, request);
-        let launch = self.launch(request);
-        let mut reply = Reply {
-            arc: row.arc,
-            approve: row.approve,
-            bytes: ArrayVec::new(),
-        };
-        self.write_reply(
-            &mut reply.bytes,
-            session,
-            keys,
-            request,
-            launch,
-            row.arc,
-            row.csu,
-        );
-        (reply, launch)
-    }
-
     /// Writes what goes to the card with this response code and, by method 2, this card status update, into empty
     /// bytes: the issuer's answer, and the batch of the launch.
     pub(crate) fn write_reply(
@@ -342,25 +384,6 @@ impl Row {
         ensures { IsTrue result ↔ IsBelowBy window self.now.hi counter }
     {
         greatest_above(self.hi, counter, window).is_some()
-    }
-
-    /// The plan for a request whose ATC is used or below the window, by the window's decisions; else `None`.
-    #[inline(always)]
-    pub(crate) fn known(&self, request: &Request) -> Option<Outcome<'_>>
-        ensures known { (decisions : List Decision) → self.now.hi ≡ greatest decisions
-            → KeepsWindow self.now.slots decisions
-            → MatchOption result (IsUnused decisions request.now) (IsKnown decisions request.now) }
-        ensures not_fresh { IfSome result (IsStepped self.now request.now) }
-    {
-        let counter = request.parts().atc;
-        if let Some(greatest) = greatest_above(self.hi, counter, WINDOW) {
-            return Some(Outcome::Below(greatest));
-        }
-        let entry = self.kept.find(counter)?;
-        if !entry.request.is_same(request) {
-            return Some(Outcome::Taken(entry.place));
-        }
-        Some(Outcome::Kept(&entry.reply, entry.place))
     }
 }
 

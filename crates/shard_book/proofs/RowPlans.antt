@@ -1,40 +1,28 @@
--- The plan of a card's row is the answer of its shard.
-use Rattle.std.proofs.Common.{◌≡◌, ℕ, ◌/◌, List, length, ap, sym, ◌∙◌, subst, Option, Some}
+-- What a card's row knows and decides is what its shard does.
+use Rattle.std.proofs.Common.{◌≡◌, ℕ, ◌/◌, List, length, ap, sym, ◌∙◌, subst, Option, Some, MatchOption}
 use Rattle.std.proofs.lemmas.Option.{same_Some}
 use Rattle.std.specs.List.{slice_get}
 use Rattle.issuer_base.specs.declared.request.Request.{Request}
 use Rattle.issuer_base.specs.declared.answer.Reply.{Reply}
-use Rattle.issuer_base.specs.declared.answer.Answer.{Answer}
-use Rattle.issuer_base.specs.declared.answer.Answer.TheVariants.{Fresh as AnswerFresh, Kept as AnswerKept, Refused}
-use Rattle.issuer_base.specs.declared.answer.Refusal.TheVariants.{Below as IsBelowWindow, Taken as IsTaken}
 use Rattle.issuer_base.specs.declared.entry.Entry.{Entry}
-use Rattle.card_history.specs.Records.{card_of}
-use Rattle.card_history.specs.Turns.{Answers}
+use Rattle.card_history.specs.Records.{CardName, card_of, decided}
+use Rattle.card_history.specs.Turns.{IsUnused}
 use Rattle.key_derive.specs.declared.card.CardKeys.{CardKeys}
 use Rattle.issuer_setup.specs.declared.card.CardInfo.{CardInfo}
+use Rattle.issuer_setup.specs.CardList.{name_of}
 use Rattle.issuer_setup.specs.IssuerSetup.{Setup, keys_of}
 use Rattle.issuer_setup.proofs.CardListLemmas.{number_of-found}
-use Rattle.row_core.specs.CardRow.{CardRow}
-use Rattle.row_core.specs.declared.row.Outcome.{Outcome}
-use Rattle.row_core.specs.declared.row.Outcome.TheVariants.{Fresh, Kept, Below, Taken}
+use Rattle.row_core.specs.CardRow.{CardRow, StandsFor as RowStandsFor}
+use Rattle.row_core.specs.declared.row.Known.{Known}
+use Rattle.row_core.specs.declared.scripts.Launch.{Launch}
+use Rattle.row_core.specs.Known.{IsKnown}
 use Rattle.row_core.specs.Launching.{IsLaunchFor}
-use Rattle.row_core.specs.Plan.{answer_of, history_after, IsPlan, IsStepped}
 use Rattle.row_core.specs.Replying.{reply_after, reply_by, reply_of_card, reply_to}
 use Rattle.line_checks.specs.declared.checked.CheckedRequest.{CheckedRequest}
 use Rattle.line_checks.specs.AtHand.{IsRequestAtHand}
-use Rattle.shard_book.specs.ShardRows.{ShardRows, IsHome}
-use Rattle.shard_book.specs.Steps.{IsPlanFor, IsStepFor}
+use Rattle.shard_book.specs.ShardRows.{ShardRows, IsHome, RowsStandFor}
+use Rattle.shard_book.specs.Steps.{IsKnownFor, IsLaunchAt}
 use Rattle.shard_book.proofs.RowsAfter.{row-there}
-
--- what is answered by one way to reply is answered by another one that replies the same to this request after this history
-answers-alike : (shard : ℕ) (one other : List Entry → Request → Reply) (before : List Entry) (request : Request) (answer : Answer) (after : List Entry)
-    → one before request ≡ other before request → Answers shard one before request answer after → Answers shard other before request answer after
-answers-alike shard one other before request (AnswerFresh at place reply) after same (unused, at_is, place_is, reply_is, after_is) =
-    (unused, at_is, place_is, reply_is ∙ same, after_is)
-answers-alike shard one other before request (AnswerKept at place reply) after same answers = answers
-answers-alike shard one other before request (Refused (IsBelowWindow greatest)) after same answers = answers
-answers-alike shard one other before request (Refused (IsTaken at place)) after same answers = answers
-answers-alike shard one other before request _ after same answers = absurd answers
 
 -- the card and the keys that are at hand give the issuer's reply
 reply-at_hand : (issuer : Setup) (found : CheckedRequest) (card : CardInfo) (history : List Entry) → IsRequestAtHand issuer found
@@ -47,26 +35,31 @@ reply-at_hand issuer found card history at_hand card_is =
     ∙ ap (λ (keys : Option CardKeys). reply_by (Some card) keys issuer.table history found.request) at_hand.keys_are
     )
 
--- the plan of the row of the request's card is the shard's answer
-pub row-plan : (issuer : Setup) (rows : ShardRows) (found : CheckedRequest) (row : CardRow) (outcome : Outcome) → IsRequestAtHand issuer found
+-- what the row of the request's card knows of it is known after each history of the shard
+pub row-known : (issuer : Setup) (rows : ShardRows) (found : CheckedRequest) (row : CardRow) (known : Option Known) → IsRequestAtHand issuer found
     → IsHome rows found.card → slice_get rows.rows (found.card / rows.shards) ≡ Some row
-    → IsPlan row found.keys issuer.table found.request outcome → IsPlanFor issuer rows found outcome
-row-plan issuer rows found row outcome at_hand home row_is plan history stands =
-    let known = number_of-found (card_of found.request) issuer.cards found.card at_hand.card_is.number_is in
-    let answers = plan rows.shard known.0 history (row-there issuer rows history stands found.card home row row_is known.0 known.1) (sym known.2) in
-    answers-alike rows.shard (reply_after known.0.method found.keys issuer.table) (reply_to issuer) history found.request
-    (answer_of rows.shard (length history) outcome) (history_after history found.request outcome) (reply-at_hand issuer found known.0 history at_hand known.1)
-    answers
+    → ((card : CardInfo) (history : List Entry) → RowStandsFor card row history
+    → MatchOption known (IsUnused (decided (name_of card) history) found.request) (IsKnown (decided (name_of card) history) found.request))
+    → IsKnownFor issuer rows found known
+row-known issuer rows found row known at_hand home row_is says history stands =
+    let card = number_of-found (card_of found.request) issuer.cards found.card at_hand.card_is.number_is in
+    subst
+    (λ (name : CardName). MatchOption known (IsUnused (decided name history) found.request) (IsKnown (decided name history) found.request)) card.2
+    (says card.0 history (row-there issuer rows history stands found.card home row row_is card.0 card.1))
 
--- and what is planned of a fresh decision is of the card's row
-pub row-step : (rows : ShardRows) (found : CheckedRequest) (row : CardRow) (outcome : Outcome)
-    → slice_get rows.rows (found.card / rows.shards) ≡ Some row
-    → IsStepped row found.request outcome → IsStepFor rows found outcome
-row-step rows found row (Fresh reply launch) row_is step = (
-  step.some,
-  λ other other_is.
-      subst (λ (row : CardRow). IsLaunchFor row found.request launch) (same_Some row other (sym row_is ∙ other_is)) step.launch_is,
-)
-row-step rows found row (Kept reply place) row_is step = tt
-row-step rows found row (Below top) row_is step = tt
-row-step rows found row (Taken place) row_is step = tt
+-- what the row of the request's card decides is the issuer's reply
+pub row-reply : (issuer : Setup) (rows : ShardRows) (found : CheckedRequest) (row : CardRow) (reply : Reply) → IsRequestAtHand issuer found
+    → IsHome rows found.card → slice_get rows.rows (found.card / rows.shards) ≡ Some row
+    → ((card : CardInfo) (history : List Entry) → RowStandsFor card row history → card_of found.request ≡ name_of card
+    → reply ≡ reply_after card.method found.keys issuer.table history found.request)
+    → (history : List Entry) → RowsStandFor issuer rows history → reply ≡ reply_to issuer history found.request
+row-reply issuer rows found row reply at_hand home row_is decides history stands =
+    let card = number_of-found (card_of found.request) issuer.cards found.card at_hand.card_is.number_is in
+    decides card.0 history (row-there issuer rows history stands found.card home row row_is card.0 card.1) (sym card.2)
+    ∙ reply-at_hand issuer found card.0 history at_hand card.1
+
+-- and its launch is that of the card's row
+pub row-launch : (rows : ShardRows) (found : CheckedRequest) (row : CardRow) (launch : Option Launch)
+    → slice_get rows.rows (found.card / rows.shards) ≡ Some row → IsLaunchFor row found.request launch → IsLaunchAt rows found launch
+row-launch rows found row launch row_is launches other other_is =
+    subst (λ (row : CardRow). IsLaunchFor row found.request launch) (same_Some row other (sym row_is ∙ other_is)) launches

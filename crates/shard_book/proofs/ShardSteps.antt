@@ -1,6 +1,6 @@
 -- A record that is appended to the journal of a shard: what the shard holds then, and what a crash may leave.
 use Rattle.std.proofs.Common.{◌≡◌, ◌⊎◌, ℕ, ◌+◌, List, [], ◌∷◌, ◌++◌, length, append-nil, refl, sym, ap, subst, ◌∙◌, inl, inr, ⊎_elim, Bool, true, false}
-use Rattle.std.proofs.Common.{All, Option, None, Some, Result, Ok, Err, IfSome, MatchResult, OnOk, is_err, zero, suc, arith}
+use Rattle.std.proofs.Common.{All, Option, None, Some, Result, Ok, Err, IfSome, IsErr, MatchResult, OnOk, is_err, zero, suc, arith}
 use Rattle.std.proofs.lemmas.List.{length_push}
 use Rattle.std.proofs.lemmas.List.Elements.{All-push}
 use Rattle.std.proofs.lemmas.List.Concat.{flat_map-append}
@@ -11,15 +11,7 @@ use Rattle.issuer_base.proofs.Moments.{LeavesOnly-passes, LeavesOnly-weaker, Pas
 use Rattle.issuer_base.proofs.ToldTwice.{BothTold-weaker}
 use Rattle.card_history.specs.LegalRecords.{Grounds, IsLegal}
 use Rattle.issuer_setup.specs.IssuerSetup.{Setup}
-use Rattle.issuer_base.specs.declared.request.Request.{Request}
-use Rattle.issuer_base.specs.declared.answer.Reply.{Reply}
-use Rattle.issuer_base.specs.declared.answer.Answer.{Answer}
-use Rattle.issuer_base.specs.declared.answer.Answer.TheVariants.{Fresh, Refused}
-use Rattle.issuer_base.specs.declared.answer.Refusal.TheVariants.{StoreFault}
-use Rattle.issuer_base.specs.declared.entry.Entry.TheVariants.{Decided}
-use Rattle.card_history.specs.Turns.{IsUnused, decided_for}
-use Rattle.row_core.specs.Replying.{reply_to}
-use Rattle.shard_book.specs.Answering.{told_after, AnswersClaimed}
+use Rattle.shard_book.specs.Answering.{told_after}
 use Rattle.journal_rec.specs.Record.{IsRecord}
 use Rattle.journal_rec.specs.RecordText.{text_of, texts_of, journal_text, version_line}
 use Rattle.record_store.specs.declared.journal.Journal.{Journal}
@@ -132,23 +124,11 @@ stands-with {S} {G} issuer number journal mid rows told history number_is same s
   journal_holds = subst (λ number. HoldsHistory (grounds_now issuer) number journal history) (sym (same.shard_is ∙ number_is)) holds;
 }
 
--- a decision that was added, or not, is answered by the history
-pub answer-added : {S : Type 0} {G : Ghosts S} (issuer : Setup) (new : Shard S G) (number : ℕ) (won : Bool) (history : List Entry) (request : Request)
-    (reply : Reply) (answer : Answer) → won ≡ true → IsUnused (decided_for request history) request → reply ≡ reply_to issuer history request
-    → Adds issuer new history (Decided request reply) (Fresh number (length history) reply) answer
-    → (after : List Entry) × StandsFor issuer new after × AnswersClaimed number (reply_to issuer) won history request answer after
-answer-added issuer new number won history request reply answer is_won unused made = ⊎_elim
-    (λ (good : (answer ≡ Fresh number (length history) reply) × StandsFor issuer new (history ++ Decided request reply ∷ [])). (
-      history ++ Decided request reply ∷ [],
-      good.1,
-      subst (λ (answer : Answer). AnswersClaimed number (reply_to issuer) won history request answer (history ++ Decided request reply ∷ [])) (sym good.0)
-          (is_won, (unused, refl, refl, made, refl)),
-    ))
-    (λ (failed : (answer ≡ Refused StoreFault) × StandsFor issuer new history). (
-      history,
-      failed.1,
-      subst (λ (answer : Answer). AnswersClaimed number (reply_to issuer) won history request answer history) (sym failed.0) (is_won, unused, refl),
-    ))
+-- a record that wasn't appended isn't added
+pub adds-nothing : {S E : Type 0} {G : Ghosts S} (issuer : Setup) (new : Shard S G) (history : List Entry) (entry : Entry) (result : Result ℕ E)
+    → IsErr result → StandsFor issuer new history → Adds issuer new history entry result
+adds-nothing issuer new history entry (Ok place) failed stands = absurd (let e : false ≡ true = failed in cc)
+adds-nothing issuer new history entry (Err error) failed stands = stands
 
 -- one more answer that reported it is counted
 told-rises : (told : ℕ) → told_after told true ≡ 0 → ⊥

@@ -1,11 +1,8 @@
 -- The history that a shard over a store stands for.
-use Rattle.std.specs.Prelude.{◌≡◌, ◌⊎◌, ◌≤◌, ℕ, false, List, [], ◌∷◌, ◌++◌, length, Option, Some, IfSome, IsSomeAnd, All}
+use Rattle.std.specs.Prelude.{◌≡◌, ◌⊎◌, ◌≤◌, ℕ, false, List, [], ◌∷◌, ◌++◌, length, Option, Some, IfSome, IsSomeAnd, Result, MatchResult, All}
 use Rattle.issuer_base.specs.Stores.{Disk, Moment, MayLeave, BothTold}
 use Rattle.record_store.specs.Images.{OnlyReads}
 use Rattle.issuer_base.specs.declared.outside.store.Store.{Ghosts}
-use Rattle.issuer_base.specs.declared.answer.Answer.{Answer}
-use Rattle.issuer_base.specs.declared.answer.Answer.TheVariants.{Refused}
-use Rattle.issuer_base.specs.declared.answer.Refusal.TheVariants.{StoreFault}
 use Rattle.issuer_base.specs.declared.entry.Entry.{Entry}
 use Rattle.card_history.specs.LegalRecords.{Grounds, IsLegal}
 use Rattle.issuer_setup.specs.IssuerSetup.{Setup}
@@ -80,11 +77,11 @@ pub record StandsFor {S : Type 0} {G : Ghosts S} (issuer : Setup) (shard : Shard
   pub rows_stand : RowsStandFor issuer shard.rows history
   pub journal_holds : HoldsHistory (grounds_now issuer) shard.rows.shard shard.journal history
 
--- the record is added and the good answer is returned, or the store failed and the history is unchanged
-abbrev pub Adds : {S : Type 0} {G : Ghosts S} → Setup → Shard S G → List Entry → Entry → Answer → Answer → Type 0
-Adds issuer new history entry good answer =
-    ((answer ≡ good) × StandsFor issuer new (history ++ entry ∷ []))
-    ⊎ ((answer ≡ Refused StoreFault) × StandsFor issuer new history)
+-- the record is added and its index is returned, or the store failed and the history is unchanged
+abbrev pub Adds : {S E : Type 0} {G : Ghosts S} → Setup → Shard S G → List Entry → Entry → Result ℕ E → Type 0
+Adds issuer new history entry result =
+    MatchResult result (λ place. (place ≡ length history) × StandsFor issuer new (history ++ entry ∷ []))
+    (λ _. StandsFor issuer new history)
 
 -- a load after this old history takes the bytes for the history: they are a prefix of the text of the old history,
 -- where a migration was stopped or never begun; or the text of the history and a torn last line, which may be empty

@@ -1,5 +1,5 @@
 -- What one more record does to the rows of a shard.
-use Rattle.std.specs.Prelude.{◌≡◌, ◌↔◌, ℕ, ◌/◌, ◌≤◌, Bool, List, [], ◌∷◌, ◌++◌, length, slice_get, Option, Some, IsTrue}
+use Rattle.std.specs.Prelude.{◌≡◌, ◌↔◌, ℕ, ◌/◌, ◌≤◌, Bool, List, [], ◌∷◌, ◌++◌, length, slice_get, Option, Some, MatchOption, IsTrue}
 use Rattle.issuer_base.specs.declared.command.Command.{Command}
 use Rattle.issuer_base.specs.declared.entry.Entry.{Entry}
 use Rattle.issuer_base.specs.declared.entry.Entry.TheVariants.{Decided}
@@ -8,18 +8,17 @@ use Rattle.card_history.specs.Records.{card_of}
 use Rattle.row_core.specs.Accepting.{IsValidSuccessor}
 use Rattle.card_history.specs.declared.decision.Decision.{Decision}
 use Rattle.card_history.specs.Scripts.{waiting, scripts_of}
-use Rattle.card_history.specs.Turns.{Answers}
+use Rattle.card_history.specs.Turns.{IsUnused, decided_for}
 use Rattle.script_queue.specs.CommandQueue.{TakesOneMore}
 use Rattle.issuer_setup.specs.declared.card.CardInfo.{CardInfo}
 use Rattle.issuer_setup.specs.CardList.{AreCards, name_of}
 use Rattle.issuer_setup.specs.IssuerSetup.{Setup}
-use Rattle.row_core.specs.Plan.{answer_of, history_after, with_record, with_command_for, with_status_for, IsNext}
-use Rattle.row_core.specs.Replying.{reply_to}
+use Rattle.row_core.specs.Known.{IsKnown}
+use Rattle.row_core.specs.Plan.{with_record, with_command_for, with_status_for, IsNext}
 use Rattle.row_core.specs.CardRow.{CardRow}
 use Rattle.row_core.specs.Launching.{IsLaunchFor}
 use Rattle.row_core.specs.declared.scripts.Launch.{Launch}
-use Rattle.row_core.specs.declared.row.Outcome.{Outcome}
-use Rattle.row_core.specs.declared.row.Outcome.TheVariants.{Fresh}
+use Rattle.row_core.specs.declared.row.Known.{Known}
 use Rattle.line_checks.specs.declared.checked.CheckedRequest.{CheckedRequest}
 use Rattle.shard_book.specs.ShardRows.{ShardRows, RowsStandFor}
 
@@ -28,22 +27,17 @@ pub record IsCardOf (issuer : Setup) (number : ℕ) (card : CardInfo) : Type 0 w
   pub valid : AreCards issuer.cards
   pub card_is : slice_get issuer.cards number ≡ Some card
 
--- the plan for this request is the shard's answer to it, after each history that the rows stand for
-abbrev pub IsPlanFor : Setup → ShardRows → CheckedRequest → Outcome → Type 0
-IsPlanFor issuer rows found outcome =
+-- this is known of the request after each history that the rows stand for; if nothing is, its ATC is unused
+abbrev pub IsKnownFor : Setup → ShardRows → CheckedRequest → Option Known → Type 0
+IsKnownFor issuer rows found known =
     (history : List Entry) → RowsStandFor issuer rows history
-    → Answers rows.shard (reply_to issuer) history found.request (answer_of rows.shard (length history) outcome)
-    (history_after history found.request outcome)
+    → MatchOption known (IsUnused (decided_for found.request history) found.request)
+    (IsKnown (decided_for found.request history) found.request)
 
 -- the launch is that of the request's card's row
 abbrev pub IsLaunchAt : ShardRows → CheckedRequest → Option Launch → Type 0
 IsLaunchAt rows found launch =
     (row : CardRow) → slice_get rows.rows (found.card / rows.shards) ≡ Some row → IsLaunchFor row found.request launch
-
--- a planned reply has a byte, and its launch is that of the card's row
-abbrev pub IsStepFor : ShardRows → CheckedRequest → Outcome → Type 0
-IsStepFor rows found (Fresh reply launch) = (1 ≤ length reply.bytes.items) × IsLaunchAt rows found launch
-IsStepFor rows found _ = Unit {0}
 
 -- the decision of this request, a valid successor, is added
 abbrev pub Applies : ShardRows → CheckedRequest → Decision → ShardRows → Type 0

@@ -10,11 +10,12 @@ ghost use Rattle.issuer_setup.specs.IssuerSetup.{Setup};
 ghost use Rattle.issuer_setup.specs.declared.card.CardInfo.{CardInfo};
 ghost use Rattle.row_core.specs.Accepting.{IsValidSuccessor};
 ghost use Rattle.row_core.specs.CardRow.{StandsFor as RowStandsFor};
+ghost use Rattle.row_core.specs.Replying.{reply_to};
 ghost use Rattle.key_derive.specs.SessionKey.{session_of};
 ghost use Rattle.line_checks.specs.AtHand.{IsRequestAtHand};
 ghost use Rattle.shard_book.specs.ShardRows.{AreRowsOf, AreSame, IsHome, AreEmpty, Covers, Lists, RowsStandFor};
 ghost use Rattle.shard_book.specs.Versions.{window_in};
-ghost use Rattle.shard_book.specs.Steps.{IsPlanFor, IsLaunchAt, IsStepFor, Applies, Accepts, Adopts, Queues, TakesCommand, SetsStatus};
+ghost use Rattle.shard_book.specs.Steps.{IsKnownFor, IsLaunchAt, Applies, Accepts, Adopts, Queues, TakesCommand, SetsStatus};
 
 use crate::replay::Version;
 use counter_bits::CounterBits;
@@ -22,7 +23,7 @@ use issuer_base::{Command, MAX_CARDS, MAX_STATUS, NoMemory, Reply, Request};
 use issuer_setup::Issuer;
 use key_derive::{LazyKeys, SessionKey};
 use line_checks::CheckedRequest;
-use row_core::{Launch, Outcome, Row};
+use row_core::{Known, Launch, Row};
 use std::alloc::Global;
 use std::marker::Model;
 
@@ -90,20 +91,43 @@ impl Rows {
         &self.rows[index_of(card, self.shards)]
     }
 
-    /// The plan for a request of a card of this shard.
+    /// What is known of a request of a card of this shard whose ATC is used or below the window, or `None`.
     #[inline(always)]
-    pub(crate) fn plan(&self, issuer: &Issuer, found: &CheckedRequest) -> Outcome<'_>
-        requires rows { AreRowsOf issuer.now self.now }
-        requires home { IsHome self.now found.now.card }
-        requires at_hand { IsRequestAtHand issuer.now found.now }
-        ensures plan { IsPlanFor issuer.now self.now found.now result }
-        ensures step { IsStepFor self.now found.now result }
+    pub(crate) fn known(&self, found: &CheckedRequest) -> Option<Known<'_>>
+        requires { IsHome self.now found.now.card }
+        ensures { (issuer : Setup) → IsRequestAtHand issuer found.now → IsKnownFor issuer self.now found.now result }
     {
-        self.row(found.card).plan(&found.session, &found.keys, issuer.table(), &found.request)
+        self.row(found.card).known(&found.request)
     }
 
-    /// Adds the record of the decision that a plan gave for this request to the row of its card, and its ATC to the
-    /// card's recorded ones. The rows are unchanged since the plan.
+    /// Decides a request of a card of this shard whose ATC is in the window and unused: makes of a reply without bytes
+    /// the one that the issuer decides. Returns the launch of its batch.
+    #[inline(always)]
+    pub(crate) fn decide(
+        &self,
+        issuer: &Issuer,
+        found: &CheckedRequest,
+        reply: &mut Reply,
+    ) -> Option<Launch>
+        requires home { IsHome self.now found.now.card }
+        requires at_hand { IsRequestAtHand issuer.now found.now }
+        requires empty { reply.old.bytes.items ≡ [] }
+        ensures reply { (history : List Entry) → RowsStandFor issuer.now self.now history
+            → reply.new ≡ reply_to issuer.now history found.now.request }
+        ensures some { 1 ≤ length reply.new.bytes.items }
+        ensures launch { IsLaunchAt self.now found.now result }
+    {
+        self.row(found.card).decide(
+            &found.session,
+            &found.keys,
+            issuer.table(),
+            &found.request,
+            reply,
+        )
+    }
+
+    /// Adds the record of the decision of this request to the row of its card, and its ATC to the card's recorded ones.
+    /// The rows are unchanged since it was decided.
     pub(crate) fn apply(
         &mut self,
         found: &CheckedRequest,

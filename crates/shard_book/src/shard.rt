@@ -40,7 +40,7 @@ use issuer_setup::Issuer;
 use journal_rec::{write_decided, write_entry};
 use line_checks::{CheckedCommand, CheckedOrder, CheckedRequest, CheckedStatus};
 use record_store::Journal;
-use row_core::{Launch, Outcome, Row};
+use row_core::{Known, Launch, Row};
 use std::alloc::Global;
 
 /// A shard of an issuer over a store: the rows of its cards, and the journal of its records.
@@ -123,20 +123,34 @@ impl<S: Store> Shard<S> {
         ensures kept { KeepsShard issuer.now self.old result self.new }
     {
         let shard = self.rows.shard();
-        match self.rows.plan(issuer, found) {
-            Outcome::Fresh(reply, launch) => {
-                if !won {
-                    return Answer::Refused(Refusal::Pending);
-                }
-                self.decide(found, reply, launch)
+        match self.rows.known(found) {
+            Some(Known::Kept(reply, place)) => {
+                return Answer::Kept {
+                    shard,
+                    place,
+                    reply: reply.copy(),
+                };
             }
-            Outcome::Kept(reply, place) => Answer::Kept {
-                shard,
-                place,
-                reply: reply.copy(),
-            },
-            Outcome::Below(greatest) => Answer::Refused(Refusal::Below(greatest)),
-            Outcome::Taken(place) => Answer::Refused(Refusal::Taken { shard, place }),
+            Some(Known::Below(greatest)) => return Answer::Refused(Refusal::Below(greatest)),
+            Some(Known::Taken(place)) => return Answer::Refused(Refusal::Taken { shard, place }),
+            None => {}
+        }
+        if !won {
+            return Answer::Refused(Refusal::Pending);
+        }
+        let mut reply = Reply {
+            arc: [0; 2],
+            approve: false,
+            bytes: ArrayVec::new(),
+        };
+        let launch = self.rows.decide(issuer, found, &mut reply);
+        let Ok(place) = self.add_decision(found, &reply, launch) else {
+            return Answer::Refused(Refusal::StoreFault);
+        };
+        Answer::Fresh {
+            shard,
+            place,
+            reply,
         }
     }
 
@@ -284,39 +298,39 @@ impl<S: Store> Shard<S> {
         }
     }
 
-    /// Records the decision of a request, and applies it to the row of its card by the launch of its batch.
-    fn decide(&mut self, found: &CheckedRequest, reply: Reply, launch: Option<Launch>) -> Answer
+    /// Records the decision of a request, and applies it to the row of its card by the launch of its batch. The result
+    /// is the record's index.
+    fn add_decision(
+        &mut self,
+        found: &CheckedRequest,
+        reply: &Reply,
+        launch: Option<Launch>,
+    ) -> Result<u64, StoreFail>
         requires home { HasCard self.old found.now.card }
-        requires some { 1 ≤ length reply.bytes.items }
+        requires some { 1 ≤ length reply.now.bytes.items }
         requires launch { IsLaunchAt self.old.rows found.now launch }
         ensures added { (issuer : Setup) (card : CardInfo) (history : List Entry) → StandsFor issuer self.old history
             → IsCardOf issuer found.now.card card
-            → IsNext card history (record { request = found.now.request; reply = reply; place = length history })
-            → IsLegal (grounds_now issuer) (number_in self.old) history (Entry.Decided found.now.request reply)
-            → Adds issuer self.new history (Entry.Decided found.now.request reply)
-            (Answer.Fresh (number_in self.old) (length history) reply) result }
+            → IsNext card history (record { request = found.now.request; reply = reply.now; place = length history })
+            → IsLegal (grounds_now issuer) (number_in self.old) history (Entry.Decided found.now.request reply.now)
+            → Adds issuer self.new history (Entry.Decided found.now.request reply.now) result }
         ensures tail { (history : List Entry) (tail : List ℕ) → HasTail self.old history tail
-            → LeavesTail (Entry.Decided found.now.request reply) history tail result self.new }
-        ensures changed { tells_change result ≡ true }
+            → let entry = Entry.Decided found.now.request reply.now in
+            MatchResult result (λ _. HasTail self.new (history ++ entry ∷ []) [])
+            (λ _. HasTail self.new history tail ⊎ HasTail self.new history (text_of entry)) }
         ensures crash { (issuer : Setup) (history : List Entry) → StandsFor issuer self.old history
-            → IsLegal (grounds_now issuer) (number_in self.old) history (Entry.Decided found.now.request reply)
+            → IsLegal (grounds_now issuer) (number_in self.old) history (Entry.Decided found.now.request reply.now)
             → BothTold (LeavesOnly (IsImageOf (grounds_now issuer) (number_in self.old) history))
             (disk_in self.old) (disk_in self.new) }
-        ensures room { UsesRoom MOST_RECORD_BYTES (is_store_fault result) self.old self.new }
+        ensures room { UsesRoom MOST_RECORD_BYTES (is_err result) self.old self.new }
         ensures kept { (issuer : Setup) → IsUnder issuer self.old
-            → KeepsCall issuer self.old (is_store_fault result) self.new }
+            → KeepsCall issuer self.old (is_err result) self.new }
     {
         let mut text = ArrayVec::new();
-        write_decided(&mut text, &found.request, &reply);
-        let Ok(place) = self.put_text(text.as_slice()) else {
-            return Answer::Refused(Refusal::StoreFault);
-        };
-        self.rows.apply(found, &reply, launch, place);
-        Answer::Fresh {
-            shard: self.rows.shard(),
-            place,
-            reply,
-        }
+        write_decided(&mut text, &found.request, reply);
+        let place = self.put_text(text.as_slice())?;
+        self.rows.apply(found, reply, launch, place);
+        Ok(place)
     }
 
     /// Appends the text of a record to the journal and syncs it. The result is the record's index.

@@ -4,6 +4,6 @@ use Rattle.row_core.proofs.row.Row.plan.Goals as goal
 
 pub returns-clause-plan : goal.returns-clause-plan
 returns-clause-plan c =
-    plans-fresh c.args.self.now c.args.keys.now c.args.table.now c.args.request.now c.decide-reply.result.0 c.decide-reply.result.1
-    (λ decisions hi window. c.in_default.ensures.known decisions hi window)
-    c.decide-reply.ensures.reply
+    plans-fresh c.args.self.now c.args.keys.now c.args.table.now c.args.request.now c.decide-launch.new.reply c.decide-launch.result
+    (λ card history stands. c.in-None.ensures card history stands)
+    c.decide-launch.ensures.reply

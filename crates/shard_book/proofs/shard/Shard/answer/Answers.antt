@@ -1,85 +1,125 @@
--- Each outcome of the plan is answered as the history requires.
-use Rattle.std.proofs.Common.{ℕ, List, length, refl, sym, subst}
-use Rattle.issuer_base.specs.declared.answer.Answer.TheVariants.{Refused}
-use Rattle.issuer_base.specs.declared.answer.Refusal.TheVariants.{Taken as IsTaken}
+-- What is known of a request is answered as the history requires, and one of which nothing is known is decided.
+use Rattle.std.proofs.Common.{◌≡◌, ◌∷◌, ◌++◌, [], List, length, refl, sym, subst, ◌∙◌}
 use Rattle.issuer_base.specs.declared.answer.Reply.{Reply}
 use Rattle.issuer_base.specs.declared.entry.Entry.{Entry}
 use Rattle.issuer_base.specs.declared.entry.Entry.TheVariants.{Decided}
-use Rattle.issuer_base.specs.declared.request.Request.{Request}
 use Rattle.card_history.specs.LegalRecords.{IsLegalDecision}
 use Rattle.card_history.specs.Records.{CardName, card_of, decided}
-use Rattle.card_history.specs.Turns.{IsUnused}
+use Rattle.card_history.specs.Turns.{IsUnused, IsUsed, decided_for}
+use Rattle.issuer_setup.specs.declared.card.CardInfo.{CardInfo}
+use Rattle.issuer_setup.specs.CardList.{name_of}
+use Rattle.row_core.specs.Known.{IsKnown}
 use Rattle.row_core.specs.Plan.{IsNext}
 use Rattle.shard_book.proofs.LegalNext.{card-found, legal-decision}
-use Rattle.row_core.specs.Replying.{reply_to}
-use Rattle.shard_book.specs.Answering.{LeavesTail, AnswersClaimed}
 use Rattle.shard_book.specs.Grounds.{grounds_now}
 use Rattle.shard_book.specs.Shards.{StandsFor}
-use Rattle.shard_book.proofs.ShardSteps.{crash-no_call, answer-added}
+use Rattle.shard_book.proofs.ShardSteps.{crash-no_call}
 use Rattle.shard_book.proofs.shard.Shard.answer.Given.{Over}
-use Rattle.shard_book.proofs.shard.Shard.answer.Goals.{After-decide}
+use Rattle.shard_book.proofs.shard.Shard.answer.Goals.{After-decide-launch}
 use Rattle.shard_book.proofs.shard.Shard.answer.Goals as goal
+
+pub returns-in-Some-Kept-clause-answer : goal.returns-in-Some-Kept-clause-answer
+returns-in-Some-Kept-clause-answer g c history stands =
+    let request = c.args.found.now.request in
+    let used = subst (IsKnown (decided_for request history) request) c.in-Some-Kept.field-0-is
+    (c.in-Some-Kept.ensures c.args.issuer.now c.requires.at_hand history stands.rows_stand) in (
+      history,
+      stands,
+      (
+        subst
+            (λ (reply : Reply). IsUsed (decided_for request history) request
+            (record { request = request; reply = reply; place = c.in-Some-Kept.place }))
+            (sym c.copy.ensures) used,
+        c.shard-shard.ensures,
+        refl,
+      ),
+    )
+
+pub returns-in-Some-Below-clause-answer : goal.returns-in-Some-Below-clause-answer
+returns-in-Some-Below-clause-answer g c history stands =
+    let request = c.args.found.now.request in
+    let known = subst (IsKnown (decided_for request history) request) c.in-Some-Below.field-0-is
+    (c.in-Some-Below.ensures c.args.issuer.now c.requires.at_hand history stands.rows_stand) in
+    (history, stands, (known, refl))
+
+pub returns-in-Some-Taken-clause-answer : goal.returns-in-Some-Taken-clause-answer
+returns-in-Some-Taken-clause-answer g c history stands =
+    let request = c.args.found.now.request in
+    let known = subst (IsKnown (decided_for request history) request) c.in-Some-Taken.field-0-is
+    (c.in-Some-Taken.ensures c.args.issuer.now c.requires.at_hand history stands.rows_stand) in
+    (history, stands, (known, c.shard-shard.ensures, refl))
+
+pub returns-then-not-won-clause-answer : goal.returns-then-not-won-clause-answer
+returns-then-not-won-clause-answer g c history stands =
+    (history, stands, (c.if-not-won.true, c.in-None.ensures c.args.issuer.now c.requires.at_hand history stands.rows_stand, refl))
+
+pub returns-in-Some-Kept-clause-crash : goal.returns-in-Some-Kept-clause-crash
+returns-in-Some-Kept-clause-crash g c history stands = crash-no_call (grounds_now c.args.issuer.now) _ c.args.self.now.journal history stands.journal_holds
+
+pub returns-in-Some-Below-clause-crash : goal.returns-in-Some-Below-clause-crash
+returns-in-Some-Below-clause-crash g c history stands = crash-no_call (grounds_now c.args.issuer.now) _ c.args.self.now.journal history stands.journal_holds
+
+pub returns-in-Some-Taken-clause-crash : goal.returns-in-Some-Taken-clause-crash
+returns-in-Some-Taken-clause-crash g c history stands = crash-no_call (grounds_now c.args.issuer.now) _ c.args.self.now.journal history stands.journal_holds
 
 pub returns-then-not-won-clause-crash : goal.returns-then-not-won-clause-crash
 returns-then-not-won-clause-crash g c history stands = crash-no_call (grounds_now c.args.issuer.now) _ c.args.self.now.journal history stands.journal_holds
 
-pub returns-in-Kept-clause-crash : goal.returns-in-Kept-clause-crash
-returns-in-Kept-clause-crash g c history stands = crash-no_call (grounds_now c.args.issuer.now) _ c.args.self.now.journal history stands.journal_holds
+-- nothing is known of a request that is decided: its ATC is in the window and unused
+unused : (g : Over) (c : After-decide-launch g) (history : List Entry) → StandsFor c.args.issuer.now c.args.self.now history
+    → IsUnused (decided_for c.args.found.now.request history) c.args.found.now.request
+unused g c history stands = c.in-None.ensures c.args.issuer.now c.requires.at_hand history stands.rows_stand
 
-pub returns-in-Below-clause-crash : goal.returns-in-Below-clause-crash
-returns-in-Below-clause-crash g c history stands = crash-no_call (grounds_now c.args.issuer.now) _ c.args.self.now.journal history stands.journal_holds
+-- so its decision is the next one of its card
+next : (g : Over) (c : After-decide-launch g) (history : List Entry) (card : CardInfo) → StandsFor c.args.issuer.now c.args.self.now history
+    → name_of card ≡ card_of c.args.found.now.request
+    → IsNext card history (record { request = c.args.found.now.request; reply = c.decide-launch.new.reply; place = length history })
+next g c history card stands named = record {
+  of_card = sym named;
+  at_end = refl;
+  unused = subst (λ (name : CardName). IsUnused (decided name history) c.args.found.now.request) (sym named) (unused g c history stands);
+}
 
-pub returns-in-Taken-clause-crash : goal.returns-in-Taken-clause-crash
-returns-in-Taken-clause-crash g c history stands = crash-no_call (grounds_now c.args.issuer.now) _ c.args.self.now.journal history stands.journal_holds
-
--- the planned decision is a valid successor
-legal : (g : Over) (c : After-decide g) (history : List Entry) → StandsFor c.args.issuer.now c.args.self.now history
+-- and a valid successor
+legal : (g : Over) (c : After-decide-launch g) (history : List Entry) → StandsFor c.args.issuer.now c.args.self.now history
     → IsLegalDecision (grounds_now c.args.issuer.now) c.args.self.now.rows.shard history c.args.found.now.request
-    c.in-Fresh.reply
+    c.decide-launch.new.reply
 legal g c history stands =
-    let issuer = c.args.issuer.now in
     let found = c.args.found.now in
-    let plan = c.in-Fresh.ensures.plan history stands.rows_stand in
-    legal-decision issuer c.args.self.now.rows c.requires.under (card_of found.request) found.card
-    c.requires.at_hand.card_is c.requires.home history found.request c.in-Fresh.reply refl c.requires.checked_is plan.0 plan.3
+    legal-decision c.args.issuer.now c.args.self.now.rows c.requires.under (card_of found.request) found.card
+    c.requires.at_hand.card_is c.requires.home history found.request c.decide-launch.new.reply refl c.requires.checked_is
+    (unused g c history stands) (c.decide-launch.ensures.reply history stands.rows_stand)
 
-pub returns-else-not-won-clause-answer : goal.returns-else-not-won-clause-answer
-returns-else-not-won-clause-answer g c history stands =
-    let issuer = c.args.issuer.now in
-    let found = c.args.found.now in
-    let request : Request = found.request in
-    let reply = c.in-Fresh.reply in
-    let plan = c.in-Fresh.ensures.plan history stands.rows_stand in
-    let card = card-found issuer (card_of request) found.card c.requires.at_hand.card_is in
-    let next : IsNext card.card history (record { request = request; reply = reply; place = length history }) = record {
-      of_card = sym card.named;
-      at_end = refl;
-      unused = subst (λ (name : CardName). IsUnused (decided name history) request) (sym card.named) plan.0;
-    } in
-    answer-added issuer c.decide.new.self c.args.self.now.rows.shard c.args.won history request reply c.decide.result c.if-not-won.false plan.0 plan.3
-    (c.decide.ensures.added issuer card.card history stands card.known next
-    (legal g (goal.at.returns-else-not-won-clause-answer g c).After-decide history stands))
+pub returns-clause-answer : goal.returns-clause-answer
+returns-clause-answer g c history stands =
+    let decided_here = (goal.at.returns-clause-answer g c).After-decide-launch in
+    let request = c.args.found.now.request in
+    let card = card-found c.args.issuer.now (card_of request) c.args.found.now.card c.requires.at_hand.card_is in
+    let added = c.in-Ok.ensures.added c.args.issuer.now card.card history stands card.known (next g decided_here history card.card stands card.named)
+    (legal g decided_here history stands) in (
+      history ++ Decided request c.decide-launch.new.reply ∷ [],
+      added.1,
+      (
+        c.if-not-won.false,
+        (unused g decided_here history stands, c.shard-shard.ensures, added.0, c.decide-launch.ensures.reply history stands.rows_stand, refl),
+      ),
+    )
 
-pub returns-else-not-won-clause-crash : goal.returns-else-not-won-clause-crash
-returns-else-not-won-clause-crash g c history stands =
-    c.decide.ensures.crash c.args.issuer.now history stands
-    (legal g (goal.at.returns-else-not-won-clause-crash g c).After-decide history stands)
+pub returns-in_default-clause-answer : goal.returns-in_default-clause-answer
+returns-in_default-clause-answer g c history stands =
+    let decided_here = (goal.at.returns-in_default-clause-answer g c).After-decide-launch in
+    let card = card-found c.args.issuer.now (card_of c.args.found.now.request) c.args.found.now.card c.requires.at_hand.card_is in (
+      history,
+      c.in_default.ensures.added c.args.issuer.now card.card history stands card.known (next g decided_here history card.card stands card.named)
+          (legal g decided_here history stands),
+      (c.if-not-won.false, unused g decided_here history stands, refl),
+    )
 
-pub returns-else-not-won-clause-tail : goal.returns-else-not-won-clause-tail
-returns-else-not-won-clause-tail g c history tail stands holds =
-    let issuer = c.args.issuer.now in
-    let request : Request = c.args.found.now.request in
-    let plan = c.in-Fresh.ensures.plan history stands.rows_stand in
-    subst (λ (reply : Reply). LeavesTail (Decided request reply) history tail c.decide.result c.decide.new.self) plan.3
-    (c.decide.ensures.tail history tail holds)
+pub returns-clause-crash : goal.returns-clause-crash
+returns-clause-crash g c history stands =
+    c.add_decision.ensures.crash c.args.issuer.now history stands (legal g (goal.at.returns-clause-crash g c).After-decide-launch history stands)
 
-pub returns-in-Below-clause-answer : goal.returns-in-Below-clause-answer
-returns-in-Below-clause-answer g c history stands = (history, stands, c.in-Below.ensures.plan history stands.rows_stand)
-
-pub returns-in-Taken-clause-answer : goal.returns-in-Taken-clause-answer
-returns-in-Taken-clause-answer g c history stands =
-    let number = c.args.self.now.rows.shard in
-    let answered = subst (λ (shard : ℕ). AnswersClaimed number (reply_to c.args.issuer.now) c.args.won history c.args.found.now.request
-    (Refused (IsTaken shard c.in-Taken.place)) history)
-    (sym c.shard-shard.ensures) (c.in-Taken.ensures.plan history stands.rows_stand) in
-    (history, stands, answered)
+pub returns-in_default-clause-crash : goal.returns-in_default-clause-crash
+returns-in_default-clause-crash g c history stands =
+    c.add_decision.ensures.crash c.args.issuer.now history stands
+    (legal g (goal.at.returns-in_default-clause-crash g c).After-decide-launch history stands)

@@ -1,6 +1,5 @@
 -- A recorded decision is added.
-use Rattle.std.proofs.Common.{◌≡◌, ℕ, ◌+◌, [], ◌∷◌, ◌++◌, length, ap, arith, sym, subst, ◌∙◌, inl, inr, refl}
-use Rattle.issuer_base.specs.declared.answer.Answer.TheVariants.{Fresh}
+use Rattle.std.proofs.Common.{◌≡◌, ℕ, ◌+◌, [], ◌∷◌, ◌++◌, length, ap, arith, sym, subst, ◌∙◌, refl}
 use Rattle.issuer_base.specs.declared.entry.Entry.TheVariants.{Decided}
 use Rattle.journal_rec.specs.RecordText.{text_of}
 use Rattle.journal_rec.specs.declared.limits.TheConstants.{MOST_RECORD_BYTES}
@@ -9,13 +8,13 @@ use Rattle.shard_book.specs.Grounds.{grounds_now}
 use Rattle.shard_book.specs.ShardRows.{ShardRows, RowsStandFor}
 use Rattle.row_core.specs.Plan.{IsNext}
 use Rattle.shard_book.specs.Steps.{IsLaunchAt}
-use Rattle.shard_book.proofs.ShardSteps.{put-crash, put-done, stands-still, stands-with}
+use Rattle.shard_book.proofs.ShardSteps.{adds-nothing, put-crash, put-done, stands-still, stands-with}
 use Rattle.shard_book.proofs.Rooms.{no-failure, room-less}
-use Rattle.shard_book.proofs.shard.Shard.decide.Goals as goal
+use Rattle.shard_book.proofs.shard.Shard.add_decision.Goals as goal
 
 pub put_text-requires : goal.put_text-requires
 put_text-requires g c =
-    let entry = Decided c.args.found.now.request c.args.reply in
+    let entry = Decided c.args.found.now.request c.args.reply.now in
     let its : c.as_slice.result.now ≡ text_of entry = c.as_slice.ensures.value ∙ c.write_decided.ensures.text in
     let least = (length-text_of entry c.write_decided.ensures.record).0 in
     omega (arith, ap length its, least)
@@ -28,45 +27,37 @@ pub returns-clause-added : goal.returns-clause-added
 returns-clause-added g c issuer card history stands known next legal =
     let number : ℕ = c.args.self.now.rows.shard in
     let request = c.args.found.now.request in
-    let reply = c.args.reply in
+    let reply = c.args.reply.now in
     let h = stands.journal_holds in
-    let put = c.in-Ok.ensures.put history h.tail (Decided request reply) (c.as_slice.ensures.value ∙ c.write_decided.ensures.text) h.holds in
+    let put = c.in_ok-place.ensures.put history h.tail (Decided request reply) (c.as_slice.ensures.value ∙ c.write_decided.ensures.text) h.holds in
     let added =
     put-done (grounds_now issuer) number history (Decided request reply) c.put_text.new.self.journal h.records c.write_decided.ensures.record put.1 in
     let number_is : c.put_text.new.self.rows.shard ≡ number = ap (λ (rows : ShardRows). rows.shard) c.put_text.ensures.rows in
     let before = subst (λ (rows : ShardRows). RowsStandFor issuer rows history) (sym c.put_text.ensures.rows) stands.rows_stand in
-    let next_there : IsNext card history (record { request = request; reply = reply; place = c.in-Ok.place }) =
+    let next_there : IsNext card history (record { request = request; reply = reply; place = c.in_ok-place.place }) =
     subst (λ (place : ℕ). IsNext card history (record { request = request; reply = reply; place = place })) (sym put.0) next in
-    let rows = c.apply.ensures.applied issuer card history before known next_there refl in
-    let shard_is : c.shard.result ≡ number = c.shard.ensures ∙ c.apply.ensures.same.shard_is ∙ number_is in
-    inl (
-      ap (λ shard. Fresh shard c.in-Ok.place reply) shard_is ∙ ap (λ place. Fresh number place reply) put.0,
+    let rows = c.apply.ensures.applied issuer card history before known next_there refl in (
+      put.0,
       stands-with issuer number c.put_text.new.self.journal c.put_text.new.self.rows c.apply.new.self c.put_text.new.self.told
           (history ++ Decided request reply ∷ []) number_is
           c.apply.ensures.same rows added,
     )
 
-pub returns-in_default-clause-added : goal.returns-in_default-clause-added
-returns-in_default-clause-added g c issuer card history stands known next legal =
-    let entry = Decided c.args.found.now.request c.args.reply in
+pub returns-in_err-place-clause-added : goal.returns-in_err-place-clause-added
+returns-in_err-place-clause-added g c issuer card history stands known next legal =
+    let entry = Decided c.args.found.now.request c.args.reply.now in
     let h = stands.journal_holds in
-    let failed = c.in_default.ensures.put history h.tail entry (c.as_slice.ensures.value ∙ c.write_decided.ensures.text) h.holds in
-    inr (
-      refl,
-      stands-still issuer c.args.self.now c.put_text.new.self history entry c.put_text.ensures.rows stands c.write_decided.ensures.record legal failed,
-    )
-
-pub returns-in_default-clause-tail : goal.returns-in_default-clause-tail
-returns-in_default-clause-tail g c history tail holds =
-    c.in_default.ensures.put history tail (Decided c.args.found.now.request c.args.reply) (c.as_slice.ensures.value ∙ c.write_decided.ensures.text) holds
+    let failed = c.in_err-place.ensures.put history h.tail entry (c.as_slice.ensures.value ∙ c.write_decided.ensures.text) h.holds in
+    let still = stands-still issuer c.args.self.now c.put_text.new.self history entry c.put_text.ensures.rows stands c.write_decided.ensures.record legal failed in
+    adds-nothing issuer c.put_text.new.self history entry c.from_residual.result c.from_residual.ensures.0 still
 
 pub returns-clause-tail : goal.returns-clause-tail
 returns-clause-tail g c history tail holds =
-    (c.in-Ok.ensures.put history tail (Decided c.args.found.now.request c.args.reply) (c.as_slice.ensures.value ∙ c.write_decided.ensures.text) holds).1
+    (c.in_ok-place.ensures.put history tail (Decided c.args.found.now.request c.args.reply.now) (c.as_slice.ensures.value ∙ c.write_decided.ensures.text) holds).1
 
-pub returns-in_default-clause-crash : goal.returns-in_default-clause-crash
-returns-in_default-clause-crash g c issuer history stands legal =
-    let entry = Decided c.args.found.now.request c.args.reply in
+pub returns-in_err-place-clause-crash : goal.returns-in_err-place-clause-crash
+returns-in_err-place-clause-crash g c issuer history stands legal =
+    let entry = Decided c.args.found.now.request c.args.reply.now in
     let h = stands.journal_holds in
     put-crash (grounds_now issuer) c.args.self.now.rows.shard history entry c.args.self.now.journal c.put_text.new.self.journal h
     c.write_decided.ensures.record legal _ _
@@ -74,25 +65,25 @@ returns-in_default-clause-crash g c issuer history stands legal =
 
 pub returns-clause-crash : goal.returns-clause-crash
 returns-clause-crash g c issuer history stands legal =
-    let entry = Decided c.args.found.now.request c.args.reply in
+    let entry = Decided c.args.found.now.request c.args.reply.now in
     let h = stands.journal_holds in
     put-crash (grounds_now issuer) c.args.self.now.rows.shard history entry c.args.self.now.journal c.put_text.new.self.journal h
     c.write_decided.ensures.record legal _ _
     (c.put_text.ensures.crash history h.tail entry (c.as_slice.ensures.value ∙ c.write_decided.ensures.text) h.holds)
 
-pub returns-in_default-clause-room : goal.returns-in_default-clause-room
-returns-in_default-clause-room g c spare has =
-    let entry = Decided c.args.found.now.request c.args.reply in
+pub returns-in_err-place-clause-room : goal.returns-in_err-place-clause-room
+returns-in_err-place-clause-room g c spare has =
+    let entry = Decided c.args.found.now.request c.args.reply.now in
     let its : c.as_slice.result.now ≡ text_of entry = c.as_slice.ensures.value ∙ c.write_decided.ensures.text in
     let most = (length-text_of entry c.write_decided.ensures.record).1 in
-    absurd (no-failure (c.in_default.ensures.room spare
+    absurd (no-failure (c.in_err-place.ensures.room spare
     (room-less (MOST_RECORD_BYTES + spare) (length c.as_slice.result.now + spare) _ _ (omega (arith, ap length its, most)) has)))
 
 pub returns-clause-room : goal.returns-clause-room
 returns-clause-room g c spare has =
-    let entry = Decided c.args.found.now.request c.args.reply in
+    let entry = Decided c.args.found.now.request c.args.reply.now in
     let its : c.as_slice.result.now ≡ text_of entry = c.as_slice.ensures.value ∙ c.write_decided.ensures.text in
     let most = (length-text_of entry c.write_decided.ensures.record).1 in
-    let left = c.in-Ok.ensures.room spare
+    let left = c.in_ok-place.ensures.room spare
     (room-less (MOST_RECORD_BYTES + spare) (length c.as_slice.result.now + spare) _ _ (omega (arith, ap length its, most)) has) in
     (refl, left.1)
