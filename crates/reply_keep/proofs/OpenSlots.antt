@@ -1,6 +1,7 @@
 -- All slots computed from the open ones, and how a stored decision changes them.
-use Rattle.std.proofs.Common.{◌≡◌, ℕ, ◌+◌, ◌-◌, ◌<◌, ◌≤◌, List, [], ◌++◌, length, replicate, set, get_or, Option, None, refl, ap, sym, ◌∙◌, arith}
+use Rattle.std.proofs.Common.{◌≡◌, ℕ, ◌+◌, ◌-◌, ◌<◌, ◌≤◌, List, [], ◌∷◌, ◌++◌, length, replicate, set, get_or, Option, None, refl, ap, sym, ◌∙◌, arith, suc}
 use Rattle.std.proofs.Common.{append_assoc}
+use Rattle.std.proofs.Math.Seq.{set-append_seam}
 use Rattle.std.proofs.lemmas.List.{get_or_default, get_or_append_left, get_or-append_right, set-append_left, replicate-append-replicate}
 use Rattle.std.proofs.lemmas.List.{length-append, length-set, length-replicate}
 use Rattle.issuer_base.specs.declared.limits.TheConstants.{WINDOW}
@@ -49,13 +50,24 @@ all_slots-more opened more few =
     ∙ append_assoc opened (replicate more no_decision) (replicate (WINDOW - (length opened + more)) no_decision)
     ∙ ap (λ slots. opened ++ slots) (replicate-append-replicate more (WINDOW - (length opened + more)) no_decision ∙ ap (λ n. replicate n no_decision) rest)
 
--- a slot is filled once the slots up to it are opened
-pub all_slots-filled : (opened grown : List (Option Decision)) (slot : ℕ) (value : Option Decision) → length opened ≤ WINDOW → slot < WINDOW
-    → grown ≡ opened ++ replicate (slot + 1 - length opened) no_decision
-    → all_slots (set grown slot value) ≡ set (all_slots opened) slot value
-all_slots-filled opened grown slot value within few is =
-    let more = slot + 1 - length opened in
-    let long : length grown ≡ length opened + (slot + 1 - length opened) = ap length is ∙ length-append opened (replicate more no_decision)
-    ∙ ap (λ n. length opened + n) (length-replicate more no_decision) in
-    all_slots-set grown slot value (omega (arith, long))
-    ∙ ap (λ slots. set slots slot value) (ap all_slots is ∙ all_slots-more opened more (omega arith))
+-- a slot is opened with what is in it, once those before it are open
+pub all_slots-pushed : (opened grown : List (Option Decision)) (slot : ℕ) (value : Option Decision) → length opened ≤ slot → slot < WINDOW
+    → grown ≡ opened ++ replicate (slot - length opened) no_decision
+    → all_slots (grown ++ value ∷ []) ≡ set (all_slots opened) slot value
+unfolding all_slots
+all_slots-pushed opened grown slot value ahead few is =
+    let more = slot - length opened in
+    let rest = WINDOW - (slot + 1) in
+    let reached : length opened + more ≡ slot = omega (arith, ahead) in
+    let long : length grown ≡ slot = ap length is ∙ length-append opened (replicate more no_decision)
+    ∙ ap (λ n. length opened + n) (length-replicate more no_decision) ∙ reached in
+    let left : WINDOW - length grown ≡ suc rest = omega (arith, long, few) in
+    let pushed : length (grown ++ value ∷ []) ≡ slot + 1 = length-append grown (value ∷ []) ∙ ap (λ n. n + 1) long in
+    let last : set (all_slots grown) slot value ≡ grown ++ value ∷ replicate rest no_decision =
+    ap (λ n. set (grown ++ replicate n no_decision) slot value) left
+    ∙ ap (λ n. set (grown ++ no_decision ∷ replicate rest no_decision) n value) (sym long)
+    ∙ set-append_seam grown no_decision (replicate rest no_decision) value in
+    ap (λ n. (grown ++ value ∷ []) ++ replicate (WINDOW - n) no_decision) pushed
+    ∙ append_assoc grown (value ∷ []) (replicate rest no_decision)
+    ∙ sym last
+    ∙ ap (λ slots. set slots slot value) (ap all_slots is ∙ all_slots-more opened more (omega (arith, ahead, few)))

@@ -1,5 +1,5 @@
 //! The slots of a card's decisions.
-ghost use Rattle.std.specs.Prelude.{◌≡◌, ◌+◌, ◌-◌, ◌<◌, [], ◌++◌, None, Some, length, replicate, vec_capacity, IfOk, option_copied};
+ghost use Rattle.std.specs.Prelude.{◌≡◌, ◌-◌, ◌<◌, ◌≤◌, [], ◌++◌, None, Some, length, replicate, vec_capacity, IfOk, option_copied};
 ghost use Rattle.reply_keep.specs.ReplySlots.{none_kept, in_slot, kept_on, with_kept, all_slots};
 
 use crate::KeptEntry;
@@ -54,8 +54,16 @@ impl Kept {
         ensures { self.new ≡ with_kept (record { request = request.now; reply = reply.now; place = place }) self.old }
     {
         let slot = usize::from(request.parts().atc % WINDOW);
-        open_to(&mut self.opened, slot);
-        fill(&mut self.opened[slot], request, reply, place);
+        if slot < self.opened.len() {
+            fill(&mut self.opened[slot], request, reply, place);
+            return;
+        }
+        open_before(&mut self.opened, slot);
+        self.opened.push_reserved(Some(KeptEntry {
+            request: request.copy(),
+            reply: reply.copy(),
+            place,
+        }));
     }
 
     /// Removes all decisions. The room for one in each slot stays.
@@ -77,16 +85,14 @@ fn in_slot(opened: &[Option<KeptEntry>], slot: usize) -> Option<&KeptEntry>
     }
 }
 
-/// Opens the slots up to this one, which are empty.
-fn open_to(opened: &mut Vec<Option<KeptEntry>>, slot: usize)
-    requires { slot < vec_capacity opened.old }
-    ensures grown { opened.new.items ≡ opened.old.items ++ replicate (slot + 1 - length opened.old.items) None }
+/// Opens the slots before this one, which isn't open. They are empty.
+fn open_before(opened: &mut Vec<Option<KeptEntry>>, slot: usize)
+    requires ahead { length opened.old.items ≤ slot }
+    requires room { slot < vec_capacity opened.old }
+    ensures grown { opened.new.items ≡ opened.old.items ++ replicate (slot - length opened.old.items) None }
     ensures room { vec_capacity opened.new ≡ vec_capacity opened.old }
 {
-    if slot < opened.len() {
-        return;
-    }
-    for _ in opened.len()..slot + 1 {
+    for _ in opened.len()..slot {
         opened.push_reserved(None);
     }
 }

@@ -1,8 +1,7 @@
 -- What a card's row knows and decides is what its shard does.
-use Rattle.std.proofs.Common.{◌≡◌, ℕ, ◌/◌, List, length, ap, sym, ◌∙◌, subst, Option, Some, MatchOption}
+use Rattle.std.proofs.Common.{◌≡◌, ℕ, ◌/◌, List, ap, sym, ◌∙◌, subst, Option, Some, MatchOption}
 use Rattle.std.proofs.lemmas.Option.{same_Some}
 use Rattle.std.specs.List.{slice_get}
-use Rattle.issuer_base.specs.declared.request.Request.{Request}
 use Rattle.issuer_base.specs.declared.answer.Reply.{Reply}
 use Rattle.issuer_base.specs.declared.entry.Entry.{Entry}
 use Rattle.card_history.specs.Records.{CardName, card_of, decided}

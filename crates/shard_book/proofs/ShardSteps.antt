@@ -1,5 +1,5 @@
 -- A record that is appended to the journal of a shard: what the shard holds then, and what a crash may leave.
-use Rattle.std.proofs.Common.{◌≡◌, ◌⊎◌, ℕ, ◌+◌, List, [], ◌∷◌, ◌++◌, length, append-nil, refl, sym, ap, subst, ◌∙◌, inl, inr, ⊎_elim, Bool, true, false}
+use Rattle.std.proofs.Common.{◌≡◌, ◌⊎◌, ℕ, ◌+◌, List, [], ◌∷◌, ◌++◌, length, append-nil, refl, sym, ap, subst, ◌∙◌, inl, inr, ⊎_elim, true, false}
 use Rattle.std.proofs.Common.{All, Option, None, Some, Result, Ok, Err, IfSome, IsErr, MatchResult, OnOk, is_err, zero, suc, arith}
 use Rattle.std.proofs.lemmas.List.{length_push}
 use Rattle.std.proofs.lemmas.List.Elements.{All-push}
