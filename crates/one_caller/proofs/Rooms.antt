@@ -23,7 +23,7 @@ use Rattle.one_caller.specs.Loading.{AreLoaded}
 use Rattle.one_caller.specs.Room.{added_at, HaveRoom, StoresHaveRoom}
 use Rattle.one_caller.proofs.Asked.{asks-no_store, checked-no_store}
 use Rattle.one_caller.proofs.Loads.{IsLoading, old-unread, shard-of}
-use Rattle.one_caller.proofs.Places.{read-behind, read-other, read-within, read-written}
+use Rattle.one_caller.proofs.Places.{read-behind, read-other, read-written}
 
 -- what a record adds to its own shard
 added-home : (home most : ℕ) → added_at home most home ≡ most

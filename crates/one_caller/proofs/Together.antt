@@ -1,5 +1,5 @@
 -- The shards of a host once they were loaded at once, and the stores that are returned.
-use Rattle.std.proofs.Common.{◌≡◌, ℕ, ◌<◌, ◌≤◌, false, List, [], ◌∷◌, ◌++◌, length, map, reverse, Option, None, Some, Result, Ok, Err, get_or}
+use Rattle.std.proofs.Common.{◌≡◌, ℕ, ◌<◌, false, List, [], ◌∷◌, ◌++◌, length, map, reverse, Option, None, Some, Result, Ok, Err, get_or}
 use Rattle.std.proofs.Common.{refl, sym, ap, subst, ◌∙◌, inl, inr, arith, append_assoc}
 use Rattle.std.specs.Prelude.{All, is_some, IfErr, IfSome, option_and_then, option_map, option_to_list, slice_get}
 use Rattle.std.proofs.lemmas.List.{length-map, map-append, reverse-append}
@@ -12,7 +12,6 @@ use Rattle.shard_book.specs.declared.shard.LoadBack.{LoadBack}
 use Rattle.shard_book.specs.declared.shard.Shard.{Shard}
 use Rattle.shard_book.specs.Loading.{is_store_failure}
 use Rattle.shard_book.specs.Loads.{IsLoadedFrom, IsNotLoaded, IsOnlyRead}
-use Rattle.shard_book.specs.Shards.{store_in}
 use Rattle.one_caller.specs.declared.loading_together.Slot.{Slot}
 use Rattle.one_caller.specs.Loading.{AreLoaded, AreOnlyRead, ComeBackTogether, IsGivenBack, IsLeftByLoad}
 use Rattle.one_caller.specs.Room.{StoresHaveRoom}

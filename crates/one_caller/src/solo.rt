@@ -1,13 +1,12 @@
 //! The host of one caller.
 ghost use Rattle.std.specs.Prelude.{◌≡◌, ◌<◌, ◌≤◌, ◌%◌, ℕ, List, [], ◌∷◌, ◌++◌, length, map, reverse, vec_capacity, slice_get, Some, Ok, IfOk, IfErr, MatchResult, false};
-ghost use Rattle.card_history.specs.declared.decision.Asked.TheVariants.{Decide};
 ghost use Rattle.card_history.specs.Records.{CardName};
 ghost use Rattle.issuer_setup.specs.CardList.{name_of, number_of};
 ghost use Rattle.issuer_setup.specs.IssuerSetup.{shard_of};
 ghost use Rattle.issuer_setup.specs.declared.card.CardInfo.{CardInfo};
-ghost use Rattle.line_checks.specs.AtHand.{IsRequestAtHand, IsOrderAtHand, order_asked};
-ghost use Rattle.line_checks.specs.LookedUp.{HasKeysAtHand, IsLookUp};
-ghost use Rattle.line_checks.specs.Reading.{checked, reading};
+ghost use Rattle.line_checks.specs.AtHand.{IsOrderAtHand, order_asked};
+ghost use Rattle.line_checks.specs.LookedUp.{IsLookUp};
+ghost use Rattle.line_checks.specs.Reading.{reading};
 ghost use Rattle.shard_book.specs.Answering.{tells_change};
 ghost use Rattle.shard_book.specs.Loading.{is_store_failure};
 ghost use Rattle.shard_book.specs.Shards.{store_in};
@@ -24,7 +23,7 @@ use card_history::CardView;
 use issuer_base::{Answer, MAX_CHIP_BYTES, Refusal, Store};
 use issuer_setup::Issuer;
 use journal_rec::VERSION_LINE;
-use line_checks::{CheckedOrder, CheckedRequest, Sought, SoughtRequest, look_up};
+use line_checks::{CheckedOrder, Sought, look_up};
 use shard_book::{LoadFault, Shard};
 use std::alloc::Global;
 
@@ -147,13 +146,21 @@ impl<S: Store> Solo<S> {
             → LeaveBetween self.old.issuer books books self.old.shards.items self.new.shards.items }
         ensures issuer { self.new.issuer ≡ self.old.issuer }
     {
-        match found {
-            Ok(sought) => match sought {
-                Sought::Request(sought) => self.check(sought),
-                Sought::Order(found) => self.order(found),
-            },
-            Err(refusal) => Answer::Refused(*refusal),
-        }
+        let sought = match found {
+            Ok(Sought::Request(sought)) => sought,
+            Ok(Sought::Order(found)) => return self.order(found),
+            Err(refusal) => return Answer::Refused(*refusal),
+        };
+
+        // The card's key is cached before its use, whether the cryptogram is right or not.
+        self.issuer.keep(sought.slot);
+        let checked = sought.check(&self.issuer);
+        let found = match &checked {
+            Ok(found) => found,
+            Err(refusal) => return Answer::Refused(*refusal),
+        };
+        let shard = self.home(found.card);
+        self.shards[shard].answer(&self.issuer, found, true)
     }
 
     /// The issuer that was given to `load`.
@@ -200,46 +207,6 @@ impl<S: Store> Solo<S> {
             → result ≡ shard_of self.now.issuer name }
     {
         usize::from(self.issuer.shard_of(card))
-    }
-
-    /// The answer to a request that was looked up. The card's key for cryptograms is cached before its use, whether the
-    /// cryptogram is right or not.
-    #[inline(always)]
-    fn check(&mut self, sought: &SoughtRequest) -> Answer
-        requires { HasKeysAtHand self.old.issuer sought.now }
-        ensures turn { (books : List Book) → Stand self.old.issuer self.old.shards.items books
-            → (after : List Book) × Stand self.new.issuer self.new.shards.items after
-            × Turn self.old.issuer books (checked self.old.issuer sought.now.request) result after }
-        ensures room { AnswersWithin self.old.issuer (checked self.old.issuer sought.now.request) result
-            self.old.shards.items self.new.shards.items }
-        ensures crash { (books : List Book) → Stand self.old.issuer self.old.shards.items books
-            → LeaveBetween self.old.issuer books books self.old.shards.items self.new.shards.items }
-        ensures unchanged { tells_change result ≡ false → self.new.shards.items ≡ self.old.shards.items }
-        ensures issuer { self.new.issuer ≡ self.old.issuer }
-    {
-        self.issuer.keep(sought.slot);
-        match sought.check(&self.issuer) {
-            Ok(found) => self.decide(&found),
-            Err(refusal) => Answer::Refused(refusal),
-        }
-    }
-
-    /// The answer to a checked request, in the shard of its card.
-    fn decide(&mut self, found: &CheckedRequest) -> Answer
-        requires at_hand { IsRequestAtHand self.old.issuer found.now }
-        requires checked { checked self.old.issuer found.now.request ≡ Ok (Decide found.now.request) }
-        ensures turn { (books : List Book) → Stand self.old.issuer self.old.shards.items books
-            → (after : List Book) × Stand self.new.issuer self.new.shards.items after
-            × Turn self.old.issuer books (Ok (Decide found.now.request)) result after }
-        ensures room { AnswersWithin self.old.issuer (Ok (Decide found.now.request)) result
-            self.old.shards.items self.new.shards.items }
-        ensures crash { (books : List Book) → Stand self.old.issuer self.old.shards.items books
-            → LeaveBetween self.old.issuer books books self.old.shards.items self.new.shards.items }
-        ensures unchanged { tells_change result ≡ false → self.new.shards.items ≡ self.old.shards.items }
-        ensures issuer { self.new.issuer ≡ self.old.issuer }
-    {
-        let shard = self.home(found.card);
-        self.shards[shard].answer(&self.issuer, found, true)
     }
 
     /// The answer to a checked order, in the shard of its card.

@@ -6,7 +6,7 @@ use Rattle.std.specs.List.{slice_get}
 use Rattle.shard_book.specs.declared.shard.Shard.{Shard}
 use Rattle.shard_book.specs.Shards.{store_in}
 use Rattle.shard_book.specs.Loads.{IsLoadedFrom, IsNotLoaded}
-use Rattle.one_caller.specs.Loading.{AreLoaded, AreOnlyRead, ComeBack}
+use Rattle.one_caller.specs.Loading.{AreOnlyRead, ComeBack}
 use Rattle.one_caller.proofs.Loads.{IsLoading, loading-none, loading-more, loading-all, come-back, old-read, next-ahead, none-ahead, some-ahead}
 use Rattle.one_caller.proofs.Rooms.{room-next}
 use Rattle.one_caller.proofs.loading.load_all.Given.{Over}

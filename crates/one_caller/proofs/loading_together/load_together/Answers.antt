@@ -1,5 +1,5 @@
 -- The shards that were loaded at once, or the stores that come back.
-use Rattle.std.proofs.Common.{◌≡◌, ◌∙◌, ◌++◌, ◌<◌, ◌≤◌, List, length, take, drop, map, None, arith, sym, ap, subst, refl}
+use Rattle.std.proofs.Common.{◌≡◌, ◌∙◌, ◌++◌, ◌<◌, ◌≤◌, List, length, take, drop, map, None, arith, sym, ap, subst}
 use Rattle.std.specs.Prelude.{All}
 use Rattle.std.proofs.lemmas.List.{take_at}
 use Rattle.issuer_base.specs.declared.limits.TheConstants.{MAX_SHARDS}

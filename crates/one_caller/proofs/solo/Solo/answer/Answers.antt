@@ -1,16 +1,100 @@
--- A line that was looked up is answered in a shard, and one that its look-up refuses calls none.
-use Rattle.std.proofs.Common.{◌+◌, List, Result, ap, subst, sym, ◌∙◌}
-use Rattle.std.specs.Prelude.{Ok}
+-- A line that was looked up is answered in the shard of its card, and one that is refused calls none.
+use Rattle.std.proofs.Common.{◌≡◌, ℕ, ◌+◌, ◌≤◌, List, Result, Ok, Err, IfOk, true, length-set, slice_set, vec_capacity, refl, ap, subst, sym, ◌∙◌}
+use Rattle.std.specs.Result.{result_map_both}
+use Rattle.std.proofs.lemmas.Option.{slice_get_read}
+use Rattle.issuer_base.specs.declared.request.Request.{Request}
+use Rattle.issuer_base.specs.declared.outside.store.Store.{Ghosts}
 use Rattle.issuer_base.specs.declared.answer.Refusal.{Refusal}
+use Rattle.card_history.specs.Records.{card_of}
 use Rattle.card_history.specs.declared.decision.Asked.{Asked}
+use Rattle.card_history.specs.declared.decision.Asked.TheVariants.{Decide}
+use Rattle.issuer_setup.specs.IssuerSetup.{Setup, shard_of}
+use Rattle.journal_rec.specs.declared.limits.TheConstants.{MOST_RECORD_BYTES}
+use Rattle.line_checks.specs.AtHand.{IsRequestAtHand}
 use Rattle.line_checks.specs.LookedUp.{IsLookUp}
+use Rattle.line_checks.specs.Reading.{checked, reading}
+use Rattle.line_checks.specs.declared.checked.CheckedRequest.{CheckedRequest}
+use Rattle.line_checks.specs.declared.sought.Sought.{Sought}
+use Rattle.line_checks.specs.declared.sought.Sought.TheVariants.{Request as IsRequest}
+use Rattle.line_checks.specs.declared.sought.SoughtRequest.{SoughtRequest}
+use Rattle.line_checks.proofs.LookUps.{carried}
+use Rattle.line_checks.proofs.Numbers.{number-within}
+use Rattle.row_core.specs.Replying.{reply_to}
+use Rattle.shard_book.specs.declared.shard.Shard.{Shard}
+use Rattle.shard_book.specs.Answering.{AnswersClaimed, is_store_fault}
+use Rattle.shard_book.proofs.Adopted.{checked-own}
 use Rattle.one_caller.specs.Books.{Book}
-use Rattle.one_caller.specs.Hosts.{Stand}
+use Rattle.one_caller.specs.Hosts.{AreShards, Stand}
+use Rattle.one_caller.specs.Room.{added_at, added_by, HaveRoom}
+use Rattle.one_caller.specs.Runs.{LeaveBetween}
 use Rattle.one_caller.specs.Turns.{Turn}
-use Rattle.one_caller.specs.Room.{added_by, HaveRoom}
-use Rattle.one_caller.proofs.OneShard.{leave-uncalled}
-use Rattle.one_caller.proofs.Rooms.{read-no_fault, room-uncalled}
+use Rattle.one_caller.proofs.OneShard.{IsCalled, card-at_home, shards-after, turn-after, crash-after, leave-uncalled}
+use Rattle.one_caller.proofs.Rooms.{checked-no_fault, read-no_fault, room-after, room-uncalled}
+use Rattle.one_caller.proofs.solo.Solo.answer.Given.{Over}
+use Rattle.one_caller.proofs.solo.Solo.answer.Goals.{After-answer}
 use Rattle.one_caller.proofs.solo.Solo.answer.Goals as goal
+
+-- what a check gave, in the issuer as it was before the card's key was cached
+says : (issuer kept : Setup) (request : Request) (result found : Result CheckedRequest Refusal) → kept ≡ issuer → result ≡ found
+    → result_map_both (λ (found : CheckedRequest). Decide found.request) (λ (refusal : Refusal). refusal) result ≡ checked kept request
+    → result_map_both (λ (found : CheckedRequest). Decide found.request) (λ (refusal : Refusal). refusal) found ≡ checked issuer request
+says issuer kept request result found same is its =
+    sym (ap (result_map_both (λ (found : CheckedRequest). Decide found.request) (λ (refusal : Refusal). refusal)) is)
+    ∙ its ∙ ap (λ (issuer : Setup). checked issuer request) same
+
+-- a request that passed its check passes it again
+passes : (issuer : Setup) (request : Request) (found : CheckedRequest) → Ok (Decide found.request) ≡ checked issuer request
+    → checked issuer found.request ≡ Ok (Decide found.request)
+passes issuer request found its =
+    subst (λ (request : Request). checked issuer request ≡ Ok (Decide found.request)) (sym (checked-own issuer request found.request (sym its))) (sym its)
+
+-- what a line asks whose look-up gave this request
+asks : (issuer : Setup) (line : List ℕ) (found : Result Sought Refusal) (field : Sought) (sought : SoughtRequest) → found ≡ Ok field → field ≡ IsRequest sought
+    → IsLookUp issuer line found → reading issuer line ≡ checked issuer sought.request
+asks issuer line found field sought is field_is looked_up =
+    carried issuer line sought.request (subst (IsLookUp issuer line) (is ∙ ap (λ (field : Sought). Ok field) field_is) looked_up).0
+
+-- a request that passed its check is at hand
+at-hand : (issuer : Setup) (result : Result CheckedRequest Refusal) (found : CheckedRequest) → result ≡ Ok found → IfOk result (IsRequestAtHand issuer)
+    → IsRequestAtHand issuer found
+at-hand issuer result found is its = subst (λ (result : Result CheckedRequest Refusal). IfOk result (IsRequestAtHand issuer)) is its
+
+-- the shards are those of the issuer as its keys are cached
+are-kept : {S : Type 0} {G : Ghosts S} (issuer kept : Setup) (shards : List (Shard S G)) → kept ≡ issuer → AreShards issuer shards → AreShards kept shards
+are-kept issuer kept shards same are = subst (λ (issuer : Setup). AreShards issuer shards) (sym same) are
+
+-- the shard with its index is called with the request
+call : (g : Over) (c : After-answer g) → IsCalled c.keep.new.self c.args.self.now.shards.items (card_of c.in-Ok.found.request)
+    c.home-shard.result c.index_mut.result.now c.answer.new.self c.answer.result
+    (λ shard old new. AnswersClaimed shard (reply_to c.keep.new.self) true old c.in-Ok.found.request c.answer.result new)
+call g c =
+    let its = c.answer.ensures in
+    record {
+      home_is = c.home-shard.ensures.shard _ (at-hand _ _ _ c.in-Ok.is c.check-checked.ensures.at_hand).card_is.number_is;
+      old_is = slice_get_read _ _ c.home-shard.result _ refl c.home-shard.ensures.within c.index_mut.ensures.value;
+      answers = its.answer;
+      leaves = its.crash;
+      keeps = its.kept.keeps;
+    }
+
+-- what its line asks
+asked : (g : Over) (c : After-answer g) (line : List ℕ) → IsLookUp c.args.self.now.issuer line c.args.found.now
+    → Ok (Decide c.in-Ok.found.request) ≡ reading c.args.self.now.issuer line
+asked g c line looked_up =
+    says c.args.self.now.issuer c.keep.new.self c.in-Ok-Request.sought.request c.check-checked.result (Ok c.in-Ok.found) c.keep.ensures c.in-Ok.is
+    c.check-checked.ensures.request
+    ∙ sym (asks c.args.self.now.issuer line c.args.found.now c.in-Ok-Request.field-0 c.in-Ok-Request.sought c.in-Ok-Request.is
+    (rw c.in-Ok-Request.is at c.in-Ok-Request.field-0-is) looked_up)
+
+pub returns-in-Ok-Order-clause-turn : goal.returns-in-Ok-Order-clause-turn
+returns-in-Ok-Order-clause-turn g c line looked_up =
+    let host = c.args.self.now in
+    let new = c.order.new.self in
+    let field_is = rw c.in-Ok-Order.is at c.in-Ok-Order.field-0-is in
+    let its = subst (IsLookUp host.issuer line) (c.in-Ok-Order.is ∙ ap (λ (sought : Sought). Ok sought) field_is) looked_up in
+    subst (λ (says : Result Asked Refusal). (books : List Book) → Stand host.issuer host.shards.items books
+    → (after : List Book) × Stand new.issuer new.shards.items after × Turn host.issuer books says c.order.result after)
+    (sym its.0) c.order.ensures.turn
 
 pub returns-in-Err-clause-crash : goal.returns-in-Err-clause-crash
 returns-in-Err-clause-crash g c = leave-uncalled c.args.self.now.issuer c.args.self.now.shards.items c.args.self.now.are_shards
@@ -24,11 +108,75 @@ returns-in-Err-clause-room g c line looked_up spare have =
     (sym read) have in
     (read-no_fault host.issuer line c.in-Err.refusal read, room-uncalled host.shards.items spare none)
 
-pub returns-in-Order-clause-turn : goal.returns-in-Order-clause-turn
-returns-in-Order-clause-turn g c line looked_up =
+pub returns-in-Err-checked-clause-crash : goal.returns-in-Err-checked-clause-crash
+returns-in-Err-checked-clause-crash g c = leave-uncalled c.args.self.now.issuer c.args.self.now.shards.items c.args.self.now.are_shards
+
+pub returns-in-Err-checked-clause-room : goal.returns-in-Err-checked-clause-room
+returns-in-Err-checked-clause-room g c line looked_up spare have =
     let host = c.args.self.now in
-    let new = c.order.new.self in
-    let its = subst (IsLookUp host.issuer line) (c.in-Ok.is ∙ ap (λ sought. Ok sought) c.in-Order.is) looked_up in
+    let refused = says host.issuer c.keep.new.self c.in-Ok-Request.sought.request c.check-checked.result (Err c.in-Err-checked.refusal) c.keep.ensures
+    c.in-Err-checked.is c.check-checked.ensures.request in
+    let field_is = rw c.in-Ok-Request.is at c.in-Ok-Request.field-0-is in
+    let asks = asks host.issuer line c.args.found.now c.in-Ok-Request.field-0 c.in-Ok-Request.sought c.in-Ok-Request.is field_is looked_up in
+    let none = subst (λ (asked : Result Asked Refusal). HaveRoom (λ number. added_by host.issuer asked number + spare number) host.shards.items)
+    (asks ∙ sym refused) have in
+    (checked-no_fault host.issuer c.in-Ok-Request.sought.request c.in-Err-checked.refusal refused, room-uncalled host.shards.items spare none)
+
+pub answer-requires : goal.answer-requires
+answer-requires g c =
+    let host = c.args.self.now in
+    let shards = are-kept _ _ _ c.keep.ensures host.are_shards in
+    let found = at-hand _ _ _ c.in-Ok.is c.check-checked.ensures.at_hand in
+    let old_is = slice_get_read _ _ c.home-shard.result _ refl c.home-shard.ensures.within c.index_mut.ensures.value in
+    record {
+      under = shards.under _ _ old_is;
+      home = card-at_home _ _ shards _ _ _ (number-within _ _ _ found.card_is.number_is) old_is c.home-shard.ensures.number;
+      at_hand = found;
+      checked_is =
+          passes c.keep.new.self c.in-Ok-Request.sought.request c.in-Ok.found
+          (says c.keep.new.self c.keep.new.self c.in-Ok-Request.sought.request c.check-checked.result (Ok c.in-Ok.found) refl c.in-Ok.is
+          c.check-checked.ensures.request);
+    }
+
+pub invariant_of-self-3-clause-are_shards : goal.invariant_of-self-3-clause-are_shards
+invariant_of-self-3-clause-are_shards g c =
+    let after = (goal.at.invariant_of-self-3-clause-are_shards g c).After-answer in
+    shards-after (are-kept _ _ _ c.keep.ensures c.args.self.now.are_shards) (call g after)
+
+pub invariant_of-self-3-clause-room : goal.invariant_of-self-3-clause-room
+invariant_of-self-3-clause-room g c =
+    let host = c.args.self.now in
+    subst (λ count. count ≤ vec_capacity host.back) (sym (length-set host.shards.items c.home-shard.result c.answer.new.self)) host.room
+
+pub returns-clause-turn : goal.returns-clause-turn
+returns-clause-turn g c line looked_up =
+    let after = (goal.at.returns-clause-turn g c).After-answer in
+    let host = c.args.self.now in
+    let kept = c.keep.new.self in
+    let new = slice_set host.shards.items c.home-shard.result c.answer.new.self in
     subst (λ (says : Result Asked Refusal). (books : List Book) → Stand host.issuer host.shards.items books
-    → (after : List Book) × Stand new.issuer new.shards.items after × Turn host.issuer books says c.order.result after)
-    (sym its.0) c.order.ensures.turn
+    → (after : List Book) × Stand kept new after × Turn host.issuer books says c.answer.result after)
+    (asked g after line looked_up)
+    (subst (λ (issuer : Setup). (books : List Book) → Stand issuer host.shards.items books
+    → (after : List Book) × Stand kept new after × Turn issuer books (Ok (Decide c.in-Ok.found.request)) c.answer.result after)
+    c.keep.ensures (turn-after (are-kept _ _ _ c.keep.ensures c.args.self.now.are_shards) (call g after)))
+
+pub returns-clause-crash : goal.returns-clause-crash
+returns-clause-crash g c =
+    let after = (goal.at.returns-clause-crash g c).After-answer in
+    let host = c.args.self.now in
+    subst (λ (issuer : Setup). (books : List Book) → Stand issuer host.shards.items books
+    → LeaveBetween issuer books books host.shards.items (slice_set host.shards.items c.home-shard.result c.answer.new.self))
+    c.keep.ensures (crash-after (are-kept _ _ _ c.keep.ensures c.args.self.now.are_shards) (call g after))
+
+pub returns-clause-room : goal.returns-clause-room
+returns-clause-room g c line looked_up spare have =
+    let after = (goal.at.returns-clause-room g c).After-answer in
+    let called = call g after in
+    let host = c.args.self.now in
+    let decide = subst (λ (asked : Result Asked Refusal). HaveRoom (λ number. added_by host.issuer asked number + spare number) host.shards.items)
+    (sym (asked g after line looked_up)) have in
+    let home = called.home_is ∙ ap (λ (issuer : Setup). shard_of issuer (card_of c.in-Ok.found.request)) c.keep.ensures in
+    room-after host.shards.items c.home-shard.result MOST_RECORD_BYTES (is_store_fault c.answer.result) c.index_mut.result.now c.answer.new.self called.old_is
+    c.answer.ensures.room spare
+    (subst (λ (home : ℕ). HaveRoom (λ number. added_at home MOST_RECORD_BYTES number + spare number) host.shards.items) (sym home) decide)
