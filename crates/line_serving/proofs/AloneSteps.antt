@@ -1,10 +1,12 @@
 -- The host of one caller: a line more, and what it leaves.
-use Rattle.std.proofs.Common.{◌≡◌, ℕ, List, [], ◌∷◌, ◌++◌, length, map, Result, refl, sym, ap, subst, ◌∙◌, append-nil, append_assoc, arith}
-use Rattle.std.specs.Prelude.{IfSome, Some}
-use Rattle.std.proofs.lemmas.List.{flat_map_more}
+use Rattle.std.proofs.Common.{◌≡◌, ◌+◌, ◌<◌, ℕ, List, [], ◌∷◌, ◌++◌, length, drop, map, get_or, Result}
+use Rattle.std.proofs.Common.{refl, sym, ap, subst, ◌∙◌, append-nil, append_assoc, arith}
+use Rattle.std.specs.Prelude.{IfSome, Option, None, Some}
+use Rattle.std.proofs.lemmas.List.{drop_more, flat_map_more}
 use Rattle.std.proofs.lemmas.Slice.Zip.{all_zipped_more}
-use Rattle.std.proofs.lemmas.Option.{slice_get_within}
-use Rattle.std.specs.List.{flat_map}
+use Rattle.std.proofs.lemmas.Option.{get_or_from_slice_get, slice_get-get_or, slice_get_within}
+use Rattle.std.specs.Option.{IsSome, option_map}
+use Rattle.std.specs.List.{flat_map, slice_get}
 use Rattle.issuer_base.specs.declared.answer.Answer.{Answer}
 use Rattle.issuer_base.specs.declared.answer.Refusal.{Refusal}
 use Rattle.issuer_base.specs.declared.outside.store.Store.{Ghosts}
@@ -76,6 +78,21 @@ first-of issuer lines found all more all_are are =
     parted : (lines : List (List ℕ)) → AreLookUps issuer lines (found ∷ more) → HasFirst issuer lines found more
     parted [] are = absurd are
     parted (line ∷ left) are = record { line = line; left = left; lines_are = refl; first = are.0; others = are.1 }
+
+-- the look-ups from a place on are the one there and those after it
+pub parted-at : (all : List (Result Sought Refusal)) (place : ℕ) (found : Result Sought Refusal)
+    → slice_get all place ≡ Some found → drop place all ≡ found ∷ drop (place + 1) all
+parted-at all place found is =
+    drop_more all place found (slice_get_within all place found is)
+    ∙ ap (λ first. first ∷ drop (place + 1) all) (get_or_from_slice_get all place found found is)
+
+-- a line that waits was looked up
+pub found-there : {R : Type 0} (now : R → Result Sought Refusal) (found : Option R) (all : List (Result Sought Refusal))
+    (place : ℕ) → option_map now found ≡ slice_get all place → place < length all → IsSome found
+found-there now (Some found) all place is within = refl
+found-there now None [] place is within = absurd (omega (arith, within))
+found-there now None (first ∷ all) place is within =
+    absurd (let both : None ≡ Some (get_or (first ∷ all) place first) = is ∙ slice_get-get_or (first ∷ all) place first within in cc)
 
 -- no look-up is that of no line
 none-of : (issuer : Setup) (lines : List (List ℕ)) (all : List (Result Sought Refusal)) → all ≡ []
@@ -220,6 +237,10 @@ module _ {S : Type 0} {G : Ghosts S} where
   }
 
   -- ---- settling the lines that wait
+
+  -- the host, without the lines before this place
+  abbrev pub from-place : AloneHost S G → ℕ → AloneHost S G
+  from-place host place = record { host = host.host; ahead = drop place host.ahead; first = host.first }
 
   -- of the lines that waited these were answered since, with this text, and the others wait
   pub record IsSettling (first : Solo S G) (lines : List (List ℕ)) (text : List ℕ) (waiting : List (List ℕ))

@@ -157,14 +157,15 @@ impl<S: Store> AloneHost<S> {
         ensures count { block.new.lines ≡ block.old.lines + length self.old.ahead }
     {
         self.ahead.check(self.host.issuer());
-        while let Some(found) = self.ahead.first() {
+        for index in 0..self.ahead.len() {
+            let found = self.ahead.get(index).unwrap();
             gate.at(rt, self.first);
             let answer = self.host.answer(found);
             gate.done(rt, self.first);
             block.add(&answer);
-            self.ahead.remove_first();
             self.first = self.first.saturating_add(1);
         }
+        self.ahead.clear();
     }
 
     /// Answers all lines that wait, and writes all answers of the block.

@@ -1,12 +1,14 @@
--- The lines that wait are answered one after another, until none is left.
-use Rattle.std.proofs.Common.{◌≡◌, ℕ, ◌+◌, List, ◌∷◌, length, drop, refl, ap, sym, subst, ◌∙◌, arith}
+-- The lines that wait are answered one after another, until all are.
+use Rattle.std.proofs.Common.{◌+◌, ℕ, List, drop, refl, ap, sym, subst, ◌∙◌, arith}
+use Rattle.std.proofs.lemmas.List.{drop_all}
+use Rattle.std.specs.Option.{option_map}
 use Rattle.issuer_setup.specs.IssuerSetup.{Setup}
 use Rattle.line_checks.specs.LookedUp.{AreLookUps}
-use Rattle.line_serving.proofs.AloneSteps.{first-of, settling-none, settling-more, settles-alone}
+use Rattle.line_serving.proofs.AloneSteps.{first-of, found-there, from-place, parted-at, settling-none, settling-more, settles-alone}
 use Rattle.line_serving.proofs.alone.AloneHost.settle_waiting.Goals as goal
 
-pub loop-found-init : goal.loop-found-init
-loop-found-init g c =
+pub loop-index-init : goal.loop-index-init
+loop-index-init g c =
     let old = c.args.self.now in
     let same = subst (λ (issuer : Setup). (lines : List (List ℕ)) → AreLookUps issuer lines old.ahead
     → AreLookUps issuer lines c.check.new.self) c.issuer.ensures c.check.ensures.same in
@@ -14,39 +16,50 @@ loop-found-init g c =
       settling = λ first lines text waiting so_far.
           settling-none first old _ refl same c.args.block.now.text.items lines text waiting so_far;
       looked_up = (c.requires.looked_up.0, same c.requires.looked_up.0 c.requires.looked_up.1);
-      count = ap (λ n. c.args.block.now.lines + n) c.check.ensures.count;
+      waiting = c.check.ensures.count;
+      count = let lines = c.args.block.now.lines in omega arith;
     }
+
+pub unwrap-found-requires : goal.unwrap-found-requires
+unwrap-found-requires g c =
+    found-there _ _ c.loop-index.self.ahead c.loop-index.index c.get.ensures
+    (let below = c.loop-index-test.true in let count = c.len-index-end.ensures.count in let all = c.loop-index.invariant.waiting in
+    omega (arith, below, count, all))
 
 pub answer-answer-requires : goal.answer-answer-requires
 answer-answer-requires g c =
-    let looked_up = c.loop-found.invariant.looked_up in
-    let its = first-of c.loop-found.self.host.issuer looked_up.0 c.in-Some.found.now c.loop-found.self.ahead (drop 1 c.loop-found.self.ahead)
-    c.in-Some.ensures looked_up.1 in
+    let looked_up = c.loop-index.invariant.looked_up in
+    let is = sym c.get.ensures ∙ ap (option_map (λ found. found.now)) c.unwrap-found.ensures in
+    let its = first-of c.loop-index.self.host.issuer looked_up.0 c.unwrap-found.result.now (drop c.loop-index.index c.loop-index.self.ahead) _
+    (parted-at c.loop-index.self.ahead c.loop-index.index _ is) looked_up.1 in
     (its.line, its.first)
 
-pub loop-found-preserved : goal.loop-found-preserved
-loop-found-preserved g c =
-    let before = c.loop-found.invariant in
-    let parted : c.loop-found.self.ahead ≡ c.in-Some.found.now ∷ c.remove_first.new.self =
-    c.in-Some.ensures ∙ ap (λ more. c.in-Some.found.now ∷ more) (sym c.remove_first.ensures) in
-    let its = first-of c.loop-found.self.host.issuer before.looked_up.0 c.in-Some.found.now c.loop-found.self.ahead
-    c.remove_first.new.self parted before.looked_up.1 in
+pub loop-index-preserved : goal.loop-index-preserved
+loop-index-preserved g c =
+    let before = c.loop-index.invariant in
+    let is = sym c.get.ensures ∙ ap (option_map (λ found. found.now)) c.unwrap-found.ensures in
+    let parted = parted-at c.loop-index.self.ahead c.loop-index.index _ is in
+    let its = first-of c.loop-index.self.host.issuer before.looked_up.0 c.unwrap-found.result.now (drop c.loop-index.index c.loop-index.self.ahead)
+    (drop (c.loop-index.index + 1) c.loop-index.self.ahead) parted before.looked_up.1 in
     record {
       settling = λ first lines text waiting so_far.
-          settling-more first c.loop-found.self _ c.in-Some.found.now c.answer-answer.result parted
+          settling-more first (from-place c.loop-index.self c.loop-index.index) _ c.unwrap-found.result.now c.answer-answer.result parted
           c.answer-answer.ensures.issuer c.answer-answer.ensures.turn c.answer-answer.ensures.crash
-          c.args.block.now.text.items c.loop-found.block.text.items c.add.new.self.text.items c.add.ensures.text
+          c.args.block.now.text.items c.loop-index.block.text.items c.add.new.self.text.items c.add.ensures.text
           lines text waiting (before.settling first lines text waiting so_far);
       looked_up = (
         its.left,
-        subst (λ (issuer : Setup). AreLookUps issuer its.left c.remove_first.new.self)
+        subst (λ (issuer : Setup). AreLookUps issuer its.left (drop (c.loop-index.index + 1) c.loop-index.self.ahead))
             (sym c.answer-answer.ensures.issuer) its.others,
       );
-      count = omega (arith, before.count, c.add.ensures.lines, ap length parted);
+      waiting = before.waiting;
+      count = omega (arith, before.count, c.add.ensures.lines);
     }
 
 pub returns-clause-answered : goal.returns-clause-answered
 returns-clause-answered g c = λ first lines text waiting so_far.
-    settles-alone first c.loop-found.self _ refl c.in_default.ensures c.in_default.ensures
-    c.args.block.now.text.items c.loop-found.block.text.items lines text waiting
-    (c.loop-found.invariant.settling first lines text waiting so_far)
+    settles-alone first (from-place c.loop-index.self c.loop-index.index) _ refl
+    (drop_all c.loop-index.index c.loop-index.self.ahead (let below = c.loop-index-test.false in let count = c.len-index-end.ensures.count in
+    let all = c.loop-index.invariant.waiting in omega (arith, below, count, all))) c.clear.ensures
+    c.args.block.now.text.items c.loop-index.block.text.items lines text waiting
+    (c.loop-index.invariant.settling first lines text waiting so_far)
