@@ -53,7 +53,7 @@ both_values high low h l = rw (low_nibbles high low h, letters high low h l) (om
 
 spelled_of : (high low : Option ℕ) (first second byte : ℕ) → is_small high ≡ true → is_small low ≡ true
     → ((value : ℕ) → high ≡ Some value → first ≡ value) → ((value : ℕ) → low ≡ Some value → second ≡ value)
-    → pair_of high low ≡ Some byte → (second * 256 + first) % 16 * 16 + (second * 256 + first) / 256 % 16 ≡ byte
+    → pair_of high low ≡ Some byte → (second * 256 + first) * 4097 % 65536 / 256 ≡ byte
 spelled_of None low first second byte hs ls h l e = absurd cc
 spelled_of (Some high) None first second byte hs ls h l e = absurd cc
 spelled_of (Some high) (Some low) first second byte hs ls h l e =
@@ -62,13 +62,15 @@ spelled_of (Some high) (Some low) first second byte hs ls h l e =
     let is_low = l low refl in
     let high_small = below_16 (Some high) high hs refl in
     let low_small = below_16 (Some low) low ls refl in
-    omega (arith, same, is_high, is_low, high_small, low_small)
+    let part : first * 4096 + second * 256 + first < 65536 = omega (arith, is_high, is_low, high_small, low_small) in
+    let turned : (second * 256 + first) * 4097 % 65536 ≡ first * 4096 + second * 256 + first = omega (arith, part) in
+    rw turned (omega (arith, same, is_high, is_low, high_small, low_small))
 
 -- the byte that two digits spell, from the values in their word
 pub spelled_at : (high low word byte : ℕ) → high < 256 → low < 256 → word ≡ low * 256 + high
     → pair_of (hex_digit_value high) (hex_digit_value low) ≡ Some byte
-    → values_in word % 16 * 16 + values_in word / 256 % 16 ≡ byte
+    → values_in word * 4097 % 65536 / 256 ≡ byte
 spelled_at high low word byte h l joined e =
-    ap (λ n. n % 16 * 16 + n / 256 % 16) (ap values_in joined ∙ both_values high low h l)
+    ap (λ n. n * 4097 % 65536 / 256) (ap values_in joined ∙ both_values high low h l)
     ∙ spelled_of (hex_digit_value high) (hex_digit_value low) (value_in high) (value_in low) byte (small_at high h) (small_at low l)
     (λ value. value_at high value h) (λ value. value_at low value l) e

@@ -2,7 +2,7 @@
 pub mod Walk
 pub mod Places
 pub mod DecimalValues
-pub mod HexDistance
+pub mod HexPlaces
 pub mod HexTable
 pub mod HexWord
 pub mod PairLoop

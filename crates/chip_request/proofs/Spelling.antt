@@ -3,9 +3,11 @@ use Rattle.std.proofs.Common.{◌≡◌, ℕ, zero, suc, ◌+◌, ◌-◌, ◌*�
 use Rattle.std.proofs.Common.{Some, is_some, refl, sym, ap, subst, ◌∙◌, take-add, inl, inr, arith}
 use Rattle.issuer_base.proofs.Decimal.{list_all-at}
 use Rattle.std.specs.List.{list_all}
-use Rattle.std.proofs.lemmas.Bool.{cases_eq}
-use Rattle.std.proofs.lemmas.List.{drop-drop, get_or-take, length-take-le, take-append-drop, set-get_or, get_or-set_same, get_or-set_other}
+use Rattle.std.proofs.lemmas.Bool.{cases_eq, cases_lt}
+use Rattle.std.proofs.lemmas.List.{drop-drop, get_or-take, get_or-drop, get_or_append_left, get_or-append_right, length-take-le, take-append-drop, set-get_or, get_or-set_same, get_or-set_other}
 use Rattle.std.proofs.lemmas.List.Folds.{list_all-append}
+use Rattle.std.proofs.lemmas.Slice.{take-put_mid}
+use borrow.Rule.Slice.PartMut.{put_mid}
 use Rattle.hex.specs.Hex.{hex_digit_value}
 use Rattle.chip_request.specs.HexDigits.{AreSpelled, pair_of}
 use Rattle.chip_request.proofs.PairLoop.{HasFront, no_front, front_goes_on}
@@ -66,6 +68,24 @@ spelled-more count value bytes text here next are place byte below spelled =
           ap (λ n. get_or (set bytes count value) n 0) same ∙ get_or-set_same bytes count value 0 here
           ∙ next byte (subst (λ n. pair_of (hex_digit_value (get_or text (2 * n) 0)) (hex_digit_value (get_or text (2 * n + 1) 0)) ≡ Some byte) same spelled)
       | inr apart ↦ get_or-set_other bytes count place value 0 apart ∙ are place byte (omega (arith, below, apart)) spelled
+    ]
+
+-- the bytes of one more step
+pub spelled-step : (from step : ℕ) (bytes spelled text : List ℕ) → from ≤ length bytes → length spelled ≡ step
+    → AreSpelled step spelled (drop (2 * from) text) → AreSpelled from bytes text → AreSpelled (from + step) (put_mid from step bytes spelled) text
+spelled-step from step bytes spelled text within size next are place byte below digits =
+    let all = take-put_mid from step bytes spelled (from + step) (ap (λ n. from + n) (sym size)) within in
+    sym (get_or-take (from + step) (put_mid from step bytes spelled) place 0 below) ∙ ap (λ xs. get_or xs place 0) all
+    ∙ elim (cases_lt place from) [
+      | inl before ↦
+          get_or_append_left (take from bytes) spelled 0 place (rw (length-take-le from bytes within) before)
+          ∙ get_or-take from bytes place 0 before ∙ are place byte before digits
+      | inr behind ↦
+          let high : 2 * from + 2 * (place - from) ≡ 2 * place = omega (arith, behind) in
+          let low : 2 * from + (2 * (place - from) + 1) ≡ 2 * place + 1 = omega (arith, behind) in
+          get_or-append_right (take from bytes) spelled from place 0 (length-take-le from bytes within) behind
+          ∙ next (place - from) byte (omega (arith, below, behind))
+          (rw (get_or-drop (2 * from) text (2 * (place - from)) 0, get_or-drop (2 * from) text (2 * (place - from) + 1) 0, high, low) digits)
     ]
 
 -- the first pairs of a text, so many, are of digits

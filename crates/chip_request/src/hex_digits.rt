@@ -1,5 +1,5 @@
 //! The bytes that pairs of hexadecimal digits spell, by two tables.
-ghost use Rattle.std.specs.Prelude.{◌≡◌, ◌==◌, ◌<◌, ℕ, IsTrue, Some, is_some};
+ghost use Rattle.std.specs.Prelude.{◌≡◌, ◌<◌, ℕ, IsTrue, Some, is_some, nat_lt};
 ghost use Rattle.std.specs.List.{list_all};
 ghost use Rattle.hex.specs.Hex.{hex_digit_value};
 ghost use Rattle.chip_request.specs.HexDigits.{value_below, pair_of};
@@ -56,13 +56,14 @@ pub(crate) fn is_hex_digit(byte: u8) -> bool
 
 /// The byte that two digits of either case spell, the high one first; unspecified if either is no digit.
 ///
-/// Both values are computed together in one word, so that the compiler can vectorise a loop over pairs.
+/// Both values are computed together in one word, so that the compiler can vectorise a loop over pairs. The product
+/// holds the byte in its upper half: the high digit's value is added there 16-fold.
 pub(crate) fn spelled_byte(high: u8, low: u8) -> u8
     ensures { (byte : ℕ) → pair_of (hex_digit_value high) (hex_digit_value low) ≡ Some byte → result ≡ byte }
 {
     let word = u16::from_le_bytes([high, low]);
     let values = (word & 0x0F0F) + 9 * ((word >> 6) & 0x0101);
-    (values % 16 * 16 + values / 256 % 16) as u8
+    (values.wrapping_mul(0x1001) >> 8) as u8
 }
 
 /// How many digits the compiler handles in one step of a loop.
@@ -87,16 +88,16 @@ fn are_near(text: &[u8]) -> bool
 {
     let mut farthest: u8 = 0;
     for byte in text {
-        farthest = farthest.max(distance_from_digits(*byte));
+        farthest = farthest.max(digit_place(*byte));
     }
-    farthest == 0
+    farthest < 10
 }
 
-/// How far a byte is from the digits of either case: 0 for a digit alone.
-fn distance_from_digits(byte: u8) -> u8
-    ensures { (result == 0) ≡ is_some (hex_digit_value byte) }
+/// A byte's place among the decimal digits, or among six letters that are counted from 4: below 10 for a digit alone.
+fn digit_place(byte: u8) -> u8
+    ensures { nat_lt result 10 ≡ is_some (hex_digit_value byte) }
 {
-    let from_decimal = byte.wrapping_sub(b'0').saturating_sub(9);
-    let from_letters = (byte | 0x20).wrapping_sub(b'a').saturating_sub(5);
-    from_decimal.min(from_letters)
+    let among_decimal = byte.wrapping_sub(b'0');
+    let among_letters = (byte | 0x20).wrapping_sub(b'a').saturating_add(4);
+    among_decimal.min(among_letters)
 }

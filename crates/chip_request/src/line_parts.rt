@@ -1,6 +1,6 @@
 //! Parsers for the parts of a line. Each reads a part from the start of a text, and returns its value and the
 //! remainder. Where the part isn't there, it returns the text from the first byte that is wrong.
-ghost use Rattle.std.specs.Prelude.{◌≡◌, ◌<◌, ◌≤◌, ◌*◌, length, IfOk, IfSome, Ok, Err, true, take, is_err, is_some};
+ghost use Rattle.std.specs.Prelude.{◌≡◌, ◌<◌, ◌≤◌, ◌+◌, ◌*◌, length, IfOk, IfSome, Ok, Err, true, take, is_err, is_some};
 ghost use Rattle.std.specs.List.{list_all};
 ghost use Rattle.std.specs.Result.{result_map_both};
 ghost use Rattle.hex.specs.Hex.{hex_digit_value};
@@ -132,21 +132,36 @@ fn spell_all(text: &[u8], bytes: &mut [u8; MAX_CHIP_BYTES], pairs: usize)
     ensures { AreSpelled pairs bytes.new text.now }
 {
     if pairs < STEP {
-        return spell(text, bytes, 0, pairs);
+        return spell(text, bytes, pairs);
     }
-    spell(text, bytes, 0, pairs / STEP * STEP);
-    spell(text, bytes, pairs - STEP, pairs);
+    spell(text, bytes, pairs / STEP * STEP);
+    spell_step(text, bytes, pairs - STEP);
 }
 
-/// Writes the bytes that the pairs of digits from one index up to another spell.
+/// Writes the bytes that the pairs of digits of one step spell, from an index on. They are collected in an array of
+/// their own, so that the compiler can vectorise the step.
 #[inline(always)]
-fn spell(text: &[u8], bytes: &mut [u8; MAX_CHIP_BYTES], from: usize, to: usize)
-    requires order { from ≤ to }
-    requires digits { 2 * to ≤ length text.now }
-    requires room { to ≤ MAX_CHIP_BYTES }
-    ensures { AreSpelled from bytes.old text.now → AreSpelled to bytes.new text.now }
+fn spell_step(text: &[u8], bytes: &mut [u8; MAX_CHIP_BYTES], from: usize)
+    requires digits { 2 * (from + STEP) ≤ length text.now }
+    requires room { from + STEP ≤ MAX_CHIP_BYTES }
+    ensures { AreSpelled from bytes.old text.now → AreSpelled (from + STEP) bytes.new text.now }
 {
-    for place in from..to {
+    let digits = &text[2 * from..];
+    let mut spelled = [0; STEP];
+    for place in 0..STEP {
+        spelled[place] = spelled_byte(digits[2 * place], digits[2 * place + 1]);
+    }
+    bytes[from..from + STEP].copy_from_slice(&spelled);
+}
+
+/// Writes the bytes that the first `pairs` pairs of digits spell.
+#[inline(always)]
+fn spell(text: &[u8], bytes: &mut [u8; MAX_CHIP_BYTES], pairs: usize)
+    requires digits { 2 * pairs ≤ length text.now }
+    requires room { pairs ≤ MAX_CHIP_BYTES }
+    ensures { AreSpelled pairs bytes.new text.now }
+{
+    for place in 0..pairs {
         bytes[place] = spelled_byte(text[2 * place], text[2 * place + 1]);
     }
 }
@@ -182,7 +197,7 @@ fn read_pairs<'a>(
     }
     let pairs = limit.min(text.len() / 2);
     let sure = sure_pairs(text, pairs);
-    spell(text, bytes, 0, sure);
+    spell(text, bytes, sure);
     for place in sure..pairs {
         let byte = pair_value(text[2 * place], text[2 * place + 1]);
         if byte > 0xFF {

@@ -3,7 +3,7 @@ use Rattle.std.proofs.Common.{◌*◌, refl, sym, ◌∙◌, ℕ, eqb-true, leng
 use Rattle.std.proofs.lemmas.Bool.{eqb-false}
 use Rattle.std.proofs.lemmas.List.{take_rest}
 use Rattle.chip_request.proofs.PairLoop.{no_text, pair_ahead, pair_fails, short_fails, goes_on, goes_beyond, ends_here, no_room, no_pair}
-use Rattle.chip_request.proofs.Spelling.{digits-front, spelled-front, spelled-none}
+use Rattle.chip_request.proofs.Spelling.{digits-front, spelled-front}
 use Rattle.chip_request.proofs.line_parts.read_pairs.Goals as goal
 
 pub returns-then-is_empty-clause-bytes : goal.returns-then-is_empty-clause-bytes
@@ -22,7 +22,7 @@ loop-place-init c =
     let front = spelled-front c.args.limit sure sure c.spell.new.bytes text (omega arith) (omega (arith, c.sure_pairs-sure.ensures.within))
     (omega (arith, c.sure_pairs-sure.ensures.within)) (omega (arith, c.sure_pairs-sure.ensures.within)) (omega (arith, some))
     (digits-front sure text (omega (arith, c.sure_pairs-sure.ensures.within)) c.sure_pairs-sure.ensures.digits)
-    (c.spell.ensures (spelled-none c.args.bytes.now text)) in
+    c.spell.ensures in
     record { more = front.more; end = front.end }
 
 pub returns-then-byte-gt255-clause-bytes : goal.returns-then-byte-gt255-clause-bytes

@@ -2,6 +2,6 @@
 use Rattle.chip_request.specs.HexDigits.{AreSpelled}
 use Rattle.chip_request.proofs.line_parts.spell.Given as goal
 
--- the bytes so far are spelled, if those before were
+-- the bytes so far are spelled
 abbrev pub invariant-loop-place : goal.invariant-loop-place
-invariant-loop-place l = AreSpelled l.from l.fn.bytes l.text → AreSpelled l.place l.bytes l.text
+invariant-loop-place l = AreSpelled l.place l.bytes l.text
