@@ -1,5 +1,5 @@
 //! Parsing the parts of an object at the start of a text.
-ghost use Rattle.std.specs.Prelude.{◌≡◌, ◌==◌, option_map, take_while, length};
+ghost use Rattle.std.specs.Prelude.{◌≡◌, ◌==◌, option_map, option_and_then, take_while, length, ℕ, List};
 ghost use Rattle.tlv_objects.specs.Tlv.{tag_at, length_at, front_object};
 
 /// The number of leading 00 bytes.
@@ -56,6 +56,28 @@ fn read_length(bytes: &[u8]) -> Option<(usize, &[u8])>
     }
 }
 
+/// The tag and the length of the object at the start, and the bytes after them. A tag of two bytes before a length of one
+/// is tried first, as most objects begin so.
+#[tactic(auto, unfolding(crate::specs::Tlv::tag_at, crate::specs::Tlv::length_at))]
+#[inline(always)]
+fn read_header(bytes: &[u8]) -> Option<(u32, usize, &[u8])>
+    ensures { option_map {U = ℕ × ℕ × List ℕ} (λ found. (found.0, found.1, found.2.now)) result ≡ option_and_then (λ tag.
+        option_map {U = ℕ × ℕ × List ℕ} (λ len. (tag.0, len.0, len.1)) (length_at tag.1)) (tag_at bytes.now) }
+{
+    let [first, rest @ ..] = bytes else {
+        return None;
+    };
+    if first & 0x1F == 0x1F {
+        if let [second @ 0x00..=0x7F, length @ 0x00..=0x7F, rest @ ..] = rest {
+            let tag = u32::from(*first) * 0x100 + u32::from(*second);
+            return Some((tag, usize::from(*length), rest));
+        }
+    }
+    let (tag, rest) = read_tag(bytes)?;
+    let (length, rest) = read_length(rest)?;
+    Some((tag, length, rest))
+}
+
 /// The tag and the value of the object at the start, and the bytes after it.
 #[tactic(auto, unfolding(crate::specs::Tlv::front_object))]
 #[inline(always)]
@@ -63,8 +85,7 @@ pub(crate) fn read_object(bytes: &[u8]) -> Option<(u32, &[u8], &[u8])>
     ensures { option_map (λ found. record { tag = found.0; value = found.1.now; rest = found.2.now }) result
         ≡ front_object bytes.now }
 {
-    let (tag, rest) = read_tag(bytes)?;
-    let (length, rest) = read_length(rest)?;
+    let (tag, length, rest) = read_header(bytes)?;
     let (value, rest) = rest.split_at_checked(length)?;
     Some((tag, value, rest))
 }
