@@ -2,7 +2,6 @@
 use Rattle.std.proofs.Common.{◌≡◌, ◌≢◌, ℕ, zero, suc, ◌+◌, ◌-◌, ◌<◌, ◌≤◌, ◌⊎◌, true, false, List, [], ◌∷◌, ◌++◌, length, replicate, Option, Some}
 use Rattle.std.proofs.Common.{None, slice_get, refl, sym, ap, ◌∙◌, subst, inl, inr, arith, length-append, append-nil, eqb-true, one-add, ne_eqb}
 use Rattle.std.proofs.Common.{take_while, drop, ◌==◌, add-zero}
-use Rattle.std.proofs.Math.Seq.{drop-append_seam}
 use Rattle.tlv_objects.specs.Tlv.{TlvObject, TlvText, FrontObject, front_object, no_more, torn_at, in_front, objects_from, objects_of}
 use Rattle.tlv_objects.specs.Grammar.{is_tag, Spells, IsNoObject, Covers}
 use Rattle.tlv_objects.proofs.Fronts.{takes_object, reads_object}
@@ -188,7 +187,7 @@ pub record IsRead (bytes : List ℕ) (at : ℕ) (front : FrontObject) : Type 0 w
   pub shorter : length front.rest < length bytes
   pub first : let count =
       length bytes - length front.rest in objects_from 0 at bytes ≡ in_front (record { tag = front.tag; value = front.value; at = at })
-      (objects_from 0 (at + count) (drop count bytes))
+      (objects_from 0 (at + count) front.rest)
 
 is_read_at : (spelling rest : List ℕ) (at tag : ℕ) (value : List ℕ) → Spells spelling tag value
     → IsRead (spelling ++ rest) at (record { tag = tag; value = value; rest = rest })
@@ -197,7 +196,7 @@ is_read_at spelling rest at tag value s =
     let count : length (spelling ++ rest) - length rest ≡ length spelling = omega (arith, length-append spelling rest) in
     record {
       shorter = omega (arith, length-append spelling rest, ap length begins.2);
-      first = rw (count, drop-append_seam spelling rest) (objects_behind_object spelling rest at tag value s);
+      first = rw count (objects_behind_object spelling rest at tag value s);
     }
 
 pub is_read : (bytes : List ℕ) (at : ℕ) (front : FrontObject) → slice_get bytes 0 ≢ Some 0 → bytes ≢ [] → front_object bytes ≡ Some front

@@ -100,7 +100,8 @@ impl<'a> Iterator for Objects<'a> {
             self.pass(ahead.len());
             return Some(Err(TlvFault::Torn(at)));
         };
-        self.pass(ahead.len() - rest.len());
+        self.ahead = rest;
+        self.at = at + (ahead.len() - rest.len());
         Some(Ok(Object { tag, value, at }))
     }
 }

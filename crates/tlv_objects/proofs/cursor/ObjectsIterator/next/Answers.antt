@@ -33,8 +33,16 @@ returns-in_default-clause-steps c =
       within = omega arith;
     }
 
-pub overflow_sub-ahead : goal.overflow_sub-ahead
-overflow_sub-ahead c =
+pub overflow_sub-self : goal.overflow_sub-self
+overflow_sub-self c =
+    let bytes = c.self.inside.ahead.now in
+    let first = subst (λ (s : Ahead). slice_get s.bytes 0 ≢ Some 0) (sym c.self.view_is) c.pass_zeros.ensures.first in
+    let some = some_ahead bytes (sym c.is_empty.ensures ∙ c.if-is_empty.false) in
+    let read = is_read bytes c.self.inside.at _ first some (sym c.in-Some.ensures) in
+    omega (arith, read.shorter)
+
+pub invariant_of-self : goal.invariant_of-self
+invariant_of-self c =
     let bytes = c.self.inside.ahead.now in
     let first = subst (λ (s : Ahead). slice_get s.bytes 0 ≢ Some 0) (sym c.self.view_is) c.pass_zeros.ensures.first in
     let some = some_ahead bytes (sym c.is_empty.ensures ∙ c.if-is_empty.false) in
@@ -50,14 +58,11 @@ returns-clause-steps c =
     let same = ap (λ (s : Ahead). length s.bytes) c.self.view_is in
     let place = ap (λ (s : Ahead). s.at) c.self.view_is in
     record {
-      first = rw (← c.pass_zeros.ensures.same, c.pass-2.ensures, ← c.self.view_is) read.first;
-      moves = record {
-        shrinks = rw (c.pass-2.ensures, length-drop) (omega (arith, read.shorter));
-        end = rw (c.pass-2.ensures, length-drop) (omega (arith, read.shorter));
-      };
+      first = rw (← c.pass_zeros.ensures.same, ← c.self.view_is) read.first;
+      moves = record { shrinks = omega (arith, read.shorter); end = omega (arith, read.shorter) };
     }
 
 pub returns-clause-goes : goal.returns-clause-goes
 returns-clause-goes c =
-    let smaller : length c.pass-2.new.self.bytes < length c.args.self.now.bytes = (returns-clause-steps c).moves.shrinks in
+    let smaller : length c.in-Some.rest.now < length c.args.self.now.bytes = (returns-clause-steps c).moves.shrinks in
     record { on = λ h. (tt, tt, smaller); keeps = tt; rests = λ h. tt }
