@@ -56,13 +56,14 @@ fn read_length(bytes: &[u8]) -> Option<(usize, &[u8])>
     }
 }
 
-/// The tag and the length of the object at the start, and the bytes after them. A tag of two bytes before a length of one
-/// is tried first, as most objects begin so.
+/// The tag and the length of the object at the start, and the bytes after them. A tag of two bytes before a length of
+/// one is tried first, as most objects begin so.
 #[tactic(auto, unfolding(crate::specs::Tlv::tag_at, crate::specs::Tlv::length_at))]
 #[inline(always)]
 fn read_header(bytes: &[u8]) -> Option<(u32, usize, &[u8])>
-    ensures { option_map {U = ℕ × ℕ × List ℕ} (λ found. (found.0, found.1, found.2.now)) result ≡ option_and_then (λ tag.
-        option_map {U = ℕ × ℕ × List ℕ} (λ len. (tag.0, len.0, len.1)) (length_at tag.1)) (tag_at bytes.now) }
+    ensures { option_map {U = ℕ × ℕ × List ℕ} (λ found. (found.0, found.1, found.2.now)) result
+        ≡ option_and_then (λ tag. option_map {U = ℕ × ℕ × List ℕ} (λ len. (tag.0, len.0, len.1)) (length_at tag.1))
+        (tag_at bytes.now) }
 {
     let [first, rest @ ..] = bytes else {
         return None;
