@@ -49,6 +49,12 @@ opening-are : (first last : List LogItem) → GoesOn (records_of first) (records
 opening-are first last on =
     ap (take (length (records_of first))) on.1 ∙ take_at (records_of first) on.0 (length (records_of first)) refl
 
+-- logs with equal heads are as many
+pub as-many : (opening seen : List (Log LogItem LogHead)) → heads_of seen ≡ heads_of opening → length seen ≡ length opening
+as-many opening seen heads =
+    let head : Log LogItem LogHead → LogHead = λ log. log.head in
+    sym (length-map seen head) ∙ ap (λ (heads : List LogHead). length heads) heads ∙ length-map opening head
+
 module _ {S : Type 0} {G : Ghosts S} where
   -- the store of one shard
   closed-shard : (issuer : Setup) (number records : ℕ) (first last : Log LogItem LogHead) (shard : Shard S G)
@@ -84,7 +90,7 @@ module _ {S : Type 0} {G : Ghosts S} where
   closed-all issuer opening seen shards heads count headed counted fronts stand =
       let kept : Shard S G → S = λ shard. store_in shard in
       let head : Log LogItem LogHead → LogHead = λ log. log.head in
-      let long : length seen ≡ length opening = sym (length-map seen head) ∙ ap (λ (heads : List LogHead). length heads) heads ∙ length-map opening head in
+      let long : length seen ≡ length opening = as-many opening seen heads in
       record {
         count_is = length-map shards kept ∙ stand.count_is ∙ long ∙ count;
         each = λ number first last store first_is last_is store_is.

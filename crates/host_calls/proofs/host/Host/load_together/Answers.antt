@@ -19,3 +19,9 @@ pub returns-clause-stopped : goal.returns-clause-stopped
 returns-clause-stopped g c =
     MatchResult-weaker c.open.result (rw (c.keep_all.ensures, c.of-old.ensures, c.of-before.ensures) at c.open.ensures.stopped) (λ made any. any)
     (λ back all. inr all)
+
+pub returns-clause-issuer : goal.returns-clause-issuer
+returns-clause-issuer g c = rw c.keep_all.ensures at c.open.ensures.issuer
+
+pub returns-clause-opening : goal.returns-clause-opening
+returns-clause-opening g c = rw (c.keep_all.ensures, c.of-old.ensures, c.of-before.ensures) at c.open.ensures.opening
