@@ -24,3 +24,10 @@ returns-in-Together-clause-loaded g c = λ issuer prefix logs olds ready sound.
     c.in-Together.is)
     (c.close_together.ensures.loaded issuer prefix logs olds (subst (IsReady issuer prefix logs olds) c.in-Together.is ready)
     sound)
+
+pub returns-in-Alone-clause-loaded : goal.returns-in-Alone-clause-loaded
+returns-in-Alone-clause-loaded g c = λ issuer prefix logs olds ready sound.
+    subst (λ (host : LineHost g.row.S.Denot g.S.Store).
+    LeavesLoaded (callers_of host) issuer prefix logs (journals_seen g.S.Store olds c.close.result.items)) (sym
+    c.in-Alone.is)
+    (c.close.ensures.loaded issuer prefix logs olds (subst (IsReady issuer prefix logs olds) c.in-Alone.is ready) sound)
