@@ -1,7 +1,7 @@
 -- The lines of a lane that were looked up ahead: one more of them, and the first of them.
-use Rattle.std.proofs.Common.{◌≡◌, ℕ, ◌+◌, zero, suc, List, [], ◌∷◌, ◌++◌, length, take, drop, Bor, Option, None, Some, IfSome, sym, ap, subst, ◌∙◌, arith, add-one}
+use Rattle.std.proofs.Common.{◌≡◌, ℕ, ◌+◌, zero, suc, List, [], ◌∷◌, ◌++◌, length, take, drop, Some, sym, ap, subst, ◌∙◌, arith, add-one}
 use Rattle.std.proofs.lemmas.Option.{same_Some, none-some}
-use Rattle.std.specs.Prelude.{◌≢◌, MatchOption, IfOk, IfErr, Result, Ok, Err}
+use Rattle.std.specs.Prelude.{◌≢◌, IfOk, IfErr, Result, Ok, Err}
 use Rattle.std.specs.List.{slice_get, AllZip}
 use Rattle.issuer_base.specs.declared.answer.Refusal.{Refusal}
 use Rattle.issuer_base.specs.declared.answer.Refusal.TheVariants.{BadCryptogram}
@@ -40,15 +40,11 @@ module _ {A B : Type 0} (R : A → B → Type 0) where
   first-zip zero (z ∷ xs) x y ys is zips = (subst (λ (z : A). R z y) (same_Some z x is) zips.0, zips.1)
   first-zip (suc place) (z ∷ xs) x y ys is zips = first-zip place xs x y ys is zips
 
-  -- the first is that of the line at the index, if there is one, and the others are those of the next lines
-  pub first-ahead : (place : ℕ) (xs : List A) (x : A) (found : Option (Bor B)) (old new : List B)
-      → MatchOption found (old ≡ []) (λ y. old ≡ y.now ∷ drop 1 old) → new ≡ drop 1 old → slice_get xs place ≡ Some x
-      → AllZip R (take (length old) (drop place xs)) old
-      → IfSome found (λ y. R x y.now) × AllZip R (take (length new) (drop (place + 1) xs)) new
-  first-ahead place xs x None old new lent left is zips =
-      let none : new ≡ [] = left ∙ ap (drop 1) lent in
-      (tt, subst (λ (new : List B). AllZip R (take (length new) (drop (place + 1) xs)) new) (sym none) tt)
-  first-ahead place xs x (Some y) old new lent left is zips =
-      let parted : old ≡ y.now ∷ new = lent ∙ ap (λ more. y.now ∷ more) (sym left) in
-      let both = first-zip place xs x y.now new is (subst (λ (old : List B). AllZip R (take (length old) (drop place xs)) old) parted zips) in
+  -- the first is that of the line at the index, and the others are those of the next lines
+  pub first-ahead : (place : ℕ) (xs : List A) (x : A) (y : B) (old new : List B) → old ≡ y ∷ drop 1 old → new ≡ drop 1 old
+      → slice_get xs place ≡ Some x → AllZip R (take (length old) (drop place xs)) old
+      → R x y × AllZip R (take (length new) (drop (place + 1) xs)) new
+  first-ahead place xs x y old new parts left is zips =
+      let parted : old ≡ y ∷ new = parts ∙ ap (λ more. y ∷ more) (sym left) in
+      let both = first-zip place xs x y new is (subst (λ (old : List B). AllZip R (take (length old) (drop place xs)) old) parted zips) in
       (both.0, subst (λ (n : ℕ). AllZip R (take (length new) (drop n xs)) new) (sym (add-one place)) both.1)

@@ -1,19 +1,17 @@
 //! A caller with its pass, the lines that it answers, and the texts of its answers.
-ghost use Rattle.std.specs.Prelude.{◌≡◌, ◌≤◌, ◌+◌, length, IfOk, IfSome, MatchResult};
+ghost use Rattle.std.specs.Prelude.{◌≡◌, ◌<◌, ◌≤◌, ◌+◌, ℕ, List, length, IfOk};
 ghost use Rattle.line_checks.specs.LookedUp.{AreLookUps, IsLookUp};
 ghost use Rattle.line_checks.specs.Reading.{reading};
 ghost use Rattle.line_checks.specs.declared.lines_ahead.TheConstants.{MOST_AHEAD};
 ghost use Rattle.call_steps.specs.Authorising.{Authorises};
-ghost use Rattle.call_steps.specs.PreChecks.{IsAskedBy, PreChecks};
-ghost use Rattle.host_calls.specs.Passes.{claims_of, logs_of, Holds, IsFree};
+ghost use Rattle.host_calls.specs.Passes.{claims_of, logs_of, IsFree};
 ghost use Rattle.shared_callers.specs.declared.half.TheConstants.{HALF_LINES};
 
 use crate::packed::PackedLines;
 use crate::part::Part;
 use crate::texts::AnswerTexts;
 use crossbeam_utils::CachePadded;
-use cryptogram_lanes::FEWEST_IN_LANES;
-use host_calls::{Checked, Host, Pass};
+use host_calls::{Host, Pass};
 use issuer_base::{Answer, Gate, KEPT_BYTES, MAX_CHIP_BYTES, NoMemory, Refusal, Store};
 use line_checks::{LinesAhead, MOST_AHEAD, Sought, look_up};
 use std::alloc::Global;
@@ -105,35 +103,36 @@ impl Lane {
         self.texts.clear();
         for place in 0..self.lines.len() {
             self.look_ahead(host, place);
-            let found = self.ahead.first();
-            let line = self.lines.line(place);
-            let answer = answer_line(rt, host, gate, &mut self.pass, self.number, line, found);
+            let found = self.ahead.first().unwrap();
+            let answer = answer_line(rt, host, gate, &mut self.pass, self.number, found);
             self.ahead.remove_first();
             self.texts.add(&answer);
             self.number = self.number.saturating_add(self.step);
         }
     }
 
-    /// Looks up lines ahead from this index on, unless some are. If too few are left to be checked together, none is.
+    /// Looks up lines ahead from this index on, unless some are.
     fn look_ahead<S: Store>(&mut self, host: &Host<S>, place: usize)
-        requires within { place ≤ length (waiting_lines self.old) }
+        requires within { place < length (waiting_lines self.old) }
         requires ahead { AreLookUps host.now.issuer (looked_up_lines place self.old) self.old.ahead }
         ensures ahead { AreLookUps host.now.issuer (looked_up_lines place self.new) self.new.ahead }
+        ensures some { 0 < length self.new.ahead }
         ensures same { (self.new.pass ≡ self.old.pass) × (self.new.lines ≡ self.old.lines)
             × (self.new.texts ≡ self.old.texts) }
     {
-        let count = MOST_AHEAD.min(self.lines.len() - place);
-        if self.ahead.is_empty() && count >= FEWEST_IN_LANES {
+        if self.ahead.is_empty() {
+            let count = MOST_AHEAD.min(self.lines.len() - place);
             self.look_up_lines(host, place, place + count);
         }
     }
 
-    /// Looks up the lines from one index on up to another, and checks their cryptograms together.
+    /// Looks up the lines from one index on up to another, and checks their cryptograms, together if they are many.
     fn look_up_lines<S: Store>(&mut self, host: &Host<S>, place: usize, end: usize)
         requires within { (place ≤ end) × (end ≤ length (waiting_lines self.old)) }
         requires few { end ≤ place + MOST_AHEAD }
         requires none { length self.old.ahead ≡ 0 }
         ensures ahead { AreLookUps host.now.issuer (looked_up_lines place self.new) self.new.ahead }
+        ensures count { end ≡ place + length self.new.ahead }
         ensures same { (self.new.pass ≡ self.old.pass) × (self.new.lines ≡ self.old.lines)
             × (self.new.texts ≡ self.old.texts) }
     {
@@ -146,25 +145,24 @@ impl Lane {
     }
 }
 
-/// Answers the line with this number. If it was looked up ahead, `found` is what that gave. The gate is called before
-/// the line's turn and after it.
+/// Answers a line, with this number, that was looked up. The gate is called before the line's turn and after it.
 fn answer_line<S: Store, R: Wait, G: Gate>(
     rt: &R,
     host: &Host<S>,
     gate: &G,
     pass: &mut Pass,
     number: u64,
-    line: &[u8],
-    found: Option<&Result<Sought, Refusal>>,
+    found: &Result<Sought, Refusal>,
 ) -> Answer
     requires free { IsFree host.now pass.old }
-    requires found { IfSome found (λ found. IsLookUp host.now.issuer line.now found.now) }
+    requires found { (line : List ℕ) × IsLookUp host.now.issuer line found.now }
     ensures free { IsFree host.now pass.new }
-    ensures answers { Authorises host.now.issuer (reading host.now.issuer line.now)
+    ensures answers { (line : List ℕ) → IsLookUp host.now.issuer line found.now
+        → Authorises host.now.issuer (reading host.now.issuer line)
         (claims_of pass.old) (logs_of pass.old) result (claims_of pass.new) (logs_of pass.new) }
     ensures names { (claims_of pass.new).names ≡ (claims_of pass.old).names }
 {
-    let checked = pre_check(host, pass, line, found);
+    let checked = host.pre_check_found(pass, found);
     gate.at(rt, number);
     let answer = match checked {
         Ok(checked) => host.finish(rt, pass, checked),
@@ -172,25 +170,4 @@ fn answer_line<S: Store, R: Wait, G: Gate>(
     };
     gate.done(rt, number);
     answer
-}
-
-/// Checks a line before its turn, by what its look-up gave, if it was looked up ahead.
-fn pre_check<S: Store>(
-    host: &Host<S>,
-    pass: &mut Pass,
-    line: &[u8],
-    found: Option<&Result<Sought, Refusal>>,
-) -> Result<Checked, Refusal>
-    requires { IsFree host.now pass.old × IfSome found (λ found. IsLookUp host.now.issuer line.now found.now) }
-    ensures checks { PreChecks host.now.issuer (reading host.now.issuer line.now)
-        (claims_of pass.old) result (claims_of pass.new) }
-    ensures names { (claims_of pass.new).names ≡ (claims_of pass.old).names }
-    ensures logs { logs_of pass.new ≡ logs_of pass.old }
-    ensures asked { IfOk result (IsAskedBy host.now.issuer (reading host.now.issuer line.now)) }
-    ensures held { MatchResult result (Holds host.now pass.new) (λ _. IsFree host.now pass.new) }
-{
-    if let Some(found) = found {
-        return host.pre_check_found(pass, found);
-    }
-    host.pre_check(pass, line)
 }

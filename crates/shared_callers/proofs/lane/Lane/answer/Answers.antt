@@ -1,10 +1,14 @@
 -- One more line is answered, after the others.
-use Rattle.std.proofs.Common.{◌≡◌, ◌∷◌, [], ◌++◌, take, drop, Some, refl, ap, sym, subst, ◌∙◌, arith}
+use Rattle.std.proofs.Common.{◌≡◌, ◌∷◌, [], ◌++◌, Bor, Option, Result, take, drop, get_or, Some, refl, ap, sym, subst, ◌∙◌, arith}
 use Rattle.std.specs.List.{slice_get}
+use Rattle.std.specs.Prelude.{MatchOption}
+use Rattle.std.proofs.lemmas.Option.{slice_get-get_or}
+use Rattle.issuer_base.specs.declared.answer.Refusal.{Refusal}
 use Rattle.answer_text.specs.AnswerText.{printed}
 use Rattle.host_calls.specs.Passes.{claims_of, logs_of}
 use Rattle.host_calls.specs.declared.pass.Pass.{Pass}
 use Rattle.line_checks.specs.LookedUp.{IsLookUp}
+use Rattle.line_checks.specs.declared.sought.Sought.{Sought}
 use Rattle.shared_callers.specs.DueTexts.{DueTexts}
 use Rattle.shared_callers.specs.KeptLines.{KeptLines}
 use Rattle.shared_callers.proofs.Calling.{HasCalled, called-line}
@@ -13,8 +17,19 @@ use Rattle.shared_callers.proofs.lane.Lane.answer.Goals as goal
 
 pub answer_line-answer-requires-clause-found : goal.answer_line-answer-requires-clause-found
 answer_line-answer-requires-clause-found g c =
-    (first-ahead (IsLookUp c.args.host.now.issuer) c.loop-place.place c.look_ahead.new.self.lines.lines c.line-line.result.now c.first-found.result
-    c.look_ahead.new.self.ahead (drop 1 c.look_ahead.new.self.ahead) c.first-found.ensures refl c.line-line.ensures.line c.look_ahead.ensures.ahead).0
+    let place = c.loop-place.place in
+    let lines = c.look_ahead.new.self.lines.lines in
+    let ahead = c.look_ahead.new.self.ahead in
+    let lines_are = c.look_ahead.ensures.same.1 ∙ c.loop-place.invariant.lines in
+    let end = c.len-place-end.ensures.count in
+    let test = c.loop-place-test.true in
+    let line_is = slice_get-get_or c.args.self.now.lines.lines place [] (omega (arith, test, end)) in
+    let line_there = subst (λ (lines : KeptLines). slice_get lines.lines place ≡ Some (get_or c.args.self.now.lines.lines place [])) (sym lines_are) line_is in
+    let parts = subst (λ (found : Option (Bor (Result Sought Refusal))). MatchOption found (ahead ≡ []) (λ found. ahead ≡ found.now ∷ drop 1 ahead))
+    c.unwrap-found.ensures c.first.ensures in (
+      get_or c.args.self.now.lines.lines place [],
+      (first-ahead (IsLookUp c.args.host.now.issuer) place lines _ _ ahead _ parts refl line_there c.look_ahead.ensures.ahead).0,
+    )
 
 pub loop-place-preserved : goal.loop-place-preserved
 loop-place-preserved g c =
@@ -22,9 +37,17 @@ loop-place-preserved g c =
     let issuer = c.args.host.now.issuer in
     let place = c.loop-place.place in
     let same = c.look_ahead.ensures.same in
+    let ahead = c.look_ahead.new.self.ahead in
     let lines_are = same.1 ∙ before.lines in
-    let line = c.line-line.result.now in
-    let line_is = subst (λ (lines : KeptLines). slice_get lines.lines place ≡ Some line) lines_are c.line-line.ensures.line in
+    let end = c.len-place-end.ensures.count in
+    let test = c.loop-place-test.true in
+    let line = get_or c.args.self.now.lines.lines place [] in
+    let line_is = slice_get-get_or c.args.self.now.lines.lines place [] (omega (arith, test, end)) in
+    let line_there = subst (λ (lines : KeptLines). slice_get lines.lines place ≡ Some line) (sym lines_are) line_is in
+    let parts = subst (λ (found : Option (Bor (Result Sought Refusal))). MatchOption found (ahead ≡ []) (λ found. ahead ≡ found.now ∷ drop 1 ahead))
+    c.unwrap-found.ensures c.first.ensures in
+    let its = first-ahead (IsLookUp issuer) place c.look_ahead.new.self.lines.lines line _ ahead c.remove_first.new.self parts
+    c.remove_first.ensures line_there c.look_ahead.ensures.ahead in
     let first = c.args.self.now.pass in
     let called = subst (λ (pass : Pass). HasCalled issuer (take place c.args.self.now.lines.lines) c.loop-place.self.texts.texts (claims_of first)
     (logs_of first) (claims_of pass) (logs_of pass)) (sym same.0) before.called in
@@ -36,8 +59,7 @@ loop-place-preserved g c =
       lines = lines_are;
       room = ap (λ (due : DueTexts). due.room) c.add.ensures ∙ ap (λ (due : DueTexts). due.room) same.2 ∙ before.room;
       used = ap (λ (due : DueTexts). due.used) c.add.ensures ∙ omega (arith, ap (λ (due : DueTexts). due.used) same.2, before.used);
-      ahead = (first-ahead (IsLookUp issuer) place c.look_ahead.new.self.lines.lines line c.first-found.result
-          c.look_ahead.new.self.ahead c.remove_first.new.self c.first-found.ensures c.remove_first.ensures c.line-line.ensures.line c.look_ahead.ensures.ahead).1;
+      ahead = its.1;
       called = called-line issuer c.args.self.now.lines.lines (claims_of first) (logs_of first) place line c.loop-place.self.texts.texts
-          c.add.new.self.texts c.answer_line-answer.result _ _ _ _ line_is texts called c.answer_line-answer.ensures.answers;
+          c.add.new.self.texts c.answer_line-answer.result _ _ _ _ line_is texts called (c.answer_line-answer.ensures.answers line its.0);
     }
