@@ -40,7 +40,8 @@ fn counter_bytes(atc: u16) -> [u8; 2]
 }
 
 /// The application cryptogram that a card computes over the request under this session key: the MAC of its suite, EMV
-/// 4.3 Book 2, section 8.1.2. Eleven block operations of DES or five of AES, and no key schedule.
+/// 4.3 Book 2, section 8.1.2. Computes the key schedules of the session key, and eleven block operations of DES or five of
+/// AES.
 pub fn expected(session: &SessionKey, request: &Request) -> [u8; 8]
     ensures { result ≡ cryptogram_under session.now request.now }
 {

@@ -224,7 +224,7 @@ impl Issuer {
     }
 
     /// The session key for the cryptograms of the transaction with this ATC, from the keys in this slot. If the master
-    /// key is cached, this costs one key schedule and the encipherment of the session key's blocks.
+    /// key is cached, this costs the encipherment of the session key's blocks, and no key schedule.
     pub fn session(&self, slot: KeySlot, atc: u16) -> SessionKey
         requires { IsSome (keys_at self.now slot) }
         ensures { (keys : CardKeys) → keys_at self.now slot ≡ Some keys → result ≡ session_of keys atc }

@@ -68,8 +68,7 @@ impl CardSecrets {
     }
 
     /// The session key for the cryptograms of the transaction with this ATC in a suite that the card has keys of. If
-    /// the master key is cached, this computes the key schedules of the session key alone; otherwise also those of the
-    /// issuer's and the card's master key.
+    /// the master key is cached, this computes no key schedule; otherwise those of the issuer's and the card's master key.
     #[inline(never)]
     pub fn session(&self, suite: Suite, atc: u16) -> SessionKey
         requires { IsSome (keys_in suite self.now) }

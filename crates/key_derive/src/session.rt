@@ -15,45 +15,38 @@ use master_keys::joined;
 use std::marker::Model;
 use suite_mac::{MacKey, with_zeros};
 
-/// The session key for the cryptograms of one transaction, with its key schedules for both the check and the reply.
+/// The session key for the cryptograms of one transaction. It is small, so it moves with its request; whoever computes a
+/// cryptogram under it computes its key schedules.
 ///
 /// A contract sees its suite and the list of its sixteen bytes.
 #[derive(Drop)]
 pub struct SessionKey {
     suite: Suite,
     key: Key16,
-    mac: MacKey,
 }
 
 impl Model for SessionKey {
     ghost use Rattle.key_derive.specs.SuiteKey.{SuiteKey};
-    ghost use Rattle.suite_mac.specs.SuiteMac.{HasMacKey};
 
     ghost Value = { SuiteKey };
 
     ghost view = { λ session. record { suite = session.suite; key = session.key.0 } };
-
-    ghost invariant = { λ session. HasMacKey session.mac session.suite session.key.0 };
 }
 
 impl SessionKey {
     /// The key of the transaction with this ATC, from the card's master keys, as `session_ac` computes it. Computes the
-    /// key schedules of the master key and of the session key.
+    /// key schedules of the master key.
     pub fn for_cryptograms(keys: &CardKeys, atc: u16) -> SessionKey
         ensures { result ≡ session_of keys.now atc }
     {
         SessionKey::of(keys.suite, session_ac(keys.suite, &keys.ac, atc))
     }
 
-    /// The session key of this suite with these sixteen bytes. Computes its key schedules.
+    /// The session key of this suite with these sixteen bytes.
     pub fn of(suite: Suite, key: Key16) -> SessionKey
         ensures { result ≡ record { suite = suite; key = key.0 } }
     {
-        SessionKey {
-            suite,
-            key,
-            mac: MacKey::new(suite, &key),
-        }
+        SessionKey { suite, key }
     }
 
     /// The suite of the key.
@@ -63,11 +56,11 @@ impl SessionKey {
         self.suite
     }
 
-    /// The key schedules of this key, for MACs of its suite and for its block cipher.
-    pub fn mac_key(&self) -> &MacKey
-        ensures { HasMacKey result.now self.now.suite self.now.key }
+    /// Computes the key schedules of this key, for MACs of its suite and for its block cipher.
+    pub fn mac_key(&self) -> MacKey
+        ensures { HasMacKey result self.now.suite self.now.key }
     {
-        &self.mac
+        MacKey::new(self.suite, &self.key)
     }
 }
 

@@ -38,8 +38,7 @@ pub struct CheckedRequest {
     /// demand.
     pub keys: LazyKeys,
 
-    /// The application-cryptogram session key of the request's ATC. Its key schedule is computed once, for the check
-    /// and for the reply.
+    /// The application-cryptogram session key of the request's ATC, for the reply.
     pub session: SessionKey,
 }
 

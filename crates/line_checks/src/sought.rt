@@ -59,7 +59,7 @@ pub enum Verdict {
 
 impl SoughtRequest {
     /// Checks the request's cryptogram under the card's keys, unless its verdict is known
-    /// ([`check_in_lanes`](crate::check_in_lanes)). The key schedule of its session key is computed once.
+    /// ([`check_in_lanes`](crate::check_in_lanes)).
     #[inline]
     pub fn check(&self, issuer: &Issuer) -> Result<CheckedRequest, Refusal>
         requires { HasKeysAtHand issuer.now self.now }

@@ -36,7 +36,7 @@ pub(crate) fn write_answer(
     ensures some { 1 ≤ length bytes.new.items }
 {
     let application_cryptogram = &request.parts().ac;
-    let value = value91(method, session.mac_key(), application_cryptogram, arc, csu);
+    let value = value91(method, &session.mac_key(), application_cryptogram, arc, csu);
     write(bytes, RESPONSE_CODE, &arc);
     write(bytes, AUTHENTICATION_DATA, value.as_slice());
 }
