@@ -1,4 +1,3 @@
 -- The laws of this crate.
 pub mod Blocks
-pub mod Suites
 pub mod Lengths

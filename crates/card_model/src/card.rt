@@ -269,7 +269,8 @@ fn is_answer(method: Method, session: &SessionKey, ac: &[u8; 8], value: &[u8], a
     let [_, _, _, _, a, b, c, d, ..] = *value else {
         return false;
     };
-    let expected = value91(method, &session.mac_key(), ac, arc, [a, b, c, d]);
+    let (suite, key) = (session.suite(), session.key());
+    let expected = value91(suite, method, key, ac, arc, [a, b, c, d]);
     value == expected.as_slice()
 }
 

@@ -295,15 +295,15 @@ fn gives(set: &KeySet, pan: &Pan, psn: u8, want: CardKeys) -> bool {
     let (Some(lazy), Some(own)) = (LazyKeys::of(set, suite, pan, psn), secrets.keys(suite)) else {
         return false;
     };
-    let derived = secrets.session(suite, 7).mac_key().mac(&[]);
+    let derived = *secrets.session(suite, 7).key();
     secrets.keep_by(&ciphers);
     secrets.keep(suite);
-    let cached = secrets.session(suite, 7).mac_key().mac(&[]);
+    let cached = *secrets.session(suite, 7).key();
     lazy.pair() == want
         && own.pair() == want
         && card_keys(set, suite, pan, psn) == Some(want)
         && ciphers.card_keys(suite, pan, psn) == Some(want)
-        && derived == SessionKey::for_cryptograms(&want, 7).mac_key().mac(&[])
+        && derived == *SessionKey::for_cryptograms(&want, 7).key()
         && derived == cached
 }
 

@@ -4,7 +4,6 @@
 use arpc_methods::{method1, method2, value91};
 use des_block::Key16;
 use issuer_base::{Method, Suite};
-use suite_mac::MacKey;
 
 /// Suite, method, session key, application cryptogram, response code, status update, the issuer's cryptogram, the value of tag 91.
 const RESPONSES: [(Suite, Method, u128, u64, [u8; 2], [u8; 4], &[u8], &[u8]); 12] = [
@@ -133,12 +132,12 @@ const RESPONSES: [(Suite, Method, u128, u64, [u8; 2], [u8; 4], &[u8], &[u8]); 12
 #[test]
 fn responses_are_those_of_another_program(rt: HostRuntime) {
     for (suite, method, key, ac, arc, csu, want, value) in RESPONSES {
-        let key = MacKey::new(suite, &Key16(key.to_be_bytes()));
+        let key = Key16(key.to_be_bytes());
         let ac = ac.to_be_bytes();
         match method {
-            Method::One => assert_eq!(rt; method1(&key, &ac, arc).as_slice(), want),
-            Method::Two => assert_eq!(rt; method2(&key, &ac, csu).as_slice(), want),
+            Method::One => assert_eq!(rt; method1(suite, &key, &ac, arc).as_slice(), want),
+            Method::Two => assert_eq!(rt; method2(suite, &key, &ac, csu).as_slice(), want),
         }
-        assert_eq!(rt; value91(method, &key, &ac, arc, csu).as_slice(), value);
+        assert_eq!(rt; value91(suite, method, &key, &ac, arc, csu).as_slice(), value);
     }
 }

@@ -11,6 +11,7 @@ ghost use Rattle.cryptogram_in.specs.Cryptogram.{input, cryptogram_under};
 use issuer_base::Request;
 use joined::Joined;
 use key_derive::SessionKey;
+use suite_mac::MacKey;
 
 /// The data under the application cryptogram: the ten data elements that EMV 4.3 Book 2, section 8.1.1
 /// recommends, and the whole issuer application data, which is this project's profile.
@@ -45,7 +46,7 @@ fn counter_bytes(atc: u16) -> [u8; 2]
 pub fn expected(session: &SessionKey, request: &Request) -> [u8; 8]
     ensures { result ≡ cryptogram_under session.now request.now }
 {
-    session.mac_key().mac(&input(request))
+    MacKey::new(session.suite(), session.key()).mac(&input(request))
 }
 
 /// Whether the request's cryptogram is the expected one under this session key, in all eight bytes.

@@ -3,7 +3,6 @@
 ghost use Rattle.std.specs.Prelude.{◌≡◌, ℕ, List, slice_set};
 ghost use Rattle.issuer_base.specs.declared.request.Suite.{Suite};
 ghost use Rattle.des_block.specs.Keyed.{HasKeyPair};
-ghost use Rattle.suite_mac.specs.SuiteMac.{HasMacKey};
 ghost use Rattle.key_derive.specs.SessionKey.{session_key, session_ac, session_sm, session_of};
 ghost use Rattle.key_derive.specs.SuiteCipher.{HasCipherKey};
 
@@ -13,9 +12,9 @@ use des_block::{Key16, Tdes};
 use issuer_base::Suite;
 use master_keys::joined;
 use std::marker::Model;
-use suite_mac::{MacKey, with_zeros};
+use suite_mac::with_zeros;
 
-/// The session key for the cryptograms of one transaction. It is small, so it moves with its request; whoever computes a
+/// The session key for the cryptograms of one transaction. It is small, so it moves with its request: whoever computes a
 /// cryptogram under it computes its key schedules.
 ///
 /// A contract sees its suite and the list of its sixteen bytes.
@@ -56,11 +55,11 @@ impl SessionKey {
         self.suite
     }
 
-    /// Computes the key schedules of this key, for MACs of its suite and for its block cipher.
-    pub fn mac_key(&self) -> MacKey
-        ensures { HasMacKey result self.now.suite self.now.key }
+    /// Its sixteen bytes.
+    pub fn key(&self) -> &Key16
+        ensures { result.now.0 ≡ self.now.key }
     {
-        MacKey::new(self.suite, &self.key)
+        &self.key
     }
 }
 

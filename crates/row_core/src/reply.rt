@@ -35,8 +35,8 @@ pub(crate) fn write_answer(
     ensures room { length bytes.new.items + MAX_TEMPLATE_BYTES ≤ ROOM }
     ensures some { 1 ≤ length bytes.new.items }
 {
-    let application_cryptogram = &request.parts().ac;
-    let value = value91(method, &session.mac_key(), application_cryptogram, arc, csu);
+    let (suite, key) = (session.suite(), session.key());
+    let value = value91(suite, method, key, &request.parts().ac, arc, csu);
     write(bytes, RESPONSE_CODE, &arc);
     write(bytes, AUTHENTICATION_DATA, value.as_slice());
 }

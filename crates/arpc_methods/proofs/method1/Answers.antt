@@ -5,4 +5,4 @@ use Rattle.arpc_methods.proofs.method1.Goals as goal
 
 pub returns : goal.returns
 unfolding method1
-returns c = λ suite sk keyed. c.enciphered.ensures suite sk keyed ∙ ap (eight_of suite sk) c.with_code.ensures
+returns c = c.enciphered.ensures ∙ ap (eight_of c.args.suite c.args.key.now.0) c.with_code.ensures

@@ -7,6 +7,9 @@ use Rattle.arpc_methods.proofs.method2.Goals as goal
 
 pub returns : goal.returns
 unfolding method2
-returns c = λ suite sk keyed.
+returns c =
+    let suite = c.args.suite in
+    let key = c.args.key.now.0 in
     let long : length c.mac.result ≡ 8 = search rules in
-    first-four c.mac.result (omega arith) ∙ ap (take 4) (c.mac.ensures suite sk keyed ∙ ap (mac_of suite sk) c.text_of.ensures)
+    first-four c.mac.result (omega arith)
+    ∙ ap (take 4) (c.mac.ensures suite key c.new.ensures ∙ ap (mac_of suite key) c.text_of.ensures)

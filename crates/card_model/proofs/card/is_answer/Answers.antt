@@ -5,5 +5,5 @@ use Rattle.card_model.proofs.card.is_answer.Goals as goal
 
 pub returns : goal.returns
 returns c =
-    let made = c.value91-expected.ensures c.args.session.now.suite c.args.session.now.key c.mac_key.ensures in
+    let made = c.value91-expected.ensures in
     grind (arith, common_steps, made)
