@@ -2,9 +2,8 @@
 pub mod Walk
 pub mod Places
 pub mod DecimalValues
-pub mod HexPlaces
 pub mod HexTable
-pub mod HexWord
+pub mod HexSteps
 pub mod PairLoop
 pub mod Spelling
 pub mod Found

@@ -1,6 +1,6 @@
 -- Reading pairs of digits one after another.
 use Rattle.std.proofs.Common.{◌≡◌, ℕ, ◌+◌, ◌-◌, ◌*◌, ◌<◌, ◌≤◌, ◌==◌, true, false, List, [], ◌∷◌, length, take}
-use Rattle.std.proofs.Common.{drop, get_or, set, Option, Some, None, is_some, Ok, Err, is_err, refl, sym, ap, ◌∙◌, length-drop, arith}
+use Rattle.std.proofs.Common.{drop, get_or, set, Option, Some, None, Ok, Err, is_err, refl, sym, ap, ◌∙◌, length-drop, arith}
 use Rattle.std.proofs.lemmas.Bool.{ne_eqb, eqb-false}
 use Rattle.std.proofs.lemmas.List.{drop_more, take_rest}
 use Rattle.std.proofs.lemmas.Grind.{take-set_at}
@@ -167,22 +167,13 @@ no_front limit bytes text some =
     let all : limit - 0 ≡ limit = omega arith in
     record { more = λ _. rw all (behind_none (data_at limit text)); end = λ none. absurd (omega (arith, some, none)) }
 
--- what is the byte of each pair that spells one is the byte of two digits
-both_digits : (high low : Option ℕ) (byte : ℕ) → is_some high ≡ true → is_some low ≡ true
-    → ((spelled : ℕ) → pair_of high low ≡ Some spelled → byte ≡ spelled) → pair_of high low ≡ Some byte
-both_digits None low byte h l spelled = absurd cc
-both_digits (Some high) None byte h l spelled = absurd cc
-both_digits (Some high) (Some low) byte h l spelled = ap Some (sym (spelled (16 * high + low) refl))
-
 -- one more pair of digits
 pub front_goes_on : (limit place byte : ℕ) (bytes text : List ℕ) → place < limit → place < length bytes → 2 * place + 1 < length text
-    → is_some (hex_digit_value (get_or text (2 * place) 0)) ≡ true → is_some (hex_digit_value (get_or text (2 * place + 1) 0)) ≡ true
-    → ((spelled : ℕ) → pair_of (hex_digit_value (get_or text (2 * place) 0)) (hex_digit_value (get_or text (2 * place + 1) 0)) ≡ Some spelled
-    → byte ≡ spelled)
+    → pair_of (hex_digit_value (get_or text (2 * place) 0)) (hex_digit_value (get_or text (2 * place + 1) 0)) ≡ Some byte
     → HasFront limit place bytes text → HasFront limit (place + 1) (set bytes place byte) text
-front_goes_on limit place byte bytes text room here within high low spelled front =
+front_goes_on limit place byte bytes text room here within spelled front =
     let pair = ap pair_at (two_ahead text place 0 0 within)
-    ∙ front_pair (get_or text (2 * place) 0) (get_or text (2 * place + 1) 0) byte (drop (2 * (place + 1)) text) (both_digits _ _ byte high low spelled) in
+    ∙ front_pair (get_or text (2 * place) 0) (get_or text (2 * place + 1) 0) byte (drop (2 * (place + 1)) text) spelled in
     let before = front.more (omega (arith, within)) in
     record {
       more = goes_on limit place byte bytes text room here pair before;

@@ -1,8 +1,7 @@
-//! The bytes that pairs of hexadecimal digits spell, by two tables.
-ghost use Rattle.std.specs.Prelude.{◌≡◌, ◌<◌, ℕ, IsTrue, Some, is_some, nat_lt};
-ghost use Rattle.std.specs.List.{list_all};
+//! The bytes that pairs of hexadecimal digits spell: one by one by two tables, or in steps of many.
+ghost use Rattle.std.specs.Prelude.{◌≡◌, ◌≤◌, ◌*◌, ℕ, IsTrue, is_some, length};
 ghost use Rattle.hex.specs.Hex.{hex_digit_value};
-ghost use Rattle.chip_request.specs.HexDigits.{value_below, pair_of};
+ghost use Rattle.chip_request.specs.HexDigits.{value_below, pair_of, AreSpelled, HaveValues, AreDigitValues, AreWithin, AreJoined};
 
 /// 16 times the value of each byte as a digit of either case, and 256 where it is none.
 const HIGH_DIGITS: [u16; 256] = [
@@ -54,50 +53,80 @@ pub(crate) fn is_hex_digit(byte: u8) -> bool
     LOW_DIGITS[usize::from(byte)] < 256
 }
 
-/// The byte that two digits of either case spell, the high one first; unspecified if either is no digit.
-///
-/// Both values are computed together in one word, so that the compiler can vectorise a loop over pairs. The product
-/// holds the byte in its upper half: the high digit's value is added there 16-fold.
-pub(crate) fn spelled_byte(high: u8, low: u8) -> u8
-    ensures { (byte : ℕ) → pair_of (hex_digit_value high) (hex_digit_value low) ≡ Some byte → result ≡ byte }
-{
-    let word = u16::from_le_bytes([high, low]);
-    let values = (word & 0x0F0F) + 9 * ((word >> 6) & 0x0101);
-    (values.wrapping_mul(0x1001) >> 8) as u8
-}
+/// How many pairs of digits are handled in one step.
+pub(crate) const STEP: usize = 32;
 
-/// How many digits the compiler handles in one step of a loop.
-const STEP: usize = 32;
+/// How many digits are handled in one step.
+pub(crate) const STEP_DIGITS: usize = 2 * STEP;
 
-/// Whether all bytes are digits of either case. Whole steps are tested first, and then the last step of the text, which
-/// may overlap them: so no byte is tested alone.
-pub(crate) fn are_hex_digits(text: &[u8]) -> bool
-    ensures { result ≡ list_all (λ byte. is_some (hex_digit_value byte)) text.now }
-{
-    let count = text.len();
-    if count < STEP {
-        return are_near(text);
-    }
-    are_near(&text[..count / STEP * STEP]) && are_near(&text[count - STEP..])
-}
-
-/// As [`are_hex_digits`]. The loop has no branch per byte, so that the compiler can vectorise it.
+/// The bytes that the digits of one step spell. `greatest` holds, for each place in a step, the greatest value so far
+/// at that place: they are within a digit's values only if each byte so far is a digit. So no byte is tested alone.
 #[inline(always)]
-fn are_near(text: &[u8]) -> bool
-    ensures { result ≡ list_all (λ byte. is_some (hex_digit_value byte)) text.now }
+pub(crate) fn spell_step(digits: &[u8], greatest: &mut [u8; STEP_DIGITS]) -> [u8; STEP]
+    requires { STEP_DIGITS ≤ length digits.now }
+    ensures spelled { AreDigitValues greatest.new → AreSpelled STEP result digits.now }
+    ensures before { AreDigitValues greatest.new → AreDigitValues greatest.old }
 {
-    let mut farthest: u8 = 0;
-    for byte in text {
-        farthest = farthest.max(digit_place(*byte));
-    }
-    farthest < 10
+    let mut values = [0; STEP_DIGITS];
+    read_values(digits, &mut values, greatest);
+    joined_values(&values)
 }
 
-/// A byte's place among the decimal digits, or among six letters that are counted from 4: below 10 for a digit alone.
-fn digit_place(byte: u8) -> u8
-    ensures { nat_lt result 10 ≡ is_some (hex_digit_value byte) }
+/// Writes the values of the digits of one step. The loop has no branch, so that the compiler can vectorise it.
+#[inline(always)]
+fn read_values(digits: &[u8], values: &mut [u8; STEP_DIGITS], greatest: &mut [u8; STEP_DIGITS])
+    requires { STEP_DIGITS ≤ length digits.now }
+    ensures values { HaveValues STEP_DIGITS values.new digits.now }
+    ensures greatest { AreWithin STEP_DIGITS values.new greatest.new }
+    ensures before { AreWithin STEP_DIGITS greatest.old greatest.new }
 {
-    let among_decimal = byte.wrapping_sub(b'0');
-    let among_letters = (byte | 0x20).wrapping_sub(b'a').saturating_add(4);
-    among_decimal.min(among_letters)
+    for place in 0..STEP_DIGITS {
+        let value = digit_value(digits[place]);
+        values[place] = value;
+        greatest[place] = greatest[place].max(value);
+    }
+}
+
+/// The bytes of pairs of values. The product of a pair's word holds the byte in its upper half: the high digit's value
+/// is added there 16-fold.
+#[inline(always)]
+fn joined_values(values: &[u8; STEP_DIGITS]) -> [u8; STEP]
+    ensures { AreDigitValues values.now → AreJoined STEP result values.now }
+{
+    let mut joined = [0; STEP];
+    for place in 0..STEP {
+        let word = u16::from_le_bytes([values[2 * place], values[2 * place + 1]]);
+        joined[place] = (word.wrapping_mul(0x1001) >> 8) as u8;
+    }
+    joined
+}
+
+/// A byte's value as a digit of either case, and 16 or more where it is none. It has no branch, and each operation is
+/// one of the processor's for 16 bytes.
+#[inline(always)]
+fn digit_value(byte: u8) -> u8
+    ensures { value_below 16 result ≡ hex_digit_value byte }
+{
+    let decimal = byte
+        .wrapping_add(PAST_NINE)
+        .saturating_sub(PAST_NINE)
+        .wrapping_sub(b'0');
+    let letter = (byte & 0xDF).wrapping_sub(b'A').saturating_add(10);
+    decimal.min(letter)
+}
+
+/// How many bytes are above `9`. It is added to a byte and subtracted again, which gives 0 for these bytes, and the byte
+/// itself otherwise.
+const PAST_NINE: u8 = 0xFF - b'9';
+
+/// Whether no value exceeds the greatest of a digit.
+#[inline(always)]
+pub(crate) fn are_digit_values(values: &[u8; STEP_DIGITS]) -> bool
+    ensures { IsTrue result → AreDigitValues values.now }
+{
+    let mut greatest: u8 = 0;
+    for value in values {
+        greatest = greatest.max(*value);
+    }
+    greatest <= 15
 }

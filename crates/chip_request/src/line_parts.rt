@@ -1,19 +1,16 @@
 //! Parsers for the parts of a line. Each reads a part from the start of a text, and returns its value and the
 //! remainder. Where the part isn't there, it returns the text from the first byte that is wrong.
-ghost use Rattle.std.specs.Prelude.{◌≡◌, ◌<◌, ◌≤◌, ◌+◌, ◌*◌, length, IfOk, IfSome, Ok, Err, true, take, is_err, is_some};
-ghost use Rattle.std.specs.List.{list_all};
+ghost use Rattle.std.specs.Prelude.{◌≡◌, ◌<◌, ◌≤◌, ◌+◌, ◌*◌, length, IfOk, IfSome, Ok, Err, IsTrue, true, take, is_err};
 ghost use Rattle.std.specs.Result.{result_map_both};
-ghost use Rattle.hex.specs.Hex.{hex_digit_value};
 ghost use Rattle.issuer_base.specs.declared.limits.TheConstants.{MAX_CHIP_BYTES};
-ghost use Rattle.chip_request.specs.HexDigits.{AreSpelled};
+ghost use Rattle.chip_request.specs.HexDigits.{AreSpelled, AreDigitValues};
 ghost use Rattle.chip_request.specs.LineParts.{byte_at, card_at, account_number_at, digits_at, last_digit_at, digit_at, data_at, pair_at};
 
-use crate::hex_digits::{are_hex_digits, is_hex_digit, pair_value, spelled_byte};
+use crate::hex_digits::{
+    STEP, STEP_DIGITS, are_digit_values, is_hex_digit, pair_value, spell_step,
+};
 use arrayvec::ArrayVec;
 use issuer_base::{MAX_CHIP_BYTES, MAX_PAN_DIGITS, Pan};
-
-/// How many pairs the compiler handles in one step of a loop.
-const STEP: usize = 16;
 
 /// Reads this byte.
 #[tactic(auto, unfolding(crate::specs::LineParts::byte_at))]
@@ -117,65 +114,75 @@ fn spelled_data(text: &[u8], limit: usize, bytes: &mut [u8; MAX_CHIP_BYTES]) -> 
     ensures within { IfSome result (λ count. count ≤ limit) }
 {
     let pairs = text.len() / 2;
-    if pairs == 0 || pairs > limit || text.len() % 2 == 1 || !are_hex_digits(text) {
+    if pairs == 0 || pairs > limit || text.len() % 2 == 1 || !spell(text, bytes, pairs) {
         return None;
     }
-    spell_all(text, bytes, pairs);
     Some(pairs)
 }
 
-/// Writes the bytes that the first `pairs` pairs of digits spell: whole steps first, and then the last step, which may
-/// overlap them. So no pair is handled alone.
-fn spell_all(text: &[u8], bytes: &mut [u8; MAX_CHIP_BYTES], pairs: usize)
+/// Writes the bytes that the first `pairs` pairs of digits spell, and returns whether all are of digits. Whole steps
+/// come first, and then the last step, which may overlap them. So no pair is handled alone.
+fn spell(text: &[u8], bytes: &mut [u8; MAX_CHIP_BYTES], pairs: usize) -> bool
     requires digits { 2 * pairs ≤ length text.now }
     requires room { pairs ≤ MAX_CHIP_BYTES }
-    ensures { AreSpelled pairs bytes.new text.now }
+    ensures { IsTrue result → AreSpelled pairs bytes.new text.now }
 {
     if pairs < STEP {
-        return spell(text, bytes, pairs);
+        return spell_short(text, bytes, pairs);
     }
-    spell(text, bytes, pairs / STEP * STEP);
-    spell_step(text, bytes, pairs - STEP);
+    let mut greatest = [0; STEP_DIGITS];
+    for step in 0..pairs / STEP {
+        write_step(text, bytes, STEP * step, &mut greatest);
+    }
+    write_step(text, bytes, pairs - STEP, &mut greatest);
+    are_digit_values(&greatest)
 }
 
-/// Writes the bytes that the pairs of digits of one step spell, from an index on. They are collected in an array of
-/// their own, so that the compiler can vectorise the step.
+/// As [`spell`], for fewer pairs than those of a step, which zeros make up.
+fn spell_short(text: &[u8], bytes: &mut [u8; MAX_CHIP_BYTES], pairs: usize) -> bool
+    requires digits { 2 * pairs ≤ length text.now }
+    requires short { pairs ≤ STEP }
+    ensures { IsTrue result → AreSpelled pairs bytes.new text.now }
+{
+    let mut digits = [b'0'; STEP_DIGITS];
+    digits[..2 * pairs].copy_from_slice(&text[..2 * pairs]);
+    let mut greatest = [0; STEP_DIGITS];
+    write_step(&digits, bytes, 0, &mut greatest);
+    are_digit_values(&greatest)
+}
+
+/// Writes the bytes that the pairs of one step spell, from an index on, and notes the greatest values as
+/// [`spell_step`] does.
 #[inline(always)]
-fn spell_step(text: &[u8], bytes: &mut [u8; MAX_CHIP_BYTES], from: usize)
+fn write_step(
+    text: &[u8],
+    bytes: &mut [u8; MAX_CHIP_BYTES],
+    from: usize,
+    greatest: &mut [u8; STEP_DIGITS],
+)
     requires digits { 2 * (from + STEP) ≤ length text.now }
     requires room { from + STEP ≤ MAX_CHIP_BYTES }
-    ensures { AreSpelled from bytes.old text.now → AreSpelled (from + STEP) bytes.new text.now }
+    ensures spelled { AreDigitValues greatest.new → AreSpelled from bytes.old text.now
+        → AreSpelled (from + STEP) bytes.new text.now }
+    ensures before { AreDigitValues greatest.new → AreDigitValues greatest.old }
+    ensures kept { AreSpelled from bytes.old text.now → AreSpelled from bytes.new text.now }
 {
-    let digits = &text[2 * from..];
-    let mut spelled = [0; STEP];
-    for place in 0..STEP {
-        spelled[place] = spelled_byte(digits[2 * place], digits[2 * place + 1]);
-    }
+    let spelled = spell_step(&text[2 * from..], greatest);
     bytes[from..from + STEP].copy_from_slice(&spelled);
 }
 
-/// Writes the bytes that the first `pairs` pairs of digits spell.
-#[inline(always)]
-fn spell(text: &[u8], bytes: &mut [u8; MAX_CHIP_BYTES], pairs: usize)
+/// Writes the bytes of the whole steps before the first pair that is wrong, and returns how many these are.
+fn spell_sure(text: &[u8], bytes: &mut [u8; MAX_CHIP_BYTES], pairs: usize) -> usize
     requires digits { 2 * pairs ≤ length text.now }
     requires room { pairs ≤ MAX_CHIP_BYTES }
-    ensures { AreSpelled pairs bytes.new text.now }
-{
-    for place in 0..pairs {
-        bytes[place] = spelled_byte(text[2 * place], text[2 * place + 1]);
-    }
-}
-
-/// How many pairs before the first one that is wrong are tested in whole steps.
-fn sure_pairs(text: &[u8], pairs: usize) -> usize
-    requires { 2 * pairs ≤ length text.now }
-    ensures digits { list_all (λ byte. is_some (hex_digit_value byte)) (take (2 * result) text.now) ≡ true }
+    ensures spelled { AreSpelled result bytes.new text.now }
     ensures within { result ≤ pairs }
 {
     let steps = pairs / STEP;
     for step in 0..steps {
-        let from = 2 * STEP * step;
-        if !are_hex_digits(&text[from..from + 2 * STEP]) {
+        let mut greatest = [0; STEP_DIGITS];
+        write_step(text, bytes, STEP * step, &mut greatest);
+        if !are_digit_values(&greatest) {
             return STEP * step;
         }
     }
@@ -196,8 +203,7 @@ fn read_pairs<'a>(
         return Err(text);
     }
     let pairs = limit.min(text.len() / 2);
-    let sure = sure_pairs(text, pairs);
-    spell(text, bytes, sure);
+    let sure = spell_sure(text, bytes, pairs);
     for place in sure..pairs {
         let byte = pair_value(text[2 * place], text[2 * place + 1]);
         if byte > 0xFF {

@@ -3,7 +3,7 @@ use Rattle.std.proofs.Common.{◌*◌, refl, sym, ◌∙◌, ℕ, eqb-true, leng
 use Rattle.std.proofs.lemmas.Bool.{eqb-false}
 use Rattle.std.proofs.lemmas.List.{take_rest}
 use Rattle.chip_request.proofs.PairLoop.{no_text, pair_ahead, pair_fails, short_fails, goes_on, goes_beyond, ends_here, no_room, no_pair}
-use Rattle.chip_request.proofs.Spelling.{digits-front, spelled-front}
+use Rattle.chip_request.proofs.Spelling.{spelled-front}
 use Rattle.chip_request.proofs.line_parts.read_pairs.Goals as goal
 
 pub returns-then-is_empty-clause-bytes : goal.returns-then-is_empty-clause-bytes
@@ -16,13 +16,11 @@ wrong_digit-requires c =
 
 pub loop-place-init : goal.loop-place-init
 loop-place-init c =
-    let sure : ℕ = c.sure_pairs-sure.result in
-    let text = c.args.text.now in
+    let sure : ℕ = c.spell_sure-sure.result in
     let some = eqb-false _ _ (sym c.is_empty.ensures ∙ c.if-is_empty.false) in
-    let front = spelled-front c.args.limit sure sure c.spell.new.bytes text (omega arith) (omega (arith, c.sure_pairs-sure.ensures.within))
-    (omega (arith, c.sure_pairs-sure.ensures.within)) (omega (arith, c.sure_pairs-sure.ensures.within)) (omega (arith, some))
-    (digits-front sure text (omega (arith, c.sure_pairs-sure.ensures.within)) c.sure_pairs-sure.ensures.digits)
-    c.spell.ensures in
+    let front = spelled-front c.args.limit sure sure c.spell_sure-sure.new.bytes c.args.text.now (omega arith)
+    (omega (arith, c.spell_sure-sure.ensures.within)) (omega (arith, c.spell_sure-sure.ensures.within))
+    (omega (arith, c.spell_sure-sure.ensures.within)) (omega (arith, some)) c.spell_sure-sure.ensures.spelled in
     record { more = front.more; end = front.end }
 
 pub returns-then-byte-gt255-clause-bytes : goal.returns-then-byte-gt255-clause-bytes
