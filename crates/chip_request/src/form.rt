@@ -1,6 +1,7 @@
 //! The forms of the fields' values.
 ghost use Rattle.std.specs.Prelude.{◌≡◌, ◌==◌, ◌≤◌, ◌*◌, length, nat_le, take, take_while};
 ghost use Rattle.std.specs.List.{list_all, flat_map};
+ghost use Rattle.issuer_base.specs.CardNumber.{pan_from};
 ghost use Rattle.issuer_base.specs.ChipData.{digits_of};
 ghost use Rattle.chip_request.specs.Forms.{fits, account_number_in};
 
@@ -34,7 +35,7 @@ impl Form {
 }
 
 /// The account number in a value, or `None` if it isn't of that form. A value of digits alone, as most are, is tried
-/// first.
+/// first, and one of 16 digits before any other.
 #[tactic(auto, unfolding(crate::specs::Fields::has_account_number, crate::specs::Fields::leading_digits, issuer_base::specs::CardNumber::pan_from))]
 pub(crate) fn account_number(value: &[u8]) -> Option<Pan>
     ensures { result ≡ account_number_in value.now }
@@ -42,6 +43,11 @@ pub(crate) fn account_number(value: &[u8]) -> Option<Pan>
     let count = value.len();
     if count < 4 || count > 10 {
         return None;
+    }
+    if count == 8 {
+        if let Some(pan) = sixteen_digits(value) {
+            return Some(pan);
+        }
     }
     let spread = nibbles_of(value);
     let nibbles = &spread[..2 * count];
@@ -53,6 +59,20 @@ pub(crate) fn account_number(value: &[u8]) -> Option<Pan>
         return None;
     }
     Pan::new(digits)
+}
+
+/// The account number whose digits are the nibbles of eight bytes. All sizes are constant, so that the compiler can
+/// handle all digits together.
+fn sixteen_digits(value: &[u8]) -> Option<Pan>
+    requires { length value.now ≡ 8 }
+    ensures { result ≡ pan_from (flat_map digits_of value.now) }
+{
+    let mut nibbles = [0; 16];
+    for place in 0..8 {
+        nibbles[2 * place] = value[place] / 16;
+        nibbles[2 * place + 1] = value[place] % 16;
+    }
+    Pan::new(&nibbles)
 }
 
 /// The nibbles of a value, as a prefix of the array.
