@@ -2,7 +2,7 @@
 use Rattle.std.proofs.Common.{◌≡◌, ◌≢◌, ℕ, zero, suc, ◌+◌, ◌-◌, ◌<◌, ◌≤◌, ◌⊎◌, true, false, List, [], ◌∷◌, ◌++◌, length, replicate, Option, Some}
 use Rattle.std.proofs.Common.{None, slice_get, refl, sym, ap, ◌∙◌, subst, inl, inr, arith, length-append, append-nil, eqb-true, one-add, ne_eqb}
 use Rattle.std.proofs.Common.{take_while, drop, ◌==◌, add-zero}
-use Rattle.tlv_objects.specs.Tlv.{TlvObject, TlvText, FrontObject, front_object, no_more, torn_at, in_front, objects_from, objects_of}
+use Rattle.tlv_objects.specs.Tlv.{TlvObject, TlvText, FrontObject, tag_at, front_object, no_more, torn_at, in_front, objects_from, objects_of}
 use Rattle.tlv_objects.specs.Grammar.{is_tag, Spells, IsNoObject, Covers}
 use Rattle.tlv_objects.proofs.Fronts.{takes_object, reads_object}
 
@@ -207,6 +207,22 @@ is_read (suc a ∷ rest) at front first some h =
     let taken = takes_object a rest front h in
     let P : List ℕ → Type 0 = λ xs. IsRead xs at front in
     subst P (sym taken.joined) (is_read_at taken.spelling front.rest at front.tag front.value taken.spelled)
+
+-- the same where the offset of the end of the text is known
+pub is_taken : (bytes : List ℕ) (end at : ℕ) (front : FrontObject) → length bytes ≤ end → at ≡ end - length bytes
+    → slice_get bytes 0 ≢ Some 0 → bytes ≢ [] → front_object bytes ≡ Some front
+    → (length front.rest < length bytes) × (objects_from 0 (end - length bytes) bytes
+    ≡ in_front (record { tag = front.tag; value = front.value; at = at }) (objects_from 0 (end - length front.rest) front.rest))
+is_taken bytes end at front within place first some h =
+    let read = is_read bytes at front first some h in
+    let next : at + (length bytes - length front.rest) ≡ end - length front.rest = omega (arith, read.shorter) in
+    (read.shorter, rw (← place) (read.first ∙ ap (λ n. in_front (record { tag = front.tag; value = front.value; at = at }) (objects_from 0 n front.rest)) next))
+
+-- what begins with an object has bytes
+pub some_read : (bytes : List ℕ) (front : FrontObject) → front_object bytes ≡ Some front → bytes ≢ []
+unfolding front_object tag_at
+some_read [] front h e = absurd cc
+some_read (b ∷ bytes) front h e = cc
 
 -- nothing is ahead where a test of the length says so
 pub nothing_ahead : (bytes : List ℕ) (at : ℕ) → (length bytes == 0) ≡ true → (objects_from 0 at bytes ≡ no_more) × (bytes ≡ [])

@@ -1,9 +1,10 @@
 //! A cursor over the objects of a text.
-ghost use Rattle.std.specs.Prelude.{ℕ, List, Option, ◌≡◌, ◌≢◌, ◌+◌, ◌≤◌, length, drop, slice_get};
+ghost use Rattle.std.specs.Prelude.{ℕ, List, Option, ◌≡◌, ◌≢◌, ◌+◌, ◌≤◌, length, drop, slice_get, IfSome, IsNone};
 ghost use Rattle.tlv_objects.specs.Tlv.{TlvObject, objects_of, objects_ahead};
 ghost use Rattle.tlv_objects.specs.Grammar.{Covers};
+ghost use Rattle.tlv_objects.specs.Seen.{GivesFirst};
 
-use crate::reading::{read_object, zeros_in_front};
+use crate::reading::{read_object, read_short_object, zeros_in_front};
 use std::marker::Model;
 
 /// A data object of a text.
@@ -29,18 +30,19 @@ pub enum TlvFault {
 #[derive(Drop)]
 pub struct Objects<'a> {
     ahead: &'a [u8],
-    at: usize,
+    // The offset of the end of the text.
+    end: usize,
 }
 
 impl<'a> Model for Objects<'a> {
-    ghost use Rattle.std.specs.Prelude.{◌+◌, ◌<◌, ◌^◌, length};
+    ghost use Rattle.std.specs.Prelude.{◌-◌, ◌≤◌, length};
     ghost use Rattle.tlv_objects.specs.Tlv.{Ahead};
 
     ghost Value = { Ahead };
 
-    ghost view = { λ cursor. record { bytes = cursor.ahead.now; at = cursor.at } };
+    ghost view = { λ cursor. record { bytes = cursor.ahead.now; at = cursor.end - length cursor.ahead.now } };
 
-    ghost invariant = { λ cursor. cursor.at + length cursor.ahead.now < 2 ^ 64 };
+    ghost invariant = { λ cursor. length cursor.ahead.now ≤ cursor.end };
 }
 
 impl<'a> Objects<'a> {
@@ -50,8 +52,29 @@ impl<'a> Objects<'a> {
     {
         Objects {
             ahead: bytes,
-            at: 0,
+            end: bytes.len(),
         }
+    }
+
+    /// The next object, if it begins here as most do: with no 00 byte, a tag of one or two bytes and a length of one.
+    /// Where anything else follows, `None`, and the cursor stays where it is: `next` returns what follows.
+    #[inline(always)]
+    pub fn next_short(&mut self) -> Option<Object<'a>>
+        ensures some { IfSome result (λ object. GivesFirst self.old object self.new) }
+        ensures none { IsNone result → self.new ≡ self.old }
+    {
+        let (tag, value, rest) = read_short_object(self.ahead)?;
+        let at = self.at();
+        self.ahead = rest;
+        Some(Object { tag, value, at })
+    }
+
+    // The offset of the next byte.
+    #[inline(always)]
+    fn at(&self) -> usize
+        ensures { result ≡ self.now.at }
+    {
+        self.end - self.ahead.len()
     }
 
     // Skips the 00 bytes before the next object, of which there is mostly none.
@@ -72,7 +95,6 @@ impl<'a> Objects<'a> {
         requires { count ≤ length self.old.bytes }
         ensures { self.new ≡ record { bytes = drop count self.old.bytes; at = self.old.at + count } }
     {
-        self.at += count;
         self.ahead = &self.ahead[count..];
     }
 }
@@ -92,7 +114,7 @@ impl<'a> Iterator for Objects<'a> {
     #[inline(always)]
     fn next(&mut self) -> Option<Result<Object<'a>, TlvFault>> {
         self.pass_zeros();
-        let (ahead, at) = (self.ahead, self.at);
+        let (ahead, at) = (self.ahead, self.at());
         if ahead.is_empty() {
             return None;
         }
@@ -101,7 +123,6 @@ impl<'a> Iterator for Objects<'a> {
             return Some(Err(TlvFault::Torn(at)));
         };
         self.ahead = rest;
-        self.at = at + (ahead.len() - rest.len());
         Some(Ok(Object { tag, value, at }))
     }
 }

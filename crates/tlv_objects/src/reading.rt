@@ -1,5 +1,5 @@
 //! Parsing the parts of an object at the start of a text.
-ghost use Rattle.std.specs.Prelude.{◌≡◌, ◌==◌, option_map, option_and_then, take_while, length, ℕ, List};
+ghost use Rattle.std.specs.Prelude.{◌≡◌, ◌≢◌, ◌==◌, option_map, option_and_then, take_while, length, slice_get, ℕ, List, Some, IsSome, IfSome};
 ghost use Rattle.tlv_objects.specs.Tlv.{tag_at, length_at, front_object};
 
 /// The number of leading 00 bytes.
@@ -56,29 +56,6 @@ fn read_length(bytes: &[u8]) -> Option<(usize, &[u8])>
     }
 }
 
-/// The tag and the length of the object at the start, and the bytes after them. A tag of two bytes before a length of
-/// one is tried first, as most objects begin so.
-#[tactic(auto, unfolding(crate::specs::Tlv::tag_at, crate::specs::Tlv::length_at))]
-#[inline(always)]
-fn read_header(bytes: &[u8]) -> Option<(u32, usize, &[u8])>
-    ensures { option_map {U = ℕ × ℕ × List ℕ} (λ found. (found.0, found.1, found.2.now)) result
-        ≡ option_and_then (λ tag. option_map {U = ℕ × ℕ × List ℕ} (λ len. (tag.0, len.0, len.1)) (length_at tag.1))
-        (tag_at bytes.now) }
-{
-    let [first, rest @ ..] = bytes else {
-        return None;
-    };
-    if first & 0x1F == 0x1F {
-        if let [second @ 0x00..=0x7F, length @ 0x00..=0x7F, rest @ ..] = rest {
-            let tag = u32::from(*first) * 0x100 + u32::from(*second);
-            return Some((tag, usize::from(*length), rest));
-        }
-    }
-    let (tag, rest) = read_tag(bytes)?;
-    let (length, rest) = read_length(rest)?;
-    Some((tag, length, rest))
-}
-
 /// The tag and the value of the object at the start, and the bytes after it.
 #[tactic(auto, unfolding(crate::specs::Tlv::front_object))]
 #[inline(always)]
@@ -86,7 +63,48 @@ pub(crate) fn read_object(bytes: &[u8]) -> Option<(u32, &[u8], &[u8])>
     ensures { option_map (λ found. record { tag = found.0; value = found.1.now; rest = found.2.now }) result
         ≡ front_object bytes.now }
 {
-    let (tag, length, rest) = read_header(bytes)?;
+    let (tag, rest) = read_tag(bytes)?;
+    let (length, rest) = read_length(rest)?;
     let (value, rest) = rest.split_at_checked(length)?;
     Some((tag, value, rest))
+}
+
+/// The tag and the length of the object at the start, and the bytes after them, if the object begins as most do: with
+/// a tag of one or two bytes and a length of one. `None` also for a 00 byte and for fewer than three bytes.
+#[tactic(auto, unfolding(crate::specs::Tlv::tag_at, crate::specs::Tlv::length_at))]
+#[inline(always)]
+fn read_short_header(bytes: &[u8]) -> Option<(u32, usize, &[u8])>
+    ensures header { IfSome result (λ found.
+        option_and_then (λ tag. option_map {U = ℕ × ℕ × List ℕ} (λ len. (tag.0, len.0, len.1)) (length_at tag.1))
+        (tag_at bytes.now) ≡ Some (found.0, found.1, found.2.now)) }
+    ensures first { IsSome result → slice_get bytes.now 0 ≢ Some 0 }
+{
+    let [first, second @ 0x00..=0x7F, third, rest @ ..] = bytes else {
+        return None;
+    };
+    let first = u32::from(*first);
+    if first & 0x1F != 0x1F {
+        if first == 0 {
+            return None;
+        }
+        return Some((first, usize::from(*second), &bytes[2..]));
+    }
+    let length = usize::from(*third);
+    if length > 0x7F {
+        return None;
+    }
+    Some((first * 0x100 + u32::from(*second), length, rest))
+}
+
+/// The tag and the value of the object at the start, and the bytes after it, if the object begins as most do.
+#[tactic(auto, unfolding(crate::specs::Tlv::front_object))]
+#[inline(always)]
+pub(crate) fn read_short_object(bytes: &[u8]) -> Option<(u32, &[u8], &[u8])>
+    ensures object { IfSome result (λ found. front_object bytes.now
+        ≡ Some (record { tag = found.0; value = found.1.now; rest = found.2.now })) }
+    ensures first { IsSome result → slice_get bytes.now 0 ≢ Some 0 }
+{
+    let (tag, length, rest) = read_short_header(bytes)?;
+    let (value, unread) = rest.split_at_checked(length)?;
+    Some((tag, value, unread))
 }
