@@ -1,13 +1,11 @@
 -- The indices of fields by the last bytes of their tags.
-use Rattle.std.proofs.Common.{◌≡◌, ◌≢◌, ℕ, zero, suc, ◌<◌, ◌%◌, ◌==◌, Bool, true, false, List, [], ◌∷◌, length, get_or, Option, Some, None}
+use Rattle.std.proofs.Common.{◌≡◌, ◌≢◌, ℕ, zero, suc, ◌<◌, ◌%◌, ◌==◌, Bool, true, false, List, [], ◌∷◌, length, get_or, map, Option, Some, None}
 use Rattle.std.proofs.Common.{refl, sym, ap, subst, ◌∙◌, eqb-true, arith}
 use Rattle.std.specs.Prelude.{nat_lt}
 use Rattle.std.specs.List.{list_all}
 use Rattle.std.proofs.lemmas.Bool.{ltb-true, agree_below, agree_below_at}
 use Rattle.issuer_base.proofs.Decimal.{list_all-at}
-use Rattle.chip_request.specs.declared.slots.Field as declared_field
-use Rattle.chip_request.specs.declared.slots.TheConstants.{FIELDS, PLACES}
-use Rattle.chip_request.specs.SlotViews.{field_in}
+use Rattle.chip_request.specs.declared.slots.TheConstants.{PLACES, TAGS}
 use Rattle.chip_request.specs.Fields.{Field, fields}
 use Rattle.chip_request.specs.Slots.{place_of}
 use Rattle.chip_request.proofs.Walk.{get_or-map, place_in_front, place_behind}
@@ -22,11 +20,14 @@ unfolding is_at
 is_at-true i None is = absurd cc
 is_at-true i (Some place) is = ap Some (sym (eqb-true _ _ is))
 
-every_place : (d : declared_field.Field) → agree_below (λ i. is_at i (place_of (get_or FIELDS i d).tag fields)) (λ _. true) 15 ≡ true
+tags_of_fields : TAGS ≡ map (λ (field : Field). field.tag) fields
+tags_of_fields = refl
+
+every_place : (d : ℕ) → agree_below (λ i. is_at i (place_of (get_or TAGS i d) fields)) (λ _. true) 15 ≡ true
 unfolding is_at place_of
 every_place d = refl
 
-every_entry : (d : declared_field.Field) → agree_below (λ i. get_or PLACES ((get_or FIELDS i d).tag % 256) 0 == i) (λ _. true) 15 ≡ true
+every_entry : (d : ℕ) → agree_below (λ i. get_or PLACES (get_or TAGS i d % 256) 0 == i) (λ _. true) 15 ≡ true
 every_entry d = refl
 
 every_small : list_all (λ place. nat_lt place 15) PLACES ≡ true
@@ -48,30 +49,32 @@ place_below tag [] i here = absurd cc
 place_below tag (field ∷ fs) zero here = omega arith
 place_below tag (field ∷ fs) (suc i) here = let behind = place_below tag fs i (place_behind _ _ _ here).1 in omega arith
 
-tag_here : (tag i : ℕ) (d : declared_field.Field) → place_of tag fields ≡ Some i → (get_or FIELDS i d).tag ≡ tag
-tag_here tag i d here = ap (λ (field : Field). field.tag) (sym (get_or-map field_in FIELDS i d)) ∙ tag_there tag fields i (field_in d) here
+tag_here : (tag i : ℕ) (d : ℕ) → place_of tag fields ≡ Some i → get_or TAGS i d ≡ tag
+tag_here tag i d here =
+    let field : Field = record { tag = d; is_required = false; has_form = λ value. false } in
+    ap (λ tags. get_or tags i d) tags_of_fields ∙ get_or-map (λ (field : Field). field.tag) fields i field ∙ tag_there tag fields i field here
 
 -- a field with the tag at its place is the one that is searched
-pub place_found : (tag i : ℕ) (d : declared_field.Field) → i < 15 → (get_or FIELDS i d).tag ≡ tag → Some i ≡ place_of tag fields
+pub place_found : (tag i : ℕ) (d : ℕ) → i < 15 → get_or TAGS i d ≡ tag → Some i ≡ place_of tag fields
 place_found tag i d below same =
-    is_at-true i (place_of (get_or FIELDS i d).tag fields)
-    (agree_below_at (λ i. is_at i (place_of (get_or FIELDS i d).tag fields)) (λ _. true) 15 i (every_place d) below)
+    is_at-true i (place_of (get_or TAGS i d) fields)
+    (agree_below_at (λ i. is_at i (place_of (get_or TAGS i d) fields)) (λ _. true) 15 i (every_place d) below)
     ∙ ap (λ t. place_of t fields) same
 
 -- and where another tag stands there, no field has it
-none_there : (tag : ℕ) (d : declared_field.Field) (place : Option ℕ) → place_of tag fields ≡ place
-    → (get_or FIELDS (get_or PLACES (tag % 256) 0) d).tag ≢ tag → None ≡ place
+none_there : (tag : ℕ) (d : ℕ) (place : Option ℕ) → place_of tag fields ≡ place
+    → get_or TAGS (get_or PLACES (tag % 256) 0) d ≢ tag → None ≡ place
 none_there tag d None found differs = refl
 none_there tag d (Some i) found differs =
     let here = tag_here tag i d found in
     let below : i < 15 = place_below tag fields i found in
-    let entry : get_or PLACES ((get_or FIELDS i d).tag % 256) 0 ≡ i =
-    eqb-true _ _ (agree_below_at (λ i. get_or PLACES ((get_or FIELDS i d).tag % 256) 0 == i) (λ _. true) 15 i (every_entry d) below) in
+    let entry : get_or PLACES (get_or TAGS i d % 256) 0 ≡ i =
+    eqb-true _ _ (agree_below_at (λ i. get_or PLACES (get_or TAGS i d % 256) 0 == i) (λ _. true) 15 i (every_entry d) below) in
     let same : get_or PLACES (tag % 256) 0 ≡ i = ap (λ t. get_or PLACES (t % 256) 0) (sym here) ∙ entry in
-    let equal : (get_or FIELDS (get_or PLACES (tag % 256) 0) d).tag ≡ tag = ap (λ p. (get_or FIELDS p d).tag) same ∙ here in
+    let equal : get_or TAGS (get_or PLACES (tag % 256) 0) d ≡ tag = ap (λ p. get_or TAGS p d) same ∙ here in
     absurd (differs equal)
 
-pub place_not_found : (tag place : ℕ) (d : declared_field.Field) → place ≡ get_or PLACES (tag % 256) 0
-    → (get_or FIELDS place d).tag ≢ tag → None ≡ place_of tag fields
+pub place_not_found : (tag place : ℕ) (d : ℕ) → place ≡ get_or PLACES (tag % 256) 0
+    → get_or TAGS place d ≢ tag → None ≡ place_of tag fields
 place_not_found tag place d is differs =
-    none_there tag d (place_of tag fields) refl (subst (λ p. (get_or FIELDS p d).tag ≢ tag) is differs)
+    none_there tag d (place_of tag fields) refl (subst (λ p. get_or TAGS p d ≢ tag) is differs)

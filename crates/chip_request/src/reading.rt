@@ -60,20 +60,36 @@ fn first_fault(slots: &Slots<'_>) -> Option<RequestFault>
 }
 
 // Notes the unread objects of a cursor, up to the end of its text.
-fn note_all<'a>(slots: &mut Slots<'a>, objects: Objects<'a>) -> Result<(), RequestFault>
+fn note_all<'a>(slots: &mut Slots<'a>, mut objects: Objects<'a>) -> Result<(), RequestFault>
     requires { objects.at + length objects.bytes < 2 ^ 32 }
     ensures ok { OnOk result (((objects_ahead objects.entry).torn ≡ None)
         × (founds_in slots.new ≡ with_objects (founds_in slots.old) (objects_ahead objects.entry).objects)) }
     ensures err { IfErr result (λ fault. (place : ℕ)
         × ((objects_ahead objects.entry).torn ≡ Some place) × (fault ≡ RequestFault.BadTlv place)) }
 {
-    for item in objects {
+    note_short(slots, &mut objects);
+    while let Some(item) = objects.next() {
         match item {
             Ok(object) => slots.note(object),
             Err(TlvFault::Torn(at)) => return Err(RequestFault::BadTlv(at as u32)),
         }
+        note_short(slots, &mut objects);
     }
     Ok(())
+}
+
+// Notes the next objects of a cursor, up to one that doesn't begin as most do.
+#[inline(always)]
+fn note_short<'a>(slots: &mut Slots<'a>, objects: &mut Objects<'a>)
+    ensures found { with_objects (founds_in slots.new) (objects_ahead objects.new).objects
+        ≡ with_objects (founds_in slots.old) (objects_ahead objects.old).objects }
+    ensures torn { (objects_ahead objects.new).torn ≡ (objects_ahead objects.old).torn }
+    ensures end { objects.new.at + length objects.new.bytes ≡ objects.old.at + length objects.old.bytes }
+    ensures shorter { length objects.new.bytes ≤ length objects.old.bytes }
+{
+    while let Some(object) = objects.next_short() {
+        slots.note(object);
+    }
 }
 
 // The request in the slots, if their values make one.

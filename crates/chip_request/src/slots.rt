@@ -47,6 +47,12 @@ const FIELDS: [Field; 15] = [
     field!(0x9F37, true, Form::Bytes(4)),
 ];
 
+/// The tags of `FIELDS`.
+const TAGS: [u32; 15] = [
+    0x5A, 0x5F34, 0x82, 0x95, 0x9A, 0x9C, 0x9F02, 0x9F03, 0x9F10, 0x9F1A, 0x5F2A, 0x9F26, 0x9F27,
+    0x9F36, 0x9F37,
+];
+
 /// What was found of each field, in the order of the table: the value of the first object with its tag, and whether
 /// there is another.
 #[derive(Clone, Copy)]
@@ -89,7 +95,7 @@ fn place_of(tag: u32) -> Option<usize>
     ensures within { IfSome result (λ place. place < 15) }
 {
     let place = usize::from(PLACES[(tag % 256) as usize]);
-    if FIELDS[place].tag != tag {
+    if TAGS[place] != tag {
         return None;
     }
     Some(place)
