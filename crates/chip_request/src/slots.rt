@@ -197,6 +197,7 @@ impl<'a> Slots<'a> {
     }
 
     /// That value as an array, or 00 bytes if the field is absent or of another length.
+    #[inline(always)]
     pub(crate) fn bytes<const N: usize>(&self, tag: u32) -> [u8; N]
         ensures { result ≡ sized N (first_with_tag tag (founds_in self.now)) }
     {
