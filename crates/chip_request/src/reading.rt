@@ -99,22 +99,21 @@ fn request_in(slots: &Slots<'_>) -> Option<Request>
     ensures { result ≡ request_in (founds_in slots.now) }
 {
     let pan = account_number(slots.first_value(0x5A)?)?;
-    let atc = slots.bytes::<2>(0x9F36);
     Request::new(Parts {
         pan,
-        psn: slots.bytes::<1>(0x5F34)[0],
-        aip: slots.bytes(0x82),
-        atc: u16::from(atc[0]) * 256 + u16::from(atc[1]),
-        tvr: slots.bytes(0x95),
-        date: slots.bytes(0x9A),
-        kind: slots.bytes::<1>(0x9C)[0],
-        amount: slots.bytes(0x9F02),
-        other: slots.bytes(0x9F03),
-        country: slots.bytes(0x9F1A),
-        currency: slots.bytes(0x5F2A),
-        un: slots.bytes(0x9F37),
-        cid: slots.bytes::<1>(0x9F27)[0],
-        iad: slots.bytes(0x9F10),
-        ac: slots.bytes(0x9F26),
+        psn: slots.bytes_or(0x5F34, &[0; 1])[0],
+        aip: *slots.bytes_or(0x82, &[0; 2]),
+        atc: u16::from_be_bytes(*slots.bytes_or(0x9F36, &[0; 2])),
+        tvr: *slots.bytes_or(0x95, &[0; 5]),
+        date: *slots.bytes_or(0x9A, &[0; 3]),
+        kind: slots.bytes_or(0x9C, &[0; 1])[0],
+        amount: *slots.bytes_or(0x9F02, &[0; 6]),
+        other: *slots.bytes_or(0x9F03, &[0; 6]),
+        country: *slots.bytes_or(0x9F1A, &[0; 2]),
+        currency: *slots.bytes_or(0x5F2A, &[0; 2]),
+        un: *slots.bytes_or(0x9F37, &[0; 4]),
+        cid: slots.bytes_or(0x9F27, &[0; 1])[0],
+        iad: *slots.bytes_or(0x9F10, &[0; 32]),
+        ac: *slots.bytes_or(0x9F26, &[0; 8]),
     })
 }

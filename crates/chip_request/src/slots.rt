@@ -1,5 +1,5 @@
 //! The fields of a request, and a slot for each that holds what a pass over the objects found.
-ghost use Rattle.std.specs.Prelude.{◌≡◌, ◌<◌, Option, Some, map, option_map, IfSome, true};
+ghost use Rattle.std.specs.Prelude.{◌≡◌, ◌<◌, Option, Some, map, replicate, option_map, IfSome, true};
 ghost use Rattle.issuer_base.specs.declared.request.Parts.{Parts};
 ghost use Rattle.std.specs.List.{list_all};
 ghost use Rattle.tlv_objects.specs.Seen.{seen as object_seen};
@@ -196,18 +196,16 @@ impl<'a> Slots<'a> {
         first_with_tag(&self.firsts, &self.are_repeated, tag)
     }
 
-    /// That value as an array, or 00 bytes if the field is absent or of another length.
+    /// That value as an array, or the given 00 bytes if the field is absent or of another length.
     #[inline(always)]
-    pub(crate) fn bytes<const N: usize>(&self, tag: u32) -> [u8; N]
-        ensures { result ≡ sized N (first_with_tag tag (founds_in self.now)) }
+    pub(crate) fn bytes_or<const N: usize>(&self, tag: u32, zeros: &'static [u8; N]) -> &'a [u8; N]
+        requires { zeros.now ≡ replicate N 0 }
+        ensures { result.now ≡ sized N (first_with_tag tag (founds_in self.now)) }
     {
         let Some(value) = self.first_value(tag) else {
-            return [0; N];
+            return zeros;
         };
-        match <&[u8; N]>::try_from(value) {
-            Ok(bytes) => *bytes,
-            Err(_) => [0; N],
-        }
+        <&[u8; N]>::try_from(value).unwrap_or(zeros)
     }
 }
 
