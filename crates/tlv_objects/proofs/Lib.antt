@@ -1,4 +1,5 @@
 -- The laws of this crate.
 pub mod Fronts
+pub mod Headers
 pub mod Texts
 pub mod Written

@@ -79,21 +79,20 @@ fn read_short_header(bytes: &[u8]) -> Option<(u32, usize, &[u8])>
         (tag_at bytes.now) ≡ Some (found.0, found.1, found.2.now)) }
     ensures first { IsSome result → slice_get bytes.now 0 ≢ Some 0 }
 {
-    let [first, second @ 0x00..=0x7F, third, rest @ ..] = bytes else {
+    let [first, second, third, rest @ ..] = bytes else {
         return None;
     };
     let first = u32::from(*first);
-    if first & 0x1F != 0x1F {
-        if first == 0 {
+    if first & 0x1F == 0x1F {
+        if (second | third) > 0x7F {
             return None;
         }
-        return Some((first, usize::from(*second), &bytes[2..]));
+        return Some((first * 0x100 + u32::from(*second), usize::from(*third), rest));
     }
-    let length = usize::from(*third);
-    if length > 0x7F {
+    if first == 0 || *second > 0x7F {
         return None;
     }
-    Some((first * 0x100 + u32::from(*second), length, rest))
+    Some((first, usize::from(*second), &bytes[2..]))
 }
 
 /// The tag and the value of the object at the start, and the bytes after it, if the object begins as most do.
