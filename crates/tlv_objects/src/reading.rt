@@ -87,7 +87,11 @@ fn read_short_header(bytes: &[u8]) -> Option<(u32, usize, &[u8])>
         if (second | third) > 0x7F {
             return None;
         }
-        return Some((first * 0x100 + u32::from(*second), usize::from(*third), rest));
+        return Some((
+            first * 0x100 + u32::from(*second),
+            usize::from(*third),
+            rest,
+        ));
     }
     if first == 0 || *second > 0x7F {
         return None;
