@@ -57,7 +57,8 @@ impl<'a> Objects<'a> {
     }
 
     /// The next object, if it begins here as most do: with no 00 byte, a tag of one or two bytes and a length of one.
-    /// Where anything else follows, `None`, and the cursor stays where it is: `next` returns what follows.
+    /// `None` where anything else or fewer than three bytes follow. Then the cursor stays where it is, and `next` returns
+    /// what follows.
     #[inline(always)]
     pub fn next_short(&mut self) -> Option<Object<'a>>
         ensures some { IfSome result (λ object. GivesFirst self.old object self.new) }
