@@ -1,6 +1,6 @@
 -- The BER-TLV objects of a text: EMV 4.3 Book 3, Annex B.
 use Rattle.std.specs.Prelude.{ℕ, zero, suc, ◌+◌, ◌-◌, ◌*◌, Bool, List, [], ◌∷◌, length, take, drop, Option, Some, None, option_and_then, bit_and}
-use Rattle.std.specs.Prelude.{nat_lt, ◌==◌, if◌then◌else◌}
+use Rattle.std.specs.Prelude.{nat_lt, ◌==◌, ◌&&◌, false, if◌then◌else◌}
 
 -- an object: its tag as a number, the bytes of its value, and the offset where it begins
 pub record TlvObject : Type 0 where
@@ -71,6 +71,15 @@ front_object bytes = do
   len ← length_at tag.1
   if nat_lt (length len.1) len.0 then None
       else Some (record { tag = tag.0; value = take len.0 len.1; rest = drop len.0 len.1 })
+
+-- an object would begin at the start of a text as most do: with no 00 byte, a tag of one or two bytes and a length of one,
+-- among three bytes or more
+unfoldable pub begins_short : List ℕ → Bool
+begins_short [] = false
+begins_short (first ∷ []) = false
+begins_short (first ∷ second ∷ []) = false
+begins_short (first ∷ second ∷ third ∷ rest) =
+    if opens_long_tag first then nat_lt second 128 && nat_lt third 128 else nat_lt 0 first && nat_lt second 128
 
 -- nothing more
 abbrev pub no_more : TlvText

@@ -1,6 +1,6 @@
 //! A cursor over the objects of a text.
-ghost use Rattle.std.specs.Prelude.{ℕ, List, Option, ◌≡◌, ◌≢◌, ◌+◌, ◌≤◌, length, drop, slice_get, IfSome, IsNone};
-ghost use Rattle.tlv_objects.specs.Tlv.{TlvObject, objects_of, objects_ahead};
+ghost use Rattle.std.specs.Prelude.{ℕ, List, Option, ◌≡◌, ◌≢◌, ◌+◌, ◌≤◌, length, drop, slice_get, IfSome, IsNone, None, false, ◌⊎◌};
+ghost use Rattle.tlv_objects.specs.Tlv.{TlvObject, objects_of, objects_ahead, begins_short, front_object};
 ghost use Rattle.tlv_objects.specs.Grammar.{Covers};
 ghost use Rattle.tlv_objects.specs.Seen.{GivesFirst};
 
@@ -57,12 +57,13 @@ impl<'a> Objects<'a> {
     }
 
     /// The next object, if it begins here as most do: with no 00 byte, a tag of one or two bytes and a length of one.
-    /// `None` where anything else or fewer than three bytes follow. Then the cursor stays where it is, and `next` returns
-    /// what follows.
+    /// `None` where anything else or fewer than three bytes follow, and where its value ends early. Then the cursor stays
+    /// where it is, and `next` returns what follows.
     #[inline(always)]
     pub fn next_short(&mut self) -> Option<Object<'a>>
         ensures some { IfSome result (λ object. GivesFirst self.old object self.new) }
-        ensures none { IsNone result → self.new ≡ self.old }
+        ensures none { IsNone result → (begins_short self.old.bytes ≡ false) ⊎ (front_object self.old.bytes ≡ None) }
+        ensures same { IsNone result → self.new ≡ self.old }
     {
         let (tag, value, rest) = read_short_object(self.ahead)?;
         let at = self.at();

@@ -1,6 +1,6 @@
 //! Parsing the parts of an object at the start of a text.
-ghost use Rattle.std.specs.Prelude.{◌≡◌, ◌≢◌, ◌==◌, option_map, option_and_then, take_while, length, slice_get, ℕ, List, Some, IsSome, IfSome};
-ghost use Rattle.tlv_objects.specs.Tlv.{tag_at, length_at, front_object};
+ghost use Rattle.std.specs.Prelude.{◌≡◌, ◌≢◌, ◌==◌, option_map, option_and_then, take_while, length, slice_get, ℕ, List, Some, None, IsSome, IsNone, IfSome, false, ◌⊎◌};
+ghost use Rattle.tlv_objects.specs.Tlv.{tag_at, length_at, front_object, begins_short};
 
 /// The number of leading 00 bytes.
 pub(crate) fn zeros_in_front(bytes: &[u8]) -> usize
@@ -71,13 +71,14 @@ pub(crate) fn read_object(bytes: &[u8]) -> Option<(u32, &[u8], &[u8])>
 
 /// The tag and the length of the object at the start, and the bytes after them, if the object begins as most do: with
 /// a tag of one or two bytes and a length of one. `None` also for a 00 byte and for fewer than three bytes.
-#[tactic(auto, unfolding(crate::specs::Tlv::tag_at, crate::specs::Tlv::length_at))]
+#[tactic(auto, unfolding(crate::specs::Tlv::tag_at, crate::specs::Tlv::length_at, crate::specs::Tlv::begins_short))]
 #[inline(always)]
 fn read_short_header(bytes: &[u8]) -> Option<(u32, usize, &[u8])>
     ensures header { IfSome result (λ found.
         option_and_then (λ tag. option_map {U = ℕ × ℕ × List ℕ} (λ len. (tag.0, len.0, len.1)) (length_at tag.1))
         (tag_at bytes.now) ≡ Some (found.0, found.1, found.2.now)) }
     ensures first { IsSome result → slice_get bytes.now 0 ≢ Some 0 }
+    ensures none { IsNone result → begins_short bytes.now ≡ false }
 {
     let [first, second, third, rest @ ..] = bytes else {
         return None;
@@ -106,6 +107,7 @@ pub(crate) fn read_short_object(bytes: &[u8]) -> Option<(u32, &[u8], &[u8])>
     ensures object { IfSome result (λ found. front_object bytes.now
         ≡ Some (record { tag = found.0; value = found.1.now; rest = found.2.now })) }
     ensures first { IsSome result → slice_get bytes.now 0 ≢ Some 0 }
+    ensures none { IsNone result → (begins_short bytes.now ≡ false) ⊎ (front_object bytes.now ≡ None) }
 {
     let (tag, length, rest) = read_short_header(bytes)?;
     let (value, unread) = rest.split_at_checked(length)?;
