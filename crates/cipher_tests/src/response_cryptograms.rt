@@ -138,6 +138,9 @@ fn responses_are_those_of_another_program(rt: HostRuntime) {
             Method::One => assert_eq!(rt; method1(suite, &key, &ac, arc).as_slice(), want),
             Method::Two => assert_eq!(rt; method2(suite, &key, &ac, csu).as_slice(), want),
         }
-        assert_eq!(rt; value91(suite, method, &key, &ac, arc, csu).as_slice(), value);
+        assert_eq!(rt;
+            value91(suite, method, &key, &ac, arc, csu).as_slice(),
+            value
+        );
     }
 }
