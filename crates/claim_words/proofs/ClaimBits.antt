@@ -10,6 +10,7 @@ use Rattle.std.proofs.lemmas.Nat.Bits.{bit_at_set_same, bit_at_set_other, bit_at
 use Rattle.std.specs.Int.{bit_at}
 use Rattle.claim_words.specs.declared.layout.TheConstants.{COUNTERS}
 use Rattle.claim_words.specs.Layout.{word_of, top_word_of, mask_of, others_of, bit_of, top_of}
+use Rattle.claim_words.proofs.WordPlaces
 
 small_mask : (counter : ℕ) → mask_of counter < 2 ^ 64
 small_mask counter = pow-lt {i = counter % 64} {j = 64} (omega arith)
@@ -33,8 +34,7 @@ pow_same k l e =
 pub pair_by_mask : (card counter other_card other : ℕ) → counter < COUNTERS → other < COUNTERS → word_of card counter ≡ word_of other_card other
     → mask_of counter ≡ mask_of other → (other_card ≡ card) × (other ≡ counter)
 pair_by_mask card counter other_card other small also words masks =
-    let low : counter % 64 ≡ other % 64 = pow_same (counter % 64) (other % 64) masks in
-    (omega arith, omega arith)
+    WordPlaces.same_claim card counter other_card other small also words (pow_same (counter % 64) (other % 64) masks)
 
 -- so do the word and its other bits
 pub pair_by_others : (card counter other_card other : ℕ) → counter < COUNTERS → other < COUNTERS → word_of card counter ≡ word_of other_card other
@@ -95,7 +95,7 @@ module _ (words : List ℕ) (card counter new : ℕ) (small : counter < COUNTERS
               | inl within ↦
                   ap (λ (i : ℕ). bit_at (get_or (set words (word_of card counter) new) i 0) (other % 64)) word
                   ∙ ap (λ (n : ℕ). bit_at n (other % 64)) (get_or-set_same words (word_of card counter) new 0 within)
-                  ∙ same (other % 64) (omega arith) (λ low. apart (omega arith, omega arith))
+                  ∙ same (other % 64) (omega arith) (λ low. apart (WordPlaces.same_claim card counter other_card other small also (sym word) (sym low)))
                   ∙ ap (λ (i : ℕ). bit_at (get_or words i 0) (other % 64)) (sym word)
               | inr past ↦ ap (λ (ws : List ℕ). bit_of ws other_card other) (set_past words (word_of card counter) new past)
             ]
@@ -103,15 +103,18 @@ module _ (words : List ℕ) (card counter new : ℕ) (small : counter < COUNTERS
       ]
 
   pub top-set_bit : (other_card : ℕ) → top_of (set words (word_of card counter) new) other_card ≡ top_of words other_card
-  top-set_bit other_card = get_or-set_other words (word_of card counter) (top_word_of other_card) new 0 (λ e. omega arith)
+  top-set_bit other_card = get_or-set_other words (word_of card counter) (top_word_of other_card) new 0
+      (λ e. WordPlaces.claim-top card counter other_card small (sym e))
 
 module _ (words : List ℕ) (card new : ℕ) where
   pub top-set : top_word_of card < length words → top_of (set words (top_word_of card) new) card ≡ new
   top-set within = get_or-set_same words (top_word_of card) new 0 within
 
   pub top-set_other : (other_card : ℕ) → other_card ≢ card → top_of (set words (top_word_of card) new) other_card ≡ top_of words other_card
-  top-set_other other_card apart = get_or-set_other words (top_word_of card) (top_word_of other_card) new 0 (λ e. apart (omega arith))
+  top-set_other other_card apart = get_or-set_other words (top_word_of card) (top_word_of other_card) new 0
+      (λ e. apart (WordPlaces.same_top card other_card (sym e)))
 
   pub bit-set_top : (other_card other : ℕ) → other < COUNTERS → bit_of (set words (top_word_of card) new) other_card other ≡ bit_of words other_card other
   bit-set_top other_card other small =
-      ap (λ (n : ℕ). bit_at n (other % 64)) (get_or-set_other words (top_word_of card) (word_of other_card other) new 0 (λ e. omega arith))
+      ap (λ (n : ℕ). bit_at n (other % 64)) (get_or-set_other words (top_word_of card) (word_of other_card other) new 0
+      (λ e. WordPlaces.claim-top other_card other card small e))

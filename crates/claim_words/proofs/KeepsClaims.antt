@@ -30,6 +30,7 @@ use Rattle.claim_words.specs.Seats.{IsTopFor}
 use Rattle.claim_words.specs.ClaimSteps.{claim_by, claimed, released, marked, topped}
 use Rattle.claim_words.proofs.ClaimBits
 use Rattle.claim_words.proofs.ClaimCounts
+use Rattle.claim_words.proofs.WordPlaces
 
 abbrev names_of : ClaimView → List SeatName
 names_of view = view.names
@@ -411,7 +412,7 @@ marks_allowed {S} first slots id m card counter small within named holds s rule 
       (
         refl,
         λ other_card other word_is counter_is.
-            let cards : other_card ≡ card = omega arith in
+            let cards : other_card ≡ card = WordPlaces.same_top card other_card word_is in
             let counters : other ≡ counter = omega arith in
             let P : ℕ → ℕ → Type 0 = λ c k. w ≡ settled Kept c k m.0 in
             subst (λ (c : ℕ). P c other) (sym cards) (subst (λ (k : ℕ). P card k) (sym counters) refl),
@@ -489,7 +490,7 @@ tops_allowed {S} first slots id m card named s rule homes here range =
         refl,
         rule.small card,
         λ other_card word_is.
-            let cards : other_card ≡ card = omega arith in
+            let cards : other_card ≡ card = WordPlaces.same_top card other_card word_is in
             let P : ℕ → Type 0 = λ c. (after_top card (told_by n) m.0 ≡ after_top c (told_by n) m.0)
             × ((counter : ℕ) → counter < COUNTERS → 0 < known_on c counter m.0 → counter < n) in
             let there : P card = (refl, below_top first s id m.0 rule here card) in

@@ -4,3 +4,4 @@ pub mod ClaimCounts
 pub mod ContestLemmas
 pub mod KeepsClaims
 pub mod OpeningLemmas
+pub mod WordPlaces

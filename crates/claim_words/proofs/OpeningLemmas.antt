@@ -1,5 +1,5 @@
 -- The words of the opening records, one record after another.
-use Rattle.std.proofs.Common.{◌≡◌, ◌≢◌, ℕ, ◌+◌, ◌<◌, ◌≤◌, List, [], ◌∷◌, ◌++◌, length, get_or, set, take, drop, max, bit_or, inl, inr, sym, ap, ◌∙◌}
+use Rattle.std.proofs.Common.{◌≡◌, ◌≢◌, ℕ, ◌+◌, ◌<◌, ◌≤◌, List, [], ◌∷◌, ◌++◌, length, get_or, set, take, drop, max, bit_or, inl, inr, sym, ap, ◌∙◌, refl}
 use Rattle.std.proofs.Common.{subst, arith, length-set}
 use Rattle.std.proofs.lemmas.Bool.{cases_eq, cases_lt}
 use Rattle.std.proofs.lemmas.List.{take_more, take-append-drop}
@@ -12,6 +12,7 @@ use Rattle.claim_words.specs.ClaimViews.{is_pair, times}
 use Rattle.claim_words.specs.Opening.{AreOpening}
 use Rattle.claim_words.proofs.ClaimBits
 use Rattle.claim_words.proofs.ClaimCounts
+use Rattle.claim_words.proofs.WordPlaces
 
 -- the words with the pair's bit set
 abbrev with_bit : List ℕ → ℕ → ℕ → List ℕ
@@ -20,6 +21,15 @@ with_bit words card counter = set words (word_of card counter) (bit_or (get_or w
 -- the words whose top for the card is above the ATC
 abbrev with_top : List ℕ → ℕ → ℕ → List ℕ
 with_top words card counter = set words (top_word_of card) (max (top_of words card) (counter + 1))
+
+-- a known card's words are among the initial ones
+pub claim-inside : (cards : ℕ) (pairs : List (ℕ × ℕ)) (words : List ℕ) (word card counter : ℕ) → AreOpening cards pairs words
+    → word ≡ word_of card counter → card < cards → counter < COUNTERS → word < length words
+claim-inside cards pairs words word card counter before is known small = omega (arith, is, before.wide, WordPlaces.claim-within cards card counter known small)
+
+pub top-inside : (cards : ℕ) (pairs : List (ℕ × ℕ)) (words : List ℕ) (top card : ℕ) → AreOpening cards pairs words
+    → top ≡ top_word_of card → card < cards → top < length words
+top-inside cards pairs words top card before is known = omega (arith, is, before.wide, WordPlaces.top-within cards card known)
 
 times-snoc : (card counter : ℕ) (pairs : List (ℕ × ℕ)) (pair : ℕ × ℕ)
     → times card counter (pairs ++ pair ∷ []) ≡ times card counter pairs + one_if (is_pair card counter pair.0 pair.1)
@@ -40,8 +50,9 @@ opening_more cards pairs words card counter within small fresh before =
     let here : one_if (is_pair card counter card counter) ≡ 1 = ap one_if (ClaimCounts.pair-self card counter) in
     let there : (other_card other : ℕ) → ((other_card ≡ card) × (other ≡ counter) → ⊥) → one_if (is_pair other_card other card counter) ≡ 0 =
     λ other_card other apart. ap one_if (ClaimCounts.pair-other other_card other card counter apart) in
-    let inside : word < length words = omega (arith, before.wide) in
-    let top_inside : top_word_of card < length marked = omega (arith, before.wide, length-set words word new) in
+    let inside : word < length words = claim-inside cards pairs words word card counter before refl within small in
+    let top_inside : top_word_of card < length marked =
+    omega (arith, length-set words word new, top-inside cards pairs words (top_word_of card) card before refl within) in
     let old_top : (other_card : ℕ) → top_of marked other_card ≡ top_of words other_card = ClaimBits.top-set_bit words card counter new small in
     let top : top_of after card ≡ raised = ClaimBits.top-set marked card raised top_inside in
     let tops : (other_card : ℕ) → other_card ≢ card → top_of after other_card ≡ top_of marked other_card = ClaimBits.top-set_other marked card raised in
@@ -125,14 +136,15 @@ opening_step cards recorded words i word mask old top found raised within known 
       times-snoc pair.0 pair.1 (take i recorded) pair,
       ap one_if (ClaimCounts.pair-self pair.0 pair.1),
     ) in
-    let word_in : word < length words = omega (arith, before.wide) in
+    let word_in : word < length words = claim-inside cards (take i recorded) words word pair.0 pair.1 before word_is known small in
     let old_word : old ≡ get_or words (word_of pair.0 pair.1) 0 = old_is ∙ get_or_default_zero words word old word_in
     ∙ ap (λ (k : ℕ). get_or words k 0) word_is in
     let marked : set words word (bit_or old mask) ≡ with_bit words pair.0 pair.1 =
     ap (λ (k : ℕ). set words k (bit_or old mask)) word_is
     ∙ ap (λ (n : ℕ). set words (word_of pair.0 pair.1) (bit_or n mask)) old_word
     ∙ ap (λ (n : ℕ). set words (word_of pair.0 pair.1) (bit_or (get_or words (word_of pair.0 pair.1) 0) n)) mask_is in
-    let top_in : top < length (set words word (bit_or old mask)) = omega (arith, before.wide, length-set words word (bit_or old mask)) in
+    let top_in : top < length (set words word (bit_or old mask)) =
+    omega (arith, length-set words word (bit_or old mask), top-inside cards (take i recorded) words top pair.0 before top_is known) in
     let found_word : found ≡ top_of (with_bit words pair.0 pair.1) pair.0 =
     found_is
     ∙ get_or_default_zero (set words word (bit_or old mask)) top found top_in

@@ -1,16 +1,27 @@
--- The layout of the words, and what the words encode.
+-- The layout of the words, and what the words encode. A line is 8 words of one card, as long as a cache line. A block has
+-- a line of each of the 64 cards of a group, with the claims on the same 512 ATCs or with the top, and is as long as a
+-- page of 4,096 bytes. A group has 128 blocks of claims and a block of tops.
 use Rattle.std.specs.Prelude.{ℕ, ◌+◌, ◌-◌, ◌*◌, ◌/◌, ◌%◌, ◌^◌, List, slice_index, Option, None, Some, if◌then◌else◌}
 use Rattle.std.specs.Prelude.{◌==◌}
-use Rattle.std.specs.Int.{bit_at}
-use Rattle.claim_words.specs.declared.layout.TheConstants.{WORD_CLAIMS, CLAIM_WORDS, CARD_WORDS}
+use Rattle.std.specs.Int.{bit_at, div_ceil}
+use Rattle.claim_words.specs.declared.layout.TheConstants.{WORD_CLAIMS, LINE_WORDS, LINE_CLAIMS, GROUP_CARDS, BLOCK_WORDS}
+use Rattle.claim_words.specs.declared.layout.TheConstants.{CLAIM_BLOCKS, GROUP_WORDS}
+
+-- how many words the groups of so many cards have
+unfoldable pub words_for : ℕ → ℕ
+words_for cards = GROUP_WORDS * div_ceil cards GROUP_CARDS
+
+-- the index of the first word of this card's line, in this block of its group
+abbrev pub line_of : ℕ → ℕ → ℕ
+line_of card block = GROUP_WORDS * (card / GROUP_CARDS) + BLOCK_WORDS * block + LINE_WORDS * (card % GROUP_CARDS)
 
 -- the index of the word with the claim on this ATC of this card
-abbrev pub word_of : ℕ → ℕ → ℕ
-word_of card counter = CARD_WORDS * card + counter / WORD_CLAIMS
+unfoldable pub word_of : ℕ → ℕ → ℕ
+word_of card counter = line_of card (counter / LINE_CLAIMS) + counter / WORD_CLAIMS % LINE_WORDS
 
 -- the index of the card's top word
-abbrev pub top_word_of : ℕ → ℕ
-top_word_of card = CARD_WORDS * card + CLAIM_WORDS
+unfoldable pub top_word_of : ℕ → ℕ
+top_word_of card = line_of card CLAIM_BLOCKS
 
 -- the bit of the claim on this ATC, in its word
 abbrev pub mask_of : ℕ → ℕ

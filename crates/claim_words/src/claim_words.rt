@@ -3,10 +3,10 @@ ghost use Rattle.std.specs.Prelude.{◌≡◌, ℕ, ◌+◌, ◌*◌, ◌<◌, �
 ghost use Rattle.claim_words.specs.ClaimViews.{times, claims_on, is_live, is_kept, is_any, HasOpen, IsNew};
 ghost use Rattle.claim_words.specs.ClaimViews.{newcomer, after_claim, after_top, settled, parent_view, child_view};
 ghost use Rattle.claim_words.specs.ClaimViews.{joined};
-ghost use Rattle.claim_words.specs.declared.layout.TheConstants.{CARD_WORDS};
+ghost use Rattle.claim_words.specs.Layout.{words_for};
 ghost use Rattle.shared_seats.specs.SeatNames.{first_names, IsWhole};
 
-use crate::layout::{CARD_WORDS, COUNTERS, claim_mask, claim_word, other_claims, told, top_word};
+use crate::layout::{COUNTERS, claim_mask, claim_word, other_claims, told, top_word};
 use crate::opening::opening_words;
 use crate::rule::{ClaimRule, Claims, Marks, Opening, Parts, Releases, Tops};
 use crate::view::{ClaimView, Standing};
@@ -29,8 +29,8 @@ pub enum Claim {
 pub struct ClaimWords {
     table: Table<(), ClaimView, Opening, ClaimRule, Global>,
     ghost some_card: { 0 < table.shared.key.cards },
-    ghost sized: { table.shared.table_id.words ≡ CARD_WORDS * table.shared.key.cards },
-    ghost first_sized: { length table.shared.key.words.value.items ≡ CARD_WORDS * table.shared.key.cards },
+    ghost sized: { table.shared.table_id.words ≡ words_for table.shared.key.cards },
+    ghost first_sized: { length table.shared.key.words.value.items ≡ words_for table.shared.key.cards },
     ghost slotless: { table.shared.table_id.slots ≡ 0 },
 }
 
@@ -45,7 +45,8 @@ impl ClaimWords {
     ghost use Rattle.claim_words.specs.Seats.{cards_of, recorded_in, view_of, IsOf, IsTopFor};
 
     /// The claims on the ATCs of `cards` cards, of which these cards and ATCs are recorded. `NoMemory` is
-    /// returned only if an allocation fails. It allocates 8,200 bytes a card, and as much again until it returns.
+    /// returned only if an allocation fails. It allocates 8,256 bytes a card, for each begun group of
+    /// 64 cards, and as much again until it returns.
     pub fn load(
         alloc: Global,
         cards: u32,

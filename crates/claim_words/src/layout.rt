@@ -1,6 +1,8 @@
 //! The layout of the words: the index of each claim's word and of each card's top word.
 ghost use Rattle.std.specs.Prelude.{◌≡◌, ◌<◌, ◌≤◌};
-ghost use Rattle.claim_words.specs.Layout.{word_of, top_word_of, mask_of, others_of, told_by};
+ghost use Rattle.claim_words.specs.Layout.{words_for, line_of, word_of, top_word_of, mask_of, others_of, told_by};
+
+use issuer_base::MAX_CARDS;
 
 /// How many ATCs a card has: 0 to 65,535.
 pub const COUNTERS: u64 = 65_536;
@@ -8,24 +10,59 @@ pub const COUNTERS: u64 = 65_536;
 /// How many claims a word holds, one bit each.
 pub(crate) const WORD_CLAIMS: u64 = 64;
 
-/// How many words hold the claims of a card.
-pub(crate) const CLAIM_WORDS: u64 = 1_024;
+/// How many words a line has. They are one card's, and as long as a cache line.
+const LINE_WORDS: u64 = 8;
 
-/// How many words a card has: its claims, its top, and padding to a cache line.
-pub(crate) const CARD_WORDS: u64 = 1_032;
+/// How many ATCs in a row a line holds the claims of.
+const LINE_CLAIMS: u64 = LINE_WORDS * WORD_CLAIMS;
+
+/// How many cards a group has.
+const GROUP_CARDS: u64 = 64;
+
+/// How many words a block has: a line of each card of a group, with the claims on the same ATCs or with the top. They
+/// are as long as a page of 4,096 bytes.
+const BLOCK_WORDS: u64 = GROUP_CARDS * LINE_WORDS;
+
+/// How many blocks hold the claims of a group.
+const CLAIM_BLOCKS: u64 = COUNTERS / LINE_CLAIMS;
+
+/// How many words a group has: its blocks of claims, and a block of tops.
+const GROUP_WORDS: u64 = (CLAIM_BLOCKS + 1) * BLOCK_WORDS;
+
+/// How many words the groups of so many cards have.
+#[tactic(auto, unfolding(crate::specs::Layout::words_for))]
+pub(crate) fn group_words(cards: u32) -> usize
+    requires { cards ≤ MAX_CARDS }
+    ensures { result ≡ words_for cards }
+{
+    (GROUP_WORDS * (cards as u64).div_ceil(GROUP_CARDS)) as usize
+}
 
 /// The index of the word with the claim on this ATC of this card.
+#[tactic(auto, unfolding(crate::specs::Layout::word_of))]
 pub(crate) fn claim_word(card: u32, counter: u16) -> usize
     ensures { result ≡ word_of card counter }
 {
-    (CARD_WORDS * card as u64 + counter as u64 / WORD_CLAIMS) as usize
+    let counter = counter as u64;
+    let word = counter / WORD_CLAIMS % LINE_WORDS;
+    (line(card, counter / LINE_CLAIMS) + word) as usize
 }
 
 /// The index of this card's top word, which holds its greatest recorded or kept ATC plus 1, or 0 if there is none.
+#[tactic(auto, unfolding(crate::specs::Layout::top_word_of))]
 pub(crate) fn top_word(card: u32) -> usize
     ensures { result ≡ top_word_of card }
 {
-    (CARD_WORDS * card as u64 + CLAIM_WORDS) as usize
+    line(card, CLAIM_BLOCKS) as usize
+}
+
+/// The index of the first word of this card's line, in this block of its group.
+fn line(card: u32, block: u64) -> u64
+    requires { block ≤ CLAIM_BLOCKS }
+    ensures { result ≡ line_of card block }
+{
+    let card = card as u64;
+    GROUP_WORDS * (card / GROUP_CARDS) + BLOCK_WORDS * block + LINE_WORDS * (card % GROUP_CARDS)
 }
 
 /// The bit of the claim on this ATC, in its word.

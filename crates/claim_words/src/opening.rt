@@ -3,7 +3,7 @@ ghost use Rattle.std.specs.Prelude.{◌≡◌, ℕ, ◌+◌, ◌*◌, ◌<◌, �
 ghost use Rattle.claim_words.specs.ClaimViews.{times};
 ghost use Rattle.claim_words.specs.Opening.{AreOpening};
 
-use crate::layout::{CARD_WORDS, COUNTERS, claim_mask, claim_word, top_word};
+use crate::layout::{COUNTERS, claim_mask, claim_word, group_words, top_word};
 use issuer_base::{MAX_CARDS, NoMemory};
 use std::alloc::Global;
 
@@ -18,7 +18,7 @@ pub(crate) fn opening_words(
     requires once { (card counter : ℕ) → times card counter recorded.now ≤ 1 }
     ensures { IfOk result (λ words. AreOpening cards recorded.now words.items) }
 {
-    let mut words = vec![in alloc; 0; CARD_WORDS as usize * cards as usize]?;
+    let mut words = vec![in alloc; 0; group_words(cards)]?;
     for &(card, counter) in recorded {
         words[claim_word(card, counter)] |= claim_mask(counter);
         let top = top_word(card);

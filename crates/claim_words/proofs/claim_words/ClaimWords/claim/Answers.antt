@@ -4,14 +4,15 @@ use Rattle.claim_words.specs.declared.claim_words.Claim.{Claim}
 use Rattle.claim_words.specs.ClaimViews.{after_claim}
 use Rattle.claim_words.specs.Layout.{word_of}
 use Rattle.claim_words.proofs.KeepsClaims.{claims_allowed, after_claim-names, still_named, claim_by-won, claim_by-lost}
+use Rattle.claim_words.proofs.WordPlaces.{claim-within}
 use Rattle.claim_words.proofs.claim_words.ClaimWords.claim.Goals as goal
 
 pub fetch_or-found-requires : goal.fetch_or-found-requires
 fetch_or-found-requires c =
-    let within : word_of c.args.card c.args.counter < c.args.self.now.table.shared.table_id.words = omega arith in
-    let first : word_of c.args.card c.args.counter < length c.args.self.now.table.shared.key.words.value.items = omega arith in (
+    let within = claim-within c.args.self.now.table.shared.key.cards c.args.card c.args.counter c.requires.card (omega arith) in
+    let first : word_of c.args.card c.args.counter < length c.args.self.now.table.shared.key.words.value.items = omega (arith, within) in (
       search rules,
-      omega arith,
+      omega (arith, within),
       rw (c.claim_word-word.ensures, c.claim_mask-mask.ensures)
           (claims_allowed _ _ _ _ c.args.card c.args.counter (omega arith) first c.args.seat.now.named),
     )

@@ -2,14 +2,15 @@
 use Rattle.std.proofs.Common.{rules, arith, refl, ap, ◌∙◌, length, ◌<◌}
 use Rattle.claim_words.specs.Layout.{top_word_of}
 use Rattle.claim_words.proofs.KeepsClaims.{marks_allowed, still_named}
+use Rattle.claim_words.proofs.WordPlaces.{top-within}
 use Rattle.claim_words.proofs.claim_words.ClaimWords.mark_kept.Goals as goal
 
 pub fetch_max-requires : goal.fetch_max-requires
 fetch_max-requires c =
-    let within : top_word_of c.args.card < c.args.self.now.table.shared.table_id.words = omega arith in
-    let first : top_word_of c.args.card < length c.args.self.now.table.shared.key.words.value.items = omega arith in (
+    let within = top-within c.args.self.now.table.shared.key.cards c.args.card c.requires.card in
+    let first : top_word_of c.args.card < length c.args.self.now.table.shared.key.words.value.items = omega (arith, within) in (
       search rules,
-      omega arith,
+      omega (arith, within),
       rw c.top_word.ensures (marks_allowed _ _ _ _ c.args.card c.args.counter (omega arith) first c.args.seat.now.named c.requires.held),
     )
 

@@ -2,14 +2,15 @@
 use Rattle.std.proofs.Common.{rules, arith, ap, ◌∙◌, length, ◌<◌}
 use Rattle.claim_words.specs.Layout.{word_of}
 use Rattle.claim_words.proofs.KeepsClaims.{releases_allowed, still_named}
+use Rattle.claim_words.proofs.WordPlaces.{claim-within}
 use Rattle.claim_words.proofs.claim_words.ClaimWords.release.Goals as goal
 
 pub fetch_and-requires : goal.fetch_and-requires
 fetch_and-requires c =
-    let within : word_of c.args.card c.args.counter < c.args.self.now.table.shared.table_id.words = omega arith in
-    let first : word_of c.args.card c.args.counter < length c.args.self.now.table.shared.key.words.value.items = omega arith in (
+    let within = claim-within c.args.self.now.table.shared.key.cards c.args.card c.args.counter c.requires.card (omega arith) in
+    let first : word_of c.args.card c.args.counter < length c.args.self.now.table.shared.key.words.value.items = omega (arith, within) in (
       search rules,
-      omega arith,
+      omega (arith, within),
       rw (c.claim_word-word.ensures, c.other_claims.ensures)
           (releases_allowed _ _ _ _ c.args.card c.args.counter (omega arith) first c.args.seat.now.named c.requires.held),
     )

@@ -1,15 +1,15 @@
 -- A seat may read any card's top, which is at least each ATC that the seat knows of.
-use Rattle.std.proofs.Common.{rules, arith, ap, ◌∙◌, sym, subst, length, ◌<◌, Option, ℕ}
+use Rattle.std.proofs.Common.{rules, arith, ap, ◌∙◌, sym, subst, length, Option, ℕ}
 use Rattle.claim_words.specs.ClaimViews.{after_top}
 use Rattle.claim_words.specs.Seats.{IsTopFor}
-use Rattle.claim_words.specs.Layout.{top_word_of}
 use Rattle.claim_words.proofs.KeepsClaims.{tops_allowed, after_top-names, still_named, told-top}
+use Rattle.claim_words.proofs.WordPlaces.{top-within}
 use Rattle.claim_words.proofs.claim_words.ClaimWords.top.Goals as goal
 
 pub load-found-requires : goal.load-found-requires
 load-found-requires c =
-    let within : top_word_of c.args.card < c.args.self.now.table.shared.table_id.words = omega arith in
-    (search rules, omega arith, rw c.top_word.ensures (tops_allowed _ _ _ _ c.args.card c.args.seat.now.named))
+    let within = top-within c.args.self.now.table.shared.key.cards c.args.card c.requires.card in
+    (search rules, omega (arith, within), rw c.top_word.ensures (tops_allowed _ _ _ _ c.args.card c.args.seat.now.named))
 
 pub invariant_of-seat : goal.invariant_of-seat
 invariant_of-seat c =
