@@ -1,13 +1,13 @@
 -- The layout of the words, and what the words encode. A line is 8 words of one card, as long as a cache line. A block has
--- a line of each of the 64 cards of a group, with the claims on the same 512 ATCs or with the top, and is as long as a
--- page of 4,096 bytes. A group has 128 blocks of claims and a block of tops.
+-- one line of each of the 64 cards of a group, either with the claims on the same 512 ATCs or with the top as its first
+-- word. It is as long as a page of 4,096 bytes. A group has 128 blocks of claims, and then a block of tops.
 use Rattle.std.specs.Prelude.{ℕ, ◌+◌, ◌-◌, ◌*◌, ◌/◌, ◌%◌, ◌^◌, List, slice_index, Option, None, Some, if◌then◌else◌}
 use Rattle.std.specs.Prelude.{◌==◌}
 use Rattle.std.specs.Int.{bit_at, div_ceil}
 use Rattle.claim_words.specs.declared.layout.TheConstants.{WORD_CLAIMS, LINE_WORDS, LINE_CLAIMS, GROUP_CARDS, BLOCK_WORDS}
 use Rattle.claim_words.specs.declared.layout.TheConstants.{CLAIM_BLOCKS, GROUP_WORDS}
 
--- how many words the groups of so many cards have
+-- how many words there are for so many cards: those of each begun group
 unfoldable pub words_for : ℕ → ℕ
 words_for cards = GROUP_WORDS * div_ceil cards GROUP_CARDS
 
@@ -19,7 +19,7 @@ line_of card block = GROUP_WORDS * (card / GROUP_CARDS) + BLOCK_WORDS * block + 
 unfoldable pub word_of : ℕ → ℕ → ℕ
 word_of card counter = line_of card (counter / LINE_CLAIMS) + counter / WORD_CLAIMS % LINE_WORDS
 
--- the index of the card's top word
+-- the index of the card's top word, in the block of tops
 unfoldable pub top_word_of : ℕ → ℕ
 top_word_of card = line_of card CLAIM_BLOCKS
 

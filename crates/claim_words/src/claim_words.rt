@@ -45,8 +45,8 @@ impl ClaimWords {
     ghost use Rattle.claim_words.specs.Seats.{cards_of, recorded_in, view_of, IsOf, IsTopFor};
 
     /// The claims on the ATCs of `cards` cards, of which these cards and ATCs are recorded. `NoMemory` is
-    /// returned only if an allocation fails. It allocates 8,256 bytes a card, for each begun group of
-    /// 64 cards, and as much again until it returns.
+    /// returned only if an allocation fails. It allocates 528,384 bytes for each begun group of 64 cards, 8,256 a card,
+    /// and as much again until it returns.
     pub fn load(
         alloc: Global,
         cards: u32,

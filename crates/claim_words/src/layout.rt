@@ -1,4 +1,7 @@
 //! The layout of the words: the index of each claim's word and of each card's top word.
+//!
+//! Cards are in groups. The words of a group's cards for the same ATCs are one block, and so are their tops, so that the
+//! words that callers use at one time lie in few pages.
 ghost use Rattle.std.specs.Prelude.{◌≡◌, ◌<◌, ◌≤◌};
 ghost use Rattle.claim_words.specs.Layout.{words_for, line_of, word_of, top_word_of, mask_of, others_of, told_by};
 
@@ -10,26 +13,27 @@ pub const COUNTERS: u64 = 65_536;
 /// How many claims a word holds, one bit each.
 pub(crate) const WORD_CLAIMS: u64 = 64;
 
-/// How many words a line has. They are one card's, and as long as a cache line.
+/// How many words a line has. They are one card's, and as long as a cache line, so that callers at two cards seldom
+/// change the same one.
 const LINE_WORDS: u64 = 8;
 
-/// How many ATCs in a row a line holds the claims of.
+/// How many claims a line has, on ATCs in a row.
 const LINE_CLAIMS: u64 = LINE_WORDS * WORD_CLAIMS;
 
 /// How many cards a group has.
 const GROUP_CARDS: u64 = 64;
 
-/// How many words a block has: a line of each card of a group, with the claims on the same ATCs or with the top. They
-/// are as long as a page of 4,096 bytes.
+/// How many words a block has: one line of each card of a group, either with the claims on the same ATCs or with the top
+/// as its first word. A block is as long as a page of 4,096 bytes.
 const BLOCK_WORDS: u64 = GROUP_CARDS * LINE_WORDS;
 
-/// How many blocks hold the claims of a group.
+/// How many blocks of claims a group has.
 const CLAIM_BLOCKS: u64 = COUNTERS / LINE_CLAIMS;
 
-/// How many words a group has: its blocks of claims, and a block of tops.
+/// How many words a group has: its blocks of claims, and then its block of tops.
 const GROUP_WORDS: u64 = (CLAIM_BLOCKS + 1) * BLOCK_WORDS;
 
-/// How many words the groups of so many cards have.
+/// How many words there are for so many cards: those of each begun group.
 #[tactic(auto, unfolding(crate::specs::Layout::words_for))]
 pub(crate) fn group_words(cards: u32) -> usize
     requires { cards ≤ MAX_CARDS }
