@@ -1,2 +1,3 @@
 -- The laws of this crate.
+pub mod CheckParts
 pub mod Steps

@@ -9,7 +9,7 @@ use Rattle.cryptogram_in.specs.Cryptogram.{input, cryptogram_under}
 use Rattle.issuer_base.specs.declared.request.Suite.TheVariants.{TripleDes}
 use Rattle.retail_mac.specs.Mac.{retail_mac}
 use Rattle.cryptogram_lanes.specs.declared.KeyedRequest.{KeyedRequest}
-use Rattle.cryptogram_lanes.specs.declared.checks.DesCheck.{DesCheck}
+use Rattle.cryptogram_lanes.specs.Checks.{DesCheck}
 
 -- the session key of the request's ATC: EMV 4.3 Book 2, Annex A1.3.1
 abbrev pub session_in : KeyedRequest → SuiteKey

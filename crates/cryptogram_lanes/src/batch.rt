@@ -1,10 +1,10 @@
 //! The cryptograms of a batch.
 
-ghost use Rattle.std.specs.Prelude.{◌≡◌, ◌≤◌, length, map};
+ghost use Rattle.std.specs.Prelude.{◌≡◌, ◌≤◌, [], length, map};
 ghost use Rattle.cryptogram_lanes.specs.Batch.{cryptogram_of, des_cryptogram_of, check_of};
 
 use crate::KeyedRequest;
-use crate::checks::{DesCheck, macs_of, sessions_of};
+use crate::checks::DesChecks;
 use arrayvec::ArrayVec;
 use cryptogram_in::input;
 use issuer_base::Suite;
@@ -46,9 +46,9 @@ fn by_triple_des(requests: &[KeyedRequest]) -> ArrayVec<[u8; 8], 128>
     requires { length requests.now ≤ 128 }
     ensures { result.items ≡ map des_cryptogram_of requests.now }
 {
-    let checks = checks_of(requests);
-    let sessions = sessions_of(checks.as_slice());
-    macs_of(&sessions, checks.as_slice())
+    let mut checks = DesChecks::new();
+    add_checks(requests, &mut checks);
+    checks.macs(&checks.sessions())
 }
 
 /// The cryptogram of a request, if this is the one that triple DES gives.
@@ -63,14 +63,13 @@ fn cryptogram(entry: &KeyedRequest, by_triple_des: [u8; 8]) -> [u8; 8]
     }
 }
 
-/// The check of each request under its key, as one of triple DES.
-fn checks_of(requests: &[KeyedRequest]) -> ArrayVec<DesCheck, 128>
-    requires { length requests.now ≤ 128 }
-    ensures { result.items ≡ map (λ entry. check_of entry.key entry.request) requests.now }
+/// Adds the check of each request under its key, as one of triple DES.
+fn add_checks(requests: &[KeyedRequest], checks: &mut DesChecks)
+    requires few { length requests.now ≤ 128 }
+    requires empty { checks.old ≡ [] }
+    ensures { checks.new ≡ map (λ entry. check_of entry.key entry.request) requests.now }
 {
-    let mut checks = ArrayVec::new();
     for entry in requests {
-        checks.push(DesCheck::of(entry.key, &entry.request));
+        checks.push(entry.key, &entry.request);
     }
-    checks
 }

@@ -14,7 +14,7 @@ ghost use Rattle.cryptogram_lanes.specs.Batch.{cryptogram_of};
 
 use arrayvec::ArrayVec;
 use batch::{alone, count_in_lanes, in_lanes};
-pub use checks::{DesCheck, right_sessions};
+pub use checks::DesChecks;
 use des_block::Key16;
 use issuer_base::{Request, Suite};
 

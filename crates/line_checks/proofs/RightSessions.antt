@@ -18,7 +18,7 @@ use Rattle.key_derive.specs.declared.card.CardKeys.{CardKeys}
 use Rattle.key_derive.specs.CardKey.{des_keys, aes_keys}
 use Rattle.key_derive.specs.SessionKey.{session_ac}
 use Rattle.cryptogram_in.specs.Cryptogram.{input, cryptogram_under, application_cryptogram}
-use Rattle.cryptogram_lanes.specs.declared.checks.DesCheck.{DesCheck}
+use Rattle.cryptogram_lanes.specs.Checks.{DesCheck}
 use Rattle.cryptogram_lanes.specs.Batch.{check_of, des_session, des_mac, right_session}
 use Rattle.issuer_setup.specs.declared.card.CardInfo.{CardInfo}
 use Rattle.issuer_setup.specs.KeyList.{key_of}

@@ -1,5 +1,5 @@
 -- What is looked up for a line before its cryptogram is checked.
-use Rattle.std.specs.Prelude.{◌≡◌, ◌≢◌, ℕ, List, length, Option, None, Some, Result, Ok, Err, true}
+use Rattle.std.specs.Prelude.{◌≡◌, ◌≢◌, ℕ, List, [], ◌∷◌, ◌++◌, length, Option, None, Some, Result, Ok, Err, true}
 use Rattle.std.specs.List.{AllZip}
 use Rattle.issuer_base.specs.declared.answer.Refusal.{Refusal}
 use Rattle.issuer_base.specs.declared.answer.Refusal.TheVariants.{BadCryptogram}
@@ -15,7 +15,7 @@ use Rattle.key_derive.specs.declared.card.CardKeys.{CardKeys}
 use Rattle.key_derive.specs.SuiteKey.{SuiteKey}
 use Rattle.key_derive.specs.SessionKey.{session_of}
 use Rattle.cryptogram_in.specs.Cryptogram.{application_cryptogram}
-use Rattle.cryptogram_lanes.specs.declared.checks.DesCheck.{DesCheck}
+use Rattle.cryptogram_lanes.specs.Checks.{DesCheck}
 use Rattle.cryptogram_lanes.specs.Batch.{check_of}
 use Rattle.issuer_setup.specs.IssuerSetup.{Setup}
 use Rattle.issuer_setup.specs.KeySlots.{keys_at, IsSlotOf}
@@ -99,3 +99,9 @@ IsCheckFor issuer sought check =
 abbrev pub IsCheckOf : Setup → Result Sought Refusal → DesCheck → Type 0
 IsCheckOf issuer (Ok (IsRequest sought)) check = IsCheckFor issuer sought check
 IsCheckOf issuer _ check = Unit {0}
+
+-- one element more, of which this holds
+pub record AppendsOne {A : Type 0} (Holds : A → Type 0) (old new : List A) : Type 0 where
+  pub last : A
+  pub holds : Holds last
+  pub new_is : new ≡ old ++ last ∷ []

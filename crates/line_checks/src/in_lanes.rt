@@ -1,14 +1,13 @@
 //! Checks of many requests' cryptograms at once, ahead of each request's turn.
-ghost use Rattle.std.specs.Prelude.{◌≡◌, ◌≤◌, [], length, All};
+ghost use Rattle.std.specs.Prelude.{◌≡◌, ◌<◌, ◌≤◌, [], length, All};
 ghost use Rattle.std.specs.List.{AllZip};
-ghost use Rattle.cryptogram_lanes.specs.declared.checks.DesCheck.{DesCheck};
+ghost use Rattle.cryptogram_lanes.specs.Checks.{DesCheck};
 ghost use Rattle.cryptogram_lanes.specs.Batch.{right_session};
 ghost use Rattle.issuer_setup.specs.IssuerSetup.{Setup};
-ghost use Rattle.line_checks.specs.LookedUp.{IsReady, IsCheckOf, IsLookedUpAgain};
+ghost use Rattle.line_checks.specs.LookedUp.{AppendsOne, IsReady, IsCheckOf, IsLookedUpAgain};
 
 use crate::sought::Sought;
-use arrayvec::ArrayVec;
-use cryptogram_lanes::{DesCheck, FEWEST_IN_LANES, right_sessions};
+use cryptogram_lanes::{DesChecks, FEWEST_IN_LANES};
 use des_block::Key16;
 use issuer_base::{Refusal, Suite};
 use issuer_setup::Issuer;
@@ -33,9 +32,9 @@ fn check_all(issuer: &Issuer, found: &mut [Result<Sought, Refusal>])
     requires ready { All (IsReady issuer.now) found.old }
     ensures { AllZip (IsLookedUpAgain issuer.now) found.old found.new }
 {
-    let mut checks = ArrayVec::new();
+    let mut checks = DesChecks::new();
     add_checks(issuer, found, &mut checks);
-    let sessions = right_sessions(checks.as_slice());
+    let sessions = checks.right_sessions();
     for (i, element) in found.iter_mut().enumerate() {
         keep_verdict(element, sessions.as_slice()[i]);
     }
@@ -54,29 +53,27 @@ fn is_in_lanes(found: &Result<Sought, Refusal>) -> bool {
 }
 
 /// Adds the check of each request of triple DES, at the index of the request. At each other index is a check of zeros.
-fn add_checks(
-    issuer: &Issuer,
-    found: &[Result<Sought, Refusal>],
-    checks: &mut ArrayVec<DesCheck, 128>,
-)
+fn add_checks(issuer: &Issuer, found: &[Result<Sought, Refusal>], checks: &mut DesChecks)
     requires few { length found.now ≤ 128 }
     requires ready { All (IsReady issuer.now) found.now }
-    requires empty { checks.old.items ≡ [] }
-    ensures { AllZip (IsCheckOf issuer.now) found.now checks.new.items }
+    requires empty { checks.old ≡ [] }
+    ensures { AllZip (IsCheckOf issuer.now) found.now checks.new }
 {
     for element in found {
-        checks.push(check_of(issuer, element));
+        add_check(issuer, element, checks);
     }
 }
 
-fn check_of(issuer: &Issuer, found: &Result<Sought, Refusal>) -> DesCheck
-    requires { IsReady issuer.now found.now }
-    ensures { IsCheckOf issuer.now found.now result }
+/// Adds the check of a request of triple DES, and for anything else a check of zeros.
+fn add_check(issuer: &Issuer, found: &Result<Sought, Refusal>, checks: &mut DesChecks)
+    requires ready { IsReady issuer.now found.now }
+    requires room { length checks.old < 128 }
+    ensures { AppendsOne (IsCheckOf issuer.now found.now) checks.old checks.new }
 {
-    let Ok(Sought::Request(sought)) = found else {
-        return DesCheck::default();
-    };
-    sought.check_ahead(issuer)
+    match found {
+        Ok(Sought::Request(sought)) => sought.add_check(issuer, checks),
+        _ => checks.push_blank(),
+    }
 }
 
 /// Keeps the verdict of the check that gave this session key, or none, if it is that of a request whose key is of triple

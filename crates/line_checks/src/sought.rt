@@ -1,19 +1,19 @@
 //! What is looked up for a line before a key is used.
-ghost use Rattle.std.specs.Prelude.{◌≡◌, IfOk};
+ghost use Rattle.std.specs.Prelude.{◌≡◌, ◌<◌, length, IfOk};
 ghost use Rattle.std.specs.Result.{result_map_both};
 ghost use Rattle.card_history.specs.declared.decision.Asked.TheVariants.{Decide};
 ghost use Rattle.issuer_base.specs.declared.request.Suite.TheVariants.{TripleDes};
 ghost use Rattle.issuer_base.specs.ChipData.{suite_of};
-ghost use Rattle.cryptogram_lanes.specs.declared.checks.DesCheck.{DesCheck};
+ghost use Rattle.cryptogram_lanes.specs.Checks.{DesCheck};
 ghost use Rattle.cryptogram_lanes.specs.Batch.{right_session};
 ghost use Rattle.issuer_setup.specs.IssuerSetup.{Setup};
 ghost use Rattle.line_checks.specs.Reading.{checked};
 ghost use Rattle.line_checks.specs.AtHand.{IsRequestAtHand};
-ghost use Rattle.line_checks.specs.LookedUp.{verdict_of, HasKeysAtHand, IsCheckFor, IsRequestAgain};
+ghost use Rattle.line_checks.specs.LookedUp.{verdict_of, AppendsOne, HasKeysAtHand, IsCheckFor, IsRequestAgain};
 
 use crate::checked::{CheckedOrder, CheckedRequest};
 use cryptogram_in::holds;
-use cryptogram_lanes::DesCheck;
+use cryptogram_lanes::DesChecks;
 use des_block::Key16;
 use issuer_base::{Refusal, Request, Suite};
 use issuer_setup::{Issuer, KeySlot};
@@ -102,18 +102,19 @@ impl SoughtRequest {
         })
     }
 
-    /// The check of the request's cryptogram, if the card's key is of triple DES; otherwise a check of zeros.
-    pub(crate) fn check_ahead(&self, issuer: &Issuer) -> DesCheck
-        requires { HasKeysAtHand issuer.now self.now }
-        ensures { IsCheckFor issuer.now self.now result }
+    /// Adds the check of the request's cryptogram, if the card's key is of triple DES; otherwise a check of zeros.
+    pub(crate) fn add_check(&self, issuer: &Issuer, checks: &mut DesChecks)
+        requires ready { HasKeysAtHand issuer.now self.now }
+        requires room { length checks.old < 128 }
+        ensures { AppendsOne (IsCheckFor issuer.now self.now) checks.old checks.new }
     {
         if self.request.suite() != Suite::TripleDes {
-            return DesCheck::default();
+            return checks.push_blank();
         }
-        let Some(key) = issuer.secrets(self.slot).ac(self.slot.suite()) else {
-            return DesCheck::default();
-        };
-        DesCheck::of(key, &self.request)
+        match issuer.secrets(self.slot).ac(self.slot.suite()) {
+            Some(key) => checks.push(key, &self.request),
+            None => checks.push_blank(),
+        }
     }
 
     /// Keeps the verdict of the check that gave this session key, or none, if the card's key is of triple DES.

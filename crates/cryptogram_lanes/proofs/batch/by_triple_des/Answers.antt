@@ -11,6 +11,6 @@ same (entry ∷ rest) = ap (λ xs. des_cryptogram_of entry ∷ xs) (same rest)
 
 pub returns : goal.returns
 returns c =
-    c.macs_of.ensures
-    ∙ ap (map des_mac) (c.as_slice-2.ensures.value ∙ c.checks_of-checks.ensures)
+    c.macs.ensures
+    ∙ ap (map des_mac) c.add_checks.ensures
     ∙ same c.args.requests.now

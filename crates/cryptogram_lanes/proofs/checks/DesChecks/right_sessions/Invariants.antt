@@ -2,10 +2,10 @@
 use Rattle.std.proofs.Common.{◌≡◌, ◌++◌, map, drop}
 use Rattle.arrayvec.specs.ArrayVec.{array_vec_len}
 use Rattle.cryptogram_lanes.specs.Batch.{right_session}
-use Rattle.cryptogram_lanes.proofs.checks.right_sessions.Given as goal
+use Rattle.cryptogram_lanes.proofs.checks.DesChecks.right_sessions.Given as goal
 
 abbrev pub invariant-loop-i : goal.invariant-loop-i
 invariant-loop-i l = record {
-  so_far : l.found.items ++ map right_session (drop l.i l.checks) ≡ map right_session l.checks;
+  so_far : l.found.items ++ map right_session (drop l.i l.self) ≡ map right_session l.self;
   len : array_vec_len l.found ≡ l.i;
 }
