@@ -111,6 +111,7 @@ const KEY_PLACES: [[u8; 48]; 16] = [
 ];
 
 /// The pairs at these places.
+#[inline(always)]
 fn half(places: &[u8; 32], block: &[u64x2; 64]) -> [u64x2; 32]
     ensures { (lane : ℕ) → lane_bits lane result ≡ bits_at places.now (lane_bits lane block.now) }
 {
