@@ -4,6 +4,7 @@ pub mod Circuits
 pub mod Pairs
 pub mod RoundSteps
 pub mod KeyPlaces
+pub mod SmallPlaces
 pub mod Turns
 pub mod WordLanes
 pub mod LaneWords

@@ -1,6 +1,6 @@
 //! The rounds of DES (FIPS 46-3) in lanes, under a key for each lane.
 
-ghost use Rattle.std.specs.Prelude.{◌≡◌, ℕ, ◌+◌, ◌*◌, ◌<◌, [], ◌∷◌, map, take, drop, ◌++◌, slice_index_or, bit_and, bit_xor};
+ghost use Rattle.std.specs.Prelude.{◌≡◌, ℕ, ◌+◌, ◌*◌, ◌<◌, [], ◌∷◌, map, take, drop, ◌++◌, slice_index_or, bit_and, bit_xor, All};
 ghost use Rattle.des_block.specs.Bits.{picked, xor_bits};
 ghost use Rattle.des_block.specs.Tables.{expansion, inverse_permutation};
 ghost use Rattle.des_block.specs.Cipher.{substituted, cipher_function, ciphered, word_bytes, des_encipher, des_decipher};
@@ -154,10 +154,11 @@ pub(crate) fn xor_into(block: &mut [u64x2; 64], other: &[u64x2; 64])
 /// A pair xored with that of the key at a place.
 #[inline(always)]
 fn keyed(pair: u64x2, keys: &[u64x2; 64], place: u8) -> u64x2
+    requires { place < 64 }
     ensures { (lane : ℕ) → lane_bit lane result
         ≡ xor (lane_bit lane pair) (lane_bit lane (slice_index_or keys.now (bit_and place 63) [])) }
 {
-    xored(pair, keys[(place & 63) as usize])
+    xored(pair, keys[place as usize])
 }
 
 /// The inputs of box `i`: six pairs of E of the right half, xored with the round key at these places.
@@ -168,7 +169,8 @@ fn inputs(
     places: &[u8; 48],
     i: usize,
 ) -> (u64x2, u64x2, u64x2, u64x2, u64x2, u64x2)
-    requires { i < 8 }
+    requires within { i < 8 }
+    requires places { All (λ place. place < 64) places.now }
     ensures { (lane : ℕ) → lane_bits lane (result.0 ∷ result.1 ∷ result.2 ∷ result.3 ∷ result.4 ∷ result.5 ∷ [])
         ≡ take 6 (drop (6 * i) (xor_bits (picked expansion (lane_bits lane right.now))
         (bits_at places.now (lane_bits lane keys.now)))) }
@@ -209,6 +211,7 @@ fn add(half: &mut [u64x2; 32], i: usize, outputs: (u64x2, u64x2, u64x2, u64x2))
 /// A round: xors the cipher function of the right half and the round key at these places into the left half.
 #[inline(never)]
 fn mix(left: &mut [u64x2; 32], right: &[u64x2; 32], keys: &[u64x2; 64], places: &[u8; 48])
+    requires { All (λ place. place < 64) places.now }
     ensures { (lane : ℕ) → lane_bits lane left.new
         ≡ xor_bits (lane_bits lane left.old) (cipher_function (lane_bits lane right.now)
         (bits_at places.now (lane_bits lane keys.now))) }
@@ -233,6 +236,7 @@ fn mix(left: &mut [u64x2; 32], right: &[u64x2; 32], keys: &[u64x2; 64], places: 
 
 /// Puts the block of each lane through the sixteen rounds, under the round keys at these places of the keys.
 fn cipher(order: &[[u8; 48]; 16], keys: &[u64x2; 64], block: &mut [u64x2; 64])
+    requires { All (λ places. All (λ place. place < 64) places) order.now }
     ensures { (lane : ℕ) → lane_bits lane block.new
         ≡ ciphered (map (λ places. bits_at places (lane_bits lane keys.now)) order.now) (lane_bits lane block.old) }
 {
